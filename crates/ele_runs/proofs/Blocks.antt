@@ -6,10 +6,10 @@ use Rattle.ele_world.specs.declared.refusal.Stop.TheVariants.{NoMemory}
 use Rattle.ele_script.specs.Spells.{Spells, SpellsLine}
 use Rattle.ele_script.specs.FirstFault.{IsFirstFault}
 use Rattle.ele_script.specs.Memory.{TakesMemory}
-use Rattle.ele_script.specs.Printed.{IsReplyText, stop_text, pass_text, bad_text}
+use Rattle.ele_printer.specs.Printed.{IsReplyText, stop_text, pass_text, bad_text}
 use Rattle.ele_script.specs.Words.{words_of}
-use Rattle.ele_script.specs.declared.fault.LineFault.{LineFault}
-use Rattle.ele_script.specs.declared.fault.LineFault.TheVariants as fault
+use Rattle.ele_printer.specs.declared.fault.LineFault.{LineFault}
+use Rattle.ele_printer.specs.declared.fault.LineFault.TheVariants as fault
 use Rattle.ele_script.specs.declared.reading.Line.TheVariants as asks
 use Rattle.ele_runs.specs.Answer as answer
 use Rattle.ele_world.specs.declared.pass.PassEnd.{PassEnd}

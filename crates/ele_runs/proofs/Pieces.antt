@@ -4,7 +4,7 @@ use Rattle.ele_runs.proofs.Basics.{nat_tests, suc, IsErr, take-append-drop, drop
 use Rattle.ele_runs.proofs.Words.{Outlet, Takes, TakesFront, IsBlock, line_unless_long, IsUnbroken, whole_line, whole_lines, AreBlocks, Answers, AnswersAll, AnswersSome, RunState, PutsBlock}
 use Rattle.std.specs.Option.{option_and_then}
 use Rattle.memchr.specs.Find.{IsFirstByte, is_byte}
-use Rattle.ele_script.specs.declared.fault.WriteFault.{WriteFault}
+use Rattle.ele_printer.specs.declared.fault.WriteFault.{WriteFault}
 use Rattle.ele_runs.proofs.Ran.{blocks_push, joined_push}
 use Rattle.ele_runs.proofs.Joins.{takes_nil, takes_then, front_then, all_both}
 

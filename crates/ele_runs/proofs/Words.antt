@@ -1,6 +1,6 @@
 -- The words of this crate and of those below that proofs here use, in one place.
-pub use Rattle.ele_script.specs.Front.{AppendsFront}
-pub use Rattle.ele_script.specs.Outlet.{Outlet, Puts, Takes, TakesFront, outlet}
+pub use Rattle.ele_printer.specs.Front.{AppendsFront}
+pub use Rattle.ele_printer.specs.Outlet.{Outlet, Puts, Takes, TakesFront, outlet}
 pub use Rattle.ele_script.specs.Words.{longest_line}
 pub use Rattle.ele_runs.specs.Block.{IsBlock, MayAnswer, as_read, as_run, cut_block, cut_count}
 pub use Rattle.ele_runs.specs.Bounds.{most_bytes, most_lines}

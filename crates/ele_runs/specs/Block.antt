@@ -3,10 +3,10 @@ use Rattle.std.specs.Prelude.{◌≡◌, ℕ, List, [], ◌∷◌, Option, Some,
 use Rattle.ele_world.specs.declared.event.Event.{Event}
 use Rattle.ele_world.specs.declared.refusal.Stop.TheVariants.{NoMemory, HistoryFull}
 use Rattle.ele_world.specs.Ready.{takes_no_memory}
-use Rattle.ele_script.specs.declared.fault.LineFault.TheVariants.{Syntax, LineTooLong}
+use Rattle.ele_printer.specs.declared.fault.LineFault.TheVariants.{Syntax, LineTooLong}
 use Rattle.ele_script.specs.FirstFault.{IsFirstFault}
 use Rattle.ele_script.specs.Memory.{TakesMemory}
-use Rattle.ele_script.specs.Printed.{IsAnswerText, bad_text, pass_text}
+use Rattle.ele_printer.specs.Printed.{IsAnswerText, bad_text, pass_text}
 use Rattle.ele_script.specs.Spells.{Spells, SpellsLine}
 use Rattle.ele_script.specs.Words.{words_of}
 use Rattle.ele_script.specs.declared.reading.Line.TheVariants as asks

@@ -1,8 +1,8 @@
 -- The lines that end in a piece of the input. No public clause cites this module.
 use Rattle.std.specs.Prelude.{◌≡◌, ℕ, ◌+◌, ◌≤◌, List, [], ◌++◌, length, Option, Result, Ok, Err, ◌⊎◌}
 use Rattle.std.specs.List.{AllByRecursion}
-use Rattle.ele_script.specs.declared.fault.WriteFault.{WriteFault}
-use Rattle.ele_script.specs.Outlet.{Outlet, Takes, TakesFront}
+use Rattle.ele_printer.specs.declared.fault.WriteFault.{WriteFault}
+use Rattle.ele_printer.specs.Outlet.{Outlet, Takes, TakesFront}
 use Rattle.ele_runs.specs.LineLength.{line_unless_long}
 use Rattle.ele_runs.specs.Lines.{IsUnbroken, AreLines, whole_lines}
 use Rattle.ele_runs.specs.Output.{AreBlocks}

@@ -4,9 +4,9 @@ use Rattle.std.specs.Io.KnownBytes.{Appends}
 use Rattle.ele_world.specs.declared.event.Event.{Event}
 use Rattle.ele_world.specs.declared.refusal.Stop.{Stop}
 use Rattle.ele_world.specs.declared.reply.Reply.{Reply}
-use Rattle.ele_script.specs.Front.{AppendsFront}
-use Rattle.ele_script.specs.Outlet.{Outlet, Puts}
-use Rattle.ele_script.specs.Printed.{IsAnswerText}
+use Rattle.ele_printer.specs.Front.{AppendsFront}
+use Rattle.ele_printer.specs.Outlet.{Outlet, Puts}
+use Rattle.ele_printer.specs.Printed.{IsAnswerText}
 use Rattle.ele_runs.specs.Answer.{Answer}
 use Rattle.ele_runs.specs.Block.{MayAnswer, IsBlock, IsText, cut_block, cut_count}
 use Rattle.ele_runs.specs.Reply.{MayReply}

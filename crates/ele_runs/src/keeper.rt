@@ -1,7 +1,7 @@
 //! The keeper of a run: what steps, and how many replies it gave.
 //! A contract sees the world, the count of replies and its limit.
 ghost use Rattle.std.specs.Prelude.{◌≡◌, ◌<◌, ◌↔◌, IfOk, IsTrue, IsFalse};
-ghost use Rattle.ele_script.specs.Outlet.{outlet};
+ghost use Rattle.ele_printer.specs.Outlet.{outlet};
 ghost use Rattle.ele_runs.specs.RunState.{fresh};
 ghost use Rattle.ele_runs.specs.Written.{PutsReply, PutsAnswer};
 ghost use Rattle.ele_runs.specs.Clean.{is_removed, MayClean};

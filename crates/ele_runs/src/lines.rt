@@ -3,7 +3,7 @@
 ghost use Rattle.std.specs.Prelude.{◌≡◌, ◌+◌, ◌^◌, ◌<◌, ◌≤◌, ◌++◌, [], Some, length, OnOk, IfOk};
 ghost use Rattle.std.specs.Option.{option_map, option_and_then};
 ghost use Rattle.memchr.specs.Find.{IsFirstByte, is_byte};
-ghost use Rattle.ele_script.specs.Outlet.{outlet, Puts};
+ghost use Rattle.ele_printer.specs.Outlet.{outlet, Puts};
 ghost use Rattle.ele_runs.specs.Block.{cut_block, cut_count};
 ghost use Rattle.ele_runs.specs.LineLength.{line_unless_long};
 ghost use Rattle.ele_runs.specs.Piece.{AnswersPiece};

@@ -1,7 +1,5 @@
 mod Prelude
 mod Basics
-pub mod Known
-pub mod Lines
 pub mod Commands
 pub mod Behind
 pub mod Words

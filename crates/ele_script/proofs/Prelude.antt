@@ -1,25 +1,25 @@
 -- The words of this crate and of those below that proofs here use, in one place.
 pub use Rattle.ele_moment.specs.Number.{SpellsNumber}
-pub use Rattle.ele_moment.specs.Spelled.{IsTimestamp, IsWorth, SpellsMoment, SpellsTimestamp, timestamp_text}
+pub use Rattle.ele_moment.specs.Spelled.{SpellsMoment, SpellsTimestamp}
 pub use Rattle.ele_policy.specs.Ladder.{IsLadder, Rung, climbs, ground, is_above}
 pub use Rattle.ele_policy.specs.declared.policy.Policy.TheVariants.{All as KeepAll, Landmarks, One, Safe}
-pub use Rattle.ele_script.specs.Command.{command_words, kinds_behind}
-pub use Rattle.ele_script.specs.CommandOf.{behind, commands, find_command, name_of, named}
+pub use Rattle.ele_printer.specs.Command.{command_words, name_of}
+pub use Rattle.ele_script.specs.Command.{kinds_behind}
+pub use Rattle.ele_script.specs.CommandOf.{behind, commands, find_command, named}
 pub use Rattle.ele_script.specs.FirstFault.{FitsCommand, IsEventFault, IsFaultOfWords, IsFirstFault, IsFirstWordFault, IsOfKind, IsWordFault, no_command, no_event, not_worded, of_line, of_word, of_words, too_long}
 pub use Rattle.ele_script.specs.KeptPairs.{Keeps, KeepsLadder}
-pub use Rattle.ele_script.specs.LineFault.{fault_of_path, fault_of_path_at}
+pub use Rattle.ele_printer.specs.LineFault.{fault_of_path, fault_of_path_at}
 pub use Rattle.ele_script.specs.Memory.{TakesMemory}
-pub use Rattle.ele_script.specs.Outlet.{HandsOver, Outlet, Puts, Takes, TakesFront, outlet}
 pub use Rattle.ele_script.specs.PathWord.{IsSourceFault, IsTaggedWordFault, begins_path, of_handle}
 pub use Rattle.ele_script.specs.PolicyWord.{IsLadderWord, IsPolicyFault, IsPolicyForm, IsSafeWord, SpellsPair, SpellsPairs, SpellsPolicy, all, formless, ladder, no_interval, no_ladder, one, parts_of, safe}
-pub use Rattle.ele_script.specs.Printed.{bytes_text, group_line, kind_words, line_text, numbers_word, pair_word, usage_line, usage_lines}
+pub use Rattle.ele_printer.specs.Printed.{pair_word}
 pub use Rattle.ele_script.specs.Reads.{IsFaultOfKinds, IsRefused, ReadsLine, bad_word, miscounted}
-pub use Rattle.ele_script.specs.Spells.{Spells, SpellsLine, SpellsValues, SpellsWords, line_parts}
+pub use Rattle.ele_script.specs.Spells.{Spells, SpellsLine, SpellsValues, SpellsWords}
 pub use Rattle.ele_script.specs.Value.{Bytes, BytesWord, Moment, MomentWord, Name, NameWord, NumberWord, Path, PathWord, PolicyWord, SourceWord, SpellsBytes, SpellsSource, SpellsValue, TaggedWord, Timed, TimedWord, Value, WordKind, word_kind}
 pub use Rattle.ele_script.specs.Words.{ends_word, longest_line, is_plain, is_worded, words_of}
-pub use Rattle.ele_script.specs.declared.command.Command.{Command}
-pub use Rattle.ele_script.specs.declared.fault.LineFault.{LineFault}
-pub use Rattle.ele_script.specs.declared.fault.LineFault.TheVariants.{BadLadder, BadMoment, NoMemory, Syntax}
+pub use Rattle.ele_printer.specs.declared.command.Command.{Command}
+pub use Rattle.ele_printer.specs.declared.fault.LineFault.{LineFault}
+pub use Rattle.ele_printer.specs.declared.fault.LineFault.TheVariants.{BadLadder, BadMoment, NoMemory, Syntax}
 pub use Rattle.ele_script.specs.declared.reading.Line.{Line}
 pub use Rattle.ele_time_path.specs.OneMeaning.{OneMeaning}
 pub use Rattle.ele_time_path.specs.TaggedFault.{IsTaggedFault, path_part, tag_part}

@@ -1,14 +1,9 @@
 -- The command that words begin with, looked for in a table. No public clause cites this module.
 use Rattle.std.specs.Prelude.{ℕ, List, [], ◌∷◌, Option, Some, None, map, if◌then◌else◌}
 use Rattle.std.specs.Str.{bytes_eq}
-use Rattle.ele_script.specs.declared.command.Command.{Command}
-use Rattle.ele_script.specs.declared.command.Command.TheVariants.{Clock, Tick, MakeDir, RemoveDir, Create, Link, Unlink, Rename, Undelete, OpenWrite, OpenRead, Write, Truncate, Close, Revert, SetPolicy, Default, GroupMake, GroupDrop, GroupAdd, GroupRemove, Mark, Unmark, Clean, Read, Stat, Versions, ListNames, Restorable, Due, Usage, Groups, Pass}
-use Rattle.ele_script.specs.Command.{command_words}
-
--- the words that name a command: one, or two
-abbrev pub name_of : List ℕ → List ℕ → List (List ℕ)
-name_of first [] = first ∷ []
-name_of first (byte ∷ bytes) = first ∷ (byte ∷ bytes) ∷ []
+use Rattle.ele_printer.specs.declared.command.Command.{Command}
+use Rattle.ele_printer.specs.declared.command.Command.TheVariants.{Clock, Tick, MakeDir, RemoveDir, Create, Link, Unlink, Rename, Undelete, OpenWrite, OpenRead, Write, Truncate, Close, Revert, SetPolicy, Default, GroupMake, GroupDrop, GroupAdd, GroupRemove, Mark, Unmark, Clean, Read, Stat, Versions, ListNames, Restorable, Due, Usage, Groups, Pass}
+use Rattle.ele_printer.specs.Command.{command_words}
 
 -- what stands behind a name
 abbrev pub behind : List (List ℕ) → List (List ℕ) → Option (List (List ℕ))

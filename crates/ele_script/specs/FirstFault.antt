@@ -2,14 +2,15 @@
 use Rattle.std.specs.Prelude.{◌≡◌, ◌≢◌, ℕ, ◌<◌, ◌≤◌, List, ◌∷◌, ◌++◌, length, Some, true, false, ◌⊎◌}
 use Rattle.std.specs.Option.{option_map}
 use Rattle.ele_time_path.specs.FirstFault.{path_fault}
-use Rattle.ele_script.specs.declared.command.Command.{Command}
-use Rattle.ele_script.specs.declared.fault.LineFault.{LineFault}
-use Rattle.ele_script.specs.declared.fault.LineFault.TheVariants.{BadName, BadMoment, Syntax, LineTooLong}
-use Rattle.ele_script.specs.LineFault.{fault_of_path}
+use Rattle.ele_printer.specs.declared.command.Command.{Command}
+use Rattle.ele_printer.specs.declared.fault.LineFault.{LineFault}
+use Rattle.ele_printer.specs.declared.fault.LineFault.TheVariants.{BadName, BadMoment, Syntax, LineTooLong}
+use Rattle.ele_printer.specs.LineFault.{fault_of_path}
 use Rattle.ele_script.specs.Value.{WordKind, NumberWord, MomentWord, NameWord, PathWord, TaggedWord, TimedWord, SourceWord, BytesWord, PolicyWord, Value, word_kind, SpellsValue}
 use Rattle.ele_script.specs.PolicyWord.{IsPolicyFault}
 use Rattle.ele_script.specs.PathWord.{IsTaggedWordFault, IsTimedWordFault, IsSourceFault}
-use Rattle.ele_script.specs.Command.{command_words, kinds_behind}
+use Rattle.ele_printer.specs.Command.{command_words}
+use Rattle.ele_script.specs.Command.{kinds_behind}
 use Rattle.ele_script.specs.Words.{longest_line, words_of, is_worded}
 use Rattle.ele_script.specs.Spells.{SpellsLine}
 use Rattle.ele_script.specs.declared.reading.Line.{Line}

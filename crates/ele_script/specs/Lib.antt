@@ -6,13 +6,9 @@ pub mod Command
 pub mod CommandOf
 pub mod Words
 pub mod Spells
-pub mod LineFault
 pub mod Memory
 pub mod EventOf
 pub mod FirstFault
-pub mod Front
-pub mod Outlet
-pub mod Printed
 pub mod OnePolicy
 pub mod PolicyBack
 pub mod Reads

@@ -1,11 +1,12 @@
 -- Which lines are read with memory.
 use Rattle.std.specs.Prelude.{◌≡◌, ℕ, List, ◌++◌, Bool, true, false}
 use Rattle.std.specs.List.{list_any}
-use Rattle.ele_script.specs.declared.command.Command.{Command}
-use Rattle.ele_script.specs.declared.command.Command.TheVariants.{Read}
+use Rattle.ele_printer.specs.declared.command.Command.{Command}
+use Rattle.ele_printer.specs.declared.command.Command.TheVariants.{Read}
 use Rattle.ele_script.specs.Value.{WordKind, NumberWord, MomentWord, NameWord, PathWord, TaggedWord, TimedWord, SourceWord, BytesWord, PolicyWord}
 use Rattle.ele_script.specs.PathWord.{begins_path}
-use Rattle.ele_script.specs.Command.{command_words, kinds_behind}
+use Rattle.ele_printer.specs.Command.{command_words}
+use Rattle.ele_script.specs.Command.{kinds_behind}
 
 -- paths and bytes take memory, and nothing else does; a source may be a path
 abbrev pub takes_memory : WordKind → Bool

@@ -5,9 +5,9 @@ use Rattle.ele_time_path.specs.TaggedFault.{IsTaggedFault}
 use Rattle.ele_time_path.specs.PathAt.{IsPathAtFault}
 use Rattle.ele_time_path.specs.declared.fault.PathFault.{PathFault}
 use Rattle.ele_time_path.specs.declared.fault.PathAtFault.{PathAtFault}
-use Rattle.ele_script.specs.declared.fault.LineFault.{LineFault}
-use Rattle.ele_script.specs.declared.fault.LineFault.TheVariants.{Syntax}
-use Rattle.ele_script.specs.LineFault.{fault_of_path, fault_of_path_at}
+use Rattle.ele_printer.specs.declared.fault.LineFault.{LineFault}
+use Rattle.ele_printer.specs.declared.fault.LineFault.TheVariants.{Syntax}
+use Rattle.ele_printer.specs.LineFault.{fault_of_path, fault_of_path_at}
 
 abbrev pub IsTaggedWordFault : List ℕ → LineFault → Type 0
 IsTaggedWordFault word fault = (bad : PathFault) × IsTaggedFault word bad × (fault ≡ fault_of_path bad)

@@ -2,7 +2,7 @@
 use Rattle.ele_policy.specs.declared.policy.Policy.{Policy}
 use Rattle.ele_policy.specs.Policy.{IsPolicy}
 use Rattle.ele_script.specs.PolicyWord.{SpellsPolicy}
-use Rattle.ele_script.specs.Printed.{policy_word}
+use Rattle.ele_printer.specs.Printed.{policy_word}
 
 abbrev pub PolicyBack : Type 0
 PolicyBack = (policy : Policy) → IsPolicy policy → SpellsPolicy (policy_word policy) policy

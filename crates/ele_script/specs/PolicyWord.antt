@@ -6,8 +6,8 @@ use Rattle.ele_policy.specs.declared.policy.Policy.{Policy}
 use Rattle.ele_policy.specs.declared.policy.Policy.TheVariants.{One, All, Safe, Landmarks}
 use Rattle.ele_policy.specs.Interval.{IsInterval}
 use Rattle.ele_policy.specs.Ladder.{Rung, IsLadder}
-use Rattle.ele_script.specs.declared.fault.LineFault.{LineFault}
-use Rattle.ele_script.specs.declared.fault.LineFault.TheVariants.{BadLadder, Syntax}
+use Rattle.ele_printer.specs.declared.fault.LineFault.{LineFault}
+use Rattle.ele_printer.specs.declared.fault.LineFault.TheVariants.{BadLadder, Syntax}
 
 -- `safe:` and a number
 pub record IsSafeWord (word : List ℕ) (seconds : ℕ) : Type 0 where

@@ -2,12 +2,12 @@
 use Rattle.std.specs.Prelude.{◌≡◌, ℕ, ◌≤◌, List, [], ◌∷◌, ◌++◌, length, true}
 use Rattle.ele_world.specs.declared.event.Event.{Event}
 use Rattle.ele_world.specs.declared.event.Event.TheVariants as event
-use Rattle.ele_script.specs.declared.command.Command.{Command}
-use Rattle.ele_script.specs.declared.command.Command.TheVariants.{Clock, Tick, MakeDir, RemoveDir, Create, Link, Unlink, Rename, Undelete, OpenWrite, OpenRead, Write, Truncate, Close, Revert, SetPolicy, Default, GroupMake, GroupDrop, GroupAdd, GroupRemove, Mark, Unmark, Clean, Read, Stat, Versions, ListNames, Restorable, Due, Usage, Groups, Pass}
+use Rattle.ele_printer.specs.declared.command.Command.{Command}
+use Rattle.ele_printer.specs.declared.command.Command.TheVariants.{Clock, Tick, MakeDir, RemoveDir, Create, Link, Unlink, Rename, Undelete, OpenWrite, OpenRead, Write, Truncate, Close, Revert, SetPolicy, Default, GroupMake, GroupDrop, GroupAdd, GroupRemove, Mark, Unmark, Clean, Read, Stat, Versions, ListNames, Restorable, Due, Usage, Groups, Pass}
 use Rattle.ele_script.specs.declared.reading.Line.{Line}
 use Rattle.ele_script.specs.declared.reading.Line.TheVariants as asks
 use Rattle.ele_script.specs.Value.{Value, Number, Moment, Name, Path, Tagged, Timed, Source, Bytes, Policy, SpellsValue}
-use Rattle.ele_script.specs.Command.{command_words}
+use Rattle.ele_printer.specs.Command.{command_words}
 use Rattle.ele_script.specs.Words.{longest_line, words_of, is_worded}
 
 -- the command of an event, and the values of the words behind it

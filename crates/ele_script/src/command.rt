@@ -1,82 +1,47 @@
-//! The commands of the script. A contract sees a command as itself.
+//! The command in front of the words of a line.
 ghost use Rattle.std.specs.Prelude.{◌≡◌, ◌∷◌, [], map};
 ghost use Rattle.std.specs.Option.{option_map};
-ghost use Rattle.ele_script.specs.CommandOf.{behind, command_of, find_command, name_of};
+ghost use Rattle.ele_printer.specs.Command.{name_of};
+ghost use Rattle.ele_script.specs.CommandOf.{behind, command_of, find_command, named};
 
-/// What a line tells a world to do; its first word, or its first two, name it.
-#[derive(Clone, Copy, Debug, PartialEq, Eq)]
-pub(crate) enum Command {
-    Clock,
-    Tick,
-    MakeDir,
-    RemoveDir,
-    Create,
-    Link,
-    Unlink,
-    Rename,
-    Undelete,
-    OpenWrite,
-    OpenRead,
-    Write,
-    Truncate,
-    Close,
-    Revert,
-    SetPolicy,
-    Default,
-    GroupMake,
-    GroupDrop,
-    GroupAdd,
-    GroupRemove,
-    Mark,
-    Unmark,
-    Clean,
-    Read,
-    Stat,
-    Versions,
-    ListNames,
-    Restorable,
-    Due,
-    Usage,
-    Groups,
-    Pass,
-}
+use ele_printer::Command;
 
-/// The words that name each command, of which the second may be missing; those that come often
-/// stand in front, since a word is looked for from the first row on.
-static COMMANDS: [(&str, &str, Command); 33] = [
-    ("write", "", Command::Write),
-    ("read", "", Command::Read),
-    ("close", "", Command::Close),
-    ("open", "write", Command::OpenWrite),
-    ("open", "read", Command::OpenRead),
-    ("clock", "", Command::Clock),
-    ("tick", "", Command::Tick),
-    ("due", "", Command::Due),
-    ("clean", "", Command::Clean),
-    ("pass", "", Command::Pass),
-    ("rename", "", Command::Rename),
-    ("unlink", "", Command::Unlink),
-    ("undelete", "", Command::Undelete),
-    ("create", "", Command::Create),
-    ("stat", "", Command::Stat),
-    ("mark", "", Command::Mark),
-    ("unmark", "", Command::Unmark),
-    ("mkdir", "", Command::MakeDir),
-    ("rmdir", "", Command::RemoveDir),
-    ("link", "", Command::Link),
-    ("truncate", "", Command::Truncate),
-    ("revert", "", Command::Revert),
-    ("policy", "", Command::SetPolicy),
-    ("default", "", Command::Default),
-    ("group", "make", Command::GroupMake),
-    ("group", "drop", Command::GroupDrop),
-    ("group", "add", Command::GroupAdd),
-    ("group", "remove", Command::GroupRemove),
-    ("versions", "", Command::Versions),
-    ("list", "", Command::ListNames),
-    ("restorable", "", Command::Restorable),
-    ("usage", "", Command::Usage),
-    ("groups", "", Command::Groups),
+/// All commands; those that come often stand in front, since a word is looked for from the first
+/// row on.
+static COMMANDS: [Command; 33] = [
+    Command::Write,
+    Command::Read,
+    Command::Close,
+    Command::OpenWrite,
+    Command::OpenRead,
+    Command::Clock,
+    Command::Tick,
+    Command::Due,
+    Command::Clean,
+    Command::Pass,
+    Command::Rename,
+    Command::Unlink,
+    Command::Undelete,
+    Command::Create,
+    Command::Stat,
+    Command::Mark,
+    Command::Unmark,
+    Command::MakeDir,
+    Command::RemoveDir,
+    Command::Link,
+    Command::Truncate,
+    Command::Revert,
+    Command::SetPolicy,
+    Command::Default,
+    Command::GroupMake,
+    Command::GroupDrop,
+    Command::GroupAdd,
+    Command::GroupRemove,
+    Command::Versions,
+    Command::ListNames,
+    Command::Restorable,
+    Command::Usage,
+    Command::Groups,
 ];
 
 /// The command in front of the words, and the words behind it.
@@ -90,17 +55,16 @@ pub(crate) fn read_command<'w, 'l>(words: &'w [&'l [u8]]) -> Option<(Command, &'
 
 // The first command of a table whose name stands in front of the words.
 fn find_command<'w, 'l>(
-    table: &[(&str, &str, Command)],
+    table: &[Command],
     words: &'w [&'l [u8]],
 ) -> Option<(Command, &'w [&'l [u8]])>
     ensures { option_map (λ x. (x.0, map (λ word. word.now) x.1.now)) result
-        ≡ find_command (map (λ row. (name_of row.0.now row.1.now, row.2)) table.now)
-        (map (λ word. word.now) words.now) }
+        ≡ find_command (map named table.now) (map (λ word. word.now) words.now) }
 {
-    for row in table {
-        let (first, second, command) = *row;
+    for command in table {
+        let (first, second) = command.words();
         if let Some(rest) = behind(words, first, second) {
-            return Some((command, rest));
+            return Some((*command, rest));
         }
     }
     None

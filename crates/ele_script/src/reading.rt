@@ -12,9 +12,9 @@ use crate::arguments::{
     moment, name, name_and_moment, name_and_path, nothing, number, path, path_and_number,
     path_and_policy, path_at, source, tagged, two_numbers, two_numbers_and_bytes, two_paths,
 };
-use crate::command::{Command, read_command};
-use crate::fault::LineFault;
+use crate::command::read_command;
 use arrayvec::ArrayVec;
+use ele_printer::{Command, LineFault};
 use ele_time_path::one_meaning;
 use ele_world::{Event, Handle, VersionNo};
 use std::alloc::Global;

@@ -10,10 +10,10 @@ ghost use Rattle.ele_script.specs.PolicyWord.{SpellsPolicy, IsSafeWord};
 ghost use Rattle.ele_script.specs.PathWord.{begins_path};
 ghost use Rattle.ele_script.specs.FirstFault.{IsOfKind, IsWordFault};
 
-use crate::fault::LineFault;
 use crate::pairs::ladder_pairs;
 use ele_moment::{Moment, Name, read_number};
 use ele_policy::{Interval, Ladder, Policy};
+use ele_printer::LineFault;
 use ele_time_path::{Path, PathAt, TaggedPath};
 use ele_world::{ByteList, Handle, Source};
 use std::alloc::Global;

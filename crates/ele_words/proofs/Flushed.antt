@@ -5,8 +5,8 @@ use Rattle.std.specs.Result.{result_err}
 use Rattle.std.specs.Io.KnownBytes.{Appends, Consumes, Keeps, IsAtEnd}
 use Rattle.std.proofs.KnownBytes.{Appends-kept, Appends-nil, Keeps-trans}
 use Rattle.std.proofs.lemmas.List.{append-nil}
-use Rattle.ele_script.specs.Front.{AppendsFront}
-use Rattle.ele_script.specs.Printed.{line_text}
+use Rattle.ele_printer.specs.Front.{AppendsFront}
+use Rattle.ele_printer.specs.Printed.{line_text}
 use Rattle.ele_runs.specs.Fault.{number_of, name_of}
 use Rattle.ele_runs.specs.Lines.{whole_lines}
 use Rattle.ele_runs.specs.RunState.{RunState}

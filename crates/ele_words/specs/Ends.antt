@@ -1,8 +1,8 @@
 -- How the program ends: what its reader and its two writers hold then, and with which status.
 use Rattle.std.specs.Prelude.{◌≡◌, ℕ, List, [], ◌∷◌, codes, decimal, string_bytes, Option, Some, None}
 use Rattle.std.specs.Io.KnownBytes.{Appends, Keeps}
-use Rattle.ele_script.specs.Front.{AppendsFront}
-use Rattle.ele_script.specs.Printed.{line_text}
+use Rattle.ele_printer.specs.Front.{AppendsFront}
+use Rattle.ele_printer.specs.Printed.{line_text}
 use Rattle.ele_runs.specs.Fault.{number_of, name_of}
 use Rattle.ele_runs.specs.RunState.{RunState, fresh}
 use Rattle.ele_runs.specs.Running.{RanToTheEnd, RanToAReadFault, RanPastABound, RanToAWriteFault}

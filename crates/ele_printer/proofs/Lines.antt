@@ -1,0 +1,76 @@
+-- The bytes of a line, word after word.
+use Rattle.ele_printer.proofs.Basics.{nat_tests, arith, ◌==◌, true, ◌≡◌, ℕ, ◌+◌, ◌<◌, List, [], ◌∷◌, ◌++◌, length, map, take, drop, get_or, ◌/◌, ◌%◌, refl, sym, ap, ◌∙◌, append_assoc, codes, decimal, decimal_digit, drop_more, append-nil, take-append-drop, join_with_byte, flat_map, IsFirstAndRest, encode_lower, lower_digits}
+use Rattle.ele_printer.proofs.Prelude.{Rung, line_text, pair_word, bytes_text, kind_words, usage_line, usage_lines, numbers_word, group_line}
+use Rattle.ele_usage.specs.declared.usage.Usage.{Usage}
+use Rattle.ele_world.specs.declared.rows.GroupRow.{GroupRow}
+use Rattle.hex.specs.Hex.{encode_with}
+
+-- what follows a word of a line
+abbrev pub behind_word : List (List ℕ) → List ℕ
+behind_word [] = 10 ∷ []
+behind_word (word ∷ words) = (32 ∷ word) ++ behind_word words
+
+pub line_is : (first : List ℕ) (words : List (List ℕ)) → line_text (first ∷ words) ≡ first ++ behind_word words
+line_is first [] = refl
+line_is first (word ∷ words) = grind (arith, nat_tests, append_assoc, line_is word words)
+
+-- joined words are the first, and the byte between them and a word for each other
+pub joined_are : {A : Type 0} (byte : ℕ) (v : A → List ℕ) (first : List ℕ) (xs : List A) → join_with_byte byte (first ∷ map v xs) ≡ first ++ flat_map (λ x. byte ∷ v x) xs
+joined_are {A} byte v first [] = sym (append-nil first)
+joined_are {A} byte v first (x ∷ xs) = ap (λ (rest : List ℕ). first ++ byte ∷ rest) (joined_are byte v (v x) xs)
+
+-- the words of pairs are that of the first, and a comma and a word for each other
+pub pairs_are : (pairs : List Rung) (first : Rung) (rest : List Rung) → IsFirstAndRest pairs first rest → join_with_byte 44 (map pair_word pairs) ≡ pair_word first ++ flat_map (λ (pair : Rung). 44 ∷ pair_word pair) rest
+pairs_are pairs first rest is = rw is.0 (joined_are 44 pair_word (pair_word first) rest)
+
+-- the word of numbers is the first, and a comma and a number for each other
+pub numbers_are : (numbers : List ℕ) (first : ℕ) (rest : List ℕ) → IsFirstAndRest numbers first rest → 32 ∷ numbers_word numbers ≡ (32 ∷ decimal first) ++ flat_map (λ (number : ℕ). 44 ∷ decimal number) rest
+numbers_are numbers first rest is = rw is.0 (ap (λ (word : List ℕ). 32 ∷ word) (joined_are 44 decimal (decimal first) rest))
+
+-- the line of a group in its parts
+pub group_parts : (row : GroupRow) → group_line row
+    ≡ join_with_byte 32 (codes "-" ∷ row.name ∷ codes "members" ∷ []) ++ ((32 ∷ numbers_word row.members) ++ (codes " marks" ++ ((32 ∷ numbers_word row.marks) ++ 10 ∷ [])))
+group_parts row = grind (arith, nat_tests, line_is, append_assoc)
+
+-- a line is its words but the last, and then the last
+pub last_word : (first last : List ℕ) (words : List (List ℕ)) → line_text (first ∷ words ++ last ∷ []) ≡ join_with_byte 32 (first ∷ words) ++ ((32 ∷ last) ++ 10 ∷ [])
+last_word first last [] = append_assoc first (32 ∷ last) (10 ∷ [])
+last_word first last (word ∷ words) = grind (arith, nat_tests, append_assoc, last_word word last words)
+
+-- at a place, what stands there is next
+pub here : {A : Type 0} (line : A → List ℕ) (xs : List A) (i : ℕ) (d : A) → i < length xs → flat_map line (drop i xs) ≡ line (get_or xs i d) ++ flat_map line (drop (i + 1) xs)
+here {A} line xs i d lt = ap (λ (ys : List A). flat_map line ys) (drop_more xs i d lt)
+
+-- at an item, its line is next
+pub lines_here : {A : Type 0} (line : A → List ℕ) (xs : List A) (i : ℕ) (x : A) → i < length xs → x ≡ get_or xs i x → flat_map line (drop i xs) ≡ line x ++ flat_map line (drop (i + 1) xs)
+lines_here {A} line xs i x lt is = grind (arith, nat_tests, drop_more)
+
+digits_append : (xs ys : List ℕ) → encode_lower (xs ++ ys) ≡ encode_lower xs ++ encode_lower ys
+unfolding encode_with
+digits_append [] ys = refl
+digits_append (x ∷ xs) ys = ap (λ (w : List ℕ). get_or lower_digits (x / 16) 0 ∷ get_or lower_digits (x % 16) 0 ∷ w) (digits_append xs ys)
+
+-- the digits of the first bytes, and then of the others
+pub digits_split : (bytes piece behind : List ℕ) (n : ℕ) → piece ≡ take n bytes → behind ≡ drop n bytes → encode_lower bytes ≡ encode_lower piece ++ encode_lower behind
+digits_split bytes piece behind n e f = rw (e, f) (ap encode_lower (sym (take-append-drop n bytes)) ∙ digits_append (take n bytes) (drop n bytes))
+
+-- no bytes have no digits
+pub digits_none : (bytes : List ℕ) → (length bytes == 0) ≡ true → encode_lower bytes ≡ []
+unfolding encode_with
+digits_none [] none = refl
+digits_none (byte ∷ bytes) none = grind (arith, nat_tests)
+
+-- the line of bytes in its parts
+pub bytes_line : (n digits : List ℕ) → line_text (codes "ok bytes" ∷ n ∷ digits ∷ []) ≡ codes "ok bytes " ++ (n ++ ((32 ∷ []) ++ (digits ++ 10 ∷ [])))
+bytes_line n digits = line_is (codes "ok bytes") (n ∷ digits ∷ [])
+
+-- the lines of usage in their parts
+pub usages_are : (us : List Usage) (d : Usage) → length us ≡ 4 → usage_lines kind_words us ≡ usage_line (codes "one") (get_or us 0 d) ++ (usage_line (codes "all") (get_or us 1 d) ++ (usage_line (codes "safe") (get_or us 2 d) ++ usage_line (codes "landmarks") (get_or us 3 d)))
+usages_are (a ∷ b ∷ c ∷ e ∷ []) d four =
+    ap (λ (rest : List ℕ). usage_line (codes "one") a ++ (usage_line (codes "all") b ++ (usage_line (codes "safe") c ++ rest))) (append-nil (usage_line (codes "landmarks") e))
+usages_are us d four = grind arith
+
+-- the line of no bytes
+pub no_bytes : (bytes : List ℕ) → (length bytes == 0) ≡ true → bytes_text bytes ≡ line_text (codes "ok bytes" ∷ codes "0" ∷ codes "-" ∷ [])
+no_bytes [] none = ap (λ (n : List ℕ). line_text (codes "ok bytes" ∷ n ∷ codes "-" ∷ [])) (decimal_digit 0 (omega arith))
+no_bytes (byte ∷ bytes) none = grind (arith, nat_tests)

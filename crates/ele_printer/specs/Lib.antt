@@ -1,0 +1,5 @@
+pub mod Command
+pub mod Front
+pub mod LineFault
+pub mod Outlet
+pub mod Printed

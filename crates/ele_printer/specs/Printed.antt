@@ -1,0 +1,218 @@
+-- Replies in text.
+use Rattle.std.specs.Prelude.{◌≡◌, ℕ, List, [], ◌∷◌, ◌++◌, length, map, codes, Option, Some, None, Result, Ok, Err}
+use Rattle.std.specs.Fmt.{decimal}
+use Rattle.std.specs.List.{flat_map, join_with_byte}
+use Rattle.std.specs.Io.KnownBytes.{Appends}
+use Rattle.ele_moment.specs.Spelled.{SpellsTimestamp}
+use Rattle.ele_world.specs.Answers.{refusal_number, refusal_name, stop_number, stop_name, which_word}
+use Rattle.ele_due.specs.declared.key.Key.{Key}
+use Rattle.ele_world.specs.declared.refusal.Refusal.{Refusal}
+use Rattle.ele_world.specs.declared.refusal.Refusal.TheVariants as refusal
+use Rattle.ele_world.specs.declared.refusal.Stop.{Stop}
+use Rattle.ele_world.specs.declared.reply.Reply.{Reply}
+use Rattle.ele_world.specs.declared.reply.Reply.TheVariants.{Done, Nothing, Now, Directory, File, Handle, Version, Closed, Removed, Bytes, FileStat, DirStat, Rows, NameList, RestoreList, DueList, UsageList, GroupList, Refused}
+use Rattle.ele_policy.specs.Ladder.{Rung}
+use Rattle.ele_policy.specs.declared.policy.Policy.{Policy}
+use Rattle.ele_policy.specs.declared.policy.Policy.TheVariants as policy
+use Rattle.ele_world.specs.declared.rows.DeadName.{DeadName}
+use Rattle.ele_world.specs.declared.rows.DirectoryRow.{DirectoryRow}
+use Rattle.ele_world.specs.declared.rows.FileStat.{FileStat as AnyFileStat}
+use Rattle.ele_world.specs.declared.rows.GroupRow.{GroupRow}
+use Rattle.ele_world.specs.declared.rows.Stamps.{Stamps}
+use Rattle.ele_world.specs.declared.rows.Target.{Target}
+use Rattle.ele_world.specs.declared.rows.Target.TheVariants as target
+use Rattle.ele_usage.specs.declared.usage.Usage.{Usage}
+use Rattle.ele_world.specs.declared.pass.PassEnd.{PassEnd}
+use Rattle.ele_world.specs.declared.pass.PassEnd.TheVariants.{Finished, Budget, Stopped}
+use Rattle.hex.specs.Hex.{encode_lower}
+use Rattle.ele_printer.specs.Front.{AppendsFront}
+use Rattle.ele_printer.specs.LineFault.{fault_number, fault_name}
+use Rattle.ele_printer.specs.declared.fault.LineFault.{LineFault}
+
+-- words with a space between each two, and a line feed
+abbrev pub line_text : List (List ℕ) → List ℕ
+line_text words = join_with_byte 32 words ++ 10 ∷ []
+
+-- the words of a key: its moment, its file and its number
+abbrev pub key_words : Key → List (List ℕ)
+key_words key = decimal key.ripe ∷ decimal key.file ∷ decimal key.number ∷ []
+
+-- what follows the name of a refusal
+abbrev pub refusal_details : Refusal → List (List ℕ)
+refusal_details (refusal.Forgotten (Some before)) = decimal before ∷ []
+refusal_details (refusal.Forgotten None) = codes "-" ∷ []
+refusal_details (refusal.Full which) = which_word which ∷ []
+refusal_details other = []
+
+-- the text of a refusal: its number, its name, and what follows
+abbrev pub refusal_text : Refusal → List ℕ
+refusal_text why =
+    line_text (codes "no" ∷ decimal (refusal_number why) ∷ refusal_name why ∷ refusal_details why)
+
+-- the text of a closing, with the version that it made, if it made one
+abbrev pub closed_text : Option ℕ → List ℕ
+closed_text None = line_text (codes "ok closed" ∷ [])
+closed_text (Some number) = line_text (codes "ok closed version" ∷ decimal number ∷ [])
+
+-- the words of what a name stood for
+abbrev pub target_words : Target → List (List ℕ)
+target_words (target.File file) = codes "file" ∷ decimal file ∷ []
+target_words (target.Directory directory) = codes "directory" ∷ decimal directory ∷ []
+
+-- the line of a name that may come back: its directory, its bytes as they are, and what it stood for
+abbrev pub restorable_line : DeadName → List ℕ
+restorable_line dead = line_text (codes "-" ∷ decimal dead.directory ∷ dead.name ∷ target_words dead.target)
+
+-- the line of a name of a directory, and what it stands for
+abbrev pub name_line : List ℕ × Target → List ℕ
+name_line named = line_text (codes "-" ∷ named.0 ∷ target_words named.1)
+
+-- the text of names: how many, and a line for each
+abbrev pub names_text : List (List ℕ × Target) → List ℕ
+names_text names = line_text (codes "ok names" ∷ decimal (length names) ∷ []) ++ flat_map name_line names
+
+-- the text of names that may come back: how many, and a line for each
+abbrev pub restorable_text : List DeadName → List ℕ
+restorable_text names =
+    line_text (codes "ok restorable" ∷ decimal (length names) ∷ []) ++ flat_map restorable_line names
+
+-- the word of an end: its moment, or `-` for none
+abbrev pub end_word : Option ℕ → List ℕ
+end_word None = codes "-"
+end_word (Some moment) = decimal moment
+
+-- the word of an age and a width, with a slash (47) between them
+abbrev pub pair_word : Rung → List ℕ
+pair_word pair = decimal pair.0 ++ 47 ∷ decimal pair.1
+
+-- the word of a policy; the pairs of a ladder have a comma (44) between each two
+abbrev pub policy_word : Policy → List ℕ
+policy_word policy.One = codes "one"
+policy_word policy.All = codes "all"
+policy_word (policy.Safe seconds) = codes "safe:" ++ decimal seconds
+policy_word (policy.Landmarks rungs) = codes "landmarks:" ++ join_with_byte 44 (map pair_word rungs)
+
+-- the text of a file's version, with the policy of the file
+abbrev pub file_text : AnyFileStat → List ℕ
+file_text stat =
+    line_text (codes "ok file" ∷ decimal stat.file ∷ codes "version" ∷ decimal stat.stamps.number ∷ codes "opened" ∷ decimal stat.stamps.opened ∷ codes "closed" ∷ decimal stat.stamps.closed
+    ∷ codes "ended" ∷ end_word stat.stamps.ended ∷ codes "length" ∷ decimal stat.stamps.length ∷ codes "policy" ∷ policy_word stat.policy ∷ [])
+
+-- the text of a directory, with the policy that it gives
+abbrev pub directory_text : DirectoryRow → List ℕ
+directory_text row =
+    line_text (codes "ok directory" ∷ decimal row.id ∷ codes "default" ∷ policy_word row.default ∷ [])
+
+-- the line of a version: its number, when it was opened, closed and ended, and its length
+abbrev pub version_line : Stamps → List ℕ
+version_line stamps =
+    line_text (codes "-" ∷ decimal stamps.number ∷ decimal stamps.opened ∷ decimal stamps.closed ∷ end_word stamps.ended ∷ decimal stamps.length ∷ [])
+
+-- the text of versions: how many, and a line for each
+abbrev pub versions_text : List Stamps → List ℕ
+versions_text versions =
+    line_text (codes "ok versions" ∷ decimal (length versions) ∷ []) ++ flat_map version_line versions
+
+-- the line of a key that is due
+abbrev pub due_line : Key → List ℕ
+due_line key = line_text (codes "-" ∷ key_words key)
+
+-- the text of keys: how many, and a line for each
+abbrev pub due_text : List Key → List ℕ
+due_text keys = line_text (codes "ok due" ∷ decimal (length keys) ∷ []) ++ flat_map due_line keys
+
+-- bytes as a word: `-` for none, else two hexadecimal digits each, in lower case
+abbrev pub bytes_word : List ℕ → List ℕ
+bytes_word [] = codes "-"
+bytes_word (byte ∷ bytes) = encode_lower (byte ∷ bytes)
+
+-- the text of bytes: how many, and these
+abbrev pub bytes_text : List ℕ → List ℕ
+bytes_text bytes = line_text (codes "ok bytes" ∷ decimal (length bytes) ∷ bytes_word bytes ∷ [])
+
+-- the line of what the files of a kind of policy use
+abbrev pub usage_line : List ℕ → Usage → List ℕ
+usage_line kind usage =
+    line_text (codes "-" ∷ kind ∷ decimal usage.files ∷ decimal usage.versions ∷ decimal usage.bytes ∷ decimal usage.blocks ∷ [])
+
+-- a line for each kind
+abbrev pub usage_lines : List (List ℕ) → List Usage → List ℕ
+usage_lines (kind ∷ kinds) (usage ∷ usages) = usage_line kind usage ++ usage_lines kinds usages
+usage_lines kinds usages = []
+
+-- the words of the four kinds, in their order
+abbrev pub kind_words : List (List ℕ)
+kind_words = codes "one" ∷ codes "all" ∷ codes "safe" ∷ codes "landmarks" ∷ []
+
+-- the text of what is used: that four lines follow, and these
+abbrev pub usage_text : List Usage → List ℕ
+usage_text usages = line_text (codes "ok usage" ∷ decimal 4 ∷ []) ++ usage_lines kind_words usages
+
+-- the word of numbers: these with a comma (44) between each two, or `-` for none
+abbrev pub numbers_word : List ℕ → List ℕ
+numbers_word [] = codes "-"
+numbers_word (number ∷ numbers) = join_with_byte 44 (map decimal (number ∷ numbers))
+
+-- the line of a group: its name, its files and its marks
+abbrev pub group_line : GroupRow → List ℕ
+group_line row =
+    line_text (codes "-" ∷ row.name ∷ codes "members" ∷ numbers_word row.members ∷ codes "marks" ∷ numbers_word row.marks ∷ [])
+
+-- the text of groups: how many, and a line for each
+abbrev pub groups_text : List GroupRow → List ℕ
+groups_text groups = line_text (codes "ok groups" ∷ decimal (length groups) ∷ []) ++ flat_map group_line groups
+
+-- the text is the reply's; of a moment it has the seconds, and the date and time
+abbrev pub IsReplyText : Reply → List ℕ → Type 0
+IsReplyText Done text = text ≡ line_text (codes "ok done" ∷ [])
+IsReplyText Nothing text = text ≡ line_text (codes "ok nothing" ∷ [])
+IsReplyText (Now moment) text =
+    (stamp : List ℕ) × SpellsTimestamp stamp moment × (text ≡ line_text (codes "ok now" ∷ decimal moment ∷ stamp ∷ []))
+IsReplyText (Directory directory) text = text ≡ line_text (codes "ok directory" ∷ decimal directory ∷ [])
+IsReplyText (File file) text = text ≡ line_text (codes "ok file" ∷ decimal file ∷ [])
+IsReplyText (Handle handle) text = text ≡ line_text (codes "ok handle" ∷ decimal handle ∷ [])
+IsReplyText (Version number) text = text ≡ line_text (codes "ok version" ∷ decimal number ∷ [])
+IsReplyText (Closed made) text = text ≡ closed_text made
+IsReplyText (Removed key) text = text ≡ line_text (codes "ok removed" ∷ key_words key)
+IsReplyText (Bytes bytes) text = text ≡ bytes_text bytes
+IsReplyText (FileStat stat) text = text ≡ file_text stat
+IsReplyText (DirStat row) text = text ≡ directory_text row
+IsReplyText (Rows versions) text = text ≡ versions_text versions
+IsReplyText (NameList names) text = text ≡ names_text names
+IsReplyText (RestoreList names) text = text ≡ restorable_text names
+IsReplyText (DueList keys) text = text ≡ due_text keys
+IsReplyText (UsageList usages) text = text ≡ usage_text usages
+IsReplyText (GroupList groups) text = text ≡ groups_text groups
+IsReplyText (Refused why) text = text ≡ refusal_text why
+
+-- the text of a stop: its number and its name
+abbrev pub stop_text : Stop → List ℕ
+stop_text stop = line_text (codes "stop" ∷ decimal (stop_number stop) ∷ stop_name stop ∷ [])
+
+-- the text is that of a reply, or of the stop in its place
+abbrev pub IsAnswerText : Result Reply Stop → List ℕ → Type 0
+IsAnswerText (Ok reply) text = IsReplyText reply text
+IsAnswerText (Err stop) text = text ≡ stop_text stop
+
+-- the text of the end of a pass: how it ended, and how many it removed
+abbrev pub pass_text : PassEnd → List ℕ
+pass_text (Finished removed) = line_text (codes "ok pass finished" ∷ decimal removed ∷ [])
+pass_text (Budget removed) = line_text (codes "ok pass budget" ∷ decimal removed ∷ [])
+pass_text (Stopped stop removed) =
+    line_text (codes "stop" ∷ decimal (stop_number stop) ∷ stop_name stop ∷ codes "removed" ∷ decimal removed ∷ [])
+
+-- the text of a bad line: the number and the name of its fault
+abbrev pub bad_text : LineFault → List ℕ
+bad_text fault = line_text (codes "bad" ∷ decimal (fault_number fault) ∷ fault_name fault ∷ [])
+
+-- the known bytes grew by the answer's text
+pub record WritesAnswer (answer : Result Reply Stop) (old new : Option (List ℕ)) : Type 0 where
+  pub text : List ℕ
+  pub is : IsAnswerText answer text
+  pub written : Appends old new text
+
+-- the known bytes grew by a front of the answer's text
+pub record WritesAnswerFront (answer : Result Reply Stop) (old new : Option (List ℕ)) : Type 0 where
+  pub text : List ℕ
+  pub is : IsAnswerText answer text
+  pub written : AppendsFront old new text

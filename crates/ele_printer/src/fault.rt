@@ -1,0 +1,135 @@
+//! What is wrong with a line, and a writer that refuses. A contract sees each fault as itself.
+ghost use Rattle.std.specs.Prelude.{◌≡◌};
+ghost use Rattle.ele_printer.specs.LineFault.{fault_number, fault_name, write_fault_number, write_fault_name, fault_of_path, fault_of_path_at};
+ghost use Rattle.ele_printer.specs.declared.fault.LineFault.TheVariants.{BadName, BadLadder, NoMemory};
+
+use ele_time_path::{PathAtFault, PathFault};
+use std::alloc::AllocError;
+use thiserror::Error;
+
+/// Why a line is no event: the first fault of the line, or want of memory.
+#[derive(Clone, Copy, Debug, PartialEq, Eq, Error)]
+pub enum LineFault {
+    /// A name is wanted and the bytes are none.
+    #[error("not a name")]
+    BadName,
+    /// A path is wanted: the word has no slash in front, an empty piece, or more than 32 pieces.
+    #[error("not a path")]
+    BadPath,
+    /// A moment is wanted and the word spells none.
+    #[error("not a moment")]
+    BadMoment,
+    /// A ladder or an interval is wanted, and the numbers are not those of one.
+    #[error("not a ladder")]
+    BadLadder,
+    /// The bytes, the spaces, the command, the number of words, or a bad word with no other fault.
+    #[error("not a command")]
+    Syntax,
+    /// The line has more than 8,192 bytes.
+    #[error("line too long")]
+    LineTooLong,
+    /// There was no memory to read the line. The line itself may be good or bad.
+    #[error("no memory")]
+    NoMemory,
+}
+
+impl LineFault {
+    /// Its number.
+    pub fn number(self) -> u8
+        ensures { result ≡ fault_number self }
+    {
+        match self {
+            LineFault::BadName => 28,
+            LineFault::BadPath => 29,
+            LineFault::BadMoment => 30,
+            LineFault::BadLadder => 31,
+            LineFault::Syntax => 32,
+            LineFault::LineTooLong => 33,
+            LineFault::NoMemory => 1,
+        }
+    }
+
+    /// Its name.
+    pub fn name(self) -> &'static str
+        ensures { result.now ≡ fault_name self }
+    {
+        match self {
+            LineFault::BadName => "BadName",
+            LineFault::BadPath => "BadPath",
+            LineFault::BadMoment => "BadMoment",
+            LineFault::BadLadder => "BadLadder",
+            LineFault::Syntax => "Syntax",
+            LineFault::LineTooLong => "LineTooLong",
+            LineFault::NoMemory => "NoMemory",
+        }
+    }
+}
+
+impl From<AllocError> for LineFault {
+    ghost from_gives = { λ _ fault. fault ≡ NoMemory };
+
+    fn from(_refused: AllocError) -> LineFault {
+        LineFault::NoMemory
+    }
+}
+
+impl From<ele_moment::BadName> for LineFault {
+    ghost from_gives = { λ _ fault. fault ≡ BadName };
+
+    fn from(_refused: ele_moment::BadName) -> LineFault {
+        LineFault::BadName
+    }
+}
+
+impl From<ele_policy::BadLadder> for LineFault {
+    ghost from_gives = { λ _ fault. fault ≡ BadLadder };
+
+    fn from(_refused: ele_policy::BadLadder) -> LineFault {
+        LineFault::BadLadder
+    }
+}
+
+impl From<PathFault> for LineFault {
+    ghost from_gives = { λ path fault. fault ≡ fault_of_path path };
+
+    fn from(fault: PathFault) -> LineFault {
+        match fault {
+            PathFault::BadName => LineFault::BadName,
+            PathFault::BadPath => LineFault::BadPath,
+            PathFault::BadMoment => LineFault::BadMoment,
+            PathFault::NoMemory => LineFault::NoMemory,
+        }
+    }
+}
+
+impl From<PathAtFault> for LineFault {
+    ghost from_gives = { λ timed fault. fault ≡ fault_of_path_at timed };
+
+    fn from(fault: PathAtFault) -> LineFault {
+        match fault {
+            PathAtFault::Path(fault) => LineFault::from(fault),
+            PathAtFault::Numbered => LineFault::Syntax,
+        }
+    }
+}
+
+/// A writer refused some bytes. What it took until then is a front of what it was given.
+#[derive(Clone, Copy, Debug, PartialEq, Eq, Error)]
+#[error("the output can't be written")]
+pub struct WriteFault;
+
+impl WriteFault {
+    /// Its number.
+    pub fn number(self) -> u8
+        ensures { result ≡ write_fault_number }
+    {
+        35
+    }
+
+    /// Its name.
+    pub fn name(self) -> &'static str
+        ensures { result.now ≡ write_fault_name }
+    {
+        "WriteFault"
+    }
+}

@@ -1,0 +1,19 @@
+//! The printing half of the script's language: the words that name a command, and the text of each
+//! reply. A contract sees replies as bytes, and a writer as those that it is known to hold.
+#![tactic(auto)]
+
+mod command;
+mod fault;
+mod group_rows;
+mod output;
+mod refusal;
+mod reply;
+mod row;
+mod rows;
+mod text;
+
+pub use command::Command;
+pub use fault::{LineFault, WriteFault};
+pub use output::{Output, put};
+pub use reply::{put_answer, put_fault, put_pass, put_reply, put_stop};
+pub use text::{write_fault, write_named, write_pass, write_reply};

@@ -1,0 +1,79 @@
+//! Putting refusals into an output. A contract sees a refusal as itself, and the output with its
+//! writer as an outlet.
+ghost use Rattle.std.specs.Prelude.{◌∷◌, [], List, ℕ, decimal, codes};
+ghost use Rattle.ele_world.specs.Answers.{refusal_number, refusal_name};
+ghost use Rattle.ele_printer.specs.Outlet.{outlet, Puts};
+ghost use Rattle.ele_printer.specs.Printed.{line_text, refusal_text};
+
+use crate::fault::WriteFault;
+use crate::output::{Output, put_line};
+use crate::reply::put_named;
+use ele_world::Refusal;
+use itoa::Buffer;
+use std::io::Write;
+
+/// Puts the line of a refusal. At a fault the writer took a front of all that was put.
+pub(crate) fn put_refusal<W: Write>(
+    why: &Refusal,
+    output: &mut Output,
+    writer: &mut W,
+) -> Result<(), WriteFault>
+    ensures { Puts (outlet (W.contents writer.old) output.old)
+        (outlet (W.contents writer.new) output.new) (refusal_text why.now) result }
+{
+    match why {
+        Refusal::Forgotten(None) => put_detail(why, b"-", output, writer),
+        Refusal::Forgotten(Some(before)) => {
+            let mut digits = Buffer::new();
+            put_detail(why, digits.format(before.0).as_bytes(), output, writer)
+        }
+        Refusal::Full(which) => put_detail(why, which.word().as_bytes(), output, writer),
+        _ => put_undetailed(why, output, writer),
+    }
+}
+
+// Puts the line of a refusal that tells one thing more.
+fn put_detail<W: Write>(
+    why: &Refusal,
+    detail: &[u8],
+    output: &mut Output,
+    writer: &mut W,
+) -> Result<(), WriteFault>
+    ensures { Puts (outlet (W.contents writer.old) output.old)
+        (outlet (W.contents writer.new) output.new)
+        (line_text (codes "no" ∷ decimal (refusal_number why.now) ∷ refusal_name why.now
+        ∷ detail.now ∷ [])) result }
+{
+    let mut digits = Buffer::new();
+    let number = digits.format(why.number()).as_bytes();
+    put_three(number, why.name().as_bytes(), detail, output, writer)
+}
+
+// Puts the line of a refusal that tells no more.
+fn put_undetailed<W: Write>(
+    why: &Refusal,
+    output: &mut Output,
+    writer: &mut W,
+) -> Result<(), WriteFault>
+    ensures { Puts (outlet (W.contents writer.old) output.old)
+        (outlet (W.contents writer.new) output.new)
+        (line_text (codes "no" ∷ decimal (refusal_number why.now) ∷ refusal_name why.now
+        ∷ [])) result }
+{
+    put_named(b"no", why.number(), why.name(), output, writer)
+}
+
+// Puts the line of a refusal of these three words.
+fn put_three<'w, W: Write>(
+    number: &'w [u8],
+    name: &'w [u8],
+    detail: &'w [u8],
+    output: &mut Output,
+    writer: &mut W,
+) -> Result<(), WriteFault>
+    ensures { Puts (outlet (W.contents writer.old) output.old)
+        (outlet (W.contents writer.new) output.new)
+        (line_text (codes "no" ∷ number.now ∷ name.now ∷ detail.now ∷ [])) result }
+{
+    put_line(b"no", &[number, name, detail], output, writer)
+}

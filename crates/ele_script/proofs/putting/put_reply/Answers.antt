@@ -1,5 +1,0 @@
-use Rattle.ele_script.proofs.Basics.{refl}
-use Rattle.ele_script.proofs.putting.put_reply.Goals as goal
-
-pub returns-in-Err : goal.returns-in-Err
-returns-in-Err g c = rw c.in-Err.is (_, refl, c.put_stop.ensures)
