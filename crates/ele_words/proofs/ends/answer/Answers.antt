@@ -7,7 +7,7 @@ pub returns-in-Run : goal.returns-in-Run
 returns-in-Run g c =
     rw c.in-Run.is (record {
       fault = c.err.result;
-      done = rw c.err.ensures.value c.run_script.ensures;
+      done = rw c.err.ensures.value c.run_script-ran.ensures;
       status_is = c.tell.ensures.status;
       told = c.tell.ensures.told;
     })
