@@ -93,4 +93,5 @@ pub mod GroupsChanged
 pub mod ReadsStill
 pub mod Writing
 pub mod SlotsKept
+pub mod Carried
 pub mod OneContent

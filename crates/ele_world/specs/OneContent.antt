@@ -19,8 +19,8 @@ file_read (Version file number) = file
 -- where one version wrote a slot of both, it has the same bytes in both
 abbrev pub Agree : List Cell → List Cell → Type 0
 Agree cells others =
-    (slot : ℕ) (cell other : Cell) → slice_get cells slot ≡ Some cell → slice_get others slot ≡ Some other
-    → cell.writer ≡ other.writer → cell.bytes ≡ other.bytes
+    (slot : ℕ) (cell other : Cell) → slice_get cells slot ≡ Some cell
+    → slice_get others slot ≡ Some other → cell.writer ≡ other.writer → cell.bytes ≡ other.bytes
 
 -- so do any two that are of one file, held versions or its draft; what isn't there has no cells
 abbrev pub HasOneContent : World → Type 0
