@@ -2,9 +2,6 @@
 use Rattle.ele_world.proofs.Basics.{nat_tests, arith, ◌≡◌, ℕ, ◌==◌, ◌&&◌, ◌||◌, not, Bool, false, List, [], ◌∷◌, Some, None, Ok, refl, subst, AllLater, list_any, bytes_eq, bytes_eq-Decides, all-found, all-weaker, all-none, find-append, find-remove_first, find-update_other, list_any-append, not_found, update_first, remove_first}
 use Rattle.ele_world.proofs.Words.{World, GroupRow, HasParts, IsGroup, Groups, AddMember, MakeGroup, RemoveMark, RemoveMember, adds, after_change, file_now, group_named, has_group, has_mark, is_group, is_member, new_group, removes, unmarks, plan, step, Done, GroupAdd, GroupDrop, GroupMake, GroupRemove, Unmark}
 use Rattle.ele_world.specs.GroupChanges.{ChangesGroup, IsGroupOf}
-use Rattle.ele_world.specs.GroupsCome.{GroupComes, GroupGoes}
-use Rattle.ele_world.specs.MarkGoes.{MarkGoes}
-use Rattle.ele_world.specs.MembersChange.{MemberComes, MemberGoes}
 use Rattle.ele_lists.proofs.Cuts.{any-found as first_passing}
 use Rattle.ele_world.proofs.Elements.{any_none, find-updated}
 use Rattle.ele_world.proofs.Outcomes.{in_all}

@@ -92,3 +92,6 @@ pub mod Tells
 pub mod GroupsChanged
 pub mod ReadsStill
 pub mod Writing
+pub mod SlotsKept
+pub mod Carried
+pub mod OneContent

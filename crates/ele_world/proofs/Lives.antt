@@ -1,7 +1,7 @@
 -- A held version's life before now stays: an event may end it, and then now.
 use Rattle.ele_world.proofs.Basics.{AllByRecursion, nat_tests, arith, ◌≡◌, ℕ, ◌<◌, ◌≤◌, List, [], ◌∷◌, Option, Some, None, find, AllLater, all-weaker, all-both}
 use Rattle.ele_world.proofs.Words.{World, Event, Change, Time, VersionRow, HasParts, ArePlaced, IsVersion, Versions, after_change, after_changes, ended_at, is_version, lives_at, plan}
-use Rattle.ele_world.specs.LifeStays.{LivesAsBefore, LifeStays}
+use Rattle.ele_world.specs.LifeStays.{LivesAsBefore}
 use Rattle.ele_world.proofs.Allowed.{allowed}
 use Rattle.ele_world.proofs.Keeps.{reached}
 use Rattle.ele_world.proofs.May.{May, MayAll}

@@ -1,7 +1,7 @@
 -- Name rows after an event: those before, in their order, but for those of a file that goes, and new ones behind.
 use Rattle.ele_world.proofs.Basics.{rules, nat_tests, arith, ◌≡◌, ℕ, ◌<◌, true, List, [], ◌∷◌, ◌++◌, ◌==◌, ◌&&◌, not, None, refl, inl, filter, list_any, AllByRecursion, AllLater, update_first, remove_first, all-push, all-weaker, filter-all, filter-same_all, list_any-append, list_any-update_first}
 use Rattle.ele_world.proofs.Words.{World, Event, Close, CleanOne, Revert, Read, NameRow, FileRow, Target, File, HasParts, Names, Files, DropIdle, EndDraft, ShutHandle, Take, Append, after_change, after_changes, MakeFile, PutUnder, Revive, Policy, numbered_on, put_under, IsThere, IsNameRow, born_row, dies, is_file, is_live_name, next_of, plan, step}
-use Rattle.ele_world.specs.NameRowsStay.{AreStillRows, is_there, NameRowsStay}
+use Rattle.ele_world.specs.NameRowsStay.{AreStillRows, is_there}
 use Rattle.ele_world.proofs.Dropped.{dropped, stays_named}
 use Rattle.ele_world.proofs.Elements.{any_none}
 use Rattle.ele_world.proofs.Outcomes.{AfterAll, in_all}

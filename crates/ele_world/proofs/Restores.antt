@@ -7,7 +7,7 @@ use Rattle.std.proofs.lemmas.Map.Entries.{none_past_head}
 use Rattle.ele_lists.proofs.Lasts.{find_last}
 use Rattle.ele_world.specs.Restorable.{restorable}
 use Rattle.ele_world.specs.RestorableLists.{RestorableLists}
-use Rattle.ele_world.specs.UndeleteTakes.{is_dead_name, cannot_return, UndeleteTakes}
+use Rattle.ele_world.specs.UndeleteTakes.{is_dead_name, cannot_return}
 use Rattle.ele_world.proofs.Newest.{Key, Entry, IsOwn, key_of, is_dead, name_total, newest_last, newest_own, sorted_rows}
 use Rattle.ele_world.specs.declared.event.Event.TheVariants as asked
 

@@ -1,7 +1,7 @@
 -- The time, the counts and the files' numbers rise with each event.
 use Rattle.ele_world.proofs.Basics.{arith, ◌≡◌, ℕ, ◌+◌, ◌<◌, ◌≤◌, true, false, List, [], ◌∷◌, ◌++◌, refl, ◌⊎◌, inl, AllLater, list_any, update_first, remove_first, list_any-append, list_any-update_first, nat_tests}
 use Rattle.ele_world.proofs.Words.{World, Event, Close, CleanOne, Create, Undelete, Revert, SetPolicy, default_of, Read, FileRow, Policy, HasParts, Files, DropIdle, EndDraft, ShutHandle, Take, MakeFile, after_change, is_file, next_of, numbered_on, put_under, plan, Counts, without_file, step}
-use Rattle.ele_world.specs.NumbersRise.{CountsOn, GoesOn, NumbersRise}
+use Rattle.ele_world.specs.NumbersRise.{CountsOn, GoesOn}
 use Rattle.ele_world.proofs.Dropped.{dropped, next_of-removed}
 use Rattle.ele_world.proofs.Files.{next_of-numbered_le, next_of-put_under, next_of-push}
 use Rattle.ele_world.proofs.Outcomes.{AfterAll, in_all}

@@ -4,11 +4,10 @@ use Rattle.ele_world.proofs.Words.{World, Event, Close, Read, DraftRow, HandleRo
 use Rattle.ele_content.specs.Content.{content_after_write, content_after_truncate}
 use Rattle.ele_content.proofs.Contents.{content_of-written, content_of-truncated}
 use Rattle.ele_lists.proofs.Cuts.{any-found as first_passing}
-use Rattle.ele_world.specs.DraftBegins.{BeginsDraft, DraftBegins}
+use Rattle.ele_world.specs.DraftBegins.{BeginsDraft}
 use Rattle.ele_world.specs.HandleReads.{ReadsMeant}
-use Rattle.ele_world.specs.HandleStays.{closes, HandleStays}
-use Rattle.ele_world.specs.TruncateFits.{TruncateFits}
-use Rattle.ele_world.specs.WriteLays.{ChangesDraft, WriteLays}
+use Rattle.ele_world.specs.HandleStays.{closes}
+use Rattle.ele_world.specs.WriteLays.{ChangesDraft}
 use Rattle.ele_world.proofs.Currents.{has_current}
 use Rattle.ele_world.proofs.Dropped.{dropped}
 use Rattle.ele_world.proofs.Elements.{find-updated}

@@ -4,6 +4,7 @@ ghost use Rattle.ele_world.specs.DraftsWritten.{DraftsWritten, DraftsWrittenInRu
 ghost use Rattle.ele_world.specs.LifeStays.{LifeStays};
 ghost use Rattle.ele_world.specs.NameRowsStay.{NameRowsStay};
 ghost use Rattle.ele_world.specs.NumbersRise.{NumbersRise};
+ghost use Rattle.ele_world.specs.OneContent.{OneContentStays, OneContentInRuns};
 ghost use Rattle.ele_world.specs.OtherNamesStay.{OtherNamesStay};
 ghost use Rattle.ele_world.specs.PastStays.{PastStays};
 ghost use Rattle.ele_world.specs.ReadsPast.{ReadsPast};
@@ -62,6 +63,21 @@ pub fn drafts_written()
 #[tactic(auto, using(crate::proofs::Writing::runs_have_writers, crate::proofs::StepKeeps::fresh_is, crate::proofs::Formed::in_parts, crate::proofs::Words::fresh_world))]
 pub fn drafts_written_in_runs()
     ensures { DraftsWrittenInRuns }
+{
+    policies_are_lawful();
+}
+
+/// An event leaves what one version wrote into a slot the same wherever it stands.
+pub fn one_content_stays()
+    ensures { OneContentStays }
+{
+    policies_are_lawful();
+}
+
+/// After any list of events it is the same.
+#[tactic(auto, using(crate::proofs::OneContent::runs_have_one, crate::proofs::StepKeeps::fresh_is, crate::proofs::Formed::in_parts, crate::proofs::Words::fresh_world))]
+pub fn one_content_in_runs()
+    ensures { OneContentInRuns }
 {
     policies_are_lawful();
 }
