@@ -12,3 +12,4 @@ pub mod Policies
 pub mod PolicyBack
 pub mod Values
 pub mod Laws
+pub mod LineLaws

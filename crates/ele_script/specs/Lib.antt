@@ -7,6 +7,7 @@ pub mod CommandOf
 pub mod Words
 pub mod Spells
 pub mod LineFault
+pub mod LineMeaning
 pub mod Memory
 pub mod EventOf
 pub mod FirstFault

@@ -6,6 +6,7 @@ mod arguments;
 mod command;
 mod fault;
 mod group_rows;
+pub mod line_laws;
 mod listing;
 mod output;
 mod pairs;
