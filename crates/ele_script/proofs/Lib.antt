@@ -10,3 +10,4 @@ pub mod Policies
 pub mod PolicyBack
 pub mod Values
 pub mod Laws
+pub mod LineLaws

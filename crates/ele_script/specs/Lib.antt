@@ -6,6 +6,7 @@ pub mod Command
 pub mod CommandOf
 pub mod Words
 pub mod Spells
+pub mod LineMeaning
 pub mod Memory
 pub mod EventOf
 pub mod FirstFault

@@ -5,6 +5,7 @@
 
 mod arguments;
 mod command;
+pub mod line_laws;
 mod pairs;
 pub mod policy_laws;
 mod reading;

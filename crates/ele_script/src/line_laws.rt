@@ -1,0 +1,13 @@
+//! What is true of lines. A law is the contract of a function that does nothing.
+ghost use Rattle.ele_script.specs.LineMeaning.{OneLineMeaning};
+
+use ele_time_path::one_meaning;
+
+/// No line asks for two things or has two first faults, and none that asks for something has one.
+#[tactic(auto, using(crate::proofs::LineLaws::one_line_meaning))]
+pub fn one_line_meaning()
+    ensures { OneLineMeaning }
+{
+    // Told for the proof: as a path, a word means one thing.
+    one_meaning();
+}
