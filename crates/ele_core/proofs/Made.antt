@@ -1,5 +1,5 @@
 -- A new file brings no key.
-use Rattle.ele_core.proofs.Words.{◌≡◌, ℕ, ◌+◌, Bool, cond, List, ◌∷◌, Option, Some, None, refl, ap, sym, ◌∙◌, arith, append-nil, subst, find, option_and_then, option_or, filter-append, find-append, list_any-append, nat_tests, IsQueued, IsSound, Rows, world_of, all-found, Policy, VersionRow, MakeFile, after_change, ripe_at, is_moment, view_of, HasParts, World, is_version, created, made_is, new_file, new_name, first_version, versions_before, ripe_at_is, unended, []}
+use Rattle.ele_core.proofs.Words.{◌≡◌, ℕ, ◌+◌, Bool, cond, List, ◌∷◌, Option, Some, None, refl, ap, sym, ◌∙◌, arith, append-nil, subst, find, option_and_then, option_or, filter-append, find-append, list_any-append, nat_tests, IsQueued, IsSound, Rows, world_of, all-found, Policy, VersionRow, MakeFile, after_change, ripe_at, is_moment, file_view, HasParts, World, is_version, created, made_is, new_file, new_name, first_version, versions_before, ripe_at_is, unended, []}
 use Rattle.ele_world.specs.Due.{ripe_of}
 
 module _ (w : World) (directory : ℕ) (name : List ℕ) (policy : Policy) (k : HasParts w) where
@@ -18,7 +18,7 @@ module _ (w : World) (directory : ℕ) (name : List ℕ) (policy : Policy) (k : 
       ∙ by (find (is_version file number) w.versions) refl
       ∙ sym (ripe_at_is w file number) where
         new : (b : Bool) → option_and_then (ripe_of made) (cond b (Some (first_version w id)) None) ≡ None
-        new x0 = grind (arith, nat_tests, unended (view_of made id) (first_version w id) refl, first_version w id)
+        new x0 = grind (arith, nat_tests, unended (file_view made id) (first_version w id) refl, first_version w id)
 
         by : (o : Option VersionRow) → find (is_version file number) w.versions ≡ o → option_and_then (ripe_of made) (option_or o (find (is_version file number) (first_version w id ∷ []))) ≡ option_and_then (ripe_of w) o
         by x0 e = grind (arith, nat_tests, new, first_version w id, all-found, versions_before w k, find-append, new_file, filter-append, first_version, append-nil, list_any-append, new_name)

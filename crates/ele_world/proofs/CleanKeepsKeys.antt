@@ -2,7 +2,7 @@
 -- stays so without it, and before that moment nothing is due, neither with it nor without.
 use Rattle.ele_world.proofs.Basics.{◌≡◌, ℕ, ◌≤◌, Bool, true, false, List, ◌∷◌, ◌++◌, Option, Some, None, IfSome, refl, ap, subst, ◌∙◌, option_map_or, arith, find, nat_le}
 use Rattle.ele_world.proofs.Basics.{AllByRecursion, nat_tests, all-weaker, all-both, all-found, not_found, all-append, all-around, find-cut, find-without}
-use Rattle.ele_world.proofs.Words.{Key, last_moment, VersionRow, ripe_at, view_of, TakesOneKey, first_due, Take, after_change, HasParts, World, is_version, clean_step}
+use Rattle.ele_world.proofs.Words.{Key, last_moment, VersionRow, ripe_at, file_view, TakesOneKey, first_due, Take, after_change, HasParts, World, is_version, clean_step}
 use Rattle.ele_world.specs.Due.{is_due_at, ripe_of}
 use Rattle.ele_world.specs.Scan.{due_key}
 use Rattle.ele_world.proofs.DropViews.{ripe_at_dropped}
@@ -38,7 +38,7 @@ module _ (w : World) (before : List VersionRow) (row : VersionRow) (behind : Lis
   unfolding ripe_of is_due_at
   stay =
       let told = all-around (IsLater w first) before row behind (subst (AllByRecursion (IsLater w first)) whole later) in
-      all-weaker (λ x. IsBeside row x × IsLater w first x) (λ x. ripe_of without_row x ≡ ripe_of w x) (before ++ behind) (λ x h. ripe_same (view_of w x.file) (view_of without_row x.file) x refl (due_stays x h.0 h.1))
+      all-weaker (λ x. IsBeside row x × IsLater w first x) (λ x. ripe_of without_row x ≡ ripe_of w x) (before ++ behind) (λ x h. ripe_same (file_view w x.file) (file_view without_row x.file) x refl (due_stays x h.0 h.1))
       (all-both (IsBeside row) (IsLater w first) (before ++ behind) (sides w before row behind k whole) (all-append (IsLater w first) before behind told.0 told.2))
 
   others : (file number : ℕ) → is_version file number row ≡ false → ripe_at without_row file number ≡ ripe_at w file number

@@ -1,6 +1,6 @@
 -- Due versions and ripe moments after a change that no file's view sees, as the dropping of an idle file.
 use Rattle.ele_world.proofs.Basics.{◌≡◌, ℕ, ap, arith, option_and_then, AllByRecursion, nat_tests, all-any, all-weaker, all-found, filter-same_all}
-use Rattle.ele_world.proofs.Words.{DropIdle, after_change, ripe_at, kept_rows, FileView, view_of, due_in, World, is_version, VersionRow}
+use Rattle.ele_world.proofs.Words.{DropIdle, after_change, ripe_at, kept_rows, FileView, file_view, due_in, World, is_version, VersionRow}
 use Rattle.ele_world.specs.Due.{is_due_at, ripe_of}
 use Rattle.ele_world.proofs.Dropped.{dropped, live_other, idle_versions, policy_of-removed}
 use Rattle.ele_world.proofs.GroupMarks.{marks_forgotten}
@@ -10,16 +10,16 @@ use Rattle.ele_world.proofs.RipeAt.{ripe_at_is}
 pub record SeesSame (w v : World) : Type 0 where
   pub now : v.now ≡ w.now
   pub versions : v.versions ≡ w.versions
-  pub views : AllByRecursion (λ (row : VersionRow). view_of v row.file ≡ view_of w row.file) w.versions
+  pub views : AllByRecursion (λ (row : VersionRow). file_view v row.file ≡ file_view w row.file) w.versions
 
 module _ (w v : World) (same : SeesSame w v) where
   pub due_same : AllByRecursion (λ row. (at : ℕ) → is_due_at v row at ≡ is_due_at w row at) w.versions
   unfolding is_due_at
-  due_same = all-weaker (λ (row : VersionRow). view_of v row.file ≡ view_of w row.file) (λ row. (at : ℕ) → is_due_at v row at ≡ is_due_at w row at) w.versions (λ row e at. ap (λ (view : FileView). due_in view row at) e) same.views
+  due_same = all-weaker (λ (row : VersionRow). file_view v row.file ≡ file_view w row.file) (λ row. (at : ℕ) → is_due_at v row at ≡ is_due_at w row at) w.versions (λ row e at. ap (λ (view : FileView). due_in view row at) e) same.views
 
   pub ripe_at_same : (file number : ℕ) → ripe_at v file number ≡ ripe_at w file number
   unfolding ripe_of
-  ripe_at_same file number = grind (arith, nat_tests, ripe_at_is, option_and_then, is_version, all-found (is_version file number) (λ (row : VersionRow). view_of v row.file ≡ view_of w row.file) w.versions, same)
+  ripe_at_same file number = grind (arith, nat_tests, ripe_at_is, option_and_then, is_version, all-found (is_version file number) (λ (row : VersionRow). file_view v row.file ≡ file_view w row.file) w.versions, same)
 
   pub kept_same : kept_rows v ≡ kept_rows w
   kept_same = grind (arith, nat_tests, filter-same_all, all-weaker, due_same, same.now)

@@ -1,7 +1,7 @@
 -- The scan, one row after another.
 use Rattle.ele_world.proofs.Basics.{nat_tests, arith, ◌≡◌, ℕ, ◌+◌, ◌<◌, ◌≤◌, ◌||◌, Bool, true, false, cond, List, [], ◌∷◌, length, get_or, take, Option, Some, None}
 use Rattle.ele_world.proofs.Basics.{refl, fold, filter, nat_le, option_and_then, filter_map, cons_option, take_more, filter_map-append, fold-append, insert_key, filter-both}
-use Rattle.ele_world.proofs.Words.{Key, last_moment, Policy, IsLawful, VersionRow, view_of, is_version_of, is_newer, closings, is_protected, is_marked, is_newer_of, IsDueFromRipe, in_order, key_cmp, key_of, World, is_live, is_open, policy_of}
+use Rattle.ele_world.proofs.Words.{Key, last_moment, Policy, IsLawful, VersionRow, file_view, is_version_of, is_newer, closings, is_protected, is_marked, is_newer_of, IsDueFromRipe, in_order, key_cmp, key_of, World, is_live, is_open, policy_of}
 use Rattle.ele_policy.specs.Ripe.{ripe_by}
 use Rattle.ele_world.specs.Due.{is_due_at, ripe_of}
 use Rattle.ele_world.specs.Scan.{due_key}
@@ -19,14 +19,14 @@ IsRipeOf w row ripe = (ripe ≡ ripe_of w row) × IsDueFromRipe w row
 abbrev pub is_open_or_marked : World → VersionRow → Bool
 is_open_or_marked w row = is_open w.handles row.file row.number || is_marked w.groups row.file row.closed row.ended
 
-protected_is : (w : World) (row : VersionRow) → is_protected (view_of w row.file) row 0 ≡ is_open_or_marked w row
+protected_is : (w : World) (row : VersionRow) → is_protected (file_view w row.file) row 0 ≡ is_open_or_marked w row
 protected_is w row = rw (numbers_are w.handles row.file row.number, marks_tell w.groups row.file row.closed row.ended) refl
 
 module _ (w : World) (row : VersionRow) where
   -- of one that is protected
   pub ripe-protected : is_open_or_marked w row ≡ true → IsRipeOf w row None
   unfolding ripe_of is_due_at
-  ripe-protected is = grind (arith, nat_tests, protected_is w row, protected_ripe (view_of w row.file) row)
+  ripe-protected is = grind (arith, nat_tests, protected_is w row, protected_ripe (file_view w row.file) row)
 
   -- of one whose file is missing
   pub ripe-unfiled : policy_of w.files row.file ≡ None → IsRipeOf w row None
@@ -43,7 +43,7 @@ module _ (w : World) (row : VersionRow) where
     pub ripe-told : (policy : Policy) (ended : ℕ) (ripe : Option ℕ) → policy_of w.files row.file ≡ Some policy → IsLawful policy → row.ended ≡ Some ended
         → ((live : Bool) → ripe ≡ ripe_by policy row.closed (record { newer = closings (filter (is_newer_of row.file row.number) w.versions); live = live }) ended) → IsRipeOf w row ripe
     unfolding ripe_of
-    ripe-told policy ended ripe filed given end is = grind (arith, nat_tests, is (is_live w row.file), filter-both (is_newer row) (is_version_of row.file) w.versions, free_ripe (view_of w row.file) row policy ended, protected_is w row, due_from_ripe_of w row)
+    ripe-told policy ended ripe filed given end is = grind (arith, nat_tests, is (is_live w row.file), filter-both (is_newer row) (is_version_of row.file) w.versions, free_ripe (file_view w row.file) row policy ended, protected_is w row, due_from_ripe_of w row)
 
 -- ---- and its key
 

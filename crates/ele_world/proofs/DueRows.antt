@@ -1,6 +1,6 @@
 -- The first key of the scan is that of a due row.
 use Rattle.ele_world.proofs.Basics.{nat_tests, arith, ◌≡◌, ℕ, true, false, List, [], ◌∷◌, Option, Some, find, is_none, IfSome, nat_le, option_map_or, slice_get, fold, insert_key, AllByRecursion, filter_map, false≢true, AllLater}
-use Rattle.ele_world.proofs.Words.{Key, VersionRow, ripe_of, view_of, is_protected, is_marked, key_cmp, first_due, ArePlaced, World, is_open, is_version}
+use Rattle.ele_world.proofs.Words.{Key, VersionRow, ripe_of, file_view, is_protected, is_marked, key_cmp, first_due, ArePlaced, World, is_open, is_version}
 use Rattle.ele_world.specs.Due.{is_due_at}
 use Rattle.ele_world.specs.Scan.{due_key, scan}
 use Rattle.ele_world.proofs.GroupMarks.{marks_tell}
@@ -52,7 +52,7 @@ unfolding is_due_at
 due_has_ended w row at h = grind (arith, nat_tests, false≢true)
 
 -- and isn't protected
-due_is_free : (w : World) (row : VersionRow) (at : ℕ) → is_due_at w row at ≡ true → is_protected (view_of w row.file) row at ≡ false
+due_is_free : (w : World) (row : VersionRow) (at : ℕ) → is_due_at w row at ≡ true → is_protected (file_view w row.file) row at ≡ false
 unfolding is_due_at
 due_is_free w row at h = grind (arith, nat_tests, false≢true)
 

@@ -1,7 +1,7 @@
 -- A world that lags: its files that are there are seen as in the other, so the same of its versions are due.
 use Rattle.ele_world.proofs.Basics.{◌≡◌, ℕ, None, Bool, true, false, not, List, refl, ap, sym, ◌∙◌, arith, nat_tests, filter, list_any, AllByRecursion, all-both, all-filter, all-weaker, filter-passes, list_any-filter, any-found}
 use Rattle.ele_lists.proofs.Filters.{find-filter}
-use Rattle.ele_world.proofs.Words.{FileRow, NameRow, VersionRow, first_due, kept_rows, view_of, is_file, is_version, is_live_name_of, next_of, policy_of, HasParts, World}
+use Rattle.ele_world.proofs.Words.{FileRow, NameRow, VersionRow, first_due, kept_rows, file_view, is_file, is_version, is_live_name_of, next_of, policy_of, HasParts, World}
 use Rattle.ele_world.specs.AnyDueLeave.{AreDue, without_versions}
 use Rattle.ele_world.specs.Due.{is_due_at}
 use Rattle.ele_world.specs.Lags.{Lags}
@@ -66,7 +66,7 @@ module _ (gone : ℕ → ℕ → Bool) (dropped : ℕ → Bool) (v : World) (k :
   sees = record {
     now = refl;
     versions = refl;
-    views = all-weaker IsOfLeft (λ row. view_of u row.file ≡ view_of whole row.file) whole.versions (λ row stays. rw (policy_same dropped row.file stays v.files, live_same dropped row.file stays v.names) refl) all_of_left;
+    views = all-weaker IsOfLeft (λ row. file_view u row.file ≡ file_view whole row.file) whole.versions (λ row stays. rw (policy_same dropped row.file stays v.files, live_same dropped row.file stays v.names) refl) all_of_left;
   }
 
   pub kept_lags : kept_rows u ≡ kept_rows v

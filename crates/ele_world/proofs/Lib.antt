@@ -85,6 +85,9 @@ pub mod Lives
 pub mod Restores
 pub mod ScanOrder
 pub mod DifferentPlaces
+pub mod SlotsKept
+pub mod Carried
+pub mod OneContent
 pub mod Governs
 pub mod Written
 pub mod Numbered
@@ -92,6 +95,3 @@ pub mod Tells
 pub mod GroupsChanged
 pub mod ReadsStill
 pub mod Writing
-pub mod SlotsKept
-pub mod Carried
-pub mod OneContent

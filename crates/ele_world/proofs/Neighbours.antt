@@ -2,7 +2,7 @@
 -- held neighbour tell.
 use Rattle.ele_world.proofs.Basics.{◌≡◌, ℕ, ◌+◌, ◌≤◌, ◌==◌, ◌&&◌, ◌||◌, Bool, true, false, not, cond, List, [], ◌∷◌, Option, Some, None, refl, arith, filter, slice_get, find, option_and_then, IfSome, AllByRecursion, list_any, option_map_or}
 use Rattle.ele_world.proofs.Basics.{nat_tests, slice_get-map, find-cut, find-filter_both, AllLater, update_first, all-weaker, not_found}
-use Rattle.ele_world.proofs.Words.{Policy, IsLawful, IsNearest, is_due_by, alone, candidates, earliest_of, FileRow, VersionRow, ended_at, ripe_at, FileView, view_of, beside, ripe_in, covers_moment, is_marked, near_moment}
+use Rattle.ele_world.proofs.Words.{Policy, IsLawful, IsNearest, is_due_by, alone, candidates, earliest_of, FileRow, VersionRow, ended_at, ripe_at, FileView, file_view, beside, ripe_in, covers_moment, is_marked, near_moment}
 use Rattle.ele_world.proofs.Words.{next_closing, moment_under, free_moment, ArePlaced, AreVersions, IsVersion, Versions, HasParts, World, is_open, is_version, next_of, policy_of}
 use Rattle.ele_policy.specs.Ripe.{ripe_by}
 use Rattle.ele_world.specs.Due.{ripe_of}
@@ -62,7 +62,7 @@ ripe_of_near w ordered file number row found =
     let its : row.number ≡ number = grind (arith, nat_tests) in
     let view = view_in w row.file ordered.policies ordered.lives ordered.placed in
     let near = nearest_of w cut.before row cut.behind view cut.whole in
-    rw (← own, ← its) (grind (arith, nat_tests, ripe_in_near (view_of w row.file) row (next_closing w.versions row.file row.number) view.governed, near, slice_get-map, slice_get-filter, find-filter_both, numbers_are w.handles row.file row.number, marks_tell w.groups row.file row.closed))
+    rw (← own, ← its) (grind (arith, nat_tests, ripe_in_near (file_view w row.file) row (next_closing w.versions row.file row.number) view.governed, near, slice_get-map, slice_get-filter, find-filter_both, numbers_are w.handles row.file row.number, marks_tell w.groups row.file row.closed))
 
 pub ripe_at_near : (w : World) (file number : ℕ) → AreInOrder w.files w.versions → ripe_at w file number ≡ cond (is_open w.handles file number) None (free_moment w.groups w.files w.versions file number)
 ripe_at_near w file number ordered = grind (arith, nat_tests, ripe_at_is w file number, ripe_of_near w ordered file number)

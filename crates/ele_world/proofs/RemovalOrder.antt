@@ -1,6 +1,6 @@
 -- The law of the order of removal. Whichever due row is taken out, every other row is due as before, at each moment at which it was due.
 use Rattle.ele_world.proofs.Basics.{◌≡◌, ℕ, Bool, true, not, List, ◌∷◌, ◌++◌, Some, refl, ap, subst, ◌∙◌, filter, arith, ◌⊎◌, inl, inr, IfSome, nat_tests, AllLater, sym, find, AllByRecursion, filter-append, all-weaker, all-append, all-around, later-around, filter-same_all, remove_first, find-cut, remove_first-at}
-use Rattle.ele_world.proofs.Words.{IsLawful, VersionRow, FileView, is_newer, closings, due_in, ArePlaced, view_of, is_version, is_version_of, Take, after_change, HasParts, World, LeavesDue}
+use Rattle.ele_world.proofs.Words.{IsLawful, VersionRow, FileView, is_newer, closings, due_in, ArePlaced, file_view, is_version, is_version_of, Take, after_change, HasParts, World, LeavesDue}
 use Rattle.ele_world.proofs.Views.{IsLife, Precedes, newer_is, newer_before, newer_without, newer_behind, precedes, view_is, lives_of, placed_of, own_rows, other_rows}
 use Rattle.std.proofs.lemmas.List.{map-append}
 use Rattle.ele_world.specs.Due.{is_due_at}
@@ -38,7 +38,7 @@ module _ (w : World) (before : List VersionRow) (row : VersionRow) (behind : Lis
   own rows = filter (is_version_of row.file) rows
 
   abbrev with_own : List VersionRow → FileView
-  with_own rows = with_rows (view_of w row.file) rows
+  with_own rows = with_rows (file_view w row.file) rows
 
   own_is : own w.versions ≡ own before ++ row ∷ own behind
   own_is = ap own whole ∙ own_rows before row behind
@@ -57,11 +57,11 @@ module _ (w : World) (before : List VersionRow) (row : VersionRow) (behind : Lis
 
   pub stays : (at : ℕ) → is_due_at w row at ≡ true → (x : VersionRow) → IsBeside row x → is_due_at rest x at ≡ is_due_at w x at
   unfolding is_due_at
-  stays at due x side = seen (λ now then. then ≡ now) (λ b. refl) at x (λ same. sym (others_stay (view_of w row.file) (own before) row (own behind) own_placed life (view_is w k row.file).governed x at (side same)
+  stays at due x side = seen (λ now then. then ≡ now) (λ b. refl) at x (λ same. sym (others_stay (file_view w row.file) (own before) row (own behind) own_placed life (view_is w k row.file).governed x at (side same)
       (subst (λ rows. due_in (with_own rows) row at ≡ true) own_is due)))
 
   pub no_more : (at : ℕ) (x : VersionRow) → IsBeside row x → is_due_at rest x at ≡ true → is_due_at w x at ≡ true
-  no_more at x side = seen (λ now then. then ≡ true → now ≡ true) (λ b h. h) at x (λ same. no_more_due (view_of w row.file) (own before) row (own behind) own_placed life (view_is w k row.file).governed x at (side same))
+  no_more at x side = seen (λ now then. then ≡ true → now ≡ true) (λ b h. h) at x (λ same. no_more_due (file_view w row.file) (own before) row (own behind) own_placed life (view_is w k row.file).governed x at (side same))
 
   pub sides : AllByRecursion (IsBeside row) (before ++ behind)
   sides = grind (arith, nat_tests, whole, later-around ArePlaced before row behind, placed_of w k, all-append, all-weaker, precedes)

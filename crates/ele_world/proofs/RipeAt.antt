@@ -1,6 +1,6 @@
 -- The ripe moment of a version that is found by its number, and the scan as the moments that have come.
 use Rattle.ele_world.proofs.Basics.{◌≡◌, ℕ, ◌≤◌, Bool, true, false, ◌&&◌, List, [], ◌∷◌, Option, Some, None, refl, ap, ◌∙◌, arith, find, nat_le, option_and_then, AllByRecursion, filter_map, list_any, option_map_or, nat_tests, AllLater, found_passes, find-filter_both}
-use Rattle.ele_world.proofs.Words.{Key, has_key, is_key, is_ripe_by, last_moment, VersionRow, ripe_at, is_moment, FileView, view_of, is_version_of, is_numbered, due_in, ripe_in, IsDueFromRipe, ArePlaced, HasParts, World, is_version}
+use Rattle.ele_world.proofs.Words.{Key, has_key, is_key, is_ripe_by, last_moment, VersionRow, ripe_at, is_moment, FileView, file_view, is_version_of, is_numbered, due_in, ripe_in, IsDueFromRipe, ArePlaced, HasParts, World, is_version}
 use Rattle.ele_world.specs.Due.{is_due, ripe_of}
 use Rattle.ele_world.specs.FileView.{ripe_numbered}
 use Rattle.ele_world.specs.Scan.{due_key}
@@ -9,10 +9,10 @@ use Rattle.ele_world.proofs.Views.{now_of, placed_of}
 
 pub ripe_at_is : (w : World) (file number : ℕ) → ripe_at w file number ≡ option_and_then (ripe_of w) (find (is_version file number) w.versions)
 unfolding ripe_numbered ripe_of
-ripe_at_is w file number = ap (option_and_then (ripe_in (view_of w file))) (find-filter_both (is_numbered number) (is_version_of file) w.versions) ∙ by (find (is_version file number) w.versions) refl where
-  by : (o : Option VersionRow) → find (is_version file number) w.versions ≡ o → option_and_then (ripe_in (view_of w file)) o ≡ option_and_then (λ row. ripe_in (view_of w row.file) row) o
+ripe_at_is w file number = ap (option_and_then (ripe_in (file_view w file))) (find-filter_both (is_numbered number) (is_version_of file) w.versions) ∙ by (find (is_version file number) w.versions) refl where
+  by : (o : Option VersionRow) → find (is_version file number) w.versions ≡ o → option_and_then (ripe_in (file_view w file)) o ≡ option_and_then (λ row. ripe_in (file_view w row.file) row) o
   by None e = refl
-  by (Some row) e = let same : file ≡ row.file = grind (arith, nat_tests, found_passes (is_version file number) w.versions row e) in ap (λ f. ripe_in (view_of w f) row) same
+  by (Some row) e = let same : file ≡ row.file = grind (arith, nat_tests, found_passes (is_version file number) w.versions row e) in ap (λ f. ripe_in (file_view w f) row) same
 
 -- a version without an end has none
 pub unended : (v : FileView) (row : VersionRow) → row.ended ≡ None → ripe_in v row ≡ None

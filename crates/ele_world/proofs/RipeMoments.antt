@@ -1,6 +1,6 @@
 -- A held version is due from its ripe moment on, which its next held version tells.
 use Rattle.ele_world.proofs.Basics.{AllByRecursion, ◌≡◌, ℕ, ◌≤◌, ◌&&◌, Bool, true, false, not, List, [], ◌∷◌, nat_tests, Option, Some, None, refl, sym, subst, ◌∙◌, nat_le, option_and_then, IfSome, option_map_or, all-split, all-any, arith}
-use Rattle.ele_world.proofs.Words.{Policy, is_due_by, candidates, earliest_of, last_moment, IsLawful, VersionRow, FileView, view_of, beside, is_protected, ripe_in, IsDueFromRipe, RipeIsAnswer, HasParts, World, policy_of}
+use Rattle.ele_world.proofs.Words.{Policy, is_due_by, candidates, earliest_of, last_moment, IsLawful, VersionRow, FileView, file_view, beside, is_protected, ripe_in, IsDueFromRipe, RipeIsAnswer, HasParts, World, policy_of}
 use Rattle.ele_policy.specs.Ripe.{ripe_by}
 use Rattle.ele_world.specs.Due.{is_due_at, ripe_of}
 use Rattle.ele_world.proofs.Views.{view_is, nearest_of}
@@ -33,7 +33,7 @@ pub due_from_ripe_of : (w : World) (row : VersionRow) → IfSome (policy_of w.fi
 unfolding is_due_at ripe_of ripe_by
 due_from_ripe_of w row governed at fits = by (is_protected v row at) v.policy row.ended governed where
   v : FileView
-  v = view_of w row.file
+  v = file_view w row.file
 
   by : (b : Bool) (p : Option Policy) (e : Option ℕ) → IfSome p IsLawful → due_by b v row p e at ≡ option_map_or (λ ripe. nat_le ripe at) (ripe_if b v row p e) false
   by true p e given = rw (never_ripe v row p e) refl
@@ -56,5 +56,5 @@ free_ripe v row policy ended free filed ends = subst (λ b. ripe_if b v row v.po
 pub ripe_is_answered : (w : World) → HasParts w → AllByRecursion (RipeIsAnswer w) w.versions
 unfolding ripe_of
 ripe_is_answered w k = all-split (RipeIsAnswer w) w.versions (λ before row behind whole policy ended answer filed ends free is.
-    let v = view_of w row.file in
+    let v = file_view w row.file in
     free_ripe v row policy ended (free 0) filed ends ∙ sym (is (beside v row) (nearest_of w before row behind (view_is w k row.file) whole)))

@@ -1,7 +1,7 @@
 -- A file's rows in a well-formed world, and which are newer than one of them, by its place.
 use Rattle.ele_world.proofs.Basics.{all-found, ◌≡◌, ℕ, ◌<◌, ◌≤◌, false, List, [], ◌∷◌, ◌++◌, Some, filter, arith, slice_get, IfSome, AllByRecursion, filter-append, IfSome_then, nat_tests, AllLater, all-weaker, all-filter, all-map, all-right}
 use Rattle.ele_world.proofs.Basics.{later-right, later-filter, later-around, filter-all, filter-none}
-use Rattle.ele_world.proofs.Words.{is_file, last_moment, IsLawful, IsNearest, FileRow, VersionRow, FileView, view_of, is_version_of, is_newer, closings, beside, Now, Files, Versions, IsFile, IsVersion, ArePlaced, HasParts, World, policy_of, Law}
+use Rattle.ele_world.proofs.Words.{is_file, last_moment, IsLawful, IsNearest, FileRow, VersionRow, FileView, file_view, is_version_of, is_newer, closings, beside, Now, Files, Versions, IsFile, IsVersion, ArePlaced, HasParts, World, policy_of, Law}
 use Rattle.ele_world.proofs.Formed.{law_of}
 
 -- the version didn't end before it closed
@@ -45,10 +45,10 @@ pub policy_is : (files : List FileRow) (file : ℕ) → AllByRecursion (λ row. 
 policy_is files file all = grind (arith, nat_tests, all-found (is_file file) (λ row. IsLawful row.policy) files)
 
 -- each file of a world is so whose rows are
-pub view_in : (w : World) (file : ℕ) → AllByRecursion (λ row. IsLawful row.policy) w.files → AllByRecursion IsLife w.versions → AllLater ArePlaced w.versions → IsView (view_of w file)
+pub view_in : (w : World) (file : ℕ) → AllByRecursion (λ row. IsLawful row.policy) w.files → AllByRecursion IsLife w.versions → AllLater ArePlaced w.versions → IsView (file_view w file)
 view_in w file policies lives placed = grind (arith, nat_tests, policy_is w.files file policies, all-filter IsLife (is_version_of file) w.versions lives, later-filter ArePlaced Precedes (is_version_of file) w.versions, precedes)
 
-pub view_is : (w : World) → HasParts w → (file : ℕ) → IsView (view_of w file)
+pub view_is : (w : World) → HasParts w → (file : ℕ) → IsView (file_view w file)
 view_is w k file = view_in w file (policies_of w k) (lives_of w k) (placed_of w k)
 
 -- ---- the newer rows
@@ -85,8 +85,8 @@ pub own_rows : (before : List VersionRow) (row : VersionRow) (behind : List Vers
 own_rows before row behind = grind (arith, nat_tests, filter-append)
 
 -- so what stands beside a version of a world is as its policy wants it
-pub nearest_of : (w : World) (before : List VersionRow) (row : VersionRow) (behind : List VersionRow) → IsView (view_of w row.file) → w.versions ≡ before ++ row ∷ behind
-    → IsNearest row.closed (slice_get (beside (view_of w row.file) row).newer 0) (beside (view_of w row.file) row)
+pub nearest_of : (w : World) (before : List VersionRow) (row : VersionRow) (behind : List VersionRow) → IsView (file_view w row.file) → w.versions ≡ before ++ row ∷ behind
+    → IsNearest row.closed (slice_get (beside (file_view w row.file) row).newer 0) (beside (file_view w row.file) row)
 nearest_of w before row behind view whole = grind (arith, nat_tests, own_rows before row behind, closings_rise (row ∷ filter (is_version_of row.file) behind), newer_is (filter (is_version_of row.file) before) row (filter (is_version_of row.file) behind), all-right IsLife (filter (is_version_of row.file) before) (row ∷ filter (is_version_of row.file) behind), later-right Precedes (filter (is_version_of row.file) before) (row ∷ filter (is_version_of row.file) behind))
 
 -- of another file

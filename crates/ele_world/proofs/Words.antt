@@ -26,7 +26,7 @@ pub use Rattle.ele_world.specs.CreateLeads.{LeadsToNew}
 pub use Rattle.ele_world.specs.Due.{is_due_at, kept_rows, ripe_at, ripe_of}
 pub use Rattle.ele_world.specs.Ever.{last_stood}
 pub use Rattle.ele_world.specs.FileUsage.{file_usage}
-pub use Rattle.ele_world.specs.FileView.{FileView, beside, closings, due_in, is_newer, is_numbered, is_protected, is_version_of, numbers_read, ripe_in, ripe_numbered, view_of}
+pub use Rattle.ele_world.specs.FileView.{FileView, beside, closings, due_in, is_newer, is_numbered, is_protected, is_version_of, numbers_read, ripe_in, ripe_numbered, file_view}
 pub use Rattle.ele_world.specs.GroupRows.{adds, covers_moment, forgets, forgotten, group_named, has_covering, has_group, has_mark, has_member, is_group, is_marked, is_marked_at, is_member, marks, marks_over, new_group, removes, unmarks, with_mark, with_member, without_group, without_mark, without_member}
 pub use Rattle.ele_world.specs.GroupsAsked.{has_covering_without, is_marked_without, marks_of, members_of}
 pub use Rattle.ele_world.specs.HeldStays.{IsSameVersion, StaysSame}

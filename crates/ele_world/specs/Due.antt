@@ -2,12 +2,12 @@
 use Rattle.std.specs.Prelude.{ℕ, Bool, false, not, List, Option, find, filter}
 use Rattle.std.specs.Option.{option_map_or}
 use Rattle.ele_world.specs.declared.rows.VersionRow.{VersionRow}
-use Rattle.ele_world.specs.FileView.{view_of, due_in, ripe_in, ripe_numbered}
+use Rattle.ele_world.specs.FileView.{file_view, due_in, ripe_in, ripe_numbered}
 use Rattle.ele_world.specs.World.{World, is_version}
 
 -- the version is due at that moment, as its file stands now
 unfoldable pub is_due_at : World → VersionRow → ℕ → Bool
-is_due_at w row at = due_in (view_of w row.file) row at
+is_due_at w row at = due_in (file_view w row.file) row at
 
 -- the version is held, and due now
 unfoldable pub is_due : World → ℕ → ℕ → Bool
@@ -15,11 +15,11 @@ is_due w file number = option_map_or (λ row. is_due_at w row w.now) (find (is_v
 
 -- the version's ripe moment, as its file stands now
 unfoldable pub ripe_of : World → VersionRow → Option ℕ
-ripe_of w row = ripe_in (view_of w row.file) row
+ripe_of w row = ripe_in (file_view w row.file) row
 
 -- the ripe moment of the file's version with that number, if it is held and has one
 abbrev pub ripe_at : World → ℕ → ℕ → Option ℕ
-ripe_at w file number = ripe_numbered (view_of w file) number
+ripe_at w file number = ripe_numbered (file_view w file) number
 
 -- the rows that are due
 abbrev pub due_rows : World → List VersionRow

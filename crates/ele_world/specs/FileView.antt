@@ -32,8 +32,8 @@ number_read file (Version read number) = if read == file then Some number else N
 abbrev pub numbers_read : List HandleRow → ℕ → List ℕ
 numbers_read rows file = filter_map (λ row. number_read file row.reads) rows
 
-abbrev pub view_of : World → ℕ → FileView
-view_of w file = record {
+abbrev pub file_view : World → ℕ → FileView
+file_view w file = record {
   policy = policy_of w.files file;
   rows = filter (is_version_of file) w.versions;
   live = is_live w file;

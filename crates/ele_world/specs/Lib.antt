@@ -66,6 +66,7 @@ pub mod UndeleteTakes
 pub mod RestorableLists
 pub mod ScanLists
 pub mod CountsPlaces
+pub mod OneContent
 pub mod PolicyGoverns
 pub mod DefaultGoverns
 pub mod MarkMarks
@@ -84,4 +85,3 @@ pub mod MembersChange
 pub mod MarkGoes
 pub mod ReadsPast
 pub mod DraftsWritten
-pub mod OneContent

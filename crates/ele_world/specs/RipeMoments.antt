@@ -7,7 +7,7 @@ use Rattle.ele_policy.specs.declared.policy.Policy.{Policy}
 use Rattle.ele_policy.specs.Ripe.{IsRipe}
 use Rattle.ele_world.specs.declared.rows.VersionRow.{VersionRow}
 use Rattle.ele_world.specs.Due.{is_due_at, ripe_of}
-use Rattle.ele_world.specs.FileView.{view_of, beside, is_protected}
+use Rattle.ele_world.specs.FileView.{file_view, beside, is_protected}
 use Rattle.ele_world.specs.WellFormed.{IsWellFormed}
 use Rattle.ele_world.specs.World.{World}
 
@@ -22,7 +22,7 @@ DueFromRipe = (w : World) → IsWellFormed w → AllByRecursion (IsDueFromRipe w
 -- closing of the next held version is its ripe moment
 abbrev pub RipeIsAnswer : World → VersionRow → Type 0
 RipeIsAnswer w row =
-    let v = view_of w row.file in
+    let v = file_view w row.file in
     (policy : Policy) (ended : ℕ) (answer : Option ℕ) → v.policy ≡ Some policy → row.ended ≡ Some ended
     → ((at : ℕ) → is_protected v row at ≡ false)
     → IsRipe policy row.closed ended (slice_get (beside v row).newer 0) answer → ripe_of w row ≡ answer
