@@ -92,3 +92,4 @@ pub mod Tells
 pub mod GroupsChanged
 pub mod ReadsStill
 pub mod Writing
+pub mod OneTree
