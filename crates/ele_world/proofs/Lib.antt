@@ -95,3 +95,4 @@ pub mod Tells
 pub mod GroupsChanged
 pub mod ReadsStill
 pub mod Writing
+pub mod OneTree

@@ -85,3 +85,4 @@ pub mod MembersChange
 pub mod MarkGoes
 pub mod ReadsPast
 pub mod DraftsWritten
+pub mod OneTree

@@ -28,6 +28,7 @@ pub mod effects;
 pub mod groups;
 pub mod lists;
 pub mod past;
+pub mod tree;
 
 use ele_policy::laws::policies_are_lawful;
 

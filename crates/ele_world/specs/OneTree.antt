@@ -1,0 +1,30 @@
+-- In every run the live names are one tree: none is the root's, and each hangs from it by live names.
+use Rattle.std.specs.Prelude.{◌≡◌, ◌==◌, ◌&&◌, ℕ, suc, zero, Bool, true, false, List, None}
+use Rattle.std.specs.List.{AllByRecursion, list_any}
+use Rattle.ele_world.specs.Bounds.{Bounds, AreBounds}
+use Rattle.ele_world.specs.declared.event.Event.{Event}
+use Rattle.ele_world.specs.declared.rows.NameRow.{NameRow}
+use Rattle.ele_world.specs.NameRows.{is_live_directory, is_name_of_directory}
+use Rattle.ele_world.specs.Run.{run_of, IsEvent}
+use Rattle.ele_world.specs.Step.{step}
+use Rattle.ele_world.specs.WellFormed.{IsWellFormed}
+use Rattle.ele_world.specs.World.{World, fresh_world, root}
+
+-- the directory hangs from the root by so many live names, each in the directory of the one before
+abbrev pub hangs_by : List NameRow → ℕ → ℕ → Bool
+hangs_by names zero directory = directory == root
+hangs_by names (suc depth) directory = list_any (λ row. is_live_directory directory row && hangs_by names depth row.directory) names
+
+abbrev pub Hangs : List NameRow → ℕ → Type 0
+Hangs names directory = (depth : ℕ) × (hangs_by names depth directory ≡ true)
+
+pub record IsOneTree (names : List NameRow) : Type 0 where
+  pub top : AllByRecursion (λ row. is_name_of_directory root row ≡ false) names
+  pub hang : AllByRecursion (λ row. row.death ≡ None → Hangs names row.directory) names
+
+abbrev pub OneTree : Type 0
+OneTree = (w : World) (event : Event) → IsWellFormed w → IsOneTree w.names → IsOneTree ((step w event).1).names
+
+abbrev pub OneTreeInRuns : Type 0
+OneTreeInRuns =
+    (limits : Bounds) (events : List Event) → AreBounds limits → AllByRecursion IsEvent events → IsOneTree (run_of (fresh_world limits) events).names

@@ -1,0 +1,19 @@
+//! How live names hang together, whatever the event: each law is the contract of a function that does nothing.
+ghost use Rattle.ele_world.specs.OneTree.{OneTree, OneTreeInRuns};
+
+use ele_policy::laws::policies_are_lawful;
+
+/// An event leaves the live names one tree: none is the root's, and each hangs from it by live names.
+pub fn one_tree()
+    ensures { OneTree }
+{
+    policies_are_lawful();
+}
+
+/// After any list of events they are one.
+#[tactic(auto, using(crate::proofs::OneTree::runs_are, crate::proofs::StepKeeps::fresh_is, crate::proofs::Formed::in_parts, crate::proofs::Words::fresh_world))]
+pub fn one_tree_in_runs()
+    ensures { OneTreeInRuns }
+{
+    policies_are_lawful();
+}
