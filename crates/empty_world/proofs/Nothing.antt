@@ -1,0 +1,59 @@
+-- What is answered where there are no names.
+use Rattle.std.proofs.Common.{◌≡◌, ◌≢◌, ◌==◌, false, ℕ, ◌+◌, ◌-◌, ◌<◌, ◌≤◌, suc, zero, List, [], ◌∷◌, length, take, Some, None, Ok, Err, refl, sym, ap, subst, ◌∙◌, arith, rules}
+use Rattle.std.proofs.lemmas.Bool.Decides.{nat_tests}
+use Rattle.std.specs.Prelude.{slice_get, nat_lt}
+use Rattle.ele_moment.specs.Last.{last_moment}
+use Rattle.ele_policy.specs.Policy.{IsPolicy}
+use Rattle.ele_policy.specs.declared.policy.Policy.TheVariants.{Safe}
+use Rattle.ele_policy.specs.declared.policy.Policy.{Policy}
+use Rattle.ele_time_path.specs.declared.tagged.Tag.TheVariants as tag
+use Rattle.ele_usage.specs.declared.usage.Usage.{Usage}
+use Rattle.ele_world.specs.Bounds.{Bounds, AreBounds}
+use Rattle.ele_world.specs.Scan.{scan}
+use Rattle.ele_world.specs.AlwaysWellFormed.{FreshIsWellFormed, StepKeepsWellFormed}
+use Rattle.ele_world.specs.Step.{step}
+use Rattle.ele_world.specs.Usage.{usage_of}
+use Rattle.ele_world.specs.Walk.{parent_now, directory_now, walk_now}
+use Rattle.ele_world.specs.WalkAt.{walk_covering}
+use Rattle.ele_world.specs.declared.event.Event.TheVariants as event
+use Rattle.ele_world.specs.declared.refusal.Refusal.TheVariants.{NoEntry, IsRoot}
+use Rattle.ele_world.specs.declared.reply.Reply.{Reply}
+use Rattle.ele_world.specs.declared.reply.Reply.TheVariants.{Refused, Nothing, Now, UsageList}
+use Rattle.ele_world.specs.declared.rows.Target.TheVariants.{Directory}
+use Rattle.ele_world.specs.World.{World, fresh_world}
+use Rattle.ele_world.specs.WellFormed.{IsWellFormed}
+use Rattle.empty_world.specs.Empty.{empty, IsEmpty}
+
+abbrev no_use : Usage
+no_use = record { files = 0; versions = 0; bytes = 0; blocks = 0 }
+
+last_there : (first : List ℕ) (path : List (List ℕ)) → (last : List ℕ) × (slice_get (first ∷ path) (length path) ≡ Some last)
+last_there first [] = (first, refl)
+last_there first (next ∷ path) = last_there next path
+
+remove : (path : List (List ℕ)) → (length path == 0) ≡ false → (now : ℕ) (default : Policy) (limits : Bounds) → (Refused NoEntry, empty now default limits) ≡ step (empty now default limits) (event.RemoveDir path)
+remove [] some now default limits = absurd cc
+remove (name ∷ []) some now default limits = refl
+remove (name ∷ next ∷ path) some now default limits =
+    let there = last_there next path in
+    let n : suc (suc (length path)) - 1 ≡ suc (length path) = omega arith in
+    rw (n, there.1) refl
+
+pub remove_none : (w : World) (path : List (List ℕ)) → IsEmpty w → (length path == 0) ≡ false → (Refused NoEntry, w) ≡ step w (event.RemoveDir path)
+remove_none w path is some = rw is.3 (remove path some is.0 is.1 is.2)
+
+pub clean_none : (w : World) → IsEmpty w → (Nothing, w) ≡ step w event.CleanOne
+unfolding scan
+clean_none w is = rw is.3 refl
+
+pub usage_none : (w : World) → IsEmpty w → (UsageList (no_use ∷ no_use ∷ no_use ∷ no_use ∷ []), w) ≡ step w event.UsageAll
+unfolding usage_of
+usage_none w is = rw is.3 refl
+
+-- the moment and the policy come by events, and so it is well formed
+pub formed : (now : ℕ) (default : Policy) (limits : Bounds) → FreshIsWellFormed → StepKeepsWellFormed → now ≤ last_moment → IsPolicy default → AreBounds limits → IsWellFormed (empty now default limits)
+formed now default limits fresh keeps within given bounds =
+    let later : nat_lt now 0 ≡ false = grind (arith, nat_tests) in
+    let told : step (fresh_world limits) (event.Clock now) ≡ (Now now, empty now (Safe 86400) limits) = rw later refl in
+    let at : IsWellFormed (empty now (Safe 86400) limits) = subst (λ (o : Reply × World). IsWellFormed o.1) told (keeps (fresh_world limits) (event.Clock now) within (fresh limits bounds)) in
+    keeps (empty now (Safe 86400) limits) (event.SetDefault [] default) given at

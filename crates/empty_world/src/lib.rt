@@ -1,0 +1,208 @@
+//! A world that steps and stays empty, so that what needs no core is tested over it.
+//! A contract sees it as its flat world.
+#![tactic(auto)]
+
+ghost use Rattle.std.specs.Prelude.{◌≡◌, ◌≤◌};
+ghost use Rattle.ele_moment.specs.Last.{last_moment};
+ghost use Rattle.ele_policy.specs.Policy.{IsPolicy};
+ghost use Rattle.ele_world.specs.Step.{step};
+ghost use Rattle.ele_world.specs.declared.event.Event.TheVariants as event;
+ghost use Rattle.empty_world.specs.Empty.{IsEmpty};
+
+use ele_moment::Moment;
+use ele_policy::{Interval, Policy};
+use ele_time_path::{Path, Tag, TaggedPath};
+use ele_usage::Usage;
+use ele_world::laws::{fresh_is_well_formed, step_keeps_well_formed};
+use ele_world::{
+    Counts, DirId, DirectoryRow, Event, Flat, Limits, ListOf, NoMemory, Refusal, Reply, Stepping,
+};
+use std::alloc::Global;
+use std::marker::Model;
+
+/// A world without files and names. It answers what takes no memory, and has no memory for all
+/// else.
+#[derive(Drop)]
+pub struct EmptyWorld {
+    alloc: Global,
+    now: Moment,
+    default: Policy,
+    limits: Limits,
+}
+
+impl Model for EmptyWorld {
+    ghost use Rattle.ele_world.specs.World.{World};
+    ghost use Rattle.empty_world.specs.Empty.{empty};
+
+    ghost Value = { World };
+
+    ghost view = { λ w. empty w.now w.default w.limits };
+}
+
+const ROOT: DirId = DirId(0);
+
+impl EmptyWorld {
+    // Says which world it is, and does nothing.
+    fn is_empty(&self)
+        ensures { IsEmpty self.entry.now }
+    {
+        let _now = self.now;
+    }
+
+    fn clock(&mut self, to: Moment) -> Reply
+        ensures step { (result, self.new) ≡ step self.old (event.Clock to) }
+        ensures valid { to ≤ last_moment }
+    {
+        if to.seconds() < self.now.seconds() {
+            return Reply::Refused(Refusal::ClockBack);
+        }
+        self.now = to;
+        Reply::Now(to)
+    }
+
+    fn tick(&mut self, seconds: u64) -> Reply
+        ensures { (result, self.new) ≡ step self.old (event.Tick seconds) }
+    {
+        let Some(to) = self.now.plus(seconds) else {
+            return Reply::Refused(Refusal::ClockEnd);
+        };
+        self.now = to;
+        Reply::Now(to)
+    }
+
+    #[tactic(auto, using(crate::proofs::Nothing::remove_none))]
+    fn remove_dir(&self, path: &Path) -> Reply
+        ensures { (result, self.entry.now) ≡ step self.entry.now (event.RemoveDir path.now) }
+    {
+        self.is_empty();
+        if path.names().is_empty() {
+            return Reply::Refused(Refusal::IsRoot);
+        }
+        Reply::Refused(Refusal::NoEntry)
+    }
+
+    fn set_default(&mut self, path: &Path, policy: Policy) -> Reply
+        ensures step { (result, self.new) ≡ step self.old (event.SetDefault path.now policy) }
+        ensures valid { IsPolicy policy }
+    {
+        policy.is_given();
+        if path.names().is_empty() {
+            self.default = policy;
+            return Reply::Done;
+        }
+        Reply::Refused(Refusal::NoEntry)
+    }
+
+    fn stat(&self, tagged: &TaggedPath) -> Reply
+        ensures { (result, self.entry.now) ≡ step self.entry.now (event.Stat tagged.now) }
+    {
+        if let Tag::At(moment) = tagged.tag() {
+            if self.now.seconds() < moment.seconds() {
+                return Reply::Refused(Refusal::Future);
+            }
+        }
+        if !tagged.path().names().is_empty() {
+            return Reply::Refused(Refusal::NoEntry);
+        }
+        if let Tag::Number(_) = tagged.tag() {
+            return Reply::Refused(Refusal::IsDirectory);
+        }
+        Reply::DirStat(DirectoryRow {
+            id: ROOT,
+            default: self.default,
+        })
+    }
+
+    #[tactic(auto, using(crate::proofs::Nothing::clean_none))]
+    fn clean(&self) -> Reply
+        ensures { (result, self.entry.now) ≡ step self.entry.now event.CleanOne }
+    {
+        self.is_empty();
+        Reply::Nothing
+    }
+
+    #[tactic(auto, using(crate::proofs::Nothing::usage_none))]
+    fn usage(&self) -> Reply
+        ensures { (result, self.entry.now) ≡ step self.entry.now event.UsageAll }
+    {
+        self.is_empty();
+        let nothing = Usage {
+            files: 0,
+            versions: 0,
+            bytes: 0,
+            blocks: 0,
+        };
+        Reply::UsageList([nothing, nothing, nothing, nothing])
+    }
+}
+
+impl Stepping for EmptyWorld {
+    ghost world = { λ w. w };
+
+    fn fresh(alloc: Global, limits: Limits) -> Result<EmptyWorld, NoMemory> {
+        Ok(EmptyWorld {
+            alloc,
+            now: Moment::START,
+            default: Policy::Safe(Interval::DAY),
+            limits,
+        })
+    }
+
+    fn apply(&mut self, event: &Event) -> Result<Reply, NoMemory> {
+        match event {
+            Event::Clock(to) => Ok(self.clock(*to)),
+            Event::Tick(seconds) => Ok(self.tick(*seconds)),
+            Event::RemoveDir(path) => Ok(self.remove_dir(path)),
+            Event::SetDefault(path, policy) => Ok(self.set_default(path, *policy)),
+            Event::CleanOne => Ok(self.clean()),
+            Event::Stat(tagged) => Ok(self.stat(tagged)),
+            Event::UsageAll => Ok(self.usage()),
+            Event::SetPolicy(_, policy) => {
+                policy.is_given();
+                Err(NoMemory)
+            }
+            _ => Err(NoMemory),
+        }
+    }
+
+    fn flat(&self) -> Result<Flat, NoMemory> {
+        let mut directories = Vec::new(self.alloc);
+        directories.push(DirectoryRow {
+            id: ROOT,
+            default: self.default,
+        })?;
+        Ok(Flat {
+            now: self.now,
+            directories: ListOf::from_vec(directories),
+            files: ListOf::new(self.alloc),
+            names: ListOf::new(self.alloc),
+            versions: ListOf::new(self.alloc),
+            drafts: ListOf::new(self.alloc),
+            handles: ListOf::new(self.alloc),
+            groups: ListOf::new(self.alloc),
+            made: Counts {
+                files: 0,
+                directories: 0,
+                names: 0,
+                versions: 0,
+                handles: 0,
+                groups: 0,
+                members: 0,
+                marks: 0,
+            },
+            limits: self.limits,
+        })
+    }
+
+    #[tactic(auto, using(crate::proofs::Nothing::formed))]
+    fn now(&self) -> Moment {
+        // Told for the proof: the moment and the policy come by events, which keep a world well
+        // formed.
+        fresh_is_well_formed();
+        step_keeps_well_formed();
+        self.limits.are_within();
+        self.default.is_given();
+        let _within = self.now.seconds();
+        self.now
+    }
+}
