@@ -93,3 +93,4 @@ pub mod GroupsChanged
 pub mod ReadsStill
 pub mod Writing
 pub mod OneTree
+pub mod NoneInItself
