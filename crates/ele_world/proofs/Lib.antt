@@ -96,3 +96,4 @@ pub mod GroupsChanged
 pub mod ReadsStill
 pub mod Writing
 pub mod OneTree
+pub mod NoneInItself

@@ -10,17 +10,17 @@ use Rattle.ele_world.proofs.Walks.{live_row, parent_is, last_names, last_leads, 
 use Rattle.ele_world.proofs.NameEnds.{rename_leads}
 
 -- a live name of the directory, in that one
-abbrev is_under : ℕ → ℕ → NameRow → Bool
+abbrev pub is_under : ℕ → ℕ → NameRow → Bool
 is_under id directory row = is_live_directory id row && (row.directory == directory)
 
 -- what hangs by one name more is under what hangs
-above : (names : List NameRow) (depth id : ℕ) → hangs_by names (suc depth) id ≡ true → (directory : ℕ) × (list_any (is_under id directory) names ≡ true) × (hangs_by names depth directory ≡ true)
+pub above : (names : List NameRow) (depth id : ℕ) → hangs_by names (suc depth) id ≡ true → (directory : ℕ) × (list_any (is_under id directory) names ≡ true) × (hangs_by names depth directory ≡ true)
 above names depth id h =
     let (row, found) = first_passing (λ (row : NameRow). is_live_directory id row && hangs_by names depth row.directory) names h in
     let passes = found_passes (λ (row : NameRow). is_live_directory id row && hangs_by names depth row.directory) names row found in
     (row.directory, any-found (λ (row : NameRow). is_live_directory id row && hangs_by names depth row.directory) (is_under id row.directory) names row found (grind (arith, nat_tests, passes)), grind (arith, nat_tests, passes))
 
-below : (names : List NameRow) (depth id directory : ℕ) → list_any (is_under id directory) names ≡ true → hangs_by names depth directory ≡ true → hangs_by names (suc depth) id ≡ true
+pub below : (names : List NameRow) (depth id directory : ℕ) → list_any (is_under id directory) names ≡ true → hangs_by names depth directory ≡ true → hangs_by names (suc depth) id ≡ true
 below names depth id directory h is =
     let (row, found) = first_passing (is_under id directory) names h in
     let passes = found_passes (is_under id directory) names row found in
@@ -42,7 +42,7 @@ hangs_under after id directory is (depth, h) = (suc depth, below after depth id 
 abbrev Hang : List NameRow → List NameRow → Type 0
 Hang after names = AllByRecursion (λ row. row.death ≡ None → Hangs after row.directory) names
 
-abbrev IsOther : Target → Type 0
+abbrev pub IsOther : Target → Type 0
 IsOther target = is_target_directory root target ≡ false
 
 -- ---- where a path's last name stands

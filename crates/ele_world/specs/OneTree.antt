@@ -1,12 +1,15 @@
--- In every run the live names are one tree: none is the root's, and each hangs from it by live names.
-use Rattle.std.specs.Prelude.{◌≡◌, ◌==◌, ◌&&◌, ℕ, suc, zero, Bool, true, false, List, None}
+-- In every run the live names are one tree: none is the root's, and each hangs from it by live names; so no directory stands in
+-- itself, at any depth.
+use Rattle.std.specs.Prelude.{◌≡◌, ◌==◌, ◌&&◌, ℕ, suc, zero, Bool, true, false, List, [], None, Ok}
 use Rattle.std.specs.List.{AllByRecursion, list_any}
 use Rattle.ele_world.specs.Bounds.{Bounds, AreBounds}
 use Rattle.ele_world.specs.declared.event.Event.{Event}
 use Rattle.ele_world.specs.declared.rows.NameRow.{NameRow}
+use Rattle.ele_world.specs.declared.rows.Target.TheVariants.{Directory}
 use Rattle.ele_world.specs.NameRows.{is_live_directory, is_name_of_directory}
 use Rattle.ele_world.specs.Run.{run_of, IsEvent}
 use Rattle.ele_world.specs.Step.{step}
+use Rattle.ele_world.specs.Walk.{walk}
 use Rattle.ele_world.specs.WellFormed.{IsWellFormed}
 use Rattle.ele_world.specs.World.{World, fresh_world, root}
 
@@ -28,3 +31,8 @@ OneTree = (w : World) (event : Event) → IsWellFormed w → IsOneTree w.names �
 abbrev pub OneTreeInRuns : Type 0
 OneTreeInRuns =
     (limits : Bounds) (events : List Event) → AreBounds limits → AllByRecursion IsEvent events → IsOneTree (run_of (fresh_world limits) events).names
+
+abbrev pub NoneInItself : Type 0
+NoneInItself =
+    (w : World) (directory : ℕ) (path : List (List ℕ)) → IsWellFormed w → IsOneTree w.names
+    → walk w.names (Directory directory) path ≡ Ok (Directory directory) → path ≡ []

@@ -1,5 +1,5 @@
 //! How live names hang together, whatever the event: each law is the contract of a function that does nothing.
-ghost use Rattle.ele_world.specs.OneTree.{OneTree, OneTreeInRuns};
+ghost use Rattle.ele_world.specs.OneTree.{NoneInItself, OneTree, OneTreeInRuns};
 
 use ele_policy::laws::policies_are_lawful;
 
@@ -17,3 +17,8 @@ pub fn one_tree_in_runs()
 {
     policies_are_lawful();
 }
+
+/// So no directory stands in itself, at any depth: no path from it leads to it.
+pub fn none_in_itself()
+    ensures { NoneInItself }
+{}
