@@ -1,7 +1,7 @@
 //! What the program writes, and how it ends.
-use ele_core::Core;
 use ele_words::{Asked, answer};
 use ele_world::Limits;
+use empty_world::EmptyWorld;
 use std::alloc::Global;
 use std::io;
 use std::io::{Error, ErrorKind, Read, Write};
@@ -43,15 +43,15 @@ impl Write for Late {
     }
 }
 
-// What the program does, over a core.
-fn answer_with_core<R: Read, W: Write, E: Write>(
+// What the program does, over a world that stays empty.
+fn do_over_empty<R: Read, W: Write, E: Write>(
     alloc: Global,
     asked: &Asked,
     reader: &mut R,
     writer: &mut W,
     errors: &mut E,
 ) -> u8 {
-    answer::<Core, R, W, E>(alloc, asked, reader, writer, errors)
+    answer::<EmptyWorld, R, W, E>(alloc, asked, reader, writer, errors)
 }
 
 fn make_late(alloc: Global, fails: bool) -> Late {
@@ -68,7 +68,7 @@ fn an_empty_script_ends_well(rt: HostRuntime) {
     let mut errors = Vec::<u8>::new(rt.alloc());
     let asked = Asked::Run(Limits::largest());
     let mut reader = b"".as_slice();
-    let status = answer_with_core(rt.alloc(), &asked, &mut reader, &mut writer, &mut errors);
+    let status = do_over_empty(rt.alloc(), &asked, &mut reader, &mut writer, &mut errors);
     assert_eq!(rt; status, 0);
     assert!(rt; errors.is_empty());
     assert!(rt; writer.taken.is_empty());
@@ -79,11 +79,11 @@ fn a_run_that_ends_early_is_flushed_and_told(rt: HostRuntime) -> Result<(), Fail
     let mut writer = make_late(rt.alloc(), false);
     let mut errors = Vec::<u8>::new(rt.alloc());
     let asked = Asked::Run(Limits::largest());
-    let mut reader = Broken(b"create /f\n");
-    let status = answer_with_core(rt.alloc(), &asked, &mut reader, &mut writer, &mut errors);
+    let mut reader = Broken(b"tick 5\n");
+    let status = do_over_empty(rt.alloc(), &asked, &mut reader, &mut writer, &mut errors);
     assert_eq!(rt; status, 1);
     assert_eq!(rt; errors.as_slice(), b"elephant: 34 ReadFault\n".as_slice());
-    assert_eq!(rt; writer.flushed, 10);
+    assert_eq!(rt; writer.flushed, 30);
     Ok(())
 }
 
@@ -92,11 +92,14 @@ fn a_flush_that_fails_is_told(rt: HostRuntime) -> Result<(), Fail> {
     let mut writer = make_late(rt.alloc(), true);
     let mut errors = Vec::<u8>::new(rt.alloc());
     let asked = Asked::Run(Limits::largest());
-    let mut reader = b"create /f\n".as_slice();
-    let status = answer_with_core(rt.alloc(), &asked, &mut reader, &mut writer, &mut errors);
+    let mut reader = b"tick 5\n".as_slice();
+    let status = do_over_empty(rt.alloc(), &asked, &mut reader, &mut writer, &mut errors);
     assert_eq!(rt; status, 1);
     assert_eq!(rt; errors.as_slice(), b"elephant: 35 WriteFault\n".as_slice());
-    assert_eq!(rt; writer.taken.as_slice(), b"ok file 1\n".as_slice());
+    assert_eq!(rt;
+        writer.taken.as_slice(),
+        b"ok now 5 1970-01-01T00:00:05Z\n".as_slice()
+    );
     Ok(())
 }
 
@@ -106,7 +109,7 @@ fn help_is_written_and_flushed(rt: HostRuntime) -> Result<(), Fail> {
     let mut errors = Vec::<u8>::new(rt.alloc());
     let asked = Asked::Help(String::from_str(rt.alloc(), "so")?);
     let mut reader = b"".as_slice();
-    let status = answer_with_core(rt.alloc(), &asked, &mut reader, &mut writer, &mut errors);
+    let status = do_over_empty(rt.alloc(), &asked, &mut reader, &mut writer, &mut errors);
     assert_eq!(rt; status, 0);
     assert_eq!(rt; writer.taken.as_slice(), b"so".as_slice());
     assert_eq!(rt; writer.flushed, 2);
@@ -120,9 +123,9 @@ fn want_of_memory_and_words_are_told_at_the_other_end(rt: HostRuntime) -> Result
     let mut errors = Vec::<u8>::new(rt.alloc());
     let mut reader = b"".as_slice();
     let wrong = Asked::NotUnderstood(String::from_str(rt.alloc(), "what?")?);
-    let status = answer_with_core(rt.alloc(), &wrong, &mut reader, &mut writer, &mut errors);
+    let status = do_over_empty(rt.alloc(), &wrong, &mut reader, &mut writer, &mut errors);
     assert_eq!(rt; status, 2);
-    let none = answer_with_core(
+    let none = do_over_empty(
         rt.alloc(),
         &Asked::NoMemory,
         &mut reader,

@@ -2,8 +2,8 @@
 use crate::ends::{Full, SlowWriter};
 use ele_moment::{BadMoment, BadName, NoMemory};
 use ele_policy::BadLadder;
+use ele_runs::ShellFault;
 use ele_script::{Line, LineFault, WriteFault, read_event, read_line, write_reply};
-use ele_shell::ShellFault;
 use ele_world::{Event, FileId, Reply, VersionNo};
 use std::test::Fail;
 

@@ -1,29 +1,42 @@
 //! Runs of scripts over readers and writers that fail.
 use crate::ends::{Full, SlowReader, SlowWriter};
 use crate::pieces::{LineReader, SharedWriter};
-use ele_shell::{ShellFault, run};
+use ele_runs::{ShellFault, run_over};
 use ele_world::Limits;
+use empty_world::EmptyWorld;
 use std::alloc::Global;
 use std::cell::RefCell;
 use std::io;
-use std::io::Read;
+use std::io::{Read, Write};
 use std::rc::Rc;
 use std::test::Fail;
 
 /// Lines of a script, each with its block.
 const LINES: [(&str, &str); 11] = [
-    ("create /f", "ok file 1\n"),
+    ("tick 5", "ok now 5 1970-01-01T00:00:05Z\n"),
     ("", ""),
-    ("open write /f", "ok handle 1\n"),
+    ("create /f", "stop 1 NoMemory\n"),
     ("hello", "bad 32 Syntax\n"),
-    ("write 1 0 68656c6c6f", "ok done\n"),
-    ("close 1", "ok closed version 2\n"),
-    ("create /f", "no 8 Exists\n"),
+    ("stat /", "ok directory 0 default safe:86400\n"),
+    ("default / all", "ok done\n"),
+    ("clock 4", "no 3 ClockBack\n"),
     ("", ""),
-    ("clock 86400", "ok now 86400 1970-01-02T00:00:00Z\n"),
-    ("due", "ok due 1\n- 86400 1 1\n"),
-    ("clean", "ok removed 86400 1 1\n"),
+    ("clean", "ok nothing\n"),
+    (
+        "usage",
+        "ok usage 4\n- one 0 0 0 0\n- all 0 0 0 0\n- safe 0 0 0 0\n- landmarks 0 0 0 0\n",
+    ),
+    ("pass 3", "ok pass finished 0\n"),
 ];
+
+/// A run over a world that stays empty.
+fn run<R: Read, W: Write>(
+    alloc: Global,
+    reader: &mut R,
+    writer: &mut W,
+) -> Result<u64, ShellFault> {
+    run_over::<EmptyWorld, R, W>(alloc, reader, writer, Limits::largest())
+}
 
 /// The bytes of all lines.
 fn script(alloc: Global) -> Result<Vec<u8>, Fail> {
@@ -56,7 +69,7 @@ fn a_reader_that_fails_leaves_the_replies_to_the_whole_lines(rt: HostRuntime) ->
     for bytes in 0..=script.len() {
         let mut reader = SlowReader::new(&script[..bytes], true);
         let mut output = Vec::new(rt.alloc());
-        let end = run(rt.alloc(), &mut reader, &mut output, Limits::largest());
+        let end = run(rt.alloc(), &mut reader, &mut output);
         let (_, blocks, _) = within(rt.alloc(), bytes)?;
         assert_eq!(rt; end, Err(ShellFault::ReadFault), "behind {bytes} bytes");
         assert_eq!(rt;
@@ -76,7 +89,7 @@ fn a_cut_script_does_the_whole_lines_and_calls_the_last_one_bad(
     for bytes in 0..=script.len() {
         let mut reader = SlowReader::new(&script[..bytes], false);
         let mut output = Vec::new(rt.alloc());
-        let end = run(rt.alloc(), &mut reader, &mut output, Limits::largest());
+        let end = run(rt.alloc(), &mut reader, &mut output);
         let (lines, mut blocks, is_cut) = within(rt.alloc(), bytes)?;
         if is_cut {
             blocks.extend_from_slice(b"bad 32 Syntax\n")?;
@@ -99,7 +112,7 @@ fn a_writer_that_fails_holds_a_front_of_the_output(rt: HostRuntime) -> Result<()
         for full in [Full::Fails, Full::TakesNothing] {
             let mut writer = SlowWriter::new(rt.alloc(), room, full);
             let mut rest = script.as_slice();
-            let end = run(rt.alloc(), &mut rest, &mut writer, Limits::largest());
+            let end = run(rt.alloc(), &mut rest, &mut writer);
             assert_eq!(rt; end, Err(ShellFault::WriteFault), "room for {room} bytes");
             assert_eq!(rt;
                 writer.taken.as_slice(),
@@ -121,7 +134,7 @@ fn a_script_has_at_most_so_many_lines_and_bytes(rt: HostRuntime) -> Result<(), F
     ] {
         let mut reader = io::repeat(byte).take(left);
         let mut output = Vec::<u8>::new(rt.alloc());
-        let ended = run(rt.alloc(), &mut reader, &mut output, Limits::largest());
+        let ended = run(rt.alloc(), &mut reader, &mut output);
         assert_eq!(rt; ended, end, "{left} bytes");
         assert_eq!(rt; output.as_slice(), written.as_bytes(), "{left} bytes");
     }
@@ -138,7 +151,7 @@ fn each_line_is_answered_before_the_next_is_asked_for(rt: HostRuntime) -> Result
         next: 0,
         seen: Vec::new(rt.alloc()),
     };
-    let end = run(rt.alloc(), &mut reader, &mut writer, Limits::largest());
+    let end = run(rt.alloc(), &mut reader, &mut writer);
     assert_eq!(rt; end, Ok(LINES.len() as u64));
     let mut answered = Vec::new(rt.alloc());
     let mut bytes = 0;
@@ -158,7 +171,7 @@ fn a_script_may_be_cut_anywhere(rt: HostRuntime) -> Result<(), Fail> {
     for cut in 0..=script.len() {
         let mut reader = (&script[..cut]).chain(&script[cut..]);
         let mut output = Vec::<u8>::new(rt.alloc());
-        let end = run(rt.alloc(), &mut reader, &mut output, Limits::largest());
+        let end = run(rt.alloc(), &mut reader, &mut output);
         assert_eq!(rt; end, Ok(lines), "cut behind {cut} bytes");
         assert_eq!(rt;
             output.as_slice(),
@@ -172,13 +185,13 @@ fn a_script_may_be_cut_anywhere(rt: HostRuntime) -> Result<(), Fail> {
 #[test]
 fn a_line_longer_than_a_piece_is_told_once(rt: HostRuntime) -> Result<(), Fail> {
     let long = io::repeat(b'a').take(200_000);
-    let mut reader = long.chain(b"\ncreate /f\n".as_slice());
+    let mut reader = long.chain(b"\ntick 5\n".as_slice());
     let mut output = Vec::<u8>::new(rt.alloc());
-    let end = run(rt.alloc(), &mut reader, &mut output, Limits::largest());
+    let end = run(rt.alloc(), &mut reader, &mut output);
     assert_eq!(rt; end, Ok(2));
     assert_eq!(rt;
         output.as_slice(),
-        b"bad 33 LineTooLong\nok file 1\n".as_slice()
+        b"bad 33 LineTooLong\nok now 5 1970-01-01T00:00:05Z\n".as_slice()
     );
     Ok(())
 }

@@ -1,0 +1,15 @@
+//! Tests of runs and of what the program does, over readers and writers that give and take little,
+//! are interrupted and fail. They run over a world that stays empty, so they need no core. It gives
+//! out nothing.
+#![tactic(auto)]
+
+#[cfg(test)]
+mod ends;
+#[cfg(test)]
+mod lines;
+#[cfg(test)]
+mod pieces;
+#[cfg(test)]
+mod runs;
+#[cfg(test)]
+mod statuses;
