@@ -26,12 +26,12 @@ nothing_due : (w : World) → first_due w ≡ None → (clean_step w).1 ≡ w
 nothing_due w none = ap (λ (due : Option Key). (clean_of w due).1) none
 
 -- so many clean events
-record SoMany (s : RunState) (n : ℕ) (t : RunState) : Type 0 where
+pub record SoMany (s : RunState) (n : ℕ) (t : RunState) : Type 0 where
   pub cleaned : IsCleaned s.world n t.world
   pub replies : t.replies ≡ s.replies + n
   pub most : t.most ≡ s.most
 
-so_many : (s t : RunState) (n : ℕ) → Removes s n t → SoMany s n t
+pub so_many : (s t : RunState) (n : ℕ) → Removes s n t → SoMany s n t
 so_many s t zero same = rw same (record { cleaned = cleaned_none s.world; replies = omega arith; most = refl })
 so_many s t (suc n) r =
     let mid = r.0 in

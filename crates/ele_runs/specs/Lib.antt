@@ -5,6 +5,7 @@ pub mod Clean
 pub mod Fault
 pub mod LineLength
 pub mod Lines
+pub mod OneAnswer
 pub mod Output
 pub mod Pass
 pub mod PassIsOfWorld

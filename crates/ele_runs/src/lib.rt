@@ -5,9 +5,9 @@
 
 mod fault;
 mod keeper;
+pub mod laws;
 mod line_buffer;
 mod lines;
-pub mod pass_law;
 mod piece;
 mod script;
 
