@@ -4,6 +4,7 @@ use Rattle.ele_core.specs.State.{State}
 use Rattle.ele_core.specs.Queued.{IsQueued}
 use Rattle.ele_core.specs.Tracked.{IsBooked}
 use Rattle.ele_world.specs.Bounds.{AreBounds}
+use Rattle.ele_world.specs.NoIdleStays.{HasNoIdle}
 use Rattle.ele_world.specs.Parts.{HasParts}
 use Rattle.ele_world.specs.World.{World}
 
@@ -33,3 +34,8 @@ pub record IsTracked (rows : Rows) : Type 0 where
 pub record IsSound (rows : Rows) : Type 0 where
   pub formed : HasParts (world_of rows)
   pub tracked : IsTracked rows
+
+-- between events they are sound, and no file is there of which nothing is left
+pub record IsSettled (rows : Rows) : Type 0 where
+  pub sound : IsSound rows
+  pub none_idle : HasNoIdle (world_of rows)

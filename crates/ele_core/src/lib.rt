@@ -4,6 +4,7 @@
 ghost use Rattle.std.specs.Prelude.{◌≡◌, IfOk, OnErr, IsOk, true, false};
 ghost use Rattle.ele_world.specs.Bounds.{AreBounds};
 ghost use Rattle.ele_world.specs.Due.{is_due};
+ghost use Rattle.ele_world.specs.NoIdleStays.{HasNoIdle};
 ghost use Rattle.ele_world.specs.Pass.{EndsPass};
 ghost use Rattle.ele_world.specs.Ready.{takes_no_memory};
 ghost use Rattle.ele_world.specs.Run.{IsEvent};
@@ -83,13 +84,13 @@ pub struct Core {
 
 impl Model for Core {
     ghost use Rattle.ele_core.specs.State.{State};
-    ghost use Rattle.ele_core.specs.Inside.{state_of, IsSound};
+    ghost use Rattle.ele_core.specs.Inside.{state_of, IsSettled};
 
     ghost Value = { State };
 
     ghost view = { λ core. state_of core.rows };
 
-    ghost invariant = { λ core. IsSound core.rows };
+    ghost invariant = { λ core. IsSettled core.rows };
 }
 
 /// What the event answers, and the change that it makes.
@@ -204,11 +205,13 @@ impl Core {
         pass(&mut self.rows, budget)
     }
 
-    /// The moment that it is. The world is well formed and its limits are within theirs, so the laws of `ele_world` hold.
+    /// The moment that it is. The world is well formed, its limits are within theirs, and it has no file of which nothing is
+    /// left, so the laws of `ele_world` hold.
     pub fn now(&self) -> Moment
         ensures value { result ≡ self.now.world.now }
         ensures formed { IsWellFormed self.now.world }
         ensures bounds { AreBounds self.now.world.limits }
+        ensures idle { HasNoIdle self.now.world }
     {
         self.rows.moment
     }

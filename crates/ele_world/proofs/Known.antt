@@ -1,5 +1,5 @@
--- What a history knows of versions: those that are held, and those that were removed as they last stood; at each moment that a name
--- covers a version of its file lived. A change keeps that.
+-- What a history knows of versions: those that are held, and those that were removed as they last stood; at each moment from its
+-- start on that a name covers a version of its file lived. A change keeps that.
 use Rattle.ele_world.proofs.Basics.{◌≡◌, ℕ, ◌-◌, ◌<◌, ◌≤◌, true, false, List, [], Option, Some, None, refl, ap, sym, subst, ◌∙◌, arith, find, AllByRecursion, option_or, false≢true, nat_tests, all-found, find-insert_before, find-inserted, not_found, remove_first, all-not_found, all-remove_first, all-weaker, found_passes, AllLater, ◌++◌, ◌∷◌, list_any, cases_lt, update_first, all-filter, all-both, all-push}
 use Rattle.ele_world.proofs.Words.{Cell, current_cells, Change, Time, EndFileName, Revive, MakeFile, Append, Take, DropIdle, after_change, ended_at, next_version, with_end, with_file, with_name, with_version, covers, lives_at, ArePlaced, IsVersion, Versions, HasParts, World, is_live, is_version, is_version_after, next_of, Event, NameRow, File, VersionRow, MakeDirectory, EndName, AddName, MoveName, born_row, dies, is_live_name, IsNameRow, Names, is_live_name_of, Target, Directory}
 use Rattle.ele_world.proofs.Dropped.{dropped, dropped_versions, stays_named}
@@ -25,20 +25,24 @@ pub record HadLife (known : Known) (file moment : ℕ) : Type 0 where
   pub stood : known file row.number ≡ Some row
   pub lived : lives_at moment row ≡ true
 
--- there is one at each moment that the name covers
-abbrev pub IsCovered : Known → NameRow → Type 0
-IsCovered known name = (file moment : ℕ) → name.target ≡ File file → covers moment name ≡ true → HadLife known file moment
+-- there is one if the moment is one from the start on
+abbrev pub LifeFrom : ℕ → Known → (file moment : ℕ) → Type 0
+LifeFrom start known file moment = start ≤ moment → HadLife known file moment
+
+-- there is one at each such moment that the name covers
+abbrev pub IsCovered : ℕ → Known → NameRow → Type 0
+IsCovered start known name = (file moment : ℕ) → name.target ≡ File file → covers moment name ≡ true → LifeFrom start known file moment
 
 -- a version that isn't held any more had ended, and its number isn't given again
 pub record IsGone (w : World) (file number : ℕ) (row : VersionRow) : Type 0 where
   pub ended : IsEndedBy w.now row
   pub past : IsPast w file number
 
-pub record AreKnown (w : World) (known : Known) : Type 0 where
+pub record AreKnown (start : ℕ) (w : World) (known : Known) : Type 0 where
   pub held : (file number : ℕ) (row : VersionRow) → row_of w file number ≡ Some row → known file number ≡ Some row
   pub gone : (file number : ℕ) (row : VersionRow) → row_of w file number ≡ None → known file number ≡ Some row → IsGone w file number row
   pub placed : (file number later : ℕ) (row next : VersionRow) → known file number ≡ Some row → known file later ≡ Some next → number < later → IsEndedBy next.closed row
-  pub covered : AllByRecursion (IsCovered known) w.names
+  pub covered : AllByRecursion (IsCovered start known) w.names
 
 pub or_none : (o : Option VersionRow) → o ≡ option_or o None
 or_none o = grind (arith, nat_tests)
@@ -56,8 +60,8 @@ held_row w file number row k found = grind (arith, nat_tests, k.holds Versions, 
 found_past : (w : World) (file number : ℕ) (row : VersionRow) → HasParts w → row_of w file number ≡ Some row → IsPast w file number
 found_past w file number row k found = grind (arith, nat_tests, held_row w file number row k found, held_past w row k)
 
-known_past : (w : World) (known : Known) (file number : ℕ) (row : VersionRow) → HasParts w → AreKnown w known → known file number ≡ Some row → IsPast w file number
-known_past w known file number row k s is = grind (arith, nat_tests, s.gone file number row, found_past w file number)
+known_past : (start : ℕ) (w : World) (known : Known) (file number : ℕ) (row : VersionRow) → HasParts w → AreKnown start w known → known file number ≡ Some row → IsPast w file number
+known_past start w known file number row k s is = grind (arith, nat_tests, s.gone file number row, found_past w file number)
 
 -- ---- what becomes of a version
 
@@ -153,15 +157,15 @@ data Turned (w : World) (known was is : Option VersionRow) : Type 0 where
   Goes : (row : VersionRow) → was ≡ Some row → is ≡ None → known ≡ Some row → IsEndedBy w.now row → Turned w known was is
 
 -- a change by an event, in a world where the versions are known
-pub record IsTurn (event : Event) (first w : World) (change : Change) (before : Known) : Type 0 where
+pub record IsTurn (start : ℕ) (event : Event) (first w : World) (change : Change) (before : Known) : Type 0 where
   pub placed : AllLater ArePlaced first.versions
   pub first_held : (file number : ℕ) (row : VersionRow) → row_of first file number ≡ Some row → before file number ≡ Some row
   pub formed : HasParts w
   pub formed_after : HasParts (after_change w change)
   pub may : May event first w change
-  pub known : AreKnown w (known_in w before)
+  pub known : AreKnown start w (known_in w before)
 
-module _ (event : Event) (first w : World) (change : Change) (before : Known) (t : IsTurn event first w change before) where
+module _ (start : ℕ) (event : Event) (first w : World) (change : Change) (before : Known) (t : IsTurn start event first w change before) where
   abbrev after : World
   after = after_change w change
 
@@ -176,7 +180,7 @@ module _ (event : Event) (first w : World) (change : Change) (before : Known) (t
         Goes take.row (sym e ∙ found) none (t.first_held file number take.row take.found) (let is = (held_row w file number take.row t.formed found).is in grind (arith, nat_tests, is, take.ended, false≢true))
 
   pub becomes : (file number : ℕ) (old : VersionRow) → known_in w before file number ≡ Some old → Becomes w.now old (known_in after before file number)
-  becomes file number old is = let past = known_past w (known_in w before) file number old t.formed t.known is in grind (arith, nat_tests, turned file number past, past)
+  becomes file number old is = let past = known_past start w (known_in w before) file number old t.formed t.known is in grind (arith, nat_tests, turned file number past, past)
 
   from : (file number : ℕ) (row : VersionRow) → known_in after before file number ≡ Some row → From w after (known_in w before) file number row
   from file number row is = by (known_in w before file number) refl where
@@ -202,28 +206,49 @@ module _ (event : Event) (first w : World) (change : Change) (before : Known) (t
     by (New none found closed) from_row = rw closed (before_new file number later row next is found less)
     by (Was old_next e on) (New none found closed) =
         let it = held_row after file number row t.formed_after found in
-        let past = known_past w (known_in w before) file later old_next t.formed t.known e in
+        let past = known_past start w (known_in w before) file later old_next t.formed t.known e in
         let before : IsPast w file number = record { given = past.given; first = omega (arith, it.numbered, it.is.first); past = all-weaker (IsBehind file later) (IsBehind file number) w.files (λ of behind own. let more = behind own in omega (arith, more, less)) past.past } in
         absurd (grind (arith, nat_tests, none, found, turned file number before))
     by (Was old_next e on) (Was old f on_row) = rw on.closed (on_row.ended old_next.closed (t.known.placed file number later old old_next f e less))
 
-  covered_on : (after_change w change).now ≤ w.now → AllByRecursion (IsCovered (known_in after before)) after.names
-  covered_on same = all-weaker (λ name. CoveredBefore w.now (HadLife (known_in after before)) name × CoveredFrom after.now (HadLife (known_in after before)) name) (IsCovered (known_in after before)) after.names
-      (λ name h file moment own covered. grind (arith, nat_tests, h.0 file moment own covered, h.1 file moment own covered, cases_lt moment w.now))
-      (all-both (CoveredBefore w.now (HadLife (known_in after before))) (CoveredFrom after.now (HadLife (known_in after before))) after.names
-      (change_covered w change (HadLife (known_in after before)) (all-weaker (IsCovered (known_in w before)) (CoveredBefore w.now (HadLife (known_in after before))) w.names (λ name h file moment own covered less. let life = h file moment own covered in grind (arith, nat_tests, becomes file life.row.number life.row life.stood)) t.known.covered))
-      (current_covers after (known_in after before) t.formed_after (λ file number row found. rw found refl)))
+  abbrev afterwards : Known
+  afterwards = known_in after before
+
+  abbrev lives : (file moment : ℕ) → Type 0
+  lives = LifeFrom start afterwards
+
+  covered_on : (after_change w change).now ≤ w.now → AllByRecursion (IsCovered start afterwards) after.names
+  covered_on same = all-weaker (λ name. CoveredBefore w.now lives name × CoveredFrom after.now (HadLife afterwards) name) (IsCovered start afterwards) after.names
+      (λ name h file moment own covered from. grind (arith, nat_tests, from, h.0 file moment own covered, h.1 file moment own covered, cases_lt moment w.now))
+      (all-both (CoveredBefore w.now lives) (CoveredFrom after.now (HadLife afterwards)) after.names
+      (change_covered w change lives (all-weaker (IsCovered start (known_in w before)) (CoveredBefore w.now lives) w.names (λ name h file moment own covered less from. let life = h file moment own covered from in grind (arith, nat_tests, becomes file life.row.number life.row life.stood)) t.known.covered))
+      (current_covers after afterwards t.formed_after (λ file number row found. rw found refl)))
 
 -- where the time goes on, names and versions stay
-all_covered : (event : Event) (first w : World) (change : Change) (before : Known) → IsTurn event first w change before → AllByRecursion (IsCovered (known_in (after_change w change) before)) (after_change w change).names
-all_covered event first w (Time to) before t = t.known.covered
-all_covered event first w (DropIdle of) before t = covered_on event first w (DropIdle of) before t (grind (arith))
-all_covered event first w change before t = covered_on event first w change before t (omega arith)
+all_covered : (start : ℕ) (event : Event) (first w : World) (change : Change) (before : Known) → IsTurn start event first w change before → AllByRecursion (IsCovered start (known_in (after_change w change) before)) (after_change w change).names
+all_covered start event first w (Time to) before t = t.known.covered
+all_covered start event first w (DropIdle of) before t = covered_on start event first w (DropIdle of) before t (grind (arith))
+all_covered start event first w change before t = covered_on start event first w change before t (omega arith)
 
-pub change_known : (event : Event) (first w : World) (change : Change) (before : Known) → IsTurn event first w change before → AreKnown (after_change w change) (known_in (after_change w change) before)
-change_known event first w change before t = record {
+pub change_known : (start : ℕ) (event : Event) (first w : World) (change : Change) (before : Known) → IsTurn start event first w change before → AreKnown start (after_change w change) (known_in (after_change w change) before)
+change_known start event first w change before t = record {
   held = λ file number row found. rw found refl;
-  gone = gone_known event first w change before t;
-  placed = placed_on event first w change before t;
-  covered = all_covered event first w change before t;
+  gone = gone_known start event first w change before t;
+  placed = placed_on start event first w change before t;
+  covered = all_covered start event first w change before t;
+}
+
+-- ---- at the start
+
+-- of two held versions of a file the earlier has ended when the later closed
+held_placed : (rows : List VersionRow) → AllLater ArePlaced rows → (file number later : ℕ) (row next : VersionRow) → find (is_version file number) rows ≡ Some row → find (is_version file later) rows ≡ Some next → number < later → IsEndedBy next.closed row
+held_placed [] placed file number later row next found next_found less = absurd cc
+held_placed (x ∷ rows) placed file number later row next found next_found less = grind (arith, nat_tests, found_passes (is_version file number) (x ∷ rows) row found, found_passes (is_version file later) (x ∷ rows) next next_found, all-found (is_version file number) (ArePlaced x) rows row, all-found (is_version file later) (ArePlaced x) rows next, held_placed rows placed.1 file number later row next)
+
+pub known_first : (w : World) → HasParts w → AreKnown w.now w (known_in w (λ file number. None))
+known_first w k = record {
+  held = λ file number row found. rw found refl;
+  gone = λ file number row none is. absurd (grind (arith, none, is));
+  placed = λ file number later row next is next_is less. grind (arith, is, next_is, less, held_placed w.versions (k.holds Versions).placed file number later row next);
+  covered = current_covers w (known_in w (λ file number. None)) k (λ file number row found. rw found refl);
 }

@@ -1,6 +1,7 @@
 -- What holds of all that a plan may come to holds of what it comes to.
 use Rattle.ele_world.proofs.Basics.{arith, ◌≡◌, true, false, List, [], Some, None, Ok, refl, rules, nat_tests, Bool, ◌||◌, ◌∷◌, false≢true}
 use Rattle.ele_world.proofs.Words.{Change, after_changes, Plan, Tell, Make, Unless, When, Need, IfFound, refused, outcome, World, Refusal, Reply, asks, plan, step, Event, Read, Refused}
+use Rattle.ele_world.specs.ReadersStay.{ReadersStay, needs_memory}
 
 -- of each answer with its changes, where the checks pass
 abbrev pub InAll : (Reply → List Change → Type 0) → Plan → Type 0
@@ -51,3 +52,17 @@ refused_stays w event refusal e = stays w event (rw e refl)
 
 pub asking_stays : (w : World) (event : Event) → asks event ≡ true → (step w event).1 ≡ w
 asking_stays w event is = grind (arith, nat_tests, stays w event)
+
+-- ---- an event whose reply takes memory to copy leaves the world
+
+-- what makes changes is answered without a list
+abbrev IsCalm : Reply → List Change → Type 0
+IsCalm reply [] = Unit {0}
+IsCalm reply (change ∷ changes) = needs_memory reply ≡ false
+
+calm : (w : World) (event : Event) → InAll IsCalm (plan w event)
+calm w (Read source) = grind (arith, nat_tests)
+calm w event = search (rules)
+
+pub readers_stay : ReadersStay
+readers_stay w event = outcome_of w IsCalm (λ answer. needs_memory (answer.0) ≡ true → answer.1 ≡ w) (λ reply changes calm is. grind (arith, nat_tests, false≢true)) (λ refusal is. refl) (plan w event) (calm w event)

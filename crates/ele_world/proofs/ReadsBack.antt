@@ -1,7 +1,8 @@
 -- A version that is held has the cells that it had when it closed.
 use Rattle.ele_world.proofs.Basics.{nat_tests, arith, ◌≡◌, ℕ, List, [], ◌∷◌, Option, IfSome, refl, find, Ok, AllByRecursion, all-found, all-weaker, all-both, AllLater}
-use Rattle.ele_world.proofs.Words.{Cell, content_of, TaggedPath, Change, after_change, after_changes, PoliciesAreLawful, ReadsAsClosed, ReadsRow, fresh_world, run_of, plan, step, version_at, ArePlaced, IsVersion, Versions, Readers, HasParts, World, is_version, reads_by, Event, Read, Tagged, Of, Bytes, Version, VersionRow, IsEvent}
+use Rattle.ele_world.proofs.Words.{Cell, content_of, TaggedPath, Change, after_change, after_changes, PoliciesAreLawful, ReadsAsClosed, ReadsAsClosedInRuns, ReadsRow, fresh_world, run_of, plan, step, version_at, ArePlaced, IsVersion, Versions, Readers, HasParts, World, is_version, reads_by, Event, Read, Tagged, Of, Bytes, Version, VersionRow, IsEvent}
 use Rattle.ele_world.proofs.Allowed.{allowed}
+use Rattle.ele_world.proofs.Formed.{in_parts}
 use Rattle.ele_world.proofs.Keeps.{reached}
 use Rattle.ele_world.proofs.May.{MayAll}
 use Rattle.ele_lists.proofs.Cuts.{any-found}
@@ -55,4 +56,7 @@ reads_after w events are k = all-weaker (λ row. IsVersion w.files w.now row × 
     (all-both (IsVersion w.files w.now) (IsFound w.versions) w.versions (k.holds Versions).each (all_found w.versions (k.holds Versions).placed))
 
 pub reads_as_closed : PoliciesAreLawful → ReadsAsClosed
-reads_as_closed law limits before after bounds are then = reads_after (run_of (fresh_world limits) before) after then (run_has law limits before bounds are)
+reads_as_closed law w events k are = reads_after w events are (in_parts law w k)
+
+pub reads_as_closed_in_runs : PoliciesAreLawful → ReadsAsClosedInRuns
+reads_as_closed_in_runs law limits before after bounds are then = reads_after (run_of (fresh_world limits) before) after then (run_has law limits before bounds are)

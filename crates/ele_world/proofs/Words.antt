@@ -39,11 +39,12 @@ pub use Rattle.ele_world.specs.NewPlaces.{different_of, has_slot, is_among, new_
 pub use Rattle.ele_world.specs.NoIdleStays.{HasNoIdle, NoIdleStays}
 pub use Rattle.ele_world.specs.NothingChanges.{asks}
 pub use Rattle.ele_world.specs.OneLife.{HasOneLife, NamesOneLife, OneLife}
+pub use Rattle.ele_world.specs.OneLifeFrom.{HasLivesFrom, NamesOneLifeFrom, OneLifeFrom}
 pub use Rattle.ele_world.specs.OnlyDueLeave.{StaysOrWasDue}
 pub use Rattle.ele_world.specs.OpenStays.{OpenStays}
 pub use Rattle.ele_world.specs.Pass.{HasRemoved, IsCleaned, IsFinished, IsPass, after_cleans}
 pub use Rattle.ele_world.specs.Plan.{IfFound, Make, Need, Plan, Tell, Unless, When, outcome, refused}
-pub use Rattle.ele_world.specs.ReadsAsClosed.{ReadsAsClosed, ReadsRow}
+pub use Rattle.ele_world.specs.ReadsAsClosed.{ReadsAsClosed, ReadsAsClosedInRuns, ReadsRow}
 pub use Rattle.ele_world.specs.RemovalOrder.{LeavesDue, RemovalOrder}
 pub use Rattle.ele_world.specs.RenameLeads.{LeadsInstead, RenameLeads}
 pub use Rattle.ele_world.specs.Restorable.{last_target, may_return, name_cmp, nameless, newest_rows, returning, returning_name}

@@ -25,6 +25,7 @@ pub mod Run
 pub mod Ready
 pub mod AlwaysWellFormed
 pub mod NothingChanges
+pub mod ReadersStay
 pub mod CreateLeads
 pub mod MakeDirLeads
 pub mod RemoveDirEnds
@@ -41,6 +42,7 @@ pub mod MarkedStays
 pub mod RevertKeeps
 pub mod Ever
 pub mod OneLife
+pub mod OneLifeFrom
 pub mod ReadsAsClosed
 pub mod PassLeavesKept
 pub mod UsageFits

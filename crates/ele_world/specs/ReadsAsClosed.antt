@@ -13,6 +13,7 @@ use Rattle.ele_world.specs.Bounds.{Bounds, AreBounds}
 use Rattle.ele_world.specs.Run.{run_of, IsEvent}
 use Rattle.ele_world.specs.Step.{step}
 use Rattle.ele_world.specs.Tagged.{version_at}
+use Rattle.ele_world.specs.WellFormed.{IsWellFormed}
 use Rattle.ele_world.specs.World.{World, fresh_world, reads_by}
 
 -- a read of the version gives the row's bytes, by whatever path and tag, and by whatever handle
@@ -21,8 +22,13 @@ pub record ReadsRow (w : World) (row : VersionRow) : Type 0 where
       → (step w (Read (Tagged tagged))).0 ≡ Bytes (content_of row.cells)
   pub handle : (handle : ℕ) → reads_by w.handles handle ≡ Ok (Version row.file row.number) → (step w (Read (Of handle))).0 ≡ Bytes (content_of row.cells)
 
--- so does a read after any events of a version as it stood before them
+-- from any well-formed world so does a read after any events of a version as it stood before them
 abbrev pub ReadsAsClosed : Type 0
 ReadsAsClosed =
+    (w : World) (events : List Event) → IsWellFormed w → AllByRecursion IsEvent events → AllByRecursion (ReadsRow (run_of w events)) w.versions
+
+-- and so in every run
+abbrev pub ReadsAsClosedInRuns : Type 0
+ReadsAsClosedInRuns =
     (limits : Bounds) (before after : List Event) → AreBounds limits → AllByRecursion IsEvent before → AllByRecursion IsEvent after
     → let w = run_of (fresh_world limits) before in AllByRecursion (ReadsRow (run_of w after)) w.versions

@@ -12,10 +12,12 @@ ghost use Rattle.ele_world.specs.HeldStays.{HeldStays};
 ghost use Rattle.ele_world.specs.NothingChanges.{RefusedStays, AskingStays};
 ghost use Rattle.ele_world.specs.MarkedStays.{MarkedStays};
 ghost use Rattle.ele_world.specs.OneLife.{OneLife};
+ghost use Rattle.ele_world.specs.OneLifeFrom.{OneLifeFrom};
 ghost use Rattle.ele_world.specs.OpenStays.{OpenStays};
 ghost use Rattle.ele_world.specs.OnlyDueLeave.{OnlyDueLeave};
 ghost use Rattle.ele_world.specs.PassLeavesKept.{PassLeavesKept};
-ghost use Rattle.ele_world.specs.ReadsAsClosed.{ReadsAsClosed};
+ghost use Rattle.ele_world.specs.ReadersStay.{ReadersStay};
+ghost use Rattle.ele_world.specs.ReadsAsClosed.{ReadsAsClosed, ReadsAsClosedInRuns};
 ghost use Rattle.ele_world.specs.RemovalOrder.{RemovalOrder};
 ghost use Rattle.ele_world.specs.RenameLeads.{RenameLeads};
 ghost use Rattle.ele_world.specs.RevertKeeps.{RevertKeeps};
@@ -64,6 +66,12 @@ pub fn refused_stays()
 #[tactic(auto, using(crate::proofs::Outcomes::asking_stays))]
 pub fn asking_stays()
     ensures { AskingStays }
+{}
+
+/// An event whose reply takes memory to copy changes nothing.
+#[tactic(auto, using(crate::proofs::Outcomes::readers_stay))]
+pub fn readers_stay()
+    ensures { ReadersStay }
 {}
 
 /// After a mkdir its path leads to the new directory, which has no names, and the policy of the directory that it stands in.
@@ -181,10 +189,26 @@ pub fn one_life()
     policies_are_lawful();
 }
 
-/// A read of a held version gives the bytes that it had when it closed, whatever has happened since.
+/// After any list of events on a well-formed world no two versions of a file that stood in the run lived at one moment, and one
+/// lived at each moment, from that world's on, that a name of the file covers. Reads answer of it likewise.
+pub fn one_life_from()
+    ensures { OneLifeFrom }
+{
+    policies_are_lawful();
+}
+
+/// A read of a held version gives the bytes that it had when it closed, whatever events came since.
 #[tactic(auto, using(crate::proofs::ReadsBack::reads_as_closed))]
 pub fn reads_as_closed()
     ensures { ReadsAsClosed }
+{
+    policies_are_lawful();
+}
+
+/// So it is in every run.
+#[tactic(auto, using(crate::proofs::ReadsBack::reads_as_closed_in_runs))]
+pub fn reads_as_closed_in_runs()
+    ensures { ReadsAsClosedInRuns }
 {
     policies_are_lawful();
 }

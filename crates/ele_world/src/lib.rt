@@ -2,6 +2,8 @@
 //! a contract sees the world as the flat rows of `Flat`.
 #![tactic(auto)]
 
+mod copy;
+mod entry;
 mod event;
 mod flat;
 pub mod laws;
@@ -24,6 +26,7 @@ pub use ele_moment::{DirId, FileId, Handle, Moment, Name, NoMemory, VersionNo};
 pub use ele_policy::{Interval, Kind, Ladder, Policy};
 pub use ele_time_path::{Path, PathAt, Tag, TaggedPath};
 pub use ele_usage::Usage;
+pub use entry::Entry;
 pub use event::{Event, Source};
 pub use flat::Flat;
 pub use limits::{Counts, Limits};

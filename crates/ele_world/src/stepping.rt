@@ -14,6 +14,7 @@ pub trait Stepping: Drop {
     ghost use Rattle.ele_world.specs.World.{World, fresh_world};
     ghost use Rattle.ele_world.specs.WellFormed.{IsWellFormed};
     ghost use Rattle.ele_world.specs.Bounds.{AreBounds};
+    ghost use Rattle.ele_world.specs.NoIdleStays.{HasNoIdle};
     ghost use Rattle.ele_world.specs.Step.{step};
     ghost use Rattle.ele_world.specs.Run.{IsEvent};
     ghost use Rattle.ele_world.specs.Ready.{takes_no_memory};
@@ -43,10 +44,11 @@ pub trait Stepping: Drop {
     fn flat(&self) -> Result<Flat, NoMemory>
         ensures { IfOk result (λ flat. flat ≡ world self.now) };
 
-    /// The moment that it is. The world is well formed and its limits are within theirs, so the
-    /// laws of this crate hold.
+    /// The moment that it is. The world is well formed, its limits are within theirs, and it has
+    /// no file of which nothing is left, so the laws of this crate hold.
     fn now(&self) -> Moment
         ensures value { result ≡ (world self.now).now }
         ensures formed { IsWellFormed (world self.now) }
-        ensures bounds { AreBounds (world self.now).limits };
+        ensures bounds { AreBounds (world self.now).limits }
+        ensures idle { HasNoIdle (world self.now) };
 }

@@ -1,0 +1,29 @@
+-- From any well-formed world on one version of a file lived at each moment at which it had a name. Which versions were removed
+-- before that world isn't known, so an earlier moment is told of only where a version that stood in the run lived then.
+use Rattle.std.specs.Prelude.{◌≡◌, ◌≤◌, ℕ, true, List, Some}
+use Rattle.std.specs.List.{AllByRecursion}
+use Rattle.ele_world.specs.declared.event.Event.{Event}
+use Rattle.ele_world.specs.declared.rows.NameRow.{NameRow}
+use Rattle.ele_world.specs.declared.rows.Target.TheVariants.{File}
+use Rattle.ele_world.specs.declared.rows.VersionRow.{VersionRow}
+use Rattle.ele_world.specs.Ever.{last_stood}
+use Rattle.ele_world.specs.NameRows.{covers}
+use Rattle.ele_world.specs.OneLife.{HasOneLife}
+use Rattle.ele_world.specs.Run.{run_of, IsEvent}
+use Rattle.ele_world.specs.Tagged.{lives_at}
+use Rattle.ele_world.specs.WellFormed.{IsWellFormed}
+use Rattle.ele_world.specs.World.{World}
+
+-- at each moment from the first world on that the name covers, if it is a file's
+abbrev pub NamesOneLifeFrom : World → List Event → NameRow → Type 0
+NamesOneLifeFrom first events name =
+    (file moment : ℕ) → name.target ≡ File file → covers moment name ≡ true → first.now ≤ moment → HasOneLife first events file moment
+
+-- at each moment at which a version of a file lived that stood in the run, and at those that names cover
+pub record HasLivesFrom (first : World) (events : List Event) : Type 0 where
+  pub stood : (file number moment : ℕ) (row : VersionRow) → last_stood first events file number ≡ Some row → lives_at moment row ≡ true
+      → HasOneLife first events file moment
+  pub named : AllByRecursion (NamesOneLifeFrom first events) (run_of first events).names
+
+abbrev pub OneLifeFrom : Type 0
+OneLifeFrom = (first : World) (events : List Event) → IsWellFormed first → AllByRecursion IsEvent events → HasLivesFrom first events
