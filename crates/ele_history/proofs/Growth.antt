@@ -1,0 +1,42 @@
+-- A history with an entry more.
+use Rattle.std.proofs.Common.{◌≡◌, List, [], ◌∷◌, ◌++◌, refl, sym, ap, ◌∙◌, arith, length-append}
+use Rattle.std.proofs.lemmas.List.{map-append}
+use Rattle.ele_lists.proofs.Alls.{all-append}
+use Rattle.ele_world.specs.declared.entry.Entry.{Entry}
+use Rattle.ele_world.specs.declared.event.Event.{Event}
+use Rattle.ele_world.specs.declared.reply.Reply.{Reply}
+use Rattle.ele_world.specs.Run.{run_of, IsEvent}
+use Rattle.ele_world.specs.Step.{step}
+use Rattle.ele_world.specs.World.{World}
+use Rattle.ele_history.specs.Legal.{IsLegal}
+use Rattle.ele_history.specs.Past.{Past, HasRoom, events_of, extended, world_of}
+use Rattle.ele_history.specs.Sound.{IsSound}
+
+pub run_of-append : (w : World) (xs ys : List Event) → run_of w (xs ++ ys) ≡ run_of (run_of w xs) ys
+run_of-append w [] ys = refl
+run_of-append w (x ∷ xs) ys = run_of-append ((step w x).1) xs ys
+
+pub events_of-append : (xs ys : List Entry) → events_of (xs ++ ys) ≡ events_of xs ++ events_of ys
+events_of-append xs ys = map-append (λ (entry : Entry). entry.event) xs ys
+
+pub world_of-extended : (past : Past) (entry : Entry) → world_of (extended past entry) ≡ (step (world_of past) entry.event).1
+world_of-extended past entry =
+    ap (run_of past.base) (events_of-append past.entries (entry ∷ []))
+    ∙ run_of-append past.base (events_of past.entries) (entry.event ∷ [])
+
+legal-append : (w : World) (xs : List Entry) (entry : Entry) → IsLegal w xs → entry.reply ≡ (step (run_of w (events_of xs)) entry.event).0 → IsLegal w (xs ++ entry ∷ [])
+legal-append w [] entry legal is = (is, tt)
+legal-append w (x ∷ xs) entry legal is = (legal.0, legal-append ((step w x.event).1) xs entry legal.1 is)
+
+-- the step's own reply and world
+pub grown : (past : Past) (event : Event) (reply : Reply) (before after : World) → IsSound past before → IsEvent event → ◌≡◌ {A = Reply × World} (reply, after) (step before event) → HasRoom past → IsSound (extended past (record { event = event; reply = reply })) after
+grown past event reply before after sound is stepped room =
+    let entry : Entry = record { event = event; reply = reply } in
+    let told : ◌≡◌ {A = Reply × World} (reply, after) (step (world_of past) event) = stepped ∙ ap (λ (w : World). step w event) sound.world in
+    record {
+      reached = sound.reached;
+      events = rw (events_of-append past.entries (entry ∷ [])) (all-append IsEvent (events_of past.entries) (event ∷ []) sound.events (is, tt));
+      legal = legal-append past.base past.entries entry sound.legal (ap (λ (x : Reply × World). x.0) told);
+      world = ap (λ (x : Reply × World). x.1) told ∙ sym (world_of-extended past entry);
+      counted = omega (arith, length-append past.entries (entry ∷ []), room);
+    }

@@ -1,0 +1,4 @@
+pub mod Growth
+pub mod Passes
+pub mod PassOfWorld
+pub mod Trims

@@ -1,0 +1,26 @@
+-- One clean event of a pass. No public clause cites this module.
+use Rattle.std.specs.Prelude.{Bool, true, false, Option, Some, None, Result, Ok, Err}
+use Rattle.ele_world.specs.declared.entry.Entry.{Entry}
+use Rattle.ele_world.specs.declared.event.Event.TheVariants.{CleanOne}
+use Rattle.ele_world.specs.declared.refusal.Stop.{Stop}
+use Rattle.ele_world.specs.declared.reply.Reply.{Reply}
+use Rattle.ele_world.specs.declared.reply.Reply.TheVariants.{Nothing, Removed}
+use Rattle.ele_history.specs.Pass.{RemovesOne}
+use Rattle.ele_history.specs.Past.{Past}
+use Rattle.ele_history.specs.Reply.{MayReply}
+
+-- the reply tells of a version that was removed
+abbrev pub is_removed : Reply → Bool
+is_removed (Removed key) = true
+is_removed _ = false
+
+-- so does that of the entry
+abbrev pub has_removed : Option Entry → Bool
+has_removed None = false
+has_removed (Some entry) = is_removed entry.reply
+
+-- it removed a version, nothing was due, or it was stopped
+abbrev pub MayClean : Past → Result Bool Stop → Past → Type 0
+MayClean before (Ok true) after = RemovesOne before after
+MayClean before (Ok false) after = MayReply before CleanOne (Ok Nothing) after
+MayClean before (Err stop) after = MayReply before CleanOne (Err stop) after

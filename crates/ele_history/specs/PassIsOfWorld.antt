@@ -1,0 +1,28 @@
+-- What the pass of a history is of its world.
+use Rattle.std.specs.Prelude.{◌≡◌, ℕ, ◌+◌}
+use Rattle.ele_world.specs.declared.pass.PassEnd.{PassEnd}
+use Rattle.ele_world.specs.declared.pass.PassEnd.TheVariants.{Finished, Budget, Stopped}
+use Rattle.ele_world.specs.Pass.{IsCleaned, IsPass}
+use Rattle.ele_world.specs.World.{World}
+use Rattle.ele_history.specs.Pass.{MayPass}
+use Rattle.ele_history.specs.Past.{Past, count_of, world_of}
+
+-- a pass that finished is one of the world, and each other is so many clean events that removed a version
+abbrev pub IsOfWorld : World → PassEnd → World → Type 0
+IsOfWorld w (Finished removed) after = IsPass w removed after
+IsOfWorld w (Budget removed) after = IsCleaned w removed after
+IsOfWorld w (Stopped stop removed) after = IsCleaned w removed after
+
+-- how many entries it made
+abbrev pub entries_of : PassEnd → ℕ
+entries_of (Finished removed) = removed + 1
+entries_of (Budget removed) = removed
+entries_of (Stopped stop removed) = removed
+
+pub record PassOfWorld (before : Past) (end : PassEnd) (after : Past) : Type 0 where
+  pub world : IsOfWorld (world_of before) end (world_of after)
+  pub count : count_of after ≡ count_of before + entries_of end
+  pub base : after.base ≡ before.base
+
+abbrev pub PassIsOfWorld : Type 0
+PassIsOfWorld = (before after : Past) (budget : ℕ) (end : PassEnd) → MayPass before budget end after → PassOfWorld before end after

@@ -1,0 +1,58 @@
+-- A history, and how it grows and is trimmed.
+use Rattle.std.specs.Prelude.{◌≡◌, ℕ, ◌+◌, ◌<◌, List, [], ◌∷◌, ◌++◌, length, map}
+use Rattle.ele_world.specs.Bounds.{Bounds}
+use Rattle.ele_world.specs.declared.entry.Entry.{Entry}
+use Rattle.ele_world.specs.declared.event.Event.{Event}
+use Rattle.ele_world.specs.declared.reply.Reply.{Reply}
+use Rattle.ele_world.specs.Run.{run_of}
+use Rattle.ele_world.specs.Step.{step}
+use Rattle.ele_world.specs.World.{World, fresh_world}
+
+-- the world that the entries begin from, how many entries were folded into it, and the entries
+pub record Past : Type 0 where
+  pub base : World
+  pub folded : ℕ
+  pub entries : List Entry
+
+abbrev pub events_of : List Entry → List Event
+events_of entries = map (λ entry. entry.event) entries
+
+-- the world after all entries
+abbrev pub world_of : Past → World
+world_of past = run_of past.base (events_of past.entries)
+
+-- how many entries were ever made
+abbrev pub count_of : Past → ℕ
+count_of past = past.folded + length past.entries
+
+-- fewer entries were made than may ever be
+abbrev pub HasRoom : Past → Type 0
+HasRoom past = count_of past < past.base.limits.events
+
+-- as many were made as may ever be
+abbrev pub IsFull : Past → Type 0
+IsFull past = count_of past ≡ past.base.limits.events
+
+-- before the first entry
+abbrev pub fresh : Bounds → Past
+fresh limits = record { base = fresh_world limits; folded = 0; entries = [] }
+
+-- with this entry behind the others
+abbrev pub extended : Past → Entry → Past
+extended past entry = record past { entries = past.entries ++ entry ∷ [] }
+
+-- the reply of the world's step
+abbrev pub reply_to : Past → Event → Reply
+reply_to past event = (step (world_of past) event).0
+
+-- with this event and its reply behind the others
+abbrev pub recorded : Past → Event → Past
+recorded past event = extended past (record { event = event; reply = reply_to past event })
+
+-- an event is answered as the world's step answers it: its reply, and the history with both behind the others
+abbrev pub answered : Past → Event → Reply × Past
+answered past event = (reply_to past event, recorded past event)
+
+-- all entries are folded into the world that they make; the world and the count are as they were
+abbrev pub trimmed : Past → Past
+trimmed past = record { base = world_of past; folded = count_of past; entries = [] }

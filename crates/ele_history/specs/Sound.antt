@@ -1,0 +1,16 @@
+-- What the type keeps. No public clause cites this module.
+use Rattle.std.specs.Prelude.{◌≡◌, ◌≤◌}
+use Rattle.std.specs.List.{AllByRecursion}
+use Rattle.ele_world.specs.Run.{IsEvent}
+use Rattle.ele_world.specs.World.{World}
+use Rattle.ele_history.specs.Legal.{IsLegal}
+use Rattle.ele_history.specs.Past.{Past, events_of, world_of, count_of}
+use Rattle.ele_history.specs.Reached.{IsReached}
+
+-- the history, and the world of the core
+pub record IsSound (past : Past) (w : World) : Type 0 where
+  pub reached : IsReached past.folded past.base
+  pub events : AllByRecursion IsEvent (events_of past.entries)
+  pub legal : IsLegal past.base past.entries
+  pub world : w ≡ world_of past
+  pub counted : count_of past ≤ past.base.limits.events

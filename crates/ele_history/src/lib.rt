@@ -1,0 +1,203 @@
+//! A core with its stored history, over whatever steps. A contract sees the world that the entries
+//! begin from, the entries, and how many were folded into that world before.
+#![tactic(auto)]
+
+ghost use Rattle.std.specs.Prelude.{◌≡◌, ◌+◌, ◌-◌, ◌<◌, ◌≤◌, ◌↔◌, length, slice_get, IfOk, OnOk, OnErr, IsTrue, IsFalse, vec_len, vec_capacity};
+ghost use Rattle.std.specs.List.{AllByRecursion};
+ghost use Rattle.std.specs.Option.{option_copied};
+ghost use Rattle.ele_world.specs.Run.{IsEvent};
+ghost use Rattle.ele_world.specs.Step.{step};
+ghost use Rattle.ele_history.specs.Legal.{IsLegal};
+ghost use Rattle.ele_history.specs.Past.{HasRoom, IsFull, count_of, events_of, fresh, trimmed, world_of};
+ghost use Rattle.ele_history.specs.Reached.{IsReached};
+ghost use Rattle.ele_history.specs.Reply.{MayRecord, MayReply};
+
+pub mod laws;
+mod pass;
+
+use ele_world::laws::past::numbers_rise;
+use ele_world::laws::{always_well_formed, readers_stay, step_keeps_well_formed};
+use ele_world::{Event, Flat, Limits, NoMemory, Reply, Stepping};
+pub use ele_world::{Entry, PassEnd, Stop};
+use std::alloc::Global;
+use std::marker::Model;
+
+/// A core and its history: each event that it answered, with the reply, from a base world on.
+#[derive(Drop)]
+pub struct History<C: Stepping> {
+    core: C,
+    base: Flat,
+    folded: u64,
+    entries: Vec<Entry>,
+    alloc: Global,
+}
+
+impl<C: Stepping> Model for History<C> {
+    ghost use Rattle.ele_history.specs.Past.{Past};
+    ghost use Rattle.ele_history.specs.Sound.{IsSound};
+
+    ghost Value = { Past };
+
+    ghost view = { λ h. record { base = h.base; folded = h.folded; entries = h.entries.items } };
+
+    ghost invariant = { λ h. IsSound
+        (record { base = h.base; folded = h.folded; entries = h.entries.items })
+        (C.world h.core) };
+}
+
+impl<C: Stepping> History<C> {
+    /// The history of the fresh world of these limits, without an entry.
+    ///
+    /// `NoMemory` where memory is refused.
+    pub fn new(alloc: Global, limits: Limits) -> Result<History<C>, NoMemory>
+        ensures { IfOk result (λ history. history ≡ fresh limits) }
+    {
+        let core = C::fresh(alloc, limits)?;
+        let base = core.flat()?;
+        Ok(History {
+            core,
+            base,
+            folded: 0,
+            entries: Vec::new(alloc),
+            alloc,
+        })
+    }
+
+    /// Takes the event: its reply stands behind the others, and a copy of it is answered.
+    ///
+    /// `HistoryFull` where as many entries were made as the limits allow, whatever the event, and
+    /// `NoMemory` where memory is refused, also for the copy. Each leaves the history.
+    pub fn apply(&mut self, event: Event) -> Result<Reply, Stop>
+        ensures { MayReply self.old event result self.new }
+    {
+        if self.is_full() {
+            return Err(Stop::HistoryFull);
+        }
+        let Ok(reply) = ask(&mut self.core, &mut self.entries, &event) else {
+            return Err(Stop::NoMemory);
+        };
+        // Told for the proof: an event whose reply takes memory to copy changed nothing.
+        readers_stay();
+        let Ok(told) = reply.copy(self.alloc) else {
+            return Err(Stop::NoMemory);
+        };
+        self.entries.push_reserved(Entry { event, reply });
+        Ok(told)
+    }
+
+    /// Takes the event and copies nothing: the reply is that of the last entry.
+    ///
+    /// `HistoryFull` where as many entries were made as the limits allow, whatever the event, and
+    /// `NoMemory` where memory is refused. Each leaves the history.
+    pub fn record(&mut self, event: Event) -> Result<(), Stop>
+        ensures { MayRecord self.old event result self.new }
+    {
+        if self.is_full() {
+            return Err(Stop::HistoryFull);
+        }
+        let Ok(answer) = ask(&mut self.core, &mut self.entries, &event) else {
+            return Err(Stop::NoMemory);
+        };
+        self.entries.push_reserved(Entry {
+            event,
+            reply: answer,
+        });
+        Ok(())
+    }
+
+    /// Folds all entries into the base, which becomes a copy of the world, and gives back their
+    /// memory. Answers how many they were; the world and the count stay.
+    ///
+    /// `NoMemory` where memory is refused, which leaves the history.
+    pub fn trim(&mut self) -> Result<u64, NoMemory>
+        ensures ok { IfOk result
+            (λ count. (count ≡ length self.old.entries) × (self.new ≡ trimmed self.old)) }
+        ensures err { OnErr result (self.new ≡ self.old) }
+    {
+        let base = self.core.flat()?;
+        let count = self.entries.len() as u64;
+        self.base.limits.are_within();
+        self.folded += count;
+        // Told for the proof: events led to the new base too, and its limits are the old ones.
+        always_well_formed();
+        step_keeps_well_formed();
+        numbers_rise();
+        self.base = base;
+        self.entries = Vec::new(self.alloc);
+        Ok(count)
+    }
+
+    /// The world that the entries begin from, which events led to.
+    pub fn base(&self) -> &Flat
+        ensures value { result.now ≡ self.now.base }
+        ensures reached { IsReached self.now.folded self.now.base }
+    {
+        &self.base
+    }
+
+    /// How many entries were folded into the base.
+    pub fn folded(&self) -> u64
+        ensures { result ≡ self.now.folded }
+    {
+        self.folded
+    }
+
+    /// The entries, in their order: each reply is that of the step in the world after the entries
+    /// before it.
+    pub fn entries(&self) -> &[Entry]
+        ensures value { result.now ≡ self.now.entries }
+        ensures events { AllByRecursion IsEvent (events_of self.now.entries) }
+        ensures legal { IsLegal self.now.base self.now.entries }
+    {
+        self.entries.as_slice()
+    }
+
+    /// The last entry; none where all are folded, or none was made.
+    pub fn last(&self) -> Option<&Entry>
+        ensures { option_copied result
+            ≡ slice_get self.now.entries (length self.now.entries - 1) }
+    {
+        self.entries.last()
+    }
+
+    /// How many entries were ever made, those that are folded among them.
+    pub fn count(&self) -> u64
+        ensures value { result ≡ count_of self.now }
+        ensures limit { result ≤ self.now.base.limits.events }
+    {
+        self.base.limits.are_within();
+        self.folded + self.entries.len() as u64
+    }
+
+    /// The core, whose world is the one after all entries.
+    pub fn core(&self) -> &C
+        ensures { C.world result.now ≡ world_of self.now }
+    {
+        &self.core
+    }
+
+    // Whether as many entries were made as may ever be.
+    fn is_full(&self) -> bool
+        ensures full { IsTrue result ↔ IsFull self.now }
+        ensures room { IsFalse result → HasRoom self.now }
+    {
+        self.count() == self.base.limits.events()
+    }
+}
+
+// The core's answer, with room for its entry. Where memory is refused, the world is as it was.
+fn ask<C: Stepping>(
+    core: &mut C,
+    entries: &mut Vec<Entry>,
+    event: &Event,
+) -> Result<Reply, NoMemory>
+    ensures event { OnOk result (IsEvent event.now) }
+    ensures step { IfOk result
+        (λ reply. (reply, C.world core.new) ≡ step (C.world core.old) event.now) }
+    ensures err { OnErr result (C.world core.new ≡ C.world core.old) }
+    ensures entries { entries.new.items ≡ entries.old.items }
+    ensures room { OnOk result (vec_len entries.new < vec_capacity entries.new) }
+{
+    entries.reserve(1)?;
+    core.apply(event)
+}

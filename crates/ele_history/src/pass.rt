@@ -1,0 +1,43 @@
+//! Passes of a history: clean events in a row, each with its entry.
+ghost use Rattle.std.specs.Prelude.{◌≡◌};
+ghost use Rattle.std.specs.Option.{option_copied};
+ghost use Rattle.ele_history.specs.Clean.{MayClean, has_removed};
+ghost use Rattle.ele_history.specs.Pass.{MayPass};
+
+use crate::History;
+use ele_world::{Entry, Event, PassEnd, Reply, Stepping, Stop};
+
+impl<C: Stepping> History<C> {
+    /// Takes clean events until nothing is due, or so many versions are removed. Each is an entry,
+    /// also the one that nothing was due. A stop ends it, and what was removed stays removed.
+    pub fn pass(&mut self, budget: u64) -> PassEnd
+        ensures { MayPass self.old budget result self.new }
+    {
+        for removed in 0..budget {
+            match self.clean() {
+                Ok(true) => {}
+                Ok(false) => return PassEnd::Finished(removed),
+                Err(stop) => return PassEnd::Stopped(stop, removed),
+            }
+        }
+        PassEnd::Budget(budget)
+    }
+
+    // Takes a clean event, and answers whether it removed a version.
+    fn clean(&mut self) -> Result<bool, Stop>
+        ensures { MayClean self.old result self.new }
+    {
+        self.record(Event::CleanOne)?;
+        Ok(has_removed(self.last()))
+    }
+}
+
+// Whether the entry tells of a version that was removed.
+fn has_removed(last: Option<&Entry>) -> bool
+    ensures { result ≡ has_removed (option_copied last.entry) }
+{
+    match last {
+        Some(entry) => matches!(entry.reply, Reply::Removed(_)),
+        None => false,
+    }
+}
