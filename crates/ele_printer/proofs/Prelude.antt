@@ -1,4 +1,5 @@
 -- The words of this crate and of those below that proofs here use, in one place.
 pub use Rattle.ele_policy.specs.Ladder.{Rung}
-pub use Rattle.ele_printer.specs.Outlet.{HandsOver, Outlet, Puts, Takes, TakesFront, outlet}
+pub use Rattle.ele_printer.specs.Outlet.{HandsOver, Outlet, Puts, Takes, TakesFront}
 pub use Rattle.ele_printer.specs.Printed.{bytes_text, group_line, kind_words, line_text, numbers_word, pair_word, usage_line, usage_lines}
+pub use Rattle.ele_printer.specs.Prints.{Prints, outlet}

@@ -1,7 +1,7 @@
 -- The words that name the commands.
 use Rattle.std.specs.Prelude.{ℕ, List, [], ◌∷◌, codes}
 use Rattle.ele_printer.specs.declared.command.Command.{Command}
-use Rattle.ele_printer.specs.declared.command.Command.TheVariants.{Clock, Tick, MakeDir, RemoveDir, Create, Link, Unlink, Rename, Undelete, OpenWrite, OpenRead, Write, Truncate, Close, Revert, SetPolicy, Default, GroupMake, GroupDrop, GroupAdd, GroupRemove, Mark, Unmark, Clean, Read, Stat, Versions, ListNames, Restorable, Due, Usage, Groups, Pass}
+use Rattle.ele_printer.specs.declared.command.Command.TheVariants.{Clock, Tick, MakeDir, RemoveDir, Create, Link, Unlink, Rename, Undelete, OpenWrite, OpenRead, Write, Truncate, Close, Revert, SetPolicy, Default, GroupMake, GroupDrop, GroupAdd, GroupRemove, Mark, Unmark, Clean, Read, Stat, Versions, ListNames, Restorable, Due, Usage, Groups, Pass, History, Trim}
 
 -- the words that name a command
 abbrev pub command_words : Command → List (List ℕ)
@@ -38,6 +38,8 @@ command_words Due = codes "due" ∷ []
 command_words Usage = codes "usage" ∷ []
 command_words Groups = codes "groups" ∷ []
 command_words Pass = codes "pass" ∷ []
+command_words History = codes "history" ∷ []
+command_words Trim = codes "trim" ∷ []
 
 -- a name of one word, or of two
 abbrev pub name_of : List ℕ → List ℕ → List (List ℕ)

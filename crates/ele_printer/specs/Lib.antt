@@ -1,5 +1,11 @@
 pub mod Command
+pub mod EventText
 pub mod Front
+pub mod HistoryText
 pub mod LineFault
 pub mod Outlet
+pub mod Parts
 pub mod Printed
+pub mod Prints
+pub mod PutsParts
+pub mod Value

@@ -38,6 +38,8 @@ pub enum Command {
     Usage,
     Groups,
     Pass,
+    History,
+    Trim,
 }
 
 impl Command {
@@ -79,6 +81,8 @@ impl Command {
             Command::Usage => ("usage", ""),
             Command::Groups => ("groups", ""),
             Command::Pass => ("pass", ""),
+            Command::History => ("history", ""),
+            Command::Trim => ("trim", ""),
         }
     }
 }

@@ -3,17 +3,23 @@
 #![tactic(auto)]
 
 mod command;
+mod event;
 mod fault;
 mod group_rows;
-mod output;
+mod history;
+mod path_words;
+mod printer;
 mod refusal;
 mod reply;
 mod row;
 mod rows;
 mod text;
+mod word;
 
 pub use command::Command;
+pub use event::put_event;
 pub use fault::{LineFault, WriteFault};
-pub use output::{Output, put};
+pub use history::{put_history, put_trimmed};
+pub use printer::{Printer, put};
 pub use reply::{put_answer, put_fault, put_pass, put_reply, put_stop};
-pub use text::{write_fault, write_named, write_pass, write_reply};
+pub use text::{write_event_text, write_fault, write_named, write_pass, write_reply};

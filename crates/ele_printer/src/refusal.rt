@@ -1,12 +1,12 @@
-//! Putting refusals into an output. A contract sees a refusal as itself, and the output with its
-//! writer as an outlet.
+//! Putting refusals into an output. A contract sees a refusal as itself, and a printer as its
+//! outlet.
 ghost use Rattle.std.specs.Prelude.{◌∷◌, [], List, ℕ, decimal, codes};
 ghost use Rattle.ele_world.specs.Answers.{refusal_number, refusal_name};
-ghost use Rattle.ele_printer.specs.Outlet.{outlet, Puts};
+ghost use Rattle.ele_printer.specs.Prints.{Prints};
 ghost use Rattle.ele_printer.specs.Printed.{line_text, refusal_text};
 
 use crate::fault::WriteFault;
-use crate::output::{Output, put_line};
+use crate::printer::{Printer, put_line};
 use crate::reply::put_named;
 use ele_world::Refusal;
 use itoa::Buffer;
@@ -15,20 +15,18 @@ use std::io::Write;
 /// Puts the line of a refusal. At a fault the writer took a front of all that was put.
 pub(crate) fn put_refusal<W: Write>(
     why: &Refusal,
-    output: &mut Output,
-    writer: &mut W,
+    printer: &mut Printer<'_, W>,
 ) -> Result<(), WriteFault>
-    ensures { Puts (outlet (W.contents writer.old) output.old)
-        (outlet (W.contents writer.new) output.new) (refusal_text why.now) result }
+    ensures { Prints W.contents printer.old printer.new (refusal_text why.now) result }
 {
     match why {
-        Refusal::Forgotten(None) => put_detail(why, b"-", output, writer),
+        Refusal::Forgotten(None) => put_detail(why, b"-", printer),
         Refusal::Forgotten(Some(before)) => {
             let mut digits = Buffer::new();
-            put_detail(why, digits.format(before.0).as_bytes(), output, writer)
+            put_detail(why, digits.format(before.0).as_bytes(), printer)
         }
-        Refusal::Full(which) => put_detail(why, which.word().as_bytes(), output, writer),
-        _ => put_undetailed(why, output, writer),
+        Refusal::Full(which) => put_detail(why, which.word().as_bytes(), printer),
+        _ => put_undetailed(why, printer),
     }
 }
 
@@ -36,31 +34,24 @@ pub(crate) fn put_refusal<W: Write>(
 fn put_detail<W: Write>(
     why: &Refusal,
     detail: &[u8],
-    output: &mut Output,
-    writer: &mut W,
+    printer: &mut Printer<'_, W>,
 ) -> Result<(), WriteFault>
-    ensures { Puts (outlet (W.contents writer.old) output.old)
-        (outlet (W.contents writer.new) output.new)
-        (line_text (codes "no" ∷ decimal (refusal_number why.now) ∷ refusal_name why.now
-        ∷ detail.now ∷ [])) result }
+    ensures { Prints W.contents printer.old printer.new
+        (line_text (codes "no" ∷ decimal (refusal_number why.now) ∷ refusal_name why.now ∷
+        detail.now ∷ [])) result }
 {
     let mut digits = Buffer::new();
     let number = digits.format(why.number()).as_bytes();
-    put_three(number, why.name().as_bytes(), detail, output, writer)
+    put_three(number, why.name().as_bytes(), detail, printer)
 }
 
 // Puts the line of a refusal that tells no more.
-fn put_undetailed<W: Write>(
-    why: &Refusal,
-    output: &mut Output,
-    writer: &mut W,
-) -> Result<(), WriteFault>
-    ensures { Puts (outlet (W.contents writer.old) output.old)
-        (outlet (W.contents writer.new) output.new)
-        (line_text (codes "no" ∷ decimal (refusal_number why.now) ∷ refusal_name why.now
-        ∷ [])) result }
+fn put_undetailed<W: Write>(why: &Refusal, printer: &mut Printer<'_, W>) -> Result<(), WriteFault>
+    ensures { Prints W.contents printer.old printer.new
+        (line_text (codes "no" ∷ decimal (refusal_number why.now) ∷ refusal_name why.now ∷ []))
+        result }
 {
-    put_named(b"no", why.number(), why.name(), output, writer)
+    put_named(b"no", why.number(), why.name(), printer)
 }
 
 // Puts the line of a refusal of these three words.
@@ -68,12 +59,10 @@ fn put_three<'w, W: Write>(
     number: &'w [u8],
     name: &'w [u8],
     detail: &'w [u8],
-    output: &mut Output,
-    writer: &mut W,
+    printer: &mut Printer<'_, W>,
 ) -> Result<(), WriteFault>
-    ensures { Puts (outlet (W.contents writer.old) output.old)
-        (outlet (W.contents writer.new) output.new)
+    ensures { Prints W.contents printer.old printer.new
         (line_text (codes "no" ∷ number.now ∷ name.now ∷ detail.now ∷ [])) result }
 {
-    put_line(b"no", &[number, name, detail], output, writer)
+    put_line(b"no", &[number, name, detail], printer)
 }

@@ -1,13 +1,13 @@
-//! Putting replies into an output. A contract sees a reply as itself, and the output with its
-//! writer as an outlet.
+//! Putting replies into an output. A contract sees a reply as itself, and a printer as its
+//! outlet.
 ghost use Rattle.std.specs.Prelude.{◌≡◌, ◌≤◌, ◌++◌, ◌∷◌, [], Ok, List, ℕ, length, OnOk, OnErr, decimal, codes};
-ghost use Rattle.ele_printer.specs.Outlet.{outlet, Puts};
+ghost use Rattle.ele_printer.specs.Prints.{Prints};
 ghost use Rattle.ele_printer.specs.Printed.{line_text, key_words, closed_text, restorable_line, restorable_text, due_line, due_text, bytes_text, usage_line, usage_text, stop_text, pass_text, bad_text, IsAnswerText, IsReplyText};
 ghost use Rattle.hex.specs.Hex.{encode_lower};
 
 use crate::fault::{LineFault, WriteFault};
 use crate::group_rows::put_groups;
-use crate::output::{Output, put_line};
+use crate::printer::{Printer, put_line};
 use crate::refusal::put_refusal;
 use crate::row::{Row, put_rows};
 use crate::rows::{put_directory, put_file, put_names, put_versions};
@@ -22,79 +22,62 @@ const PIECE: usize = 256;
 /// front of all that was put.
 pub fn put_reply<W: Write>(
     reply: &Result<Reply, Stop>,
-    output: &mut Output,
-    writer: &mut W,
+    printer: &mut Printer<'_, W>,
 ) -> Result<(), WriteFault>
-    ensures { (text : List ℕ) × IsAnswerText reply.now text
-        × Puts (outlet (W.contents writer.old) output.old)
-        (outlet (W.contents writer.new) output.new) text result }
+    ensures { (text : List ℕ) × IsAnswerText reply.now text × Prints W.contents printer.old
+        printer.new text result }
 {
     match reply {
-        Ok(reply) => put_answer(reply, output, writer),
-        Err(stop) => put_stop(*stop, output, writer),
+        Ok(reply) => put_answer(reply, printer),
+        Err(stop) => put_stop(*stop, printer),
     }
 }
 
 /// Puts the line that tells a bad line's fault. At a fault of the writer it took a front of all
 /// that was put.
-pub fn put_fault<W: Write>(
-    fault: LineFault,
-    output: &mut Output,
-    writer: &mut W,
-) -> Result<(), WriteFault>
-    ensures { Puts (outlet (W.contents writer.old) output.old)
-        (outlet (W.contents writer.new) output.new) (bad_text fault) result }
+pub fn put_fault<W: Write>(fault: LineFault, printer: &mut Printer<'_, W>) -> Result<(), WriteFault>
+    ensures { Prints W.contents printer.old printer.new (bad_text fault) result }
 {
-    put_named(b"bad", fault.number(), fault.name(), output, writer)
+    put_named(b"bad", fault.number(), fault.name(), printer)
 }
 
 /// Puts the line that tells how a pass ended, and how many versions it removed. At a fault of the
 /// writer it took a front of all that was put.
-pub fn put_pass<W: Write>(
-    end: &PassEnd,
-    output: &mut Output,
-    writer: &mut W,
-) -> Result<(), WriteFault>
-    ensures { Puts (outlet (W.contents writer.old) output.old)
-        (outlet (W.contents writer.new) output.new) (pass_text end.now) result }
+pub fn put_pass<W: Write>(end: &PassEnd, printer: &mut Printer<'_, W>) -> Result<(), WriteFault>
+    ensures { Prints W.contents printer.old printer.new (pass_text end.now) result }
 {
     match *end {
-        PassEnd::Finished(removed) => put_number(b"ok pass finished", removed, output, writer),
-        PassEnd::Budget(removed) => put_number(b"ok pass budget", removed, output, writer),
-        PassEnd::Stopped(stop, removed) => put_stopped(stop, removed, output, writer),
+        PassEnd::Finished(removed) => put_number(b"ok pass finished", removed, printer),
+        PassEnd::Budget(removed) => put_number(b"ok pass budget", removed, printer),
+        PassEnd::Stopped(stop, removed) => put_stopped(stop, removed, printer),
     }
 }
 
 /// Puts the lines of a reply. At a fault the writer took a front of all that was put.
-pub fn put_answer<W: Write>(
-    reply: &Reply,
-    output: &mut Output,
-    writer: &mut W,
-) -> Result<(), WriteFault>
-    ensures { (text : List ℕ) × IsReplyText reply.now text
-        × Puts (outlet (W.contents writer.old) output.old)
-        (outlet (W.contents writer.new) output.new) text result }
+pub fn put_answer<W: Write>(reply: &Reply, printer: &mut Printer<'_, W>) -> Result<(), WriteFault>
+    ensures { (text : List ℕ) × IsReplyText reply.now text × Prints W.contents printer.old
+        printer.new text result }
 {
     match reply {
-        Reply::Done => put_line(b"ok done", &[], output, writer),
-        Reply::Nothing => put_line(b"ok nothing", &[], output, writer),
-        Reply::Now(moment) => put_now(moment.seconds(), &moment.text(), output, writer),
-        Reply::Directory(directory) => put_number(b"ok directory", directory.0, output, writer),
-        Reply::File(file) => put_number(b"ok file", file.0, output, writer),
-        Reply::Handle(handle) => put_number(b"ok handle", handle.0, output, writer),
-        Reply::Version(number) => put_number(b"ok version", number.0, output, writer),
-        Reply::Closed(made) => put_closed(*made, output, writer),
-        Reply::Removed(key) => put_key(b"ok removed", *key, output, writer),
-        Reply::Bytes(bytes) => put_bytes(bytes.as_slice(), output, writer),
-        Reply::FileStat(stat) => put_file(stat, output, writer),
-        Reply::DirStat(row) => put_directory(row, output, writer),
-        Reply::Rows(versions) => put_versions(versions.as_slice(), output, writer),
-        Reply::NameList(names) => put_names(names.as_slice(), output, writer),
-        Reply::RestoreList(names) => put_dead_names(names.as_slice(), output, writer),
-        Reply::DueList(keys) => put_keys(keys.as_slice(), output, writer),
-        Reply::UsageList(usages) => put_usages(usages, output, writer),
-        Reply::GroupList(groups) => put_groups(groups.as_slice(), output, writer),
-        Reply::Refused(why) => put_refusal(why, output, writer),
+        Reply::Done => put_line(b"ok done", &[], printer),
+        Reply::Nothing => put_line(b"ok nothing", &[], printer),
+        Reply::Now(moment) => put_now(moment.seconds(), &moment.text(), printer),
+        Reply::Directory(directory) => put_number(b"ok directory", directory.0, printer),
+        Reply::File(file) => put_number(b"ok file", file.0, printer),
+        Reply::Handle(handle) => put_number(b"ok handle", handle.0, printer),
+        Reply::Version(number) => put_number(b"ok version", number.0, printer),
+        Reply::Closed(made) => put_closed(*made, printer),
+        Reply::Removed(key) => put_key(b"ok removed", *key, printer),
+        Reply::Bytes(bytes) => put_bytes(bytes.as_slice(), printer),
+        Reply::FileStat(stat) => put_file(stat, printer),
+        Reply::DirStat(row) => put_directory(row, printer),
+        Reply::Rows(versions) => put_versions(versions.as_slice(), printer),
+        Reply::NameList(names) => put_names(names.as_slice(), printer),
+        Reply::RestoreList(names) => put_dead_names(names.as_slice(), printer),
+        Reply::DueList(keys) => put_keys(keys.as_slice(), printer),
+        Reply::UsageList(usages) => put_usages(usages, printer),
+        Reply::GroupList(groups) => put_groups(groups.as_slice(), printer),
+        Reply::Refused(why) => put_refusal(why, printer),
     }
 }
 
@@ -102,30 +85,26 @@ pub fn put_answer<W: Write>(
 fn put_now<W: Write>(
     seconds: u64,
     stamp: &[u8],
-    output: &mut Output,
-    writer: &mut W,
+    printer: &mut Printer<'_, W>,
 ) -> Result<(), WriteFault>
-    ensures { Puts (outlet (W.contents writer.old) output.old)
-        (outlet (W.contents writer.new) output.new)
+    ensures { Prints W.contents printer.old printer.new
         (line_text (codes "ok now" ∷ decimal seconds ∷ stamp.now ∷ [])) result }
 {
     let mut digits = Buffer::new();
     let digits = digits.format(seconds).as_bytes();
-    put_line(b"ok now", &[digits, stamp], output, writer)
+    put_line(b"ok now", &[digits, stamp], printer)
 }
 
 // Puts the line of a closing, with the version that it made, if it made one.
 fn put_closed<W: Write>(
     made: Option<VersionNo>,
-    output: &mut Output,
-    writer: &mut W,
+    printer: &mut Printer<'_, W>,
 ) -> Result<(), WriteFault>
-    ensures { Puts (outlet (W.contents writer.old) output.old)
-        (outlet (W.contents writer.new) output.new) (closed_text made) result }
+    ensures { Prints W.contents printer.old printer.new (closed_text made) result }
 {
     match made {
-        Some(number) => put_number(b"ok closed version", number.0, output, writer),
-        None => put_line(b"ok closed", &[], output, writer),
+        Some(number) => put_number(b"ok closed version", number.0, printer),
+        None => put_line(b"ok closed", &[], printer),
     }
 }
 
@@ -133,26 +112,18 @@ fn put_closed<W: Write>(
 pub(crate) fn put_number<W: Write>(
     first: &[u8],
     number: u64,
-    output: &mut Output,
-    writer: &mut W,
+    printer: &mut Printer<'_, W>,
 ) -> Result<(), WriteFault>
-    ensures { Puts (outlet (W.contents writer.old) output.old)
-        (outlet (W.contents writer.new) output.new)
+    ensures { Prints W.contents printer.old printer.new
         (line_text (first.now ∷ decimal number ∷ [])) result }
 {
     let mut digits = Buffer::new();
-    put_line(first, &[digits.format(number).as_bytes()], output, writer)
+    put_line(first, &[digits.format(number).as_bytes()], printer)
 }
 
 // Puts a line of a first word and a key.
-fn put_key<W: Write>(
-    first: &[u8],
-    key: Key,
-    output: &mut Output,
-    writer: &mut W,
-) -> Result<(), WriteFault>
-    ensures { Puts (outlet (W.contents writer.old) output.old)
-        (outlet (W.contents writer.new) output.new)
+fn put_key<W: Write>(first: &[u8], key: Key, printer: &mut Printer<'_, W>) -> Result<(), WriteFault>
+    ensures { Prints W.contents printer.old printer.new
         (line_text (first.now ∷ key_words key)) result }
 {
     let mut ripe = Buffer::new();
@@ -161,46 +132,41 @@ fn put_key<W: Write>(
     let ripe = ripe.format(key.ripe.seconds()).as_bytes();
     let file = file.format(key.file.0).as_bytes();
     let number = number.format(key.number.0).as_bytes();
-    put_line(first, &[ripe, file, number], output, writer)
+    put_line(first, &[ripe, file, number], printer)
 }
 
 // Puts how many keys there are, and the line of each.
-fn put_keys<W: Write>(keys: &[Key], output: &mut Output, writer: &mut W) -> Result<(), WriteFault>
-    ensures { Puts (outlet (W.contents writer.old) output.old)
-        (outlet (W.contents writer.new) output.new) (due_text keys.now) result }
+fn put_keys<W: Write>(keys: &[Key], printer: &mut Printer<'_, W>) -> Result<(), WriteFault>
+    ensures { Prints W.contents printer.old printer.new (due_text keys.now) result }
 {
-    put_rows(b"ok due", keys, output, writer)
+    put_rows(b"ok due", keys, printer)
 }
 
 impl Row for Key {
     ghost row_line = { due_line };
 
-    fn put_row<W: Write>(&self, output: &mut Output, writer: &mut W) -> Result<(), WriteFault> {
-        put_key(b"-", *self, output, writer)
+    fn put_row<W: Write>(&self, printer: &mut Printer<'_, W>) -> Result<(), WriteFault> {
+        put_key(b"-", *self, printer)
     }
 }
 
 // Puts how many names may come back, and the line of each.
 fn put_dead_names<W: Write>(
     names: &[DeadName],
-    output: &mut Output,
-    writer: &mut W,
+    printer: &mut Printer<'_, W>,
 ) -> Result<(), WriteFault>
-    ensures { Puts (outlet (W.contents writer.old) output.old)
-        (outlet (W.contents writer.new) output.new) (restorable_text names.now) result }
+    ensures { Prints W.contents printer.old printer.new (restorable_text names.now) result }
 {
-    put_rows(b"ok restorable", names, output, writer)
+    put_rows(b"ok restorable", names, printer)
 }
 
 impl Row for DeadName {
     ghost row_line = { restorable_line };
 
-    fn put_row<W: Write>(&self, output: &mut Output, writer: &mut W) -> Result<(), WriteFault> {
+    fn put_row<W: Write>(&self, printer: &mut Printer<'_, W>) -> Result<(), WriteFault> {
         match self.target {
-            Target::File(file) => put_target(self, b"file", file.0, output, writer),
-            Target::Directory(directory) => {
-                put_target(self, b"directory", directory.0, output, writer)
-            }
+            Target::File(file) => put_target(self, b"file", file.0, printer),
+            Target::Directory(directory) => { put_target(self, b"directory", directory.0, printer) }
         }
     }
 }
@@ -210,111 +176,91 @@ fn put_target<W: Write>(
     dead: &DeadName,
     kind: &[u8],
     target: u64,
-    output: &mut Output,
-    writer: &mut W,
+    printer: &mut Printer<'_, W>,
 ) -> Result<(), WriteFault>
-    ensures { Puts (outlet (W.contents writer.old) output.old)
-        (outlet (W.contents writer.new) output.new)
-        (line_text (codes "-" ∷ decimal dead.now.directory ∷ dead.now.name ∷ kind.now
-        ∷ decimal target ∷ [])) result }
+    ensures { Prints W.contents printer.old printer.new
+        (line_text (codes "-" ∷ decimal dead.now.directory ∷ dead.now.name ∷ kind.now ∷ decimal
+        target ∷ [])) result }
 {
     let mut directory = Buffer::new();
     let mut number = Buffer::new();
     let directory = directory.format(dead.directory.0).as_bytes();
     let number = number.format(target).as_bytes();
-    put_line(
-        b"-",
-        &[directory, dead.name.bytes(), kind, number],
-        output,
-        writer,
-    )
+    put_line(b"-", &[directory, dead.name.bytes(), kind, number], printer)
 }
 
 // Puts bytes, which stay in the line of the reply however many they are.
-fn put_bytes<W: Write>(bytes: &[u8], output: &mut Output, writer: &mut W) -> Result<(), WriteFault>
-    ensures { Puts (outlet (W.contents writer.old) output.old)
-        (outlet (W.contents writer.new) output.new) (bytes_text bytes.now) result }
+fn put_bytes<W: Write>(bytes: &[u8], printer: &mut Printer<'_, W>) -> Result<(), WriteFault>
+    ensures { Prints W.contents printer.old printer.new (bytes_text bytes.now) result }
 {
     if bytes.is_empty() {
-        return put_line(b"ok bytes", &[b"0", b"-"], output, writer);
+        return put_line(b"ok bytes", &[b"0", b"-"], printer);
     }
-    put_digits(bytes, output, writer)
+    put_digits(bytes, printer)
 }
 
 // Puts some bytes, as their number and their digits.
-fn put_digits<W: Write>(bytes: &[u8], output: &mut Output, writer: &mut W) -> Result<(), WriteFault>
-    ensures { Puts (outlet (W.contents writer.old) output.old)
-        (outlet (W.contents writer.new) output.new)
+fn put_digits<W: Write>(bytes: &[u8], printer: &mut Printer<'_, W>) -> Result<(), WriteFault>
+    ensures { Prints W.contents printer.old printer.new
         (line_text (codes "ok bytes" ∷ decimal (length bytes.now) ∷ encode_lower bytes.now ∷ []))
         result }
 {
     let mut length = Buffer::new();
-    output.put(b"ok bytes ", writer)?;
-    output.put(length.format(bytes.len() as u64).as_bytes(), writer)?;
-    output.put(b" ", writer)?;
-    put_hexadecimal(bytes, output, writer)?;
-    output.put(b"\n", writer)
+    printer.put(b"ok bytes ")?;
+    printer.put(length.format(bytes.len() as u64).as_bytes())?;
+    printer.put(b" ")?;
+    put_hexadecimal(bytes, printer)?;
+    printer.put(b"\n")
 }
 
-// Puts two digits for each byte.
-fn put_hexadecimal<W: Write>(
+/// Puts two digits for each byte.
+pub(crate) fn put_hexadecimal<W: Write>(
     bytes: &[u8],
-    output: &mut Output,
-    writer: &mut W,
+    printer: &mut Printer<'_, W>,
 ) -> Result<(), WriteFault>
-    ensures { Puts (outlet (W.contents writer.old) output.old)
-        (outlet (W.contents writer.new) output.new) (encode_lower bytes.now) result }
+    ensures { Prints W.contents printer.old printer.new (encode_lower bytes.now) result }
 {
     let mut rest = bytes;
     'pieces: while !rest.is_empty() {
         let (piece, behind) = rest.split_at(rest.len().min(PIECE));
-        put_piece(piece, output, writer)?;
+        put_piece(piece, printer)?;
         rest = behind;
     }
     Ok(())
 }
 
 // Puts two digits for each byte of a few hundred.
-fn put_piece<W: Write>(piece: &[u8], output: &mut Output, writer: &mut W) -> Result<(), WriteFault>
+fn put_piece<W: Write>(piece: &[u8], printer: &mut Printer<'_, W>) -> Result<(), WriteFault>
     requires { length piece.now ≤ PIECE }
-    ensures { Puts (outlet (W.contents writer.old) output.old)
-        (outlet (W.contents writer.new) output.new) (encode_lower piece.now) result }
+    ensures { Prints W.contents printer.old printer.new (encode_lower piece.now) result }
 {
     let mut digits = [0; 2 * PIECE];
     let digits = &mut digits[..2 * piece.len()];
     match hex::encode_to_slice(piece, digits) {
-        Ok(()) => output.put(digits, writer),
+        Ok(()) => printer.put(digits),
         Err(_) => unreachable!(),
     }
 }
 
 // Puts what the files of each kind of policy use.
-fn put_usages<W: Write>(
-    usages: &[Usage; 4],
-    output: &mut Output,
-    writer: &mut W,
-) -> Result<(), WriteFault>
-    ensures { Puts (outlet (W.contents writer.old) output.old)
-        (outlet (W.contents writer.new) output.new) (usage_text usages.now) result }
+fn put_usages<W: Write>(usages: &[Usage; 4], printer: &mut Printer<'_, W>) -> Result<(), WriteFault>
+    ensures { Prints W.contents printer.old printer.new (usage_text usages.now) result }
 {
     let [one, all, safe, landmarks] = *usages;
-    put_number(b"ok usage", 4, output, writer)?;
-    put_usage(b"one", one, output, writer)?;
-    put_usage(b"all", all, output, writer)?;
-    put_usage(b"safe", safe, output, writer)?;
-    put_usage(b"landmarks", landmarks, output, writer)
+    put_number(b"ok usage", 4, printer)?;
+    put_usage(b"one", one, printer)?;
+    put_usage(b"all", all, printer)?;
+    put_usage(b"safe", safe, printer)?;
+    put_usage(b"landmarks", landmarks, printer)
 }
 
 // Puts the line of what the files of a kind of policy use.
 fn put_usage<W: Write>(
     kind: &[u8],
     usage: Usage,
-    output: &mut Output,
-    writer: &mut W,
+    printer: &mut Printer<'_, W>,
 ) -> Result<(), WriteFault>
-    ensures { Puts (outlet (W.contents writer.old) output.old)
-        (outlet (W.contents writer.new) output.new)
-        (usage_line kind.now usage) result }
+    ensures { Prints W.contents printer.old printer.new (usage_line kind.now usage) result }
 {
     let mut files = Buffer::new();
     let mut versions = Buffer::new();
@@ -324,12 +270,7 @@ fn put_usage<W: Write>(
     let versions = versions.format(usage.versions).as_bytes();
     let bytes = bytes.format(usage.bytes).as_bytes();
     let blocks = blocks.format(usage.blocks).as_bytes();
-    put_line(
-        b"-",
-        &[kind, files, versions, bytes, blocks],
-        output,
-        writer,
-    )
+    put_line(b"-", &[kind, files, versions, bytes, blocks], printer)
 }
 
 /// Puts a line of a first word, a number and a name.
@@ -337,36 +278,31 @@ pub(crate) fn put_named<W: Write>(
     first: &[u8],
     number: u8,
     name: &str,
-    output: &mut Output,
-    writer: &mut W,
+    printer: &mut Printer<'_, W>,
 ) -> Result<(), WriteFault>
-    ensures { Puts (outlet (W.contents writer.old) output.old)
-        (outlet (W.contents writer.new) output.new)
+    ensures { Prints W.contents printer.old printer.new
         (line_text (first.now ∷ decimal number ∷ name.now ∷ [])) result }
 {
     let mut digits = Buffer::new();
     let number = digits.format(number).as_bytes();
-    put_line(first, &[number, name.as_bytes()], output, writer)
+    put_line(first, &[number, name.as_bytes()], printer)
 }
 
 /// Puts the line of a stop that came in a reply's place. At a fault of the writer it took a front
 /// of all that was put.
-pub fn put_stop<W: Write>(stop: Stop, output: &mut Output, writer: &mut W) -> Result<(), WriteFault>
-    ensures { Puts (outlet (W.contents writer.old) output.old)
-        (outlet (W.contents writer.new) output.new) (stop_text stop) result }
+pub fn put_stop<W: Write>(stop: Stop, printer: &mut Printer<'_, W>) -> Result<(), WriteFault>
+    ensures { Prints W.contents printer.old printer.new (stop_text stop) result }
 {
-    put_named(b"stop", stop.number(), stop.name(), output, writer)
+    put_named(b"stop", stop.number(), stop.name(), printer)
 }
 
 // Puts the line of a pass that a stop ended, with how many versions it removed.
 fn put_stopped<W: Write>(
     stop: Stop,
     removed: u64,
-    output: &mut Output,
-    writer: &mut W,
+    printer: &mut Printer<'_, W>,
 ) -> Result<(), WriteFault>
-    ensures { Puts (outlet (W.contents writer.old) output.old)
-        (outlet (W.contents writer.new) output.new)
+    ensures { Prints W.contents printer.old printer.new
         (pass_text (PassEnd.Stopped stop removed)) result }
 {
     let mut number = Buffer::new();
@@ -374,5 +310,5 @@ fn put_stopped<W: Write>(
     let number = number.format(stop.number()).as_bytes();
     let count = count.format(removed).as_bytes();
     let name = stop.name().as_bytes();
-    put_line(b"stop", &[number, name, b"removed", count], output, writer)
+    put_line(b"stop", &[number, name, b"removed", count], printer)
 }

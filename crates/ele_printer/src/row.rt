@@ -1,12 +1,12 @@
 //! Rows that are told in a line each, under a line with their number. A contract sees a row as
-//! itself, and the output with its writer as an outlet.
+//! itself, and a printer as its outlet.
 ghost use Rattle.std.specs.Prelude.{◌∷◌, [], ◌++◌, List, ℕ, length, decimal};
 ghost use Rattle.std.specs.List.{flat_map};
-ghost use Rattle.ele_printer.specs.Outlet.{outlet, Puts};
+ghost use Rattle.ele_printer.specs.Prints.{Prints};
 ghost use Rattle.ele_printer.specs.Printed.{line_text};
 
 use crate::fault::WriteFault;
-use crate::output::Output;
+use crate::printer::Printer;
 use crate::reply::put_number;
 use std::io::Write;
 
@@ -15,26 +15,33 @@ pub(crate) trait Row {
     ghost row_line: { Self → List ℕ };
 
     /// Puts its line. At a fault the writer took a front of all that was put.
-    fn put_row<W: Write>(&self, output: &mut Output, writer: &mut W) -> Result<(), WriteFault>
-        ensures { Puts (outlet (W.contents writer.old) output.old)
-            (outlet (W.contents writer.new) output.new) (row_line self.now) result };
+    fn put_row<W: Write>(&self, printer: &mut Printer<'_, W>) -> Result<(), WriteFault>
+        ensures { Prints W.contents printer.old printer.new (row_line self.now) result };
 }
 
 /// Puts how many rows there are, and the line of each.
 pub(crate) fn put_rows<T: Row, W: Write>(
     first: &[u8],
     rows: &[T],
-    output: &mut Output,
-    writer: &mut W,
+    printer: &mut Printer<'_, W>,
 ) -> Result<(), WriteFault>
-    ensures { Puts (outlet (W.contents writer.old) output.old)
-        (outlet (W.contents writer.new) output.new)
+    ensures { Prints W.contents printer.old printer.new
         (line_text (first.now ∷ decimal (length rows.now) ∷ []) ++ flat_map T.row_line rows.now)
         result }
 {
-    put_number(first, rows.len() as u64, output, writer)?;
+    put_number(first, rows.len() as u64, printer)?;
+    put_lines(rows, printer)
+}
+
+/// Puts the line of each row.
+pub(crate) fn put_lines<T: Row, W: Write>(
+    rows: &[T],
+    printer: &mut Printer<'_, W>,
+) -> Result<(), WriteFault>
+    ensures { Prints W.contents printer.old printer.new (flat_map T.row_line rows.now) result }
+{
     for row in rows {
-        row.put_row(output, writer)?;
+        row.put_row(printer)?;
     }
     Ok(())
 }

@@ -1,12 +1,12 @@
 //! Putting what is told of versions, directories and names, and the policies in it. A contract sees
-//! each as itself, and the output with its writer as an outlet.
+//! each as itself, and a printer as its outlet.
 ghost use Rattle.std.specs.Prelude.{◌≡◌, ◌∷◌, [], ◌++◌, map, decimal, codes};
-ghost use Rattle.ele_printer.specs.Outlet.{outlet, Puts};
+ghost use Rattle.ele_printer.specs.Prints.{Prints};
 ghost use Rattle.std.specs.List.{join_with_byte};
 ghost use Rattle.ele_printer.specs.Printed.{line_text, end_word, pair_word, policy_word, file_text, directory_text, version_line, versions_text, name_line, names_text};
 
 use crate::fault::WriteFault;
-use crate::output::{Output, put_line, put_words};
+use crate::printer::{Printer, put_line, put_words};
 use crate::row::{Row, put_rows};
 use ele_moment::{Moment, Name};
 use ele_policy::{Ladder, Policy};
@@ -17,11 +17,9 @@ use std::io::Write;
 /// Puts the line of a file's version.
 pub(crate) fn put_file<W: Write>(
     stat: &FileStat,
-    output: &mut Output,
-    writer: &mut W,
+    printer: &mut Printer<'_, W>,
 ) -> Result<(), WriteFault>
-    ensures { Puts (outlet (W.contents writer.old) output.old)
-        (outlet (W.contents writer.new) output.new) (file_text stat.now) result }
+    ensures { Prints W.contents printer.old printer.new (file_text stat.now) result }
 {
     let stamps = stat.stamps;
     let mut file = Buffer::new();
@@ -40,17 +38,15 @@ pub(crate) fn put_file<W: Write>(
         file, b"version", number, b"opened", opened, b"closed", closed, b"ended", ended, b"length",
         length, b"policy",
     ];
-    put_with_policy(b"ok file", &words, &stat.policy, output, writer)
+    put_with_policy(b"ok file", &words, &stat.policy, printer)
 }
 
 /// Puts the line of a directory.
 pub(crate) fn put_directory<W: Write>(
     row: &DirectoryRow,
-    output: &mut Output,
-    writer: &mut W,
+    printer: &mut Printer<'_, W>,
 ) -> Result<(), WriteFault>
-    ensures { Puts (outlet (W.contents writer.old) output.old)
-        (outlet (W.contents writer.new) output.new) (directory_text row.now) result }
+    ensures { Prints W.contents printer.old printer.new (directory_text row.now) result }
 {
     let mut directory = Buffer::new();
     let directory = directory.format(row.id.0).as_bytes();
@@ -58,8 +54,7 @@ pub(crate) fn put_directory<W: Write>(
         b"ok directory",
         &[directory, b"default"],
         &row.default,
-        output,
-        writer,
+        printer,
     )
 }
 
@@ -68,78 +63,52 @@ fn put_with_policy<W: Write>(
     first: &[u8],
     words: &[&[u8]],
     policy: &Policy,
-    output: &mut Output,
-    writer: &mut W,
+    printer: &mut Printer<'_, W>,
 ) -> Result<(), WriteFault>
-    ensures { Puts (outlet (W.contents writer.old) output.old)
-        (outlet (W.contents writer.new) output.new)
+    ensures { Prints W.contents printer.old printer.new
         (line_text (first.now ∷ map (λ word. word.now) words.now ++ policy_word policy.now ∷ []))
         result }
 {
-    put_words(first, words, output, writer)?;
-    put_policy(policy, output, writer)
+    put_words(first, words, printer)?;
+    put_policy(policy, printer)?;
+    printer.put(b"\n")
 }
 
-// Puts a policy as the last word of a line.
-fn put_policy<W: Write>(
+/// Puts a space and a policy.
+pub(crate) fn put_policy<W: Write>(
     policy: &Policy,
-    output: &mut Output,
-    writer: &mut W,
+    printer: &mut Printer<'_, W>,
 ) -> Result<(), WriteFault>
-    ensures { Puts (outlet (W.contents writer.old) output.old)
-        (outlet (W.contents writer.new) output.new)
-        ((32 ∷ policy_word policy.now) ++ 10 ∷ []) result }
+    ensures { Prints W.contents printer.old printer.new (32 ∷ policy_word policy.now) result }
 {
     match policy {
-        Policy::One => output.put(b" one\n", writer),
-        Policy::All => output.put(b" all\n", writer),
-        Policy::Safe(interval) => put_safe(interval.seconds(), output, writer),
-        Policy::Landmarks(ladder) => put_ladder(ladder, output, writer),
+        Policy::One => printer.put(b" one"),
+        Policy::All => printer.put(b" all"),
+        Policy::Safe(interval) => put_listed(b" safe:", interval.seconds(), printer),
+        Policy::Landmarks(ladder) => put_ladder(ladder, printer),
     }
 }
 
-// Puts `safe:` and so many seconds as the last word of a line.
-fn put_safe<W: Write>(seconds: u64, output: &mut Output, writer: &mut W) -> Result<(), WriteFault>
-    ensures { Puts (outlet (W.contents writer.old) output.old)
-        (outlet (W.contents writer.new) output.new)
-        ((codes " safe:" ++ decimal seconds) ++ 10 ∷ []) result }
+// Puts a space, `landmarks:` and the pairs of a ladder.
+fn put_ladder<W: Write>(ladder: &Ladder, printer: &mut Printer<'_, W>) -> Result<(), WriteFault>
+    ensures { Prints W.contents printer.old printer.new
+        (codes " landmarks:" ++ join_with_byte 44 (map pair_word ladder.now)) result }
 {
-    let mut digits = Buffer::new();
-    output.put(b" safe:", writer)?;
-    put_line(digits.format(seconds).as_bytes(), &[], output, writer)
-}
-
-// Puts `landmarks:` and the pairs of a ladder as the last word of a line.
-fn put_ladder<W: Write>(
-    ladder: &Ladder,
-    output: &mut Output,
-    writer: &mut W,
-) -> Result<(), WriteFault>
-    ensures { Puts (outlet (W.contents writer.old) output.old)
-        (outlet (W.contents writer.new) output.new)
-        ((codes " landmarks:" ++ join_with_byte 44 (map pair_word ladder.now)) ++ 10 ∷ []) result }
-{
-    output.put(b" landmarks:", writer)?;
-    put_pairs(ladder.pairs(), output, writer)?;
-    output.put(b"\n", writer)
+    printer.put(b" landmarks:")?;
+    put_pairs(ladder.pairs(), printer)
 }
 
 // Puts pairs with a comma between each two.
-fn put_pairs<W: Write>(
-    pairs: &[(u64, u64)],
-    output: &mut Output,
-    writer: &mut W,
-) -> Result<(), WriteFault>
-    ensures { Puts (outlet (W.contents writer.old) output.old)
-        (outlet (W.contents writer.new) output.new)
+fn put_pairs<W: Write>(pairs: &[(u64, u64)], printer: &mut Printer<'_, W>) -> Result<(), WriteFault>
+    ensures { Prints W.contents printer.old printer.new
         (join_with_byte 44 (map pair_word pairs.now)) result }
 {
     let Some((first, rest)) = pairs.split_first() else {
         return Ok(());
     };
-    put_pair(b"", first, output, writer)?;
+    put_pair(b"", first, printer)?;
     for pair in rest {
-        put_pair(b",", pair, output, writer)?;
+        put_pair(b",", pair, printer)?;
     }
     Ok(())
 }
@@ -148,29 +117,34 @@ fn put_pairs<W: Write>(
 fn put_pair<W: Write>(
     before: &[u8],
     pair: &(u64, u64),
-    output: &mut Output,
-    writer: &mut W,
+    printer: &mut Printer<'_, W>,
 ) -> Result<(), WriteFault>
-    ensures { Puts (outlet (W.contents writer.old) output.old)
-        (outlet (W.contents writer.new) output.new) (before.now ++ pair_word pair.now) result }
+    ensures { Prints W.contents printer.old printer.new (before.now ++ pair_word pair.now) result }
 {
-    output.put(before, writer)?;
-    put_number_word(pair.0, output, writer)?;
-    output.put(b"/", writer)?;
-    put_number_word(pair.1, output, writer)
+    printer.put(before)?;
+    put_number_word(pair.0, printer)?;
+    printer.put(b"/")?;
+    put_number_word(pair.1, printer)
 }
 
-/// Puts a number.
-pub(crate) fn put_number_word<W: Write>(
-    number: u64,
-    output: &mut Output,
-    writer: &mut W,
-) -> Result<(), WriteFault>
-    ensures { Puts (outlet (W.contents writer.old) output.old)
-        (outlet (W.contents writer.new) output.new) (decimal number) result }
+// Puts a number.
+fn put_number_word<W: Write>(number: u64, printer: &mut Printer<'_, W>) -> Result<(), WriteFault>
+    ensures { Prints W.contents printer.old printer.new (decimal number) result }
 {
     let mut digits = Buffer::new();
-    output.put(digits.format(number).as_bytes(), writer)
+    printer.put(digits.format(number).as_bytes())
+}
+
+/// Puts what stands before a number, and the number.
+pub(crate) fn put_listed<W: Write>(
+    before: &[u8],
+    number: u64,
+    printer: &mut Printer<'_, W>,
+) -> Result<(), WriteFault>
+    ensures { Prints W.contents printer.old printer.new (before.now ++ decimal number) result }
+{
+    printer.put(before)?;
+    put_number_word(number, printer)
 }
 
 // An end in text.
@@ -186,19 +160,17 @@ fn end_digits<'d>(ended: Option<Moment>, digits: &'d mut Buffer) -> &'d [u8]
 /// Puts how many versions there are, and the line of each.
 pub(crate) fn put_versions<W: Write>(
     versions: &[Stamps],
-    output: &mut Output,
-    writer: &mut W,
+    printer: &mut Printer<'_, W>,
 ) -> Result<(), WriteFault>
-    ensures { Puts (outlet (W.contents writer.old) output.old)
-        (outlet (W.contents writer.new) output.new) (versions_text versions.now) result }
+    ensures { Prints W.contents printer.old printer.new (versions_text versions.now) result }
 {
-    put_rows(b"ok versions", versions, output, writer)
+    put_rows(b"ok versions", versions, printer)
 }
 
 impl Row for Stamps {
     ghost row_line = { version_line };
 
-    fn put_row<W: Write>(&self, output: &mut Output, writer: &mut W) -> Result<(), WriteFault> {
+    fn put_row<W: Write>(&self, printer: &mut Printer<'_, W>) -> Result<(), WriteFault> {
         let mut number = Buffer::new();
         let mut opened = Buffer::new();
         let mut closed = Buffer::new();
@@ -209,36 +181,29 @@ impl Row for Stamps {
         let closed = closed.format(self.closed.seconds()).as_bytes();
         let ended = end_digits(self.ended, &mut ended);
         let length = length.format(self.length).as_bytes();
-        put_line(
-            b"-",
-            &[number, opened, closed, ended, length],
-            output,
-            writer,
-        )
+        put_line(b"-", &[number, opened, closed, ended, length], printer)
     }
 }
 
 /// Puts how many names there are, and the line of each.
 pub(crate) fn put_names<W: Write>(
     names: &[(Name, Target)],
-    output: &mut Output,
-    writer: &mut W,
+    printer: &mut Printer<'_, W>,
 ) -> Result<(), WriteFault>
-    ensures { Puts (outlet (W.contents writer.old) output.old)
-        (outlet (W.contents writer.new) output.new) (names_text names.now) result }
+    ensures { Prints W.contents printer.old printer.new (names_text names.now) result }
 {
-    put_rows(b"ok names", names, output, writer)
+    put_rows(b"ok names", names, printer)
 }
 
 impl Row for (Name, Target) {
     ghost row_line = { name_line };
 
-    fn put_row<W: Write>(&self, output: &mut Output, writer: &mut W) -> Result<(), WriteFault> {
+    fn put_row<W: Write>(&self, printer: &mut Printer<'_, W>) -> Result<(), WriteFault> {
         let name = self.0.bytes();
         match self.1 {
-            Target::File(file) => put_named_target(name, b"file", file.0, output, writer),
+            Target::File(file) => put_named_target(name, b"file", file.0, printer),
             Target::Directory(directory) => {
-                put_named_target(name, b"directory", directory.0, output, writer)
+                put_named_target(name, b"directory", directory.0, printer)
             }
         }
     }
@@ -249,14 +214,12 @@ fn put_named_target<W: Write>(
     name: &[u8],
     kind: &[u8],
     target: u64,
-    output: &mut Output,
-    writer: &mut W,
+    printer: &mut Printer<'_, W>,
 ) -> Result<(), WriteFault>
-    ensures { Puts (outlet (W.contents writer.old) output.old)
-        (outlet (W.contents writer.new) output.new)
+    ensures { Prints W.contents printer.old printer.new
         (line_text (codes "-" ∷ name.now ∷ kind.now ∷ decimal target ∷ [])) result }
 {
     let mut number = Buffer::new();
     let number = number.format(target).as_bytes();
-    put_line(b"-", &[name, kind, number], output, writer)
+    put_line(b"-", &[name, kind, number], printer)
 }

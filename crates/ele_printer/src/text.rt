@@ -1,14 +1,18 @@
 //! Writing answers whole. A contract sees an answer as itself, and a writer as the bytes that it is
 //! known to hold.
 ghost use Rattle.std.specs.Prelude.{◌∷◌, [], OnOk, OnErr, decimal};
+ghost use Rattle.std.specs.List.{AllByRecursion};
 ghost use Rattle.std.specs.Io.KnownBytes.{Appends};
+ghost use Rattle.ele_printer.specs.EventText.{IsValue, event_words};
 ghost use Rattle.ele_printer.specs.Front.{AppendsFront};
+ghost use Rattle.ele_printer.specs.Parts.{parts_of};
 ghost use Rattle.ele_printer.specs.Printed.{line_text, pass_text, bad_text, WritesAnswer, WritesAnswerFront};
 
+use crate::event::put_event_line;
 use crate::fault::{LineFault, WriteFault};
-use crate::output::Output;
+use crate::printer::Printer;
 use crate::reply::{put_fault, put_named, put_pass, put_reply};
-use ele_world::{PassEnd, Reply, Stop};
+use ele_world::{Event, PassEnd, Reply, Stop};
 use std::io::Write;
 
 /// Writes the lines of a reply, or of the stop that came in its place. At a fault the writer took a
@@ -19,9 +23,24 @@ pub fn write_reply<W: Write>(reply: &Result<Reply, Stop>, writer: &mut W) -> Res
     ensures err { OnErr result
         (WritesAnswerFront reply.now (W.contents writer.old) (W.contents writer.new)) }
 {
-    let mut output = Output::new();
-    put_reply(reply, &mut output, writer)?;
-    output.hand_over(writer)
+    let mut printer = Printer::new(writer);
+    put_reply(reply, &mut printer)?;
+    printer.hand_over()
+}
+
+/// Writes the line of an event: the words that name its command, and one for each value behind it.
+/// At a fault of the writer it took a front of that line.
+#[tactic(auto, using(crate::proofs::Known::err_over))]
+pub fn write_event_text<W: Write>(event: &Event, writer: &mut W) -> Result<(), WriteFault>
+    ensures ok { OnOk result (Appends (W.contents writer.old) (W.contents writer.new)
+        (line_text (event_words event.now))) }
+    ensures err { OnErr result (AppendsFront (W.contents writer.old) (W.contents writer.new)
+        (line_text (event_words event.now))) }
+    ensures values { AllByRecursion IsValue (parts_of event.now).1 }
+{
+    let mut printer = Printer::new(writer);
+    put_event_line(event, &mut printer)?;
+    printer.hand_over()
 }
 
 /// Writes the line that tells a bad line's fault. At a fault of the writer it took a front of that
@@ -33,9 +52,9 @@ pub fn write_fault<W: Write>(fault: LineFault, writer: &mut W) -> Result<(), Wri
     ensures err { OnErr result
         (AppendsFront (W.contents writer.old) (W.contents writer.new) (bad_text fault)) }
 {
-    let mut output = Output::new();
-    put_fault(fault, &mut output, writer)?;
-    output.hand_over(writer)
+    let mut printer = Printer::new(writer);
+    put_fault(fault, &mut printer)?;
+    printer.hand_over()
 }
 
 /// Writes the line that tells how a pass ended, and how many versions it removed. At a fault of the
@@ -47,9 +66,9 @@ pub fn write_pass<W: Write>(end: &PassEnd, writer: &mut W) -> Result<(), WriteFa
     ensures err { OnErr result
         (AppendsFront (W.contents writer.old) (W.contents writer.new) (pass_text end.now)) }
 {
-    let mut output = Output::new();
-    put_pass(end, &mut output, writer)?;
-    output.hand_over(writer)
+    let mut printer = Printer::new(writer);
+    put_pass(end, &mut printer)?;
+    printer.hand_over()
 }
 
 /// Writes a line of a first word, a number and a name. At a fault of the writer it took a front of
@@ -66,7 +85,7 @@ pub fn write_named<W: Write>(
     ensures err { OnErr result (AppendsFront (W.contents writer.old) (W.contents writer.new)
         (line_text (first.now ∷ decimal number ∷ name.now ∷ []))) }
 {
-    let mut output = Output::new();
-    put_named(first, number, name, &mut output, writer)?;
-    output.hand_over(writer)
+    let mut printer = Printer::new(writer);
+    put_named(first, number, name, &mut printer)?;
+    printer.hand_over()
 }

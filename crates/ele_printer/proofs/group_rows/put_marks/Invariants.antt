@@ -6,4 +6,4 @@ use Rattle.ele_printer.proofs.group_rows.put_marks.Given as goal
 -- the marks so far are put, and the others are left
 abbrev pub invariant-loop-mark : goal.invariant-loop-mark
 invariant-loop-mark g l =
-    HasSent (outlet (g.W.Write.contents l.fn.writer) l.fn.output) (outlet (g.W.Write.contents l.writer) l.output) (32 ∷ numbers_word l.marks) (flat_map (λ (number : ℕ). 44 ∷ decimal number) (drop l.mark-index l.rest))
+    HasSent (outlet g.W.Write.contents l.fn.printer) (outlet g.W.Write.contents l.printer) (32 ∷ numbers_word l.marks) (flat_map (λ (number : ℕ). 44 ∷ decimal number) (drop l.mark-index l.rest))

@@ -6,4 +6,4 @@ use Rattle.ele_printer.proofs.group_rows.put_members.Given as goal
 -- the members so far are put, and the others are left
 abbrev pub invariant-loop-member : goal.invariant-loop-member
 invariant-loop-member g l =
-    HasSent (outlet (g.W.Write.contents l.fn.writer) l.fn.output) (outlet (g.W.Write.contents l.writer) l.output) (32 ∷ numbers_word l.members) (flat_map (λ (number : ℕ). 44 ∷ decimal number) (drop l.member-index l.rest))
+    HasSent (outlet g.W.Write.contents l.fn.printer) (outlet g.W.Write.contents l.printer) (32 ∷ numbers_word l.members) (flat_map (λ (number : ℕ). 44 ∷ decimal number) (drop l.member-index l.rest))

@@ -6,7 +6,7 @@ use Rattle.ele_printer.proofs.reply.put_hexadecimal.Given as goal
 -- the digits of the bytes so far are put, and the others are left
 abbrev pub invariant-pieces : goal.invariant-pieces
 invariant-pieces g l =
-    HasSent (outlet (g.W.Write.contents l.fn.writer) l.fn.output) (outlet (g.W.Write.contents l.writer) l.output) (encode_lower l.bytes) (encode_lower l.rest)
+    HasSent (outlet g.W.Write.contents l.fn.printer) (outlet g.W.Write.contents l.printer) (encode_lower l.bytes) (encode_lower l.rest)
 
 abbrev pub decreases-pieces : goal.decreases-pieces
 decreases-pieces g l = length l.rest

@@ -1,15 +1,9 @@
-use Rattle.ele_printer.proofs.Basics.{arith, refl}
-use Rattle.ele_printer.proofs.Known.{list_err, list_more, list_done, puts_err}
+use Rattle.ele_printer.proofs.Basics.{refl}
+use Rattle.ele_printer.proofs.Known.{puts_then, puts_err}
 use Rattle.ele_printer.proofs.row.put_rows.Goals as goal
-
-pub returns-in_err-put_row : goal.returns-in_err-put_row
-returns-in_err-put_row g c = list_err g.T.Row.row_line c.args.rows.now c.loop-row.row-index c.row-item.result c.from_residual-in_err-put_row.result (omega arith) c.row-item.is c.loop-row.invariant c.from_residual-in_err-put_row.ensures.0 c.in_err-put_row.ensures
-
-pub loop-row-preserved : goal.loop-row-preserved
-loop-row-preserved g c = list_more g.T.Row.row_line c.args.rows.now c.loop-row.row-index c.row-item.result (omega arith) c.row-item.is c.loop-row.invariant c.in_ok-put_row.ensures
-
-pub returns : goal.returns
-returns g c = list_done g.T.Row.row_line c.args.rows.now c.loop-row.row-index c.loop-row-test.false c.loop-row.invariant
 
 pub returns-in_err-put_number : goal.returns-in_err-put_number
 returns-in_err-put_number g c = puts_err _ c.from_residual.result refl c.from_residual.ensures.0 c.in_err-put_number.ensures
+
+pub returns : goal.returns
+returns g c = puts_then _ _ c.put_lines.result refl c.in_ok-put_number.ensures c.put_lines.ensures

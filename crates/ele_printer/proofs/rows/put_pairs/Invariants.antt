@@ -6,4 +6,4 @@ use Rattle.ele_printer.proofs.rows.put_pairs.Given as goal
 -- the pairs so far are put, and the others are left
 abbrev pub invariant-loop-pair : goal.invariant-loop-pair
 invariant-loop-pair g l =
-    HasSent (outlet (g.W.Write.contents l.fn.writer) l.fn.output) (outlet (g.W.Write.contents l.writer) l.output) (join_with_byte 44 (map pair_word l.pairs)) (flat_map (λ (pair : Rung). 44 ∷ pair_word pair) (drop l.pair-index l.rest))
+    HasSent (outlet g.W.Write.contents l.fn.printer) (outlet g.W.Write.contents l.printer) (join_with_byte 44 (map pair_word l.pairs)) (flat_map (λ (pair : Rung). 44 ∷ pair_word pair) (drop l.pair-index l.rest))

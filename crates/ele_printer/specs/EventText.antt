@@ -1,0 +1,78 @@
+-- Events in text.
+use Rattle.std.specs.Prelude.{ℕ, ◌<◌, ◌≤◌, ◌^◌, List, [], ◌∷◌, ◌++◌, map, codes, All}
+use Rattle.std.specs.Fmt.{decimal}
+use Rattle.std.specs.List.{join_with_byte}
+use Rattle.ele_moment.specs.Last.{last_moment}
+use Rattle.ele_moment.specs.Name.{IsName}
+use Rattle.ele_policy.specs.Policy.{IsPolicy}
+use Rattle.ele_time_path.specs.Path.{IsPath, path_text}
+use Rattle.ele_time_path.specs.PathAt.{tag_at}
+use Rattle.ele_time_path.specs.declared.tagged.Tag.{Tag}
+use Rattle.ele_time_path.specs.declared.tagged.Tag.TheVariants.{Now, At, Number as Numbered}
+use Rattle.ele_world.specs.declared.event.Event.{Event}
+use Rattle.ele_world.specs.declared.event.Source.{Source as AnySource}
+use Rattle.ele_world.specs.declared.event.Source.TheVariants as source
+use Rattle.ele_printer.specs.Command.{command_words}
+use Rattle.ele_printer.specs.Parts.{parts_of}
+use Rattle.ele_printer.specs.Printed.{bytes_word, policy_word}
+use Rattle.ele_printer.specs.Value.{Value, Number, Moment, Name, Path, Tagged, Timed, Source, Bytes, Policy}
+
+-- the word of a path: a slash for the root, or the names, each with a slash in front
+abbrev pub path_word : List (List ℕ) → List ℕ
+path_word [] = codes "/"
+path_word (name ∷ names) = path_text (name ∷ names)
+
+-- what stands behind a path for a tag: nothing for now, `@` (64) and the seconds of a moment, or `#` (35) and the number of a
+-- version
+abbrev pub tag_text : Tag → List ℕ
+tag_text Now = []
+tag_text (At moment) = 64 ∷ decimal moment
+tag_text (Numbered number) = 35 ∷ decimal number
+
+-- the word of a path with a tag
+abbrev pub tagged_word : List (List ℕ) → Tag → List ℕ
+tagged_word names tag = path_word names ++ tag_text tag
+
+-- the word of what is read
+abbrev pub source_word : AnySource → List ℕ
+source_word (source.Tagged tagged) = tagged_word tagged.path tagged.tag
+source_word (source.Of handle) = decimal handle
+
+-- the word of a value: numbers and moments in decimal digits, bytes in hexadecimal ones
+abbrev pub value_word : Value → List ℕ
+value_word (Number n) = decimal n
+value_word (Moment m) = decimal m
+value_word (Name name) = name
+value_word (Path names) = path_word names
+value_word (Tagged tagged) = tagged_word tagged.path tagged.tag
+value_word (Timed timed) = tagged_word timed.path (tag_at timed.moment)
+value_word (Source source) = source_word source
+value_word (Bytes bytes) = bytes_word bytes
+value_word (Policy policy) = policy_word policy
+
+-- the words of an event: those that name its command, and one for each value
+abbrev pub event_words : Event → List (List ℕ)
+event_words event = command_words (parts_of event).0 ++ map value_word (parts_of event).1
+
+-- these with a space between each two
+abbrev pub event_text : Event → List ℕ
+event_text event = join_with_byte 32 (event_words event)
+
+-- what its type says of a tag
+abbrev pub IsTag : Tag → Type 0
+IsTag Now = Unit {0}
+IsTag (At moment) = moment ≤ last_moment
+IsTag (Numbered number) = number < 2 ^ 64
+
+-- what their types say of values
+abbrev pub IsValue : Value → Type 0
+IsValue (Number n) = n < 2 ^ 64
+IsValue (Moment m) = m ≤ last_moment
+IsValue (Name name) = IsName name
+IsValue (Path names) = IsPath names
+IsValue (Tagged tagged) = IsPath tagged.path × IsTag tagged.tag
+IsValue (Timed timed) = IsPath timed.path × IsTag (tag_at timed.moment)
+IsValue (Source (source.Tagged tagged)) = IsPath tagged.path × IsTag tagged.tag
+IsValue (Source (source.Of handle)) = handle < 2 ^ 64
+IsValue (Bytes bytes) = All (λ byte. byte < 256) bytes
+IsValue (Policy policy) = IsPolicy policy

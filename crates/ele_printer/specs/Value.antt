@@ -1,0 +1,17 @@
+-- What a word behind a command stands for.
+use Rattle.std.specs.Prelude.{ℕ, List}
+use Rattle.ele_policy.specs.declared.policy.Policy.{Policy as AnyPolicy}
+use Rattle.ele_time_path.specs.declared.path_at.PathAt.{PathAt}
+use Rattle.ele_time_path.specs.declared.tagged.TaggedPath.{TaggedPath}
+use Rattle.ele_world.specs.declared.event.Source.{Source as AnySource}
+
+pub data Value : Type 0 where
+  Number : ℕ → Value
+  Moment : ℕ → Value
+  Name : List ℕ → Value
+  Path : List (List ℕ) → Value
+  Tagged : TaggedPath → Value
+  Timed : PathAt → Value
+  Source : AnySource → Value
+  Bytes : List ℕ → Value
+  Policy : AnyPolicy → Value

@@ -1,0 +1,154 @@
+//! Putting events. A contract sees an event as its command and the values behind it, and a printer
+//! as its outlet.
+ghost use Rattle.std.specs.Prelude.{◌∷◌, [], ◌<◌, All};
+ghost use Rattle.std.specs.List.{AllByRecursion, join_with_byte};
+ghost use Rattle.ele_printer.specs.Command.{command_words};
+ghost use Rattle.ele_printer.specs.EventText.{IsValue, event_text, event_words};
+ghost use Rattle.ele_printer.specs.Parts.{parts_of};
+ghost use Rattle.ele_printer.specs.Printed.{bytes_word, line_text};
+ghost use Rattle.ele_printer.specs.Prints.{Prints};
+ghost use Rattle.ele_printer.specs.PutsParts.{PutsParts};
+ghost use Rattle.ele_printer.specs.Value.{Number, Bytes};
+
+use crate::command::Command;
+use crate::fault::WriteFault;
+use crate::printer::{Printer, put_words};
+use crate::reply::put_hexadecimal;
+use crate::word::Word;
+use ele_moment::Handle;
+use ele_world::Event;
+use std::io::Write;
+
+/// Puts the line of an event.
+pub(crate) fn put_event_line<W: Write>(
+    event: &Event,
+    printer: &mut Printer<'_, W>,
+) -> Result<(), WriteFault>
+    ensures text { Prints W.contents printer.old printer.new (line_text (event_words event.now))
+        result }
+    ensures values { AllByRecursion IsValue (parts_of event.now).1 }
+{
+    put_event(event, printer)?;
+    printer.put(b"\n")
+}
+
+/// Puts the words of an event, without the end of a line: those that name its command, and one for
+/// each value behind it. At a fault of the writer it took a front of all that was put.
+pub fn put_event<W: Write>(event: &Event, printer: &mut Printer<'_, W>) -> Result<(), WriteFault>
+    ensures text { Prints W.contents printer.old printer.new (event_text event.now) result }
+    ensures values { AllByRecursion IsValue (parts_of event.now).1 }
+{
+    match event {
+        Event::Clock(moment) => put_one(Command::Clock, moment, printer),
+        Event::Tick(seconds) => put_one(Command::Tick, seconds, printer),
+        Event::MakeDir(path) => put_one(Command::MakeDir, path, printer),
+        Event::RemoveDir(path) => put_one(Command::RemoveDir, path, printer),
+        Event::Create(path) => put_one(Command::Create, path, printer),
+        Event::Link(from, to) => put_two(Command::Link, from, to, printer),
+        Event::Unlink(path) => put_one(Command::Unlink, path, printer),
+        Event::Rename(from, to) => put_two(Command::Rename, from, to, printer),
+        Event::Undelete(path) => put_one(Command::Undelete, path, printer),
+        Event::OpenWrite(path) => put_one(Command::OpenWrite, path, printer),
+        Event::OpenRead(tagged) => put_one(Command::OpenRead, tagged, printer),
+        Event::Write(handle, offset, bytes) => put_write(handle, offset, bytes.as_slice(), printer),
+        Event::Truncate(handle, size) => put_two(Command::Truncate, handle, size, printer),
+        Event::Close(handle) => put_one(Command::Close, handle, printer),
+        Event::Revert(path, number) => put_two(Command::Revert, path, number, printer),
+        Event::SetPolicy(path, policy) => put_two(Command::SetPolicy, path, policy, printer),
+        Event::SetDefault(path, policy) => put_two(Command::Default, path, policy, printer),
+        Event::GroupMake(name) => put_one(Command::GroupMake, name, printer),
+        Event::GroupDrop(name) => put_one(Command::GroupDrop, name, printer),
+        Event::GroupAdd(name, path) => put_two(Command::GroupAdd, name, path, printer),
+        Event::GroupRemove(name, path) => put_two(Command::GroupRemove, name, path, printer),
+        Event::Mark(name, moment) => put_two(Command::Mark, name, moment, printer),
+        Event::Unmark(name, moment) => put_two(Command::Unmark, name, moment, printer),
+        Event::CleanOne => put_alone(Command::Clean, printer),
+        Event::Read(source) => put_one(Command::Read, source, printer),
+        Event::Stat(tagged) => put_one(Command::Stat, tagged, printer),
+        Event::Versions(timed) => put_one(Command::Versions, timed, printer),
+        Event::List(timed) => put_one(Command::ListNames, timed, printer),
+        Event::Restorable => put_alone(Command::Restorable, printer),
+        Event::Due => put_alone(Command::Due, printer),
+        Event::UsageAll => put_alone(Command::Usage, printer),
+        Event::GroupsAll => put_alone(Command::Groups, printer),
+    }
+}
+
+// Puts the words of a command.
+fn put_command<W: Write>(command: Command, printer: &mut Printer<'_, W>) -> Result<(), WriteFault>
+    ensures { Prints W.contents printer.old printer.new
+        (join_with_byte 32 (command_words command)) result }
+{
+    let (first, second) = command.words();
+    if second.is_empty() {
+        return printer.put(first.as_bytes());
+    }
+    put_words(first.as_bytes(), &[second.as_bytes()], printer)
+}
+
+// Puts a command with no value behind it.
+fn put_alone<W: Write>(command: Command, printer: &mut Printer<'_, W>) -> Result<(), WriteFault>
+    ensures { PutsParts W.contents printer.old printer.new (command, []) result }
+{
+    put_command(command, printer)
+}
+
+// Puts a command and a value.
+fn put_one<A: Word, W: Write>(
+    command: Command,
+    value: &A,
+    printer: &mut Printer<'_, W>,
+) -> Result<(), WriteFault>
+    ensures { PutsParts W.contents printer.old printer.new (command, A.value value.now ∷ [])
+        result }
+{
+    value.is_value();
+    put_alone(command, printer)?;
+    value.put_value(printer)
+}
+
+// Puts a command and two values.
+fn put_two<A: Word, B: Word, W: Write>(
+    command: Command,
+    first: &A,
+    second: &B,
+    printer: &mut Printer<'_, W>,
+) -> Result<(), WriteFault>
+    ensures { PutsParts W.contents printer.old printer.new
+        (command, A.value first.now ∷ B.value second.now ∷ []) result }
+{
+    second.is_value();
+    put_one(command, first, printer)?;
+    second.put_value(printer)
+}
+
+// Puts the command that writes bytes.
+fn put_write<W: Write>(
+    handle: &Handle,
+    offset: &u64,
+    bytes: &[u8],
+    printer: &mut Printer<'_, W>,
+) -> Result<(), WriteFault>
+    ensures { PutsParts W.contents printer.old printer.new
+        (Command.Write, Number handle.now ∷ Number offset.now ∷ Bytes bytes.now ∷ []) result }
+{
+    are_bytes(bytes);
+    put_two(Command::Write, handle, offset, printer)?;
+    put_byte_word(bytes, printer)
+}
+
+// Says of bytes that each is one.
+fn are_bytes(bytes: &[u8])
+    ensures { All (λ byte. byte < 256) bytes.now }
+{}
+
+// Puts a space and two digits for each byte, or `-` for none.
+fn put_byte_word<W: Write>(bytes: &[u8], printer: &mut Printer<'_, W>) -> Result<(), WriteFault>
+    ensures { Prints W.contents printer.old printer.new (32 ∷ bytes_word bytes.now) result }
+{
+    if bytes.is_empty() {
+        return printer.put(b" -");
+    }
+    printer.put(b" ")?;
+    put_hexadecimal(bytes, printer)
+}

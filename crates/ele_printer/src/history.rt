@@ -1,0 +1,62 @@
+//! Putting histories. A contract sees a history as how many entries were folded and those that are
+//! stored, and a printer as its outlet.
+ghost use Rattle.std.specs.Prelude.{◌∷◌, [], decimal};
+ghost use Rattle.ele_printer.specs.HistoryText.{entry_line, history_text, trimmed_text};
+ghost use Rattle.ele_printer.specs.Printed.{line_text};
+ghost use Rattle.ele_printer.specs.Prints.{Prints};
+
+use crate::event::put_event_line;
+use crate::fault::WriteFault;
+use crate::printer::{Printer, put_line};
+use crate::reply::put_number;
+use crate::row::{Row, put_lines};
+use ele_world::Entry;
+use itoa::Buffer;
+use std::io::Write;
+
+/// Puts the text of a history: how many entries were folded, how many are stored, and the line of
+/// the event of each of these. At a fault of the writer it took a front of all that was put.
+pub fn put_history<W: Write>(
+    folded: u64,
+    entries: &[Entry],
+    printer: &mut Printer<'_, W>,
+) -> Result<(), WriteFault>
+    ensures { Prints W.contents printer.old printer.new (history_text folded entries.now) result }
+{
+    put_numbers(b"ok history", folded, entries.len() as u64, printer)?;
+    put_lines(entries, printer)
+}
+
+/// Puts the line of a trim: how many entries it folded. At a fault of the writer it took a front of
+/// all that was put.
+pub fn put_trimmed<W: Write>(count: u64, printer: &mut Printer<'_, W>) -> Result<(), WriteFault>
+    ensures { Prints W.contents printer.old printer.new (trimmed_text count) result }
+{
+    put_number(b"ok trimmed", count, printer)
+}
+
+impl Row for Entry {
+    ghost row_line = { entry_line };
+
+    fn put_row<W: Write>(&self, printer: &mut Printer<'_, W>) -> Result<(), WriteFault> {
+        printer.put(b"- ")?;
+        put_event_line(&self.event, printer)
+    }
+}
+
+// Puts a line of a first word and two numbers.
+fn put_numbers<W: Write>(
+    first: &[u8],
+    one: u64,
+    other: u64,
+    printer: &mut Printer<'_, W>,
+) -> Result<(), WriteFault>
+    ensures { Prints W.contents printer.old printer.new
+        (line_text (first.now ∷ decimal one ∷ decimal other ∷ [])) result }
+{
+    let mut before = Buffer::new();
+    let mut behind = Buffer::new();
+    let one = before.format(one).as_bytes();
+    let other = behind.format(other).as_bytes();
+    put_line(first, &[one, other], printer)
+}

@@ -1,0 +1,72 @@
+//! Putting paths and their tags. A contract sees a path as the list of its names, and a printer as
+//! its outlet.
+ghost use Rattle.std.specs.Prelude.{◌≡◌, ◌∷◌, ◌++◌};
+ghost use Rattle.ele_printer.specs.EventText.{IsTag, path_word, tag_text};
+ghost use Rattle.ele_printer.specs.Prints.{Prints};
+ghost use Rattle.ele_time_path.specs.PathAt.{tag_at};
+
+use crate::fault::WriteFault;
+use crate::printer::Printer;
+use crate::rows::put_listed;
+use ele_moment::Moment;
+use ele_time_path::{Path, Tag};
+use std::io::Write;
+
+/// Puts a space and a path: a slash for the root, or the names, each with a slash in front.
+pub(crate) fn put_path<W: Write>(
+    path: &Path,
+    printer: &mut Printer<'_, W>,
+) -> Result<(), WriteFault>
+    ensures { Prints W.contents printer.old printer.new (32 ∷ path_word path.now) result }
+{
+    let names = path.names();
+    if names.is_empty() {
+        return printer.put(b" /");
+    }
+    printer.put(b" ")?;
+    for name in names {
+        put_step(name.bytes(), printer)?;
+    }
+    Ok(())
+}
+
+// Puts a slash and the bytes of a name.
+fn put_step<W: Write>(name: &[u8], printer: &mut Printer<'_, W>) -> Result<(), WriteFault>
+    ensures { Prints W.contents printer.old printer.new (47 ∷ name.now) result }
+{
+    printer.put(b"/")?;
+    printer.put(name)
+}
+
+/// Puts what stands behind a path for a tag.
+pub(crate) fn put_tag<W: Write>(tag: Tag, printer: &mut Printer<'_, W>) -> Result<(), WriteFault>
+    ensures { Prints W.contents printer.old printer.new (tag_text tag) result }
+{
+    match tag {
+        Tag::Now => printer.put(b""),
+        Tag::At(moment) => put_listed(b"@", moment.seconds(), printer),
+        Tag::Number(number) => put_listed(b"#", number.0, printer),
+    }
+}
+
+/// The tag that says the same.
+pub(crate) fn tag_of(moment: Option<Moment>) -> Tag
+    ensures { result ≡ tag_at moment }
+{
+    match moment {
+        Some(moment) => Tag::At(moment),
+        None => Tag::Now,
+    }
+}
+
+/// Says what its type says of a tag.
+pub(crate) fn is_tag(tag: Tag)
+    ensures { IsTag tag }
+{
+    match tag {
+        Tag::At(moment) => {
+            moment.seconds();
+        }
+        Tag::Now | Tag::Number(_) => {}
+    }
+}

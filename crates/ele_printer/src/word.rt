@@ -1,0 +1,166 @@
+//! What stands in an event behind its command, a word each. A contract sees each as its value, and
+//! a printer as its outlet.
+ghost use Rattle.std.specs.Prelude.{◌<◌, ◌^◌, ◌∷◌};
+ghost use Rattle.ele_printer.specs.EventText.{IsValue, value_word};
+ghost use Rattle.ele_printer.specs.Prints.{Prints};
+ghost use Rattle.ele_printer.specs.Value as of;
+ghost use Rattle.ele_printer.specs.Value.{Value};
+
+use crate::fault::WriteFault;
+use crate::path_words::{is_tag, put_path, put_tag, tag_of};
+use crate::printer::{Printer, put_word};
+use crate::rows::{put_listed, put_policy};
+use ele_moment::{Handle, Moment, Name, VersionNo};
+use ele_policy::Policy;
+use ele_time_path::{Path, PathAt, TaggedPath};
+use ele_world::Source;
+use std::io::Write;
+
+/// What is told in a word of its own.
+pub(crate) trait Word {
+    ghost value: { Self → Value };
+
+    /// Says what its type says of the value.
+    fn is_value(&self)
+        ensures { IsValue (value self.now) };
+
+    /// Puts a space and its word. At a fault the writer took a front of all that was put.
+    fn put_value<W: Write>(&self, printer: &mut Printer<'_, W>) -> Result<(), WriteFault>
+        ensures { Prints W.contents printer.old printer.new (32 ∷ value_word (value self.now))
+            result };
+}
+
+impl Word for u64 {
+    ghost value = { of.Number };
+
+    fn is_value(&self) {
+        is_number(*self);
+    }
+
+    fn put_value<W: Write>(&self, printer: &mut Printer<'_, W>) -> Result<(), WriteFault> {
+        put_listed(b" ", *self, printer)
+    }
+}
+
+impl Word for Handle {
+    ghost value = { of.Number };
+
+    fn is_value(&self) {
+        is_number(self.0);
+    }
+
+    fn put_value<W: Write>(&self, printer: &mut Printer<'_, W>) -> Result<(), WriteFault> {
+        put_listed(b" ", self.0, printer)
+    }
+}
+
+impl Word for VersionNo {
+    ghost value = { of.Number };
+
+    fn is_value(&self) {
+        is_number(self.0);
+    }
+
+    fn put_value<W: Write>(&self, printer: &mut Printer<'_, W>) -> Result<(), WriteFault> {
+        put_listed(b" ", self.0, printer)
+    }
+}
+
+impl Word for Moment {
+    ghost value = { of.Moment };
+
+    fn is_value(&self) {
+        self.seconds();
+    }
+
+    fn put_value<W: Write>(&self, printer: &mut Printer<'_, W>) -> Result<(), WriteFault> {
+        put_listed(b" ", self.seconds(), printer)
+    }
+}
+
+impl Word for Name {
+    ghost value = { of.Name };
+
+    fn is_value(&self) {
+        self.bytes();
+    }
+
+    fn put_value<W: Write>(&self, printer: &mut Printer<'_, W>) -> Result<(), WriteFault> {
+        put_word(self.bytes(), printer)
+    }
+}
+
+impl Word for Path {
+    ghost value = { of.Path };
+
+    fn is_value(&self) {
+        self.names();
+    }
+
+    fn put_value<W: Write>(&self, printer: &mut Printer<'_, W>) -> Result<(), WriteFault> {
+        put_path(self, printer)
+    }
+}
+
+impl Word for TaggedPath {
+    ghost value = { of.Tagged };
+
+    fn is_value(&self) {
+        self.path().names();
+        is_tag(self.tag());
+    }
+
+    fn put_value<W: Write>(&self, printer: &mut Printer<'_, W>) -> Result<(), WriteFault> {
+        put_path(self.path(), printer)?;
+        put_tag(self.tag(), printer)
+    }
+}
+
+impl Word for PathAt {
+    ghost value = { of.Timed };
+
+    fn is_value(&self) {
+        self.path.names();
+        is_tag(tag_of(self.moment));
+    }
+
+    fn put_value<W: Write>(&self, printer: &mut Printer<'_, W>) -> Result<(), WriteFault> {
+        put_path(&self.path, printer)?;
+        put_tag(tag_of(self.moment), printer)
+    }
+}
+
+impl Word for Source {
+    ghost value = { of.Source };
+
+    fn is_value(&self) {
+        match self {
+            Source::Tagged(tagged) => tagged.is_value(),
+            Source::Of(handle) => handle.is_value(),
+        }
+    }
+
+    fn put_value<W: Write>(&self, printer: &mut Printer<'_, W>) -> Result<(), WriteFault> {
+        match self {
+            Source::Tagged(tagged) => tagged.put_value(printer),
+            Source::Of(handle) => handle.put_value(printer),
+        }
+    }
+}
+
+impl Word for Policy {
+    ghost value = { of.Policy };
+
+    fn is_value(&self) {
+        self.is_given();
+    }
+
+    fn put_value<W: Write>(&self, printer: &mut Printer<'_, W>) -> Result<(), WriteFault> {
+        put_policy(self, printer)
+    }
+}
+
+// Says of a number that it has 64 bits at most.
+fn is_number(number: u64)
+    ensures { number < 2 ^ 64 }
+{}
