@@ -34,7 +34,7 @@ no_command_fits : (words : List (List ℕ)) → command_of words ≡ None → (c
 no_command_fits words none command arguments fits = let some = fits_found words command arguments fits in cc
 
 -- the faults behind the command are those of the words
-fault_of_words : (words : List (List ℕ)) (command : Command) (arguments : List (List ℕ)) (fault : LineFault) → command_of words ≡ Some (command, arguments) → words ≡ command_words command ++ arguments → IsFaultOfKinds (kinds_behind command) arguments fault → IsFaultOfWords words fault
+pub fault_of_words : (words : List (List ℕ)) (command : Command) (arguments : List (List ℕ)) (fault : LineFault) → command_of words ≡ Some (command, arguments) → words ≡ command_words command ++ arguments → IsFaultOfKinds (kinds_behind command) arguments fault → IsFaultOfWords words fault
 fault_of_words words command arguments fault found are (miscounted number is) = no_command (λ c xs fits. grind (arith, number, fits_found words c xs fits, fits.count, same_Some)) is
 fault_of_words words command arguments fault found are (bad_word count first) =
     of_word command arguments (record { are = are; count = count }) first
@@ -43,25 +43,26 @@ fault_of_words words command arguments fault found are (bad_word count first) =
 pub unfit_words : (words : List (List ℕ)) → command_of words ≡ None → IsFaultOfWords words Syntax
 unfit_words words none = no_command (no_command_fits words none) refl
 
-are : (words : List (List ℕ)) (command : Command) (arguments : List (List ℕ)) → command_of words ≡ Some (command, arguments) → words ≡ command_words command ++ arguments
-are words command arguments found = subst (λ o. IfSome o (λ x. words ≡ command_words x.0 ++ x.1)) found (words_are words)
+-- what is found in front of words, they are
+pub words_found : (words : List (List ℕ)) (command : Command) (arguments : List (List ℕ)) → command_of words ≡ Some (command, arguments) → words ≡ command_words command ++ arguments
+words_found words command arguments found = subst (λ o. IfSome o (λ x. words ≡ command_words x.0 ++ x.1)) found (words_are words)
 
 -- what the words behind the command spell, the words spell
 pub spelled_words : (words : List (List ℕ)) (command : Command) (arguments : List (List ℕ)) (r : Result Line LineFault) → command_of words ≡ Some (command, arguments) → ReadsLine command arguments r → IfOk r (SpellsWords words)
-spelled_words words command arguments (Ok asked) found h = record { arguments = arguments; are = grind (arith, are words command arguments found, h.command_is); values = h.values }
+spelled_words words command arguments (Ok asked) found h = record { arguments = arguments; are = grind (arith, words_found words command arguments found, h.command_is); values = h.values }
 spelled_words words command arguments (Err fault) found h = tt
 
 -- and memory that reading them wants, the words want
 pub memory_of_words : (words : List (List ℕ)) (command : Command) (arguments : List (List ℕ)) (r : Result Line LineFault) → command_of words ≡ Some (command, arguments) → ReadsLine command arguments r → r ≡ Err NoMemory → TakesMemory words
 memory_of_words words command arguments (Ok asked) found h is = absurd cc
 memory_of_words words command arguments (Err fault) found h is =
-    record { command = command; arguments = arguments; are = are words command arguments found; takes = h.memory cc }
+    record { command = command; arguments = arguments; are = words_found words command arguments found; takes = h.memory cc }
 
 -- and what is wrong with these is wrong with the words
 pub faults_of_words : (words : List (List ℕ)) (command : Command) (arguments : List (List ℕ)) (r : Result Line LineFault) → command_of words ≡ Some (command, arguments) → ReadsLine command arguments r → IfErr r (λ fault. (fault ≡ NoMemory) ⊎ IsFaultOfWords words fault)
 faults_of_words words command arguments (Ok asked) found h = tt
 faults_of_words words command arguments (Err fault) found h =
-    elim h.is [ inl memory ↦ inl memory | inr bad ↦ inr (fault_of_words words command arguments fault found (are words command arguments found) bad) ]
+    elim h.is [ inl memory ↦ inl memory | inr bad ↦ inr (fault_of_words words command arguments fault found (words_found words command arguments found) bad) ]
 
 -- words are one command's, with one rest behind it
 pub one_fit : (words : List (List ℕ)) (c d : Command) (xs ys : List (List ℕ)) → words ≡ command_words c ++ xs → words ≡ command_words d ++ ys → (c ≡ d) × (xs ≡ ys)

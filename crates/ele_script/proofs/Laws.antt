@@ -1,57 +1,17 @@
 -- What is true of lines: each asks for one thing, or has a first fault, and not both.
-use Rattle.ele_script.proofs.Basics.{nat_tests, ◌≡◌, ◌≢◌, ℕ, ◌≤◌, true, true≢false, List, [], ◌∷◌, length, refl, sym, ap, ◌∙◌, arith, ◌⊎◌, inl, inr, Option, Some, None, Result, Ok, Err, IfOk, IfErr, same_Some}
-use Rattle.ele_script.proofs.Prelude.{OneMeaning, Line, Command, LineFault, NoMemory, WordKind, Value, Moment, Name, Path, Timed, Bytes, word_kind, kinds_behind, longest_line, words_of, is_worded, SpellsValues, SpellsWords, SpellsLine, Spells}
+use Rattle.ele_script.proofs.Basics.{nat_tests, ◌≡◌, ◌≢◌, ℕ, ◌≤◌, true, true≢false, List, [], ◌∷◌, length, refl, sym, ap, ◌∙◌, arith, ◌⊎◌, inl, inr, Result, Ok, Err, IfOk, IfErr, same_Some}
+use Rattle.ele_script.proofs.Prelude.{OneMeaning, Line, Command, LineFault, NoMemory, WordKind, Value, word_kind, kinds_behind, longest_line, words_of, is_worded, SpellsValues, SpellsWords, SpellsLine, Asks, AsksEvent}
 use Rattle.ele_script.proofs.Prelude.{IsFirstWordFault, IsFaultOfWords, no_command, of_word, IsFirstFault, too_long, not_worded, of_words, IsEventFault, of_line, no_event}
 use Rattle.ele_world.specs.declared.event.Event.{Event}
-use Rattle.ele_world.specs.declared.event.Event.TheVariants as event
 use Rattle.ele_script.specs.declared.reading.Line.TheVariants as asks
-use Rattle.ele_printer.specs.declared.command.Command.TheVariants.{Clock, Tick, MakeDir, RemoveDir, Create, Link, Unlink, Rename, Undelete, OpenWrite, OpenRead, Write, Truncate, Close, Revert, SetPolicy, Default, GroupMake, GroupDrop, GroupAdd, GroupRemove, Mark, Unmark, Clean, Read, Stat, Versions, ListNames, Restorable, Due, Usage, Groups, Pass}
-use Rattle.ele_script.specs.Value.{Number, Tagged, Source, Policy}
 use Rattle.ele_script.specs.EventOf.{event_of}
 use Rattle.ele_script.proofs.Commands.{one_fit}
 use Rattle.ele_script.proofs.Values.{one_value, faultless_word, one_word_fault}
 
 -- the kinds of values
-abbrev kinds_of : List Value → List WordKind
+abbrev pub kinds_of : List Value → List WordKind
 kinds_of [] = []
 kinds_of (value ∷ values) = word_kind value ∷ kinds_of values
-
--- what a command and values ask for, if they are of its kinds
-abbrev line_of : Command × List Value → Option Line
-line_of (Clock, Moment moment ∷ []) = Some (asks.Event (event.Clock moment))
-line_of (Tick, Number seconds ∷ []) = Some (asks.Event (event.Tick seconds))
-line_of (MakeDir, Path path ∷ []) = Some (asks.Event (event.MakeDir path))
-line_of (RemoveDir, Path path ∷ []) = Some (asks.Event (event.RemoveDir path))
-line_of (Create, Path path ∷ []) = Some (asks.Event (event.Create path))
-line_of (Link, Path from ∷ Path to ∷ []) = Some (asks.Event (event.Link from to))
-line_of (Unlink, Path path ∷ []) = Some (asks.Event (event.Unlink path))
-line_of (Rename, Path from ∷ Path to ∷ []) = Some (asks.Event (event.Rename from to))
-line_of (Undelete, Path path ∷ []) = Some (asks.Event (event.Undelete path))
-line_of (OpenWrite, Path path ∷ []) = Some (asks.Event (event.OpenWrite path))
-line_of (OpenRead, Tagged tagged ∷ []) = Some (asks.Event (event.OpenRead tagged))
-line_of (Write, Number handle ∷ Number offset ∷ Bytes bytes ∷ []) = Some (asks.Event (event.Write handle offset bytes))
-line_of (Truncate, Number handle ∷ Number size ∷ []) = Some (asks.Event (event.Truncate handle size))
-line_of (Close, Number handle ∷ []) = Some (asks.Event (event.Close handle))
-line_of (Revert, Path path ∷ Number number ∷ []) = Some (asks.Event (event.Revert path number))
-line_of (SetPolicy, Path path ∷ Policy policy ∷ []) = Some (asks.Event (event.SetPolicy path policy))
-line_of (Default, Path path ∷ Policy policy ∷ []) = Some (asks.Event (event.SetDefault path policy))
-line_of (GroupMake, Name name ∷ []) = Some (asks.Event (event.GroupMake name))
-line_of (GroupDrop, Name name ∷ []) = Some (asks.Event (event.GroupDrop name))
-line_of (GroupAdd, Name name ∷ Path path ∷ []) = Some (asks.Event (event.GroupAdd name path))
-line_of (GroupRemove, Name name ∷ Path path ∷ []) = Some (asks.Event (event.GroupRemove name path))
-line_of (Mark, Name name ∷ Moment moment ∷ []) = Some (asks.Event (event.Mark name moment))
-line_of (Unmark, Name name ∷ Moment moment ∷ []) = Some (asks.Event (event.Unmark name moment))
-line_of (Clean, []) = Some (asks.Event event.CleanOne)
-line_of (Read, Source source ∷ []) = Some (asks.Event (event.Read source))
-line_of (Stat, Tagged tagged ∷ []) = Some (asks.Event (event.Stat tagged))
-line_of (Versions, Timed timed ∷ []) = Some (asks.Event (event.Versions timed))
-line_of (ListNames, Timed timed ∷ []) = Some (asks.Event (event.List timed))
-line_of (Restorable, []) = Some (asks.Event event.Restorable)
-line_of (Due, []) = Some (asks.Event event.Due)
-line_of (Usage, []) = Some (asks.Event event.UsageAll)
-line_of (Groups, []) = Some (asks.Event event.GroupsAll)
-line_of (Pass, Number budget ∷ []) = Some (asks.Pass budget)
-line_of _ = None
 
 tails : {A : Type 0} {x y : A} {xs ys : List A} → x ∷ xs ≡ y ∷ ys → xs ≡ ys
 tails h = cc
@@ -74,9 +34,9 @@ module _ (law : OneMeaning) where
   one_list (word ∷ words) (v ∷ vs) (u ∷ us) k a b = grind (arith, nat_tests, one_value law, tails, one_list words vs us (tails k) a.1 b.1)
   one_list words vs us k a b = grind arith
 
-  -- a line asks for one thing
-  one_line : (line : List ℕ) (a b : Line) → SpellsLine line a → SpellsLine line b → a ≡ b
-  one_line line a b h k = grind (arith, nat_tests, one_fit, one_list, parts_is, same_Some)
+  -- a line spells one thing
+  pub one_spelling : (line : List ℕ) (a b : Line) → SpellsLine line a → SpellsLine line b → a ≡ b
+  one_spelling line a b h k = grind (arith, nat_tests, one_fit, one_list, parts_is, same_Some)
 
   -- words that stand for values of their kinds have no fault
   no_first : (words : List (List ℕ)) (values : List Value) (fault : LineFault) → SpellsValues words values → IsFirstWordFault (kinds_of values) words fault → ⊥
@@ -88,10 +48,10 @@ module _ (law : OneMeaning) where
   no_words words asked fault h x4 = grind (arith, nat_tests, as_many, one_fit, moved, no_first)
 
   -- a line that asks for something has no fault
-  pub spelled_faultless : (line : List ℕ) (asked : Line) (fault : LineFault) → SpellsLine line asked → IsFirstFault line fault → ⊥
+  pub spelled_faultless : (line : List ℕ) (asked : Line) (fault : LineFault) → Asks line asked → IsFirstFault line fault → ⊥
   spelled_faultless line asked fault h (too_long long is) = omega (arith, long, h.short)
-  spelled_faultless line asked fault h (not_worded short broken is) = true≢false (sym h.worded ∙ broken)
-  spelled_faultless line asked fault h (of_words short worded bad) = no_words (words_of line) asked fault h.words bad
+  spelled_faultless line asked fault h (not_worded short broken is) = true≢false (sym h.spells.worded ∙ broken)
+  spelled_faultless line asked fault h (of_words short worded bad) = no_words (words_of line) asked fault h.spells.words bad
 
   one_first : (kinds : List WordKind) (words : List (List ℕ)) (a b : LineFault) → IsFirstWordFault kinds words a → IsFirstWordFault kinds words b → a ≡ b
   one_first (kind ∷ kinds) (word ∷ words) a b x y = grind (arith, one_word_fault law kind word a b, faultless_word law kind word a, faultless_word law kind word b, one_first kinds words a b)
@@ -117,13 +77,13 @@ module _ (law : OneMeaning) where
   one_fault line a b (of_words short whole x) (of_words also other y) = one_of_words (words_of line) a b x y
 
   -- what was read of a line is all that it asks for
-  pub only_read : (line : List ℕ) (r : Result Line LineFault) → IfOk r (SpellsLine line) → IfErr r (λ fault. (fault ≡ NoMemory) ⊎ IsFirstFault line fault) → (asked : Line) → SpellsLine line asked → (r ≡ Ok asked) ⊎ (r ≡ Err NoMemory)
-  only_read line (Ok other) found fault asked h = inl (ap Ok (one_line line other asked found h))
+  pub only_read : (line : List ℕ) (r : Result Line LineFault) → IfOk r (Asks line) → IfErr r (λ fault. (fault ≡ NoMemory) ⊎ IsFirstFault line fault) → (asked : Line) → Asks line asked → (r ≡ Ok asked) ⊎ (r ≡ Err NoMemory)
+  only_read line (Ok other) found fault asked h = inl (ap Ok (one_spelling line other asked found.spells h.spells))
   only_read line (Err other) found (inl memory) asked h = inr (ap Err memory)
   only_read line (Err other) found (inr bad) asked h = absurd (spelled_faultless line asked other h bad)
 
   -- and what it was refused with is its fault, where it has one
-  pub only_refused : (line : List ℕ) (r : Result Line LineFault) → IfOk r (SpellsLine line) → IfErr r (λ fault. (fault ≡ NoMemory) ⊎ IsFirstFault line fault) → (fault : LineFault) → IsFirstFault line fault → (r ≡ Err fault) ⊎ (r ≡ Err NoMemory)
+  pub only_refused : (line : List ℕ) (r : Result Line LineFault) → IfOk r (Asks line) → IfErr r (λ fault. (fault ≡ NoMemory) ⊎ IsFirstFault line fault) → (fault : LineFault) → IsFirstFault line fault → (r ≡ Err fault) ⊎ (r ≡ Err NoMemory)
   only_refused line (Ok asked) found is fault bad = absurd (spelled_faultless line asked fault found bad)
   only_refused line (Err other) found (inl memory) fault bad = inr (ap Err memory)
   only_refused line (Err other) found (inr is) fault bad = inl (ap Err (one_fault line other fault is bad))
@@ -137,14 +97,22 @@ fault_of_line line words (Err fault) short worded are (inr bad) = inr (of_words 
 no_pass : (budget : ℕ) (event : Event) → asks.Pass budget ≢ asks.Event event
 no_pass budget event h = cc
 
+no_history : (event : Event) → asks.History ≢ asks.Event event
+no_history event h = cc
+
+no_trim : (event : Event) → asks.Trim ≢ asks.Event event
+no_trim event h = cc
+
 -- the event in what was read is the line's
-pub event_found : (line : List ℕ) (r : Result Line LineFault) → IfOk r (SpellsLine line) → IfOk (event_of r) (Spells line)
+pub event_found : (line : List ℕ) (r : Result Line LineFault) → IfOk r (Asks line) → IfOk (event_of r) (AsksEvent line)
 event_found line x1 found = grind (arith, nat_tests)
 
 -- and why there is none is its fault
-pub event_refused : (line : List ℕ) (r : Result Line LineFault) → IfOk r (SpellsLine line) → IfErr r (λ fault. (fault ≡ NoMemory) ⊎ IsFirstFault line fault) → IfErr (event_of r) (λ fault. (fault ≡ NoMemory) ⊎ IsEventFault line fault)
+pub event_refused : (line : List ℕ) (r : Result Line LineFault) → IfOk r (Asks line) → IfErr r (λ fault. (fault ≡ NoMemory) ⊎ IsFirstFault line fault) → IfErr (event_of r) (λ fault. (fault ≡ NoMemory) ⊎ IsEventFault line fault)
 event_refused line (Ok (asks.Event event)) found fault = tt
 event_refused line (Ok (asks.Pass budget)) found fault = inr (no_event (asks.Pass budget) found (no_pass budget) refl)
+event_refused line (Ok asks.History) found fault = inr (no_event asks.History found no_history refl)
+event_refused line (Ok asks.Trim) found fault = inr (no_event asks.Trim found no_trim refl)
 event_refused line (Err other) found (inl memory) = inl memory
 event_refused line (Err other) found (inr bad) = inr (of_line bad)
 
@@ -158,7 +126,9 @@ event_so r s (inl is) = inl (ap event_of is)
 event_so r s (inr none) = inr (ap event_of none)
 
 -- and what is no event is refused with its fault
-pub event_fault : (line : List ℕ) (r : Result Line LineFault) → ((asked : Line) → SpellsLine line asked → (r ≡ Ok asked) ⊎ (r ≡ Err NoMemory)) → ((fault : LineFault) → IsFirstFault line fault → (r ≡ Err fault) ⊎ (r ≡ Err NoMemory)) → (fault : LineFault) → IsEventFault line fault → (event_of r ≡ Err fault) ⊎ (event_of r ≡ Err NoMemory)
+pub event_fault : (line : List ℕ) (r : Result Line LineFault) → ((asked : Line) → Asks line asked → (r ≡ Ok asked) ⊎ (r ≡ Err NoMemory)) → ((fault : LineFault) → IsFirstFault line fault → (r ≡ Err fault) ⊎ (r ≡ Err NoMemory)) → (fault : LineFault) → IsEventFault line fault → (event_of r ≡ Err fault) ⊎ (event_of r ≡ Err NoMemory)
 event_fault line r only refused fault (of_line bad) = event_so r (Err fault) (refused fault bad)
 event_fault line r only refused fault (no_event (asks.Event event) is other syntax) = absurd (other event refl)
 event_fault line r only refused fault (no_event (asks.Pass budget) is other syntax) = rw syntax (event_so r (Ok (asks.Pass budget)) (only (asks.Pass budget) is))
+event_fault line r only refused fault (no_event asks.History is other syntax) = rw syntax (event_so r (Ok asks.History) (only asks.History is))
+event_fault line r only refused fault (no_event asks.Trim is other syntax) = rw syntax (event_so r (Ok asks.Trim) (only asks.Trim is))

@@ -1,7 +1,7 @@
 -- Each line has one meaning.
 use Rattle.ele_script.proofs.Basics.{◌≡◌, ℕ, List, inl, inr, Ok, Err, Result}
-use Rattle.ele_script.proofs.Prelude.{OneMeaning, Line, LineFault, SpellsLine}
-use Rattle.ele_script.proofs.Laws.{only_read, one_fault, spelled_faultless}
+use Rattle.ele_script.proofs.Prelude.{OneMeaning, Line, LineFault, Asks}
+use Rattle.ele_script.proofs.Laws.{only_read, one_fault, one_spelling, spelled_faultless}
 use Rattle.ele_script.specs.LineMeaning.{OneLineMeaning}
 
 same_ok : (a b : Line) → ◌≡◌ {A = Result Line LineFault} (Ok a) (Ok b) → a ≡ b
@@ -11,9 +11,9 @@ no_err : (a : Line) (fault : LineFault) → ◌≡◌ {A = Result Line LineFault
 no_err a fault h = cc
 
 module _ (law : OneMeaning) where
-  one_line : (line : List ℕ) (a b : Line) → SpellsLine line a → SpellsLine line b → a ≡ b
+  one_line : (line : List ℕ) (a b : Line) → Asks line a → Asks line b → a ≡ b
   one_line line a b first second =
       elim (only_read law line (Ok a) first tt b second) [ inl same ↦ same_ok a b same | inr none ↦ absurd (no_err a _ none) ]
 
   pub one_line_meaning : OneLineMeaning
-  one_line_meaning = record { one_line = one_line; one_fault = one_fault law; faultless = spelled_faultless law }
+  one_line_meaning = record { one_spelling = one_spelling law; one_line = one_line; one_fault = one_fault law; faultless = spelled_faultless law }

@@ -8,7 +8,7 @@ use Rattle.ele_script.specs.PolicyBack.{PolicyBack}
 use Rattle.ele_script.proofs.PairWords.{number_unmarked, parts_are}
 
 -- a number up to the last moment is spelled by its digits
-spelled : (n : ℕ) → n ≤ last_moment → SpellsNumber (decimal n) n
+pub spelled : (n : ℕ) → n ≤ last_moment → SpellsNumber (decimal n) n
 spelled n le = record { fits = omega (arith, le); digits = refl }
 
 -- the numbers of a rung are no greater than the last moment
@@ -24,7 +24,7 @@ spelled_pair low rung h =
     let is = short low rung h in
     record { age = decimal rung.0; width = decimal rung.1; are = refl; age_is = spelled rung.0 is.age; width_is = spelled rung.1 is.width }
 
-spelled_pairs : (low : Rung) (rungs : List Rung) → climbs low rungs ≡ true → AllZip SpellsPair (map pair_word rungs) rungs
+pub spelled_pairs : (low : Rung) (rungs : List Rung) → climbs low rungs ≡ true → AllZip SpellsPair (map pair_word rungs) rungs
 spelled_pairs low [] up = tt
 spelled_pairs low (rung ∷ rungs) up =
     (spelled_pair low rung (grind (arith, nat_tests)), spelled_pairs rung rungs (grind (arith, nat_tests)))
@@ -58,7 +58,7 @@ joined_pairs (first ∷ rungs) is =
     rw (parts_are text (is_some (length text) (some_bytes first rungs)), cut_pairs first rungs are) are
 
 pub policy_back : PolicyBack
-policy_back One is = refl
-policy_back KeepAll is = refl
+policy_back One is = (refl, is)
+policy_back KeepAll is = (refl, is)
 policy_back (Safe seconds) is = (record { digits = decimal seconds; are = refl; number = spelled seconds is.fits }, is)
 policy_back (Landmarks rungs) is = (record { text = join_with_byte 44 (map pair_word rungs); are = refl; spelled = joined_pairs rungs is }, is)

@@ -11,10 +11,10 @@ pub use Rattle.ele_script.specs.KeptPairs.{Keeps, KeepsLadder}
 pub use Rattle.ele_printer.specs.LineFault.{fault_of_path, fault_of_path_at}
 pub use Rattle.ele_script.specs.Memory.{TakesMemory}
 pub use Rattle.ele_script.specs.PathWord.{IsSourceFault, IsTaggedWordFault, begins_path, of_handle}
-pub use Rattle.ele_script.specs.PolicyWord.{IsLadderWord, IsPolicyFault, IsPolicyForm, IsSafeWord, SpellsPair, SpellsPairs, SpellsPolicy, all, formless, ladder, no_interval, no_ladder, one, parts_of, safe}
+pub use Rattle.ele_script.specs.PolicyWord.{HasForm, IsLadderWord, IsSafeWord, ReadsPolicy, SpellsPair, SpellsPairs, parts_of}
 pub use Rattle.ele_printer.specs.Printed.{pair_word}
 pub use Rattle.ele_script.specs.Reads.{IsFaultOfKinds, IsRefused, ReadsLine, bad_word, miscounted}
-pub use Rattle.ele_script.specs.Spells.{Spells, SpellsLine, SpellsValues, SpellsWords}
+pub use Rattle.ele_script.specs.Spells.{Asks, AsksEvent, SpellsLine, SpellsValues, SpellsWords}
 pub use Rattle.ele_script.specs.Value.{Bytes, BytesWord, Moment, MomentWord, Name, NameWord, NumberWord, Path, PathWord, PolicyWord, SourceWord, SpellsBytes, SpellsSource, SpellsValue, TaggedWord, Timed, TimedWord, Value, WordKind, word_kind}
 pub use Rattle.ele_script.specs.Words.{ends_word, longest_line, is_plain, is_worded, words_of}
 pub use Rattle.ele_printer.specs.declared.command.Command.{Command}

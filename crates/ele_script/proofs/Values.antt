@@ -5,7 +5,7 @@ use Rattle.ele_script.proofs.Prelude.{PolicyWord, Value, Moment, Name, Path, Tim
 use Rattle.std.specs.Result.{result_ok}
 use Rattle.ele_script.proofs.Moments.{one_number, one_moment}
 use Rattle.ele_script.proofs.PathWords.{one_tagged, one_timed, one_source, faultless_tagged, faultless_source, one_tagged_word, one_source_fault}
-use Rattle.ele_script.proofs.Policies.{one_policy, faultless_policy, one_policy_fault}
+use Rattle.ele_script.proofs.Policies.{one_policy}
 use Rattle.ele_script.specs.Value.{Number, Tagged, Source, Policy}
 
 absurd_ok : {A E : Type 0} {x : A} {e : E} → ◌≡◌ {A = Result A E} (Err e) (Ok x) → ⊥
@@ -32,7 +32,7 @@ module _ (law : OneMeaning) where
   one_value word (Timed x) (Timed y) k a b = ap Timed (one_timed law word x y a b)
   one_value word (Source x) (Source y) k a b = ap Source (one_source law word x y a b)
   one_value word (Bytes m) (Bytes n) k a b = ap Bytes (one_bytes word m n a b)
-  one_value word (Policy m) (Policy n) k a b = ap Policy (one_policy word m n a b)
+  one_value word (Policy m) (Policy n) k a b = let same = one_policy word (Ok m) (Ok n) a b in cc
   one_value word _ _ k a b = absurd cc
 
   -- a word that stands for a value of its kind has no fault
@@ -41,7 +41,7 @@ module _ (law : OneMeaning) where
   faultless_word TaggedWord word fault (Tagged value, k, is) bad = faultless_tagged law word value fault is bad
   faultless_word TimedWord word fault (Timed value, k, is) bad = law.faultless_at word value bad.0 is bad.1
   faultless_word SourceWord word fault (Source value, k, is) bad = faultless_source law word value fault is bad
-  faultless_word PolicyWord word fault (Policy policy, k, is) bad = faultless_policy word policy fault is bad
+  faultless_word PolicyWord word fault (Policy policy, k, is) bad = let same = one_policy word (Ok policy) (Err fault) is bad in cc
   faultless_word kind word fault is bad = grind arith
 
   -- a word has one fault of its kind
@@ -54,7 +54,7 @@ module _ (law : OneMeaning) where
   one_word_fault TimedWord word a b x y = x.2 ∙ ap fault_of_path_at (law.one_at_fault word x.0 y.0 x.1 y.1) ∙ sym y.2
   one_word_fault SourceWord word a b x y = one_source_fault law word a b x y
   one_word_fault BytesWord word a b x y = x.0 ∙ sym y.0
-  one_word_fault PolicyWord word a b x y = one_policy_fault word a b x y
+  one_word_fault PolicyWord word a b x y = let same = one_policy word (Err a) (Err b) x y in cc
 
 moment_of : (word : List ℕ) → IsOfKind MomentWord word → (m : ℕ) × SpellsMoment word m
 moment_of word (Moment m, k, is) = (m, is)

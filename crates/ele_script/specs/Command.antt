@@ -2,7 +2,7 @@
 use Rattle.std.specs.Prelude.{List, [], ◌∷◌}
 use Rattle.ele_script.specs.Value.{WordKind, NumberWord, MomentWord, NameWord, PathWord, TaggedWord, TimedWord, SourceWord, BytesWord, PolicyWord}
 use Rattle.ele_printer.specs.declared.command.Command.{Command}
-use Rattle.ele_printer.specs.declared.command.Command.TheVariants.{Clock, Tick, MakeDir, RemoveDir, Create, Link, Unlink, Rename, Undelete, OpenWrite, OpenRead, Write, Truncate, Close, Revert, SetPolicy, Default, GroupMake, GroupDrop, GroupAdd, GroupRemove, Mark, Unmark, Clean, Read, Stat, Versions, ListNames, Restorable, Due, Usage, Groups, Pass}
+use Rattle.ele_printer.specs.declared.command.Command.TheVariants.{Clock, Tick, MakeDir, RemoveDir, Create, Link, Unlink, Rename, Undelete, OpenWrite, OpenRead, Write, Truncate, Close, Revert, SetPolicy, Default, GroupMake, GroupDrop, GroupAdd, GroupRemove, Mark, Unmark, Clean, Read, Stat, Versions, ListNames, Restorable, Due, Usage, Groups, Pass, History, Trim}
 
 -- the kinds of the words behind it
 abbrev pub kinds_behind : Command → List WordKind
@@ -39,3 +39,5 @@ kinds_behind Due = []
 kinds_behind Usage = []
 kinds_behind Groups = []
 kinds_behind Pass = NumberWord ∷ []
+kinds_behind History = []
+kinds_behind Trim = []

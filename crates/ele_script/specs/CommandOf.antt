@@ -2,7 +2,7 @@
 use Rattle.std.specs.Prelude.{ℕ, List, [], ◌∷◌, Option, Some, None, map, if◌then◌else◌}
 use Rattle.std.specs.Str.{bytes_eq}
 use Rattle.ele_printer.specs.declared.command.Command.{Command}
-use Rattle.ele_printer.specs.declared.command.Command.TheVariants.{Clock, Tick, MakeDir, RemoveDir, Create, Link, Unlink, Rename, Undelete, OpenWrite, OpenRead, Write, Truncate, Close, Revert, SetPolicy, Default, GroupMake, GroupDrop, GroupAdd, GroupRemove, Mark, Unmark, Clean, Read, Stat, Versions, ListNames, Restorable, Due, Usage, Groups, Pass}
+use Rattle.ele_printer.specs.declared.command.Command.TheVariants.{Clock, Tick, MakeDir, RemoveDir, Create, Link, Unlink, Rename, Undelete, OpenWrite, OpenRead, Write, Truncate, Close, Revert, SetPolicy, Default, GroupMake, GroupDrop, GroupAdd, GroupRemove, Mark, Unmark, Clean, Read, Stat, Versions, ListNames, Restorable, Due, Usage, Groups, Pass, History, Trim}
 use Rattle.ele_printer.specs.Command.{command_words}
 
 -- what stands behind a name
@@ -23,7 +23,7 @@ find_command (named ∷ table) words = or_next named.1 (behind named.0 words) (f
 abbrev pub commands : List Command
 commands =
     Write ∷ Read ∷ Close ∷ OpenWrite ∷ OpenRead ∷ Clock ∷ Tick ∷ Due ∷ Clean ∷ Pass ∷ Rename ∷ Unlink ∷ Undelete ∷ Create ∷ Stat ∷ Mark ∷ Unmark ∷ MakeDir ∷ RemoveDir ∷ Link
-    ∷ Truncate ∷ Revert ∷ SetPolicy ∷ Default ∷ GroupMake ∷ GroupDrop ∷ GroupAdd ∷ GroupRemove ∷ Versions ∷ ListNames ∷ Restorable ∷ Usage ∷ Groups ∷ []
+    ∷ Truncate ∷ Revert ∷ SetPolicy ∷ Default ∷ GroupMake ∷ GroupDrop ∷ GroupAdd ∷ GroupRemove ∷ Versions ∷ ListNames ∷ Restorable ∷ Usage ∷ Groups ∷ History ∷ Trim ∷ []
 
 -- a command with its name
 abbrev pub named : Command → List (List ℕ) × Command

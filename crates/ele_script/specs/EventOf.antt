@@ -10,4 +10,6 @@ use Rattle.ele_script.specs.declared.reading.Line.TheVariants as asks
 abbrev pub event_of : Result Line LineFault → Result Event LineFault
 event_of (Ok (asks.Event event)) = Ok event
 event_of (Ok (asks.Pass budget)) = Err Syntax
+event_of (Ok asks.History) = Err Syntax
+event_of (Ok asks.Trim) = Err Syntax
 event_of (Err fault) = Err fault

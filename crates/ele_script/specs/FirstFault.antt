@@ -1,5 +1,5 @@
 -- The first fault of a line that asks for nothing.
-use Rattle.std.specs.Prelude.{◌≡◌, ◌≢◌, ℕ, ◌<◌, ◌≤◌, List, ◌∷◌, ◌++◌, length, Some, true, false, ◌⊎◌}
+use Rattle.std.specs.Prelude.{◌≡◌, ◌≢◌, ℕ, ◌<◌, ◌≤◌, List, ◌∷◌, ◌++◌, length, Some, Err, true, false, ◌⊎◌}
 use Rattle.std.specs.Option.{option_map}
 use Rattle.ele_time_path.specs.FirstFault.{path_fault}
 use Rattle.ele_printer.specs.declared.command.Command.{Command}
@@ -7,12 +7,12 @@ use Rattle.ele_printer.specs.declared.fault.LineFault.{LineFault}
 use Rattle.ele_printer.specs.declared.fault.LineFault.TheVariants.{BadName, BadMoment, Syntax, LineTooLong}
 use Rattle.ele_printer.specs.LineFault.{fault_of_path}
 use Rattle.ele_script.specs.Value.{WordKind, NumberWord, MomentWord, NameWord, PathWord, TaggedWord, TimedWord, SourceWord, BytesWord, PolicyWord, Value, word_kind, SpellsValue}
-use Rattle.ele_script.specs.PolicyWord.{IsPolicyFault}
+use Rattle.ele_script.specs.PolicyWord.{ReadsPolicy}
 use Rattle.ele_script.specs.PathWord.{IsTaggedWordFault, IsTimedWordFault, IsSourceFault}
 use Rattle.ele_printer.specs.Command.{command_words}
 use Rattle.ele_script.specs.Command.{kinds_behind}
 use Rattle.ele_script.specs.Words.{longest_line, words_of, is_worded}
-use Rattle.ele_script.specs.Spells.{SpellsLine}
+use Rattle.ele_script.specs.Spells.{Asks}
 use Rattle.ele_script.specs.declared.reading.Line.{Line}
 use Rattle.ele_script.specs.declared.reading.Line.TheVariants as asks
 use Rattle.ele_world.specs.declared.event.Event.{Event}
@@ -31,7 +31,7 @@ IsWordFault TaggedWord word fault = IsTaggedWordFault word fault
 IsWordFault TimedWord word fault = IsTimedWordFault word fault
 IsWordFault SourceWord word fault = IsSourceFault word fault
 IsWordFault BytesWord word fault = (fault ≡ Syntax) × ¬ IsOfKind BytesWord word
-IsWordFault PolicyWord word fault = IsPolicyFault word fault
+IsWordFault PolicyWord word fault = ReadsPolicy word (Err fault)
 
 -- the fault of the first bad word, from the left
 abbrev pub IsFirstWordFault : List WordKind → List (List ℕ) → LineFault → Type 0
@@ -58,4 +58,4 @@ pub data IsFirstFault (line : List ℕ) (fault : LineFault) : Type 0 where
 -- why a line is no event: its first fault, or it asks for something else
 pub data IsEventFault (line : List ℕ) (fault : LineFault) : Type 0 where
   of_line : IsFirstFault line fault → IsEventFault line fault
-  no_event : (asked : Line) → SpellsLine line asked → ((event : Event) → asked ≢ asks.Event event) → fault ≡ Syntax → IsEventFault line fault
+  no_event : (asked : Line) → Asks line asked → ((event : Event) → asked ≢ asks.Event event) → fault ≡ Syntax → IsEventFault line fault

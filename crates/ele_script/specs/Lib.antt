@@ -7,6 +7,8 @@ pub mod CommandOf
 pub mod Words
 pub mod Spells
 pub mod LineMeaning
+pub mod EveryLine
+pub mod EventBack
 pub mod Memory
 pub mod EventOf
 pub mod FirstFault

@@ -1,13 +1,14 @@
 -- No line has two meanings: what it asks for, or its first fault.
 use Rattle.std.specs.Prelude.{◌≡◌, ℕ, List}
 use Rattle.ele_script.specs.FirstFault.{IsFirstFault}
-use Rattle.ele_script.specs.Spells.{SpellsLine}
+use Rattle.ele_script.specs.Spells.{Asks, SpellsLine}
 use Rattle.ele_printer.specs.declared.fault.LineFault.{LineFault}
 use Rattle.ele_script.specs.declared.reading.Line.{Line}
 
--- what a line asks for is one thing, its first fault is one, and no line has both
+-- what a line spells, however long, is one thing; what it asks for is one, its first fault is one, and no line has both
 pub record OneLineMeaning : Type 0 where
-  pub one_line : (line : List ℕ) (a b : Line) → SpellsLine line a → SpellsLine line b → a ≡ b
+  pub one_spelling : (line : List ℕ) (a b : Line) → SpellsLine line a → SpellsLine line b → a ≡ b
+  pub one_line : (line : List ℕ) (a b : Line) → Asks line a → Asks line b → a ≡ b
   pub one_fault : (line : List ℕ) (a b : LineFault) → IsFirstFault line a → IsFirstFault line b → a ≡ b
   pub faultless : (line : List ℕ) (asked : Line) (fault : LineFault)
-      → SpellsLine line asked → ¬ IsFirstFault line fault
+      → Asks line asked → ¬ IsFirstFault line fault

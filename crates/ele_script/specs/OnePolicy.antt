@@ -1,7 +1,8 @@
--- No word spells two policies.
-use Rattle.std.specs.Prelude.{◌≡◌, ℕ, List}
+-- No word is read as two things where a policy stands.
+use Rattle.std.specs.Prelude.{◌≡◌, ℕ, List, Result}
 use Rattle.ele_policy.specs.declared.policy.Policy.{Policy}
-use Rattle.ele_script.specs.PolicyWord.{SpellsPolicy}
+use Rattle.ele_printer.specs.declared.fault.LineFault.{LineFault}
+use Rattle.ele_script.specs.PolicyWord.{ReadsPolicy}
 
 abbrev pub OnePolicy : Type 0
-OnePolicy = (word : List ℕ) (a b : Policy) → SpellsPolicy word a → SpellsPolicy word b → a ≡ b
+OnePolicy = (word : List ℕ) (a b : Result Policy LineFault) → ReadsPolicy word a → ReadsPolicy word b → a ≡ b

@@ -1,8 +1,9 @@
 -- The word by which a policy is printed spells it.
+use Rattle.std.specs.Prelude.{Ok}
 use Rattle.ele_policy.specs.declared.policy.Policy.{Policy}
 use Rattle.ele_policy.specs.Policy.{IsPolicy}
-use Rattle.ele_script.specs.PolicyWord.{SpellsPolicy}
+use Rattle.ele_script.specs.PolicyWord.{ReadsPolicy}
 use Rattle.ele_printer.specs.Printed.{policy_word}
 
 abbrev pub PolicyBack : Type 0
-PolicyBack = (policy : Policy) → IsPolicy policy → SpellsPolicy (policy_word policy) policy
+PolicyBack = (policy : Policy) → IsPolicy policy → ReadsPolicy (policy_word policy) (Ok policy)

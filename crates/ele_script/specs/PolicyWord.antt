@@ -1,11 +1,11 @@
 -- Which words are a policy, and what is wrong with a word that is none.
-use Rattle.std.specs.Prelude.{◌≡◌, ℕ, ◌==◌, List, [], ◌∷◌, ◌++◌, codes}
+use Rattle.std.specs.Prelude.{◌≡◌, ℕ, ◌==◌, List, [], ◌∷◌, ◌++◌, codes, Result, Ok, Err}
 use Rattle.std.specs.List.{AllZip, slice_split}
 use Rattle.ele_moment.specs.Number.{SpellsNumber}
 use Rattle.ele_policy.specs.declared.policy.Policy.{Policy}
 use Rattle.ele_policy.specs.declared.policy.Policy.TheVariants.{One, All, Safe, Landmarks}
-use Rattle.ele_policy.specs.Interval.{IsInterval}
-use Rattle.ele_policy.specs.Ladder.{Rung, IsLadder}
+use Rattle.ele_policy.specs.Ladder.{Rung}
+use Rattle.ele_policy.specs.Policy.{IsPolicy}
 use Rattle.ele_printer.specs.declared.fault.LineFault.{LineFault}
 use Rattle.ele_printer.specs.declared.fault.LineFault.TheVariants.{BadLadder, Syntax}
 
@@ -38,22 +38,16 @@ pub record IsLadderWord (word : List ℕ) (pairs : List Rung) : Type 0 where
   pub are : word ≡ codes "landmarks:" ++ text
   pub spelled : SpellsPairs text pairs
 
--- `one`, `all`, `safe:` and the seconds of an interval, or `landmarks:` and the pairs of a ladder
-abbrev pub SpellsPolicy : List ℕ → Policy → Type 0
-SpellsPolicy word One = word ≡ codes "one"
-SpellsPolicy word All = word ≡ codes "all"
-SpellsPolicy word (Safe seconds) = IsSafeWord word seconds × IsInterval seconds
-SpellsPolicy word (Landmarks rungs) = IsLadderWord word rungs × IsLadder rungs
+-- the word has the form of the policy, whatever its numbers
+abbrev pub HasForm : List ℕ → Policy → Type 0
+HasForm word One = word ≡ codes "one"
+HasForm word All = word ≡ codes "all"
+HasForm word (Safe seconds) = IsSafeWord word seconds
+HasForm word (Landmarks rungs) = IsLadderWord word rungs
 
--- the word has the form of a policy, whatever its numbers
-pub data IsPolicyForm (word : List ℕ) : Type 0 where
-  one : word ≡ codes "one" → IsPolicyForm word
-  all : word ≡ codes "all" → IsPolicyForm word
-  safe : (seconds : ℕ) → IsSafeWord word seconds → IsPolicyForm word
-  ladder : (pairs : List Rung) → IsLadderWord word pairs → IsPolicyForm word
-
--- the word has no such form, or its number is no interval, or its pairs are no ladder
-pub data IsPolicyFault (word : List ℕ) (fault : LineFault) : Type 0 where
-  formless : ¬ IsPolicyForm word → fault ≡ Syntax → IsPolicyFault word fault
-  no_interval : (seconds : ℕ) → IsSafeWord word seconds → ¬ IsInterval seconds → fault ≡ BadLadder → IsPolicyFault word fault
-  no_ladder : (pairs : List Rung) → IsLadderWord word pairs → ¬ IsLadder pairs → fault ≡ BadLadder → IsPolicyFault word fault
+-- what a word is read as: the policy of its form; `Syntax` where it has none, and `BadLadder` where its numbers are no policy's
+abbrev pub ReadsPolicy : List ℕ → Result Policy LineFault → Type 0
+ReadsPolicy word (Ok policy) = HasForm word policy × IsPolicy policy
+ReadsPolicy word (Err Syntax) = (policy : Policy) → ¬ HasForm word policy
+ReadsPolicy word (Err BadLadder) = (policy : Policy) × HasForm word policy × ¬ IsPolicy policy
+ReadsPolicy word (Err fault) = ⊥

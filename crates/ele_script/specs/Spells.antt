@@ -1,54 +1,21 @@
--- Which lines ask for something.
+-- What lines are in text, and which ask for something.
 use Rattle.std.specs.Prelude.{◌≡◌, ℕ, ◌≤◌, List, [], ◌∷◌, ◌++◌, length, true}
 use Rattle.ele_world.specs.declared.event.Event.{Event}
-use Rattle.ele_world.specs.declared.event.Event.TheVariants as event
 use Rattle.ele_printer.specs.declared.command.Command.{Command}
-use Rattle.ele_printer.specs.declared.command.Command.TheVariants.{Clock, Tick, MakeDir, RemoveDir, Create, Link, Unlink, Rename, Undelete, OpenWrite, OpenRead, Write, Truncate, Close, Revert, SetPolicy, Default, GroupMake, GroupDrop, GroupAdd, GroupRemove, Mark, Unmark, Clean, Read, Stat, Versions, ListNames, Restorable, Due, Usage, Groups, Pass}
+use Rattle.ele_printer.specs.declared.command.Command.TheVariants.{Pass, History, Trim}
 use Rattle.ele_script.specs.declared.reading.Line.{Line}
 use Rattle.ele_script.specs.declared.reading.Line.TheVariants as asks
-use Rattle.ele_script.specs.Value.{Value, Number, Moment, Name, Path, Tagged, Timed, Source, Bytes, Policy, SpellsValue}
+use Rattle.ele_printer.specs.Parts.{parts_of}
+use Rattle.ele_script.specs.Value.{Value, Number, SpellsValue}
 use Rattle.ele_printer.specs.Command.{command_words}
 use Rattle.ele_script.specs.Words.{longest_line, words_of, is_worded}
-
--- the command of an event, and the values of the words behind it
-abbrev pub parts_of : Event → Command × List Value
-parts_of (event.Clock moment) = (Clock, Moment moment ∷ [])
-parts_of (event.Tick seconds) = (Tick, Number seconds ∷ [])
-parts_of (event.MakeDir path) = (MakeDir, Path path ∷ [])
-parts_of (event.RemoveDir path) = (RemoveDir, Path path ∷ [])
-parts_of (event.Create path) = (Create, Path path ∷ [])
-parts_of (event.Link from to) = (Link, Path from ∷ Path to ∷ [])
-parts_of (event.Unlink path) = (Unlink, Path path ∷ [])
-parts_of (event.Rename from to) = (Rename, Path from ∷ Path to ∷ [])
-parts_of (event.Undelete path) = (Undelete, Path path ∷ [])
-parts_of (event.OpenWrite path) = (OpenWrite, Path path ∷ [])
-parts_of (event.OpenRead tagged) = (OpenRead, Tagged tagged ∷ [])
-parts_of (event.Write handle offset bytes) = (Write, Number handle ∷ Number offset ∷ Bytes bytes ∷ [])
-parts_of (event.Truncate handle size) = (Truncate, Number handle ∷ Number size ∷ [])
-parts_of (event.Close handle) = (Close, Number handle ∷ [])
-parts_of (event.Revert path number) = (Revert, Path path ∷ Number number ∷ [])
-parts_of (event.SetPolicy path policy) = (SetPolicy, Path path ∷ Policy policy ∷ [])
-parts_of (event.SetDefault path policy) = (Default, Path path ∷ Policy policy ∷ [])
-parts_of (event.GroupMake name) = (GroupMake, Name name ∷ [])
-parts_of (event.GroupDrop name) = (GroupDrop, Name name ∷ [])
-parts_of (event.GroupAdd name path) = (GroupAdd, Name name ∷ Path path ∷ [])
-parts_of (event.GroupRemove name path) = (GroupRemove, Name name ∷ Path path ∷ [])
-parts_of (event.Mark name moment) = (Mark, Name name ∷ Moment moment ∷ [])
-parts_of (event.Unmark name moment) = (Unmark, Name name ∷ Moment moment ∷ [])
-parts_of event.CleanOne = (Clean, [])
-parts_of (event.Read source) = (Read, Source source ∷ [])
-parts_of (event.Stat tagged) = (Stat, Tagged tagged ∷ [])
-parts_of (event.Versions timed) = (Versions, Timed timed ∷ [])
-parts_of (event.List timed) = (ListNames, Timed timed ∷ [])
-parts_of event.Restorable = (Restorable, [])
-parts_of event.Due = (Due, [])
-parts_of event.UsageAll = (Usage, [])
-parts_of event.GroupsAll = (Groups, [])
 
 -- the command of what a line asks for, and the values of the words behind it
 abbrev pub line_parts : Line → Command × List Value
 line_parts (asks.Event event) = parts_of event
 line_parts (asks.Pass budget) = (Pass, Number budget ∷ [])
+line_parts asks.History = (History, [])
+line_parts asks.Trim = (Trim, [])
 
 -- each word stands for its value
 abbrev pub SpellsValues : List (List ℕ) → List Value → Type 0
@@ -62,12 +29,20 @@ pub record SpellsWords (words : List (List ℕ)) (asked : Line) : Type 0 where
   pub are : words ≡ command_words (line_parts asked).0 ++ arguments
   pub values : SpellsValues arguments (line_parts asked).1
 
--- the line is what it asks for, in text
+-- the line is this in text, however long
 pub record SpellsLine (line : List ℕ) (asked : Line) : Type 0 where
-  pub short : length line ≤ longest_line
   pub worded : is_worded line ≡ true
   pub words : SpellsWords (words_of line) asked
 
 -- the line is the event in text
 abbrev pub Spells : List ℕ → Event → Type 0
 Spells line event = SpellsLine line (asks.Event event)
+
+-- the line asks for this: it is no longer than a line may be, and is this in text
+pub record Asks (line : List ℕ) (asked : Line) : Type 0 where
+  pub short : length line ≤ longest_line
+  pub spells : SpellsLine line asked
+
+-- the line asks for the event
+abbrev pub AsksEvent : List ℕ → Event → Type 0
+AsksEvent line event = Asks line (asks.Event event)

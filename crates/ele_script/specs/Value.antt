@@ -4,15 +4,13 @@ use Rattle.hex.specs.Hex.{decode_of}
 use Rattle.ele_moment.specs.Name.{IsName}
 use Rattle.ele_moment.specs.Number.{SpellsNumber}
 use Rattle.ele_moment.specs.Spelled.{SpellsMoment}
-use Rattle.ele_policy.specs.declared.policy.Policy.{Policy as AnyPolicy}
 use Rattle.ele_time_path.specs.Path.{SpellsPath}
 use Rattle.ele_time_path.specs.Tagged.{SpellsTaggedPath}
 use Rattle.ele_time_path.specs.PathAt.{SpellsPathAt}
-use Rattle.ele_time_path.specs.declared.tagged.TaggedPath.{TaggedPath}
-use Rattle.ele_time_path.specs.declared.path_at.PathAt.{PathAt}
+pub use Rattle.ele_printer.specs.Value.{Value, Number, Moment, Name, Path, Tagged, Timed, Source, Bytes, Policy}
 use Rattle.ele_world.specs.declared.event.Source.{Source as AnySource}
 use Rattle.ele_world.specs.declared.event.Source.TheVariants as source
-use Rattle.ele_script.specs.PolicyWord.{SpellsPolicy}
+use Rattle.ele_script.specs.PolicyWord.{ReadsPolicy}
 
 -- the kinds of words behind a command
 pub data WordKind : Type 0 where
@@ -25,18 +23,6 @@ pub data WordKind : Type 0 where
   SourceWord : WordKind
   BytesWord : WordKind
   PolicyWord : WordKind
-
--- what a word stands for
-pub data Value : Type 0 where
-  Number : ℕ → Value
-  Moment : ℕ → Value
-  Name : List ℕ → Value
-  Path : List (List ℕ) → Value
-  Tagged : TaggedPath → Value
-  Timed : PathAt → Value
-  Source : AnySource → Value
-  Bytes : List ℕ → Value
-  Policy : AnyPolicy → Value
 
 -- the kind of words that stand for such a value
 abbrev pub word_kind : Value → WordKind
@@ -73,4 +59,4 @@ SpellsValue word (Tagged tagged) = SpellsTaggedPath word tagged
 SpellsValue word (Timed timed) = SpellsPathAt word timed
 SpellsValue word (Source source) = SpellsSource word source
 SpellsValue word (Bytes bytes) = SpellsBytes word bytes
-SpellsValue word (Policy policy) = SpellsPolicy word policy
+SpellsValue word (Policy policy) = ReadsPolicy word (Ok policy)

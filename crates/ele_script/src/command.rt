@@ -8,7 +8,7 @@ use ele_printer::Command;
 
 /// All commands; those that come often stand in front, since a word is looked for from the first
 /// row on.
-static COMMANDS: [Command; 33] = [
+static COMMANDS: [Command; 35] = [
     Command::Write,
     Command::Read,
     Command::Close,
@@ -42,6 +42,8 @@ static COMMANDS: [Command; 33] = [
     Command::Restorable,
     Command::Usage,
     Command::Groups,
+    Command::History,
+    Command::Trim,
 ];
 
 /// The command in front of the words, and the words behind it.

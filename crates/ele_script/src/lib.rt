@@ -1,6 +1,6 @@
-//! The script's language: a line spells an event or has a first fault, and a reply is one line or
-//! more. Lines are read here, and what `ele_printer` prints is given out again. A contract sees lines
-//! and replies as bytes.
+//! The script's language: a line asks for something or has a first fault, and a reply is one line or
+//! more. Lines are read and events written here, and what `ele_printer` prints is given out again. A
+//! contract sees lines and replies as bytes.
 #![tactic(auto)]
 
 mod arguments;
@@ -10,9 +10,11 @@ mod pairs;
 pub mod policy_laws;
 mod reading;
 mod word;
+mod writing;
 
 pub use ele_printer::{
-    LineFault, Output, WriteFault, put, put_answer, put_fault, put_pass, put_reply, put_stop,
-    write_fault, write_named, write_pass, write_reply,
+    LineFault, Printer, WriteFault, put, put_answer, put_fault, put_history, put_pass, put_reply,
+    put_stop, put_trimmed, write_fault, write_named, write_pass, write_reply,
 };
 pub use reading::{LONGEST_LINE, Line, read_event, read_line};
+pub use writing::write_event;

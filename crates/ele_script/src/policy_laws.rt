@@ -2,7 +2,7 @@
 ghost use Rattle.ele_script.specs.OnePolicy.{OnePolicy};
 ghost use Rattle.ele_script.specs.PolicyBack.{PolicyBack};
 
-/// No word spells two policies.
+/// No word is read as two policies, or with two faults, or as a policy and with a fault.
 #[tactic(auto, using(crate::proofs::Policies::one_policy))]
 pub fn one_policy()
     ensures { OnePolicy }

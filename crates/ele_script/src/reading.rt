@@ -3,7 +3,7 @@ ghost use Rattle.std.specs.Prelude.{◌≡◌, ◌≢◌, ◌<◌, ◌∷◌, []
 ghost use Rattle.std.specs.List.{position};
 ghost use Rattle.ele_script.specs.Memory.{TakesMemory};
 ghost use Rattle.ele_script.specs.Words.{words_of, is_worded, ends_word};
-ghost use Rattle.ele_script.specs.Spells.{Spells, SpellsLine, SpellsWords};
+ghost use Rattle.ele_script.specs.Spells.{Asks, AsksEvent, SpellsWords};
 ghost use Rattle.ele_script.specs.EventOf.{event_of};
 ghost use Rattle.ele_script.specs.Reads.{ReadsLine};
 ghost use Rattle.ele_script.specs.FirstFault.{IsFirstFault, IsEventFault, IsFaultOfWords};
@@ -26,6 +26,10 @@ pub enum Line {
     Event(Event),
     /// To clean until nothing is due, or so many versions are removed.
     Pass(u64),
+    /// To tell the stored events.
+    History,
+    /// To fold the stored events into the base.
+    Trim,
 }
 
 /// The most bytes of a line, without its line feed.
@@ -41,8 +45,8 @@ const MOST_WORDS: usize = 4;
 /// in place of any other answer where the command takes a path or bytes.
 #[tactic(auto, using(crate::proofs::Laws::one_fault, crate::proofs::Words::unfit_line))]
 pub fn read_line(alloc: Global, line: &[u8]) -> Result<Line, LineFault>
-    ensures found { IfOk result (SpellsLine line.now) }
-    ensures only { (asked : Line) → SpellsLine line.now asked
+    ensures found { IfOk result (Asks line.now) }
+    ensures only { (asked : Line) → Asks line.now asked
         → (result ≡ Ok asked) ⊎ (result ≡ Err LineFault.NoMemory) }
     ensures fault { IfErr result
         (λ fault. (fault ≡ LineFault.NoMemory) ⊎ IsFirstFault line.now fault) }
@@ -61,12 +65,12 @@ pub fn read_line(alloc: Global, line: &[u8]) -> Result<Line, LineFault>
     line_of(alloc, words.as_slice())
 }
 
-/// The event that a line spells, without its line feed. It is refused as `read_line` refuses it; a
+/// The event that a line asks for, without its line feed. It is refused as `read_line` refuses it; a
 /// line that asks for something else is `Syntax`.
 #[tactic(auto, using(crate::proofs::Laws::event_found, crate::proofs::Laws::event_memory))]
 pub fn read_event(alloc: Global, line: &[u8]) -> Result<Event, LineFault>
-    ensures found { IfOk result (Spells line.now) }
-    ensures only { (event : Event) → Spells line.now event
+    ensures found { IfOk result (AsksEvent line.now) }
+    ensures only { (event : Event) → AsksEvent line.now event
         → (result ≡ Ok event) ⊎ (result ≡ Err LineFault.NoMemory) }
     ensures fault { IfErr result
         (λ fault. (fault ≡ LineFault.NoMemory) ⊎ IsEventFault line.now fault) }
@@ -84,7 +88,7 @@ fn event_in(asked: Result<Line, LineFault>) -> Result<Event, LineFault>
 {
     match asked {
         Ok(Line::Event(event)) => Ok(event),
-        Ok(Line::Pass(_)) => Err(LineFault::Syntax),
+        Ok(Line::Pass(_) | Line::History | Line::Trim) => Err(LineFault::Syntax),
         Err(fault) => Err(fault),
     }
 }
@@ -216,5 +220,7 @@ fn line_behind(alloc: Global, command: Command, words: &[&[u8]]) -> Result<Line,
         Command::Usage => nothing(words).map(|()| Line::Event(Event::UsageAll)),
         Command::Groups => nothing(words).map(|()| Line::Event(Event::GroupsAll)),
         Command::Pass => number(words).map(Line::Pass),
+        Command::History => nothing(words).map(|()| Line::History),
+        Command::Trim => nothing(words).map(|()| Line::Trim),
     }
 }

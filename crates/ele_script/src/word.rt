@@ -5,8 +5,8 @@ ghost use Rattle.ele_moment.specs.Spelled.{SpellsMoment};
 ghost use Rattle.ele_time_path.specs.Path.{SpellsPath};
 ghost use Rattle.ele_time_path.specs.Tagged.{SpellsTaggedPath};
 ghost use Rattle.ele_time_path.specs.PathAt.{SpellsPathAt};
-ghost use Rattle.ele_script.specs.Value.{NumberWord, MomentWord, NameWord, PathWord, TaggedWord, TimedWord, SourceWord, BytesWord, PolicyWord, SpellsName, SpellsBytes, SpellsSource};
-ghost use Rattle.ele_script.specs.PolicyWord.{SpellsPolicy, IsSafeWord};
+ghost use Rattle.ele_script.specs.Value.{NumberWord, MomentWord, NameWord, PathWord, TaggedWord, TimedWord, SourceWord, BytesWord, SpellsName, SpellsBytes, SpellsSource};
+ghost use Rattle.ele_script.specs.PolicyWord.{ReadsPolicy, IsSafeWord};
 ghost use Rattle.ele_script.specs.PathWord.{begins_path};
 ghost use Rattle.ele_script.specs.FirstFault.{IsOfKind, IsWordFault};
 
@@ -119,8 +119,7 @@ pub(crate) fn bytes(alloc: Global, word: &[u8]) -> Result<ByteList, LineFault>
 
 /// A policy: its form first, and then its numbers.
 pub(crate) fn policy(word: &[u8]) -> Result<Policy, LineFault>
-    ensures found { IfOk result (SpellsPolicy word.now) }
-    ensures fault { IfErr result (IsWordFault PolicyWord word.now) }
+    ensures { ReadsPolicy word.now result }
 {
     if word == b"one".as_slice() {
         return Ok(Policy::One);

@@ -5,4 +5,4 @@ use Rattle.ele_script.proofs.arguments.path_and_policy.Goals as goal
 pub returns-in_err-policy : goal.returns-in_err-policy
 returns-in_err-policy c =
     let p = err_from_is_err_and c.from_residual-in_err-policy.result c.from_residual-in_err-policy.ensures.1 in
-    rw (p.1, p.2) (refused_policy _ _ _ _ c.in_ok-first.ensures.found c.in_ok-first-2.ensures.kind c.in_err-policy.ensures.fault)
+    rw (p.1, p.2) (refused_policy _ _ _ _ c.in_ok-first.ensures.found c.in_ok-first-2.ensures.kind c.in_err-policy.ensures)

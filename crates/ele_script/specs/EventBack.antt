@@ -1,0 +1,10 @@
+-- The text of an event spells it.
+use Rattle.std.specs.List.{AllByRecursion}
+use Rattle.ele_world.specs.declared.event.Event.{Event}
+use Rattle.ele_printer.specs.EventText.{IsValue, event_text}
+use Rattle.ele_printer.specs.Parts.{parts_of}
+use Rattle.ele_script.specs.Spells.{Spells}
+
+-- where its values are as their types say
+abbrev pub EventBack : Type 0
+EventBack = (event : Event) → AllByRecursion IsValue (parts_of event).1 → Spells (event_text event) event
