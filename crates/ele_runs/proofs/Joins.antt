@@ -1,18 +1,20 @@
 -- Lines and their blocks, and then more of them.
-use Rattle.ele_runs.proofs.Basics.{Option, Appends, Appends-nil, Appends-trans, append-nil, ◌≡◌, ℕ, List, [], ◌∷◌, ◌++◌, sym, ap, ◌∙◌, append_assoc, flat_map-append, AllByRecursion}
-use Rattle.ele_runs.proofs.Words.{Outlet, outlet, Takes, TakesFront, AppendsFront, IsUnbroken, AreLines, whole_line, whole_lines, AreBlocks, RunState}
+use Rattle.ele_runs.proofs.Basics.{Option, Appends, Appends-nil, Appends-trans, append-nil, ◌≡◌, ℕ, List, [], ◌∷◌, ◌++◌, refl, sym, ap, ◌∙◌, append_assoc, flat_map-append, AllByRecursion}
+use Rattle.ele_runs.proofs.Words.{Outlet, Takes, TakesFront, AppendsFront, IsUnbroken, AreLines, whole_line, whole_lines, AreBlocks, Past}
 
 -- what was put at first, and then more
 pub takes_nil : (a : Outlet) → Takes a a []
-takes_nil a = record { sent = []; parts = append-nil a.held; written = Appends-nil a.known }
+takes_nil a = record { same = refl; sent = []; parts = append-nil a.held; written = Appends-nil a.known }
 
 pub takes_then : (a b c : Outlet) (x y : List ℕ) → Takes a b x → Takes b c y → Takes a c (x ++ y)
 takes_then a b c x y p q =
-    record { sent = p.sent ++ q.sent; parts = cc (append_assoc a.held x y, append_assoc p.sent b.held y, append_assoc p.sent q.sent c.held); written = Appends-trans _ _ _ _ _ p.written q.written }
+    record { same = q.same ∙ p.same; sent = p.sent ++ q.sent; parts = cc (append_assoc a.held x y, append_assoc p.sent b.held y, append_assoc p.sent q.sent c.held); written = Appends-trans _ _ _ _ _ p.written q.written }
 
 -- what was put is written once all that is held is handed over
-pub takes_over : (a b c : Option (List ℕ)) (held text : List ℕ) → Takes (outlet a []) (outlet b held) text → Appends b c held → Appends a c text
-takes_over a b c held text p q = rw p.parts (Appends-trans a b c p.sent held p.written q)
+pub takes_over : (a b c : Outlet) (text : List ℕ) → a.held ≡ [] → Takes a b text → Appends b.known c.known b.held → Appends a.known c.known text
+takes_over a b c text none p q =
+    let parts : text ≡ p.sent ++ b.held = cc in
+    rw parts (Appends-trans a.known b.known c.known p.sent b.held p.written q)
 
 -- all of some bytes, and then a front of more
 pub front_behind : (a b c : Option (List ℕ)) (x y : List ℕ) → Appends a b x → AppendsFront b c y → AppendsFront a c (x ++ y)
@@ -41,7 +43,7 @@ lines_before input rest before after last e whole h =
     }
 
 -- blocks of lines, and then those of more
-pub blocks_append : (s t u : RunState) (a b : List (List ℕ)) (text more : List ℕ) → AreBlocks s a text t → AreBlocks t b more u → AreBlocks s (a ++ b) (text ++ more) u
+pub blocks_append : (s t u : Past) (a b : List (List ℕ)) (text more : List ℕ) → AreBlocks s a text t → AreBlocks t b more u → AreBlocks s (a ++ b) (text ++ more) u
 blocks_append s t u [] b text more h g = rw (h.0, ← h.1) g
 blocks_append s t u (line ∷ a) b text more (own, rest, mid, is, after, e) g =
     (own, rest ++ more, mid, is, blocks_append mid t u a b rest more after g, ap (λ (x : List ℕ). x ++ more) e ∙ append_assoc own rest more)

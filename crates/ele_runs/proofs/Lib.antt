@@ -1,10 +1,19 @@
 mod Words
 mod Basics
+pub mod Asked
 pub mod Blocks
 pub mod Ends
+pub mod FrontOfOutput
+pub mod InTime
 pub mod Joins
+pub mod Limits
 pub mod OneAnswer
-pub mod PassOfWorld
-pub mod Passes
+pub mod OneOutput
+pub mod OnePass
 pub mod Pieces
 pub mod Ran
+pub mod SomeAnswer
+pub mod SomeOutput
+pub mod SomePass
+pub mod Stamps
+pub mod Within

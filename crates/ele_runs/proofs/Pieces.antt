@@ -1,7 +1,7 @@
 -- A piece that was answered so far.
 use Rattle.ele_runs.proofs.Basics.{◌≢◌, ◌≡◌, ℕ, ◌+◌, ◌<◌, ◌≤◌, ◌⊎◌, List, [], ◌∷◌, ◌++◌, length, take, drop, get_or, Option, Some, None, Result, refl, sym, ap, subst, ◌∙◌, arith, append_assoc, length-append, inl, inr, true, ◌==◌, zero}
 use Rattle.ele_runs.proofs.Basics.{nat_tests, suc, IsErr, take-append-drop, drop_more, length-drop, eq-eqb, eqb-true, AllByRecursion}
-use Rattle.ele_runs.proofs.Words.{Outlet, Takes, TakesFront, IsBlock, line_unless_long, IsUnbroken, whole_line, whole_lines, AreBlocks, Answers, AnswersAll, AnswersSome, RunState, PutsBlock}
+use Rattle.ele_runs.proofs.Words.{Outlet, Takes, TakesFront, IsBlock, line_unless_long, IsUnbroken, whole_line, whole_lines, AreBlocks, Answers, AnswersAll, AnswersSome, Past, PutsBlock}
 use Rattle.std.specs.Option.{option_and_then}
 use Rattle.memchr.specs.Find.{IsFirstByte, is_byte}
 use Rattle.ele_printer.specs.declared.fault.WriteFault.{WriteFault}
@@ -9,7 +9,7 @@ use Rattle.ele_runs.proofs.Ran.{blocks_push, joined_push}
 use Rattle.ele_runs.proofs.Joins.{takes_nil, takes_then, front_then, all_both}
 
 -- these lines of a piece were answered, and so much of it is left; a line that began before is only the first
-pub record HasAnswered (before state : RunState) (part piece left : List ℕ) (buffer : Option (List ℕ)) (n count : ℕ) (old new : Outlet) : Type 0 where
+pub record HasAnswered (before state : Past) (part piece left : List ℕ) (buffer : Option (List ℕ)) (n count : ℕ) (old new : Outlet) : Type 0 where
   pub lines : List (List ℕ)
   pub begun : List ℕ
   pub text : List ℕ
@@ -24,7 +24,7 @@ pub record HasAnswered (before state : RunState) (part piece left : List ℕ) (b
   pub put : Takes old new text
 
 -- nothing was answered yet
-pub answered_none : (before : RunState) (part piece : List ℕ) (buffer : Option (List ℕ)) (n : ℕ) (old : Outlet)
+pub answered_none : (before : Past) (part piece : List ℕ) (buffer : Option (List ℕ)) (n : ℕ) (old : Outlet)
     → IsUnbroken part → buffer ≡ line_unless_long part → HasAnswered before before part piece piece buffer n n old old
 answered_none before part piece buffer n old whole keeps =
     record {
@@ -68,7 +68,7 @@ cut_at left at h =
 line_parts : (begun line behind : List ℕ) → begun ++ (line ++ 10 ∷ behind) ≡ whole_line (begun ++ line) ++ behind
 line_parts begun line behind = sym (append_assoc begun line (10 ∷ behind)) ∙ sym (append_assoc (begun ++ line) (10 ∷ []) behind)
 
-module _ {before between : RunState} {part piece left : List ℕ} {buffer : Option (List ℕ)} {n count : ℕ} {old mid : Outlet} (done : HasAnswered before between part piece left buffer n count old mid) where
+module _ {before between : Past} {part piece left : List ℕ} {buffer : Option (List ℕ)} {n count : ℕ} {old mid : Outlet} (done : HasAnswered before between part piece left buffer n count old mid) where
   -- where the next line feed stands
   parts_at : (at : ℕ) → IsFirstByte (is_byte 10) left (Some at) → part ++ piece ≡ whole_lines (done.lines ++ (done.begun ++ take at left) ∷ []) ++ drop (at + 1) left
   parts_at at h =
@@ -83,7 +83,7 @@ module _ {before between : RunState} {part piece left : List ℕ} {buffer : Opti
       all_both IsUnbroken done.lines ((done.begun ++ take at left) ∷ []) done.whole
       (all_both (λ b. b ≢ 10) done.begun (take at left) done.unbroken (unbroken_before left at (λ k lt is. h.0.before k (omega arith) lt is)), tt)
 
-  block_at : {A E : Type 0} (at : ℕ) (line : List ℕ) (after : RunState) (new : Outlet) (r : Result A E) → line ≡ take at left
+  block_at : {A E : Type 0} (at : ℕ) (line : List ℕ) (after : Past) (new : Outlet) (r : Result A E) → line ≡ take at left
       → (wrote : PutsBlock between (option_and_then (λ l. line_unless_long (l ++ line)) buffer) after mid new r) → IsBlock between (line_unless_long (done.begun ++ take at left)) wrote.block after
   block_at at line after new r e wrote =
       subst (λ (l : Option (List ℕ)). IsBlock between l wrote.block after)
@@ -91,7 +91,7 @@ module _ {before between : RunState} {part piece left : List ℕ} {buffer : Opti
       wrote.is
 
   -- one line more is answered
-  pub answered_more : {A E : Type 0} {after : RunState} {new : Outlet} {buffer' : Option (List ℕ)} (at : ℕ) (line left' : List ℕ) (r : Result A E) → IsFirstByte (is_byte 10) left (Some at)
+  pub answered_more : {A E : Type 0} {after : Past} {new : Outlet} {buffer' : Option (List ℕ)} (at : ℕ) (line left' : List ℕ) (r : Result A E) → IsFirstByte (is_byte 10) left (Some at)
       → line ≡ take at left → left' ≡ drop (at + 1) left
       → (wrote : PutsBlock between (option_and_then (λ l. line_unless_long (l ++ line)) buffer) after mid new r) → Takes mid new wrote.block → buffer' ≡ Some []
       → HasAnswered before after part piece left' buffer' n (count + 1) old new
@@ -113,7 +113,7 @@ module _ {before between : RunState} {part piece left : List ℕ} {buffer : Opti
       }
 
   -- the writer failed in the block of one line more
-  pub answered_some : {A E : Type 0} {after : RunState} {new : Outlet} (at : ℕ) (line : List ℕ) (r : Result A E) → IsFirstByte (is_byte 10) left (Some at)
+  pub answered_some : {A E : Type 0} {after : Past} {new : Outlet} (at : ℕ) (line : List ℕ) (r : Result A E) → IsFirstByte (is_byte 10) left (Some at)
       → line ≡ take at left → (wrote : PutsBlock between (option_and_then (λ l. line_unless_long (l ++ line)) buffer) after mid new r) → TakesFront mid new wrote.block → AnswersSome before after part piece old new
   answered_some {A} {E} {after} {new} at line r h e wrote put =
       let is = block_at at line after new r e wrote in
@@ -124,7 +124,7 @@ module _ {before between : RunState} {part piece left : List ℕ} {buffer : Opti
         parts = parts_at at h;
         whole = whole_at at h;
         blocks = blocks_push before between after done.lines (done.begun ++ take at left) done.text wrote.block done.blocks is;
-        put = record { front = front_then old mid new done.text wrote.block done.put put };
+        put = record { same = put.same ∙ done.put.same; front = front_then old mid new done.text wrote.block done.put put };
       }
 
   -- no line feed is left
@@ -148,6 +148,6 @@ module _ {before between : RunState} {part piece left : List ℕ} {buffer : Opti
       few_of begun (inr e) = inr e
 
 -- an error is the writer's
-pub answers_err : (before after : RunState) (part piece : List ℕ) (buffer : Option (List ℕ)) (n : ℕ) (old new : Outlet) (r : Result ℕ WriteFault)
+pub answers_err : (before after : Past) (part piece : List ℕ) (buffer : Option (List ℕ)) (n : ℕ) (old new : Outlet) (r : Result ℕ WriteFault)
     → IsErr r → AnswersSome before after part piece old new → Answers before after part piece buffer n old new r
 answers_err before after part piece buffer n old new r is h = grind arith

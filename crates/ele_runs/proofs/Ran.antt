@@ -1,11 +1,12 @@
 -- A run so far, and how it goes on.
 use Rattle.ele_runs.proofs.Basics.{◌≡◌, ℕ, ◌+◌, ◌≤◌, ◌⊎◌, List, [], ◌∷◌, ◌++◌, length, Option, Some, refl, sym, ap, subst, ◌∙◌, arith, append_assoc, length-append, append-nil, flat_map-append, flat_map-cons}
 use Rattle.ele_runs.proofs.Basics.{Consumes, Appends, Consumes-nil, Consumes-trans, Appends-nil}
-use Rattle.ele_runs.proofs.Words.{outlet, Takes, IsBlock, most_lines, most_bytes, line_unless_long, AreLines, whole_line, whole_lines, line_count, AreBlocks, AnswersAll, RunState}
+use Rattle.ele_runs.proofs.Words.{Outlet, Takes, IsBlock, most_lines, most_bytes, line_unless_long, AreLines, whole_line, whole_lines, line_count, AreBlocks, AnswersAll, Past}
 use Rattle.ele_runs.proofs.Joins.{lines_before, blocks_append, takes_nil, takes_then, takes_over}
 
 -- n whole lines were read and a part of one more, and their blocks put, up to this state; there is room for so many bytes more
-pub record RanSoFar (start : RunState) (n : ℕ) (state : RunState) (room : ℕ) (buffer input rest old new : Option (List ℕ)) (held : List ℕ) : Type 0 where
+pub record RanSoFar (start : Past) (n : ℕ) (state : Past) (room : ℕ) (buffer input rest : Option (List ℕ)) (old new : Outlet) : Type 0 where
+  pub none : old.held ≡ []
   pub given : List ℕ
   pub lines : List (List ℕ)
   pub part : List ℕ
@@ -18,13 +19,14 @@ pub record RanSoFar (start : RunState) (n : ℕ) (state : RunState) (room : ℕ)
   pub keeps : buffer ≡ line_unless_long part
   pub blocks : AreBlocks start lines text state
   pub taken : Consumes input rest given
-  pub put : Takes (outlet old []) (outlet new held) text
+  pub put : Takes old new text
 
 -- a run that begins
-pub ran_none : (start : RunState) (buffer input old : Option (List ℕ)) (held : List ℕ) → buffer ≡ Some [] → held ≡ []
-    → RanSoFar start 0 start most_bytes buffer input input old old held
-ran_none start buffer input old held clear none =
+pub ran_none : (start : Past) (buffer input : Option (List ℕ)) (old : Outlet) → buffer ≡ Some [] → old.held ≡ []
+    → RanSoFar start 0 start most_bytes buffer input input old old
+ran_none start buffer input old clear none =
     record {
+      none = none;
       given = [];
       lines = [];
       part = [];
@@ -37,14 +39,14 @@ ran_none start buffer input old held clear none =
       keeps = clear;
       blocks = (refl, refl);
       taken = Consumes-nil input;
-      put = rw none (takes_nil (outlet old []));
+      put = takes_nil old;
     }
 
 -- the blocks of some lines, and then that of one more
-pub blocks_push : (start between after : RunState) (lines : List (List ℕ)) (line text block : List ℕ)
+pub blocks_push : (start between after : Past) (lines : List (List ℕ)) (line text block : List ℕ)
     → AreBlocks start lines text between → IsBlock between (line_unless_long line) block after → AreBlocks start (lines ++ line ∷ []) (text ++ block) after
 blocks_push start between after [] line text block are is =
-    let from_start : IsBlock start (line_unless_long line) block after = subst (λ (s : RunState). IsBlock s (line_unless_long line) block after) are.1 is in
+    let from_start : IsBlock start (line_unless_long line) block after = subst (λ (s : Past). IsBlock s (line_unless_long line) block after) are.1 is in
     (block, [], after, from_start, (refl, refl), ap (λ (t : List ℕ). t ++ block) are.0 ∙ sym (append-nil block))
 blocks_push start between after (first ∷ lines) line text block (own, rest, mid, is_first, more, parts) is = (
   own,
@@ -59,10 +61,12 @@ pub joined_push : (lines : List (List ℕ)) (line : List ℕ) → whole_lines (l
 joined_push lines line = flat_map-append whole_line lines (line ∷ []) ∙ ap (λ (xs : List ℕ). whole_lines lines ++ xs) (flat_map-cons whole_line line [] ∙ append-nil (whole_line line))
 
 -- what is held is handed over
-pub ran_over : {start state : RunState} {n room : ℕ} {buffer input rest old known new : Option (List ℕ)} {held left : List ℕ}
-    → RanSoFar start n state room buffer input rest old known held → left ≡ [] → Appends known new held → RanSoFar start n state room buffer input rest old new left
-ran_over {start} {state} {n} {room} {buffer} {input} {rest} {old} {known} {new} {held} {left} ran none over =
+pub ran_over : {start state : Past} {n room : ℕ} {buffer input rest : Option (List ℕ)} {old known new : Outlet}
+    → RanSoFar start n state room buffer input rest old known → (new.writer ≡ known.writer) × (new.held ≡ []) × Appends known.known new.known known.held
+    → RanSoFar start n state room buffer input rest old new
+ran_over {start} {state} {n} {room} {buffer} {input} {rest} {old} {known} {new} ran over =
     record {
+      none = ran.none;
       given = ran.given;
       lines = ran.lines;
       part = ran.part;
@@ -76,17 +80,18 @@ ran_over {start} {state} {n} {room} {buffer} {input} {rest} {old} {known} {new} 
       blocks = ran.blocks;
       taken = ran.taken;
       put = record {
+        same = over.0 ∙ ran.put.same;
         sent = ran.text;
-        parts = sym (append-nil ran.text) ∙ ap (λ (w : List ℕ). ran.text ++ w) (sym none);
-        written = takes_over old known new held ran.text ran.put over;
+        parts = cc (ran.none, over.1, append-nil ran.text);
+        written = takes_over old known new ran.text ran.none ran.put over.2;
       };
     }
 
 -- then all that was put is written
-pub written_all : {start state : RunState} {n room : ℕ} {buffer input rest old new : Option (List ℕ)} {held : List ℕ}
-    → (ran : RanSoFar start n state room buffer input rest old new held) → held ≡ [] → Appends old new ran.text
-written_all {start} {state} {n} {room} {buffer} {input} {rest} {old} {new} {held} ran none =
-    takes_over old new new held ran.text ran.put (rw none (Appends-nil new))
+pub written_all : {start state : Past} {n room : ℕ} {buffer input rest : Option (List ℕ)} {old new : Outlet}
+    → (ran : RanSoFar start n state room buffer input rest old new) → new.held ≡ [] → Appends old.known new.known ran.text
+written_all {start} {state} {n} {room} {buffer} {input} {rest} {old} {new} ran none =
+    takes_over old new new ran.text ran.none ran.put (rw none (Appends-nil new.known))
 
 -- a line counts at most once
 count_below : (lines : List (List ℕ)) (last : List ℕ) → line_count lines last ≤ length lines + length last
@@ -100,13 +105,14 @@ pub few_whole : (lines : List (List ℕ)) (part : List ℕ) → line_count lines
 few_whole lines part few = grind arith
 
 -- a piece more is read and answered
-pub ran_on : {start between after : RunState} {n ended room left : ℕ} {buffer buffer' input mid rest old so_far new : Option (List ℕ)} {held held' piece : List ℕ}
-    → (ran : RanSoFar start n between room buffer input mid old so_far held) → n + length piece ≤ most_lines → 1 ≤ length piece → length piece + left ≡ room
-    → Consumes mid rest piece → AnswersAll between after ran.part piece buffer' n ended (outlet so_far held) (outlet new held')
-    → RanSoFar start ended after left buffer' input rest old new held'
-ran_on {start} {between} {after} {n} {ended} {room} {left} {buffer} {buffer'} {input} {mid} {rest} {old} {so_far} {new} {held} {held'} {piece} ran fits some fewer taken did =
+pub ran_on : {start between after : Past} {n ended room left : ℕ} {buffer buffer' input mid rest : Option (List ℕ)} {old so_far new : Outlet} {piece : List ℕ}
+    → (ran : RanSoFar start n between room buffer input mid old so_far) → n + length piece ≤ most_lines → 1 ≤ length piece → length piece + left ≡ room
+    → Consumes mid rest piece → AnswersAll between after ran.part piece buffer' n ended so_far new
+    → RanSoFar start ended after left buffer' input rest old new
+ran_on {start} {between} {after} {n} {ended} {room} {left} {buffer} {buffer'} {input} {mid} {rest} {old} {so_far} {new} {piece} ran fits some fewer taken did =
     let few = count_more ran.lines did.lines did.last most_lines (length piece) (omega (arith, fits, ran.count)) some did.few in
     record {
+      none = ran.none;
       given = ran.given ++ piece;
       lines = ran.lines ++ did.lines;
       part = did.last;
@@ -120,5 +126,5 @@ ran_on {start} {between} {after} {n} {ended} {room} {left} {buffer} {buffer'} {i
       keeps = did.keeps;
       blocks = blocks_append start between after ran.lines did.lines ran.text did.text ran.blocks did.blocks;
       taken = Consumes-trans input mid rest ran.given piece ran.taken taken;
-      put = takes_then (outlet old []) (outlet so_far held) (outlet new held') ran.text did.text ran.put did.put;
+      put = takes_then old so_far new ran.text did.text ran.put did.put;
     }

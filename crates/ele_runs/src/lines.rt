@@ -3,7 +3,7 @@
 ghost use Rattle.std.specs.Prelude.{◌≡◌, ◌+◌, ◌^◌, ◌<◌, ◌≤◌, ◌++◌, [], Some, length, OnOk, IfOk};
 ghost use Rattle.std.specs.Option.{option_map, option_and_then};
 ghost use Rattle.memchr.specs.Find.{IsFirstByte, is_byte};
-ghost use Rattle.ele_printer.specs.Outlet.{outlet, Puts};
+ghost use Rattle.ele_printer.specs.Prints.{outlet, Prints};
 ghost use Rattle.ele_runs.specs.Block.{cut_block, cut_count};
 ghost use Rattle.ele_runs.specs.LineLength.{line_unless_long};
 ghost use Rattle.ele_runs.specs.Piece.{AnswersPiece};
@@ -11,7 +11,7 @@ ghost use Rattle.ele_runs.specs.Written.{PutsBlock, WritesLast};
 
 use crate::keeper::Keeper;
 use crate::line_buffer::{LineBuffer, kept_line};
-use ele_script::{LineFault, Output, WriteFault, put_fault};
+use ele_script::{LineFault, Printer, WriteFault, put_fault};
 use ele_world::Stepping;
 use memchr::memchr;
 use std::io::Write;
@@ -20,17 +20,15 @@ use std::io::Write;
 fn put_block<C: Stepping, W: Write>(
     line: Option<&[u8]>,
     keeper: &mut Keeper<C>,
-    output: &mut Output,
-    writer: &mut W,
+    printer: &mut Printer<'_, W>,
 ) -> Result<(), WriteFault>
     ensures { PutsBlock keeper.old (option_map (λ line. line.now) line.entry) keeper.new
-        (outlet (W.contents writer.old) output.old)
-        (outlet (W.contents writer.new) output.new) result }
+        (outlet W.contents printer.old) (outlet W.contents printer.new) result }
 {
     match line {
-        None => put_fault(LineFault::LineTooLong, output, writer),
+        None => put_fault(LineFault::LineTooLong, printer),
         Some([]) => Ok(()),
-        Some(line) => keeper.put_answer(line, output, writer),
+        Some(line) => keeper.put_answer(line, printer),
     }
 }
 
@@ -39,20 +37,18 @@ fn put_whole<C: Stepping, W: Write>(
     end: &[u8],
     buffer: &mut LineBuffer,
     keeper: &mut Keeper<C>,
-    output: &mut Output,
-    writer: &mut W,
+    printer: &mut Printer<'_, W>,
 ) -> Result<(), WriteFault>
     ensures block { PutsBlock keeper.old
         (option_and_then (λ line. line_unless_long (line ++ end.now)) buffer.old) keeper.new
-        (outlet (W.contents writer.old) output.old)
-        (outlet (W.contents writer.new) output.new) result }
+        (outlet W.contents printer.old) (outlet W.contents printer.new) result }
     ensures begun { OnOk result (buffer.new ≡ Some []) }
 {
     if buffer.is_empty() {
-        return put_block(kept_line(end), keeper, output, writer);
+        return put_block(kept_line(end), keeper, printer);
     }
     buffer.extend(end);
-    put_block(buffer.line(), keeper, output, writer)?;
+    put_block(buffer.line(), keeper, printer)?;
     buffer.clear();
     Ok(())
 }
@@ -71,18 +67,16 @@ pub(crate) fn answer_piece<C: Stepping, W: Write>(
     lines: u64,
     buffer: &mut LineBuffer,
     keeper: &mut Keeper<C>,
-    output: &mut Output,
-    writer: &mut W,
+    printer: &mut Printer<'_, W>,
 ) -> Result<u64, WriteFault>
     requires { lines + length piece.now < 2 ^ 64 }
     ensures { AnswersPiece keeper.old keeper.new buffer.old piece.now buffer.new lines
-        (outlet (W.contents writer.old) output.old)
-        (outlet (W.contents writer.new) output.new) result }
+        (outlet W.contents printer.old) (outlet W.contents printer.new) result }
 {
     let mut ended = lines;
     let mut rest = piece;
     'lines: while let Some(at) = line_end(rest) {
-        put_whole(&rest[..at], buffer, keeper, output, writer)?;
+        put_whole(&rest[..at], buffer, keeper, printer)?;
         rest = rest.split_at(at + 1).1;
         ended += 1;
     }
@@ -92,21 +86,16 @@ pub(crate) fn answer_piece<C: Stepping, W: Write>(
 
 // Puts the block of a last line without its line feed, which is never run, and tells by how much
 // that line counts.
-fn put_cut<W: Write>(
-    line: Option<&[u8]>,
-    output: &mut Output,
-    writer: &mut W,
-) -> Result<u64, WriteFault>
+fn put_cut<W: Write>(line: Option<&[u8]>, printer: &mut Printer<'_, W>) -> Result<u64, WriteFault>
     ensures count { IfOk result (λ n. n ≡ cut_count (option_map (λ line. line.now) line.entry)) }
     ensures few { IfOk result (λ n. n ≤ 1) }
-    ensures put { Puts (outlet (W.contents writer.old) output.old)
-        (outlet (W.contents writer.new) output.new)
+    ensures put { Prints W.contents printer.old printer.new
         (cut_block (option_map (λ line. line.now) line.entry)) result }
 {
     match line {
-        None => put_fault(LineFault::LineTooLong, output, writer)?,
+        None => put_fault(LineFault::LineTooLong, printer)?,
         Some([]) => return Ok(0),
-        Some(_) => put_fault(LineFault::Syntax, output, writer)?,
+        Some(_) => put_fault(LineFault::Syntax, printer)?,
     }
     Ok(1)
 }
@@ -116,14 +105,13 @@ fn put_cut<W: Write>(
 pub(crate) fn finish<W: Write>(
     lines: u64,
     buffer: &LineBuffer,
-    output: &mut Output,
-    writer: &mut W,
+    printer: &mut Printer<'_, W>,
 ) -> Result<u64, WriteFault>
     requires { lines + 1 < 2 ^ 64 }
-    ensures { WritesLast lines buffer.now (outlet (W.contents writer.old) output.old)
-        (W.contents writer.new) result }
+    ensures { WritesLast lines buffer.now (outlet W.contents printer.old)
+        (outlet W.contents printer.new) result }
 {
-    let cut = put_cut(buffer.line(), output, writer)?;
-    output.hand_over(writer)?;
+    let cut = put_cut(buffer.line(), printer)?;
+    printer.hand_over()?;
     Ok(lines + cut)
 }

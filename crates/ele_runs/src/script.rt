@@ -1,7 +1,9 @@
 //! The run of a script, piece by piece.
 //! A contract sees the lines that the reader gives, and their output at the writer.
-ghost use Rattle.std.specs.Prelude.{◌≡◌, ◌≤◌, ◌-◌, min, IfOk, IsErrOf, length};
-ghost use Rattle.ele_runs.specs.RunState.{fresh};
+ghost use Rattle.std.specs.Prelude.{◌≡◌, ◌≤◌, ◌-◌, [], min, IfOk, IsErrOf, length};
+ghost use Rattle.ele_history.specs.Past.{fresh};
+ghost use Rattle.ele_printer.specs.Prints.{outlet};
+ghost use Rattle.ele_runs.specs.Written.{RunsAt};
 ghost use Rattle.ele_runs.specs.Running.{Runs, RanToTheEnd, RanToAReadFault, RanPastABound, RanToAWriteFault};
 
 use crate::fault::ShellFault;
@@ -9,7 +11,7 @@ use crate::keeper::Keeper;
 use crate::line_buffer::LineBuffer;
 use crate::lines::{answer_piece, finish};
 use crate::piece::read_piece;
-use ele_script::Output;
+use ele_script::Printer;
 use ele_world::{Limits, Stepping};
 use std::alloc::Global;
 use std::io::{Read, Write};
@@ -55,6 +57,37 @@ fn most_of(left: u64) -> usize
 fn run_pieces<C: Stepping, R: Read, W: Write>(
     keeper: &mut Keeper<C>,
     reader: &mut R,
+    printer: &mut Printer<'_, W>,
+    piece: &mut [u8],
+) -> Result<u64, ShellFault>
+    requires piece { length piece.old ≡ PIECE }
+    requires none { (outlet W.contents printer.old).held ≡ [] }
+    ensures { RunsAt keeper.old (R.remaining reader.old) (R.remaining reader.new)
+        (outlet W.contents printer.old) (outlet W.contents printer.new) result }
+{
+    let mut buffer = LineBuffer::new();
+    let mut room = MOST_BYTES;
+    let mut lines = 0;
+    'pieces: loop {
+        printer.hand_over()?;
+        let left = left_of(room, lines);
+        let count = read_piece(reader, piece, most_of(left))?;
+        if count == 0 {
+            return Ok(finish(lines, &buffer, printer)?);
+        }
+        if left == 0 {
+            return Err(ShellFault::TooManyLines);
+        }
+        lines = answer_piece(&piece[..count], lines, &mut buffer, keeper, printer)?;
+        room -= count as u64;
+    }
+}
+
+// Runs the script in pieces, over a printer of its own.
+#[tactic(auto, using(crate::proofs::Ends::ran_at))]
+fn run_printed<C: Stepping, R: Read, W: Write>(
+    keeper: &mut Keeper<C>,
+    reader: &mut R,
     writer: &mut W,
     piece: &mut [u8],
 ) -> Result<u64, ShellFault>
@@ -62,30 +95,8 @@ fn run_pieces<C: Stepping, R: Read, W: Write>(
     ensures { Runs keeper.old (R.remaining reader.old) (R.remaining reader.new)
         (W.contents writer.old) (W.contents writer.new) result }
 {
-    let mut output = Output::new();
-    let mut buffer = LineBuffer::new();
-    let mut room = MOST_BYTES;
-    let mut lines = 0;
-    'pieces: loop {
-        output.hand_over(writer)?;
-        let left = left_of(room, lines);
-        let count = read_piece(reader, piece, most_of(left))?;
-        if count == 0 {
-            return Ok(finish(lines, &buffer, &mut output, writer)?);
-        }
-        if left == 0 {
-            return Err(ShellFault::TooManyLines);
-        }
-        lines = answer_piece(
-            &piece[..count],
-            lines,
-            &mut buffer,
-            keeper,
-            &mut output,
-            writer,
-        )?;
-        room -= count as u64;
-    }
+    let mut printer = Printer::new(writer);
+    run_pieces(keeper, reader, &mut printer, piece)
 }
 
 /// Runs the script that the reader gives: answers each whole line at the writer, and answers how
@@ -127,5 +138,5 @@ pub fn run_over<C: Stepping, R: Read, W: Write>(
         return Err(ShellFault::NoMemory);
     };
     let mut keeper = Keeper::<C>::new(alloc, limits)?;
-    run_pieces(&mut keeper, reader, writer, piece.as_mut_slice())
+    run_printed(&mut keeper, reader, writer, piece.as_mut_slice())
 }

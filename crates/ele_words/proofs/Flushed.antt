@@ -9,14 +9,14 @@ use Rattle.ele_printer.specs.Front.{AppendsFront}
 use Rattle.ele_printer.specs.Printed.{line_text}
 use Rattle.ele_runs.specs.Fault.{number_of, name_of}
 use Rattle.ele_runs.specs.Lines.{whole_lines}
-use Rattle.ele_runs.specs.RunState.{RunState}
+use Rattle.ele_history.specs.Past.{Past}
 use Rattle.ele_runs.specs.Running.{RanToTheEnd, RanToAReadFault, RanPastABound, RanToAWriteFault}
 use Rattle.ele_runs.specs.declared.fault.ShellFault.{ShellFault}
 use Rattle.ele_runs.specs.declared.fault.ShellFault.TheVariants.{ReadFault, WriteFault, TooManyLines, NoMemory}
 use Rattle.ele_words.specs.Ends.{HasRun, HasHelped, fault_line}
 
 -- what a run says of each of its ends
-pub has_run : (start : RunState) (input rest old new : Option (List ℕ)) (r : Result ℕ ShellFault) → IfOk r (λ n. RanToTheEnd start n input rest old new) → (IsErrOf r ReadFault → RanToAReadFault start input rest old new)
+pub has_run : (start : Past) (input rest old new : Option (List ℕ)) (r : Result ℕ ShellFault) → IfOk r (λ n. RanToTheEnd start n input rest old new) → (IsErrOf r ReadFault → RanToAReadFault start input rest old new)
     → (IsErrOf r TooManyLines → RanPastABound start input rest old new) → (IsErrOf r WriteFault → RanToAWriteFault start input old new) → (IsErrOf r NoMemory → Keeps input rest × Keeps old new) → HasRun start input rest old new (result_err r)
 has_run start input rest old new (Ok n) ok read many write memory = (n, ok)
 has_run start input rest old new (Err ReadFault) ok read many write memory = read refl
@@ -32,7 +32,7 @@ whole_front : (old new : Option (List ℕ)) (bytes : List ℕ) → Appends old n
 whole_front old new bytes is = record { front = bytes; back = []; parts = sym (append-nil bytes); written = is }
 
 -- the writer holds what it held before it was flushed
-kept : (start : RunState) (input rest old mid new : Option (List ℕ)) (fault : Option ShellFault) → HasRun start input rest old mid fault → Keeps mid new → HasRun start input rest old new fault
+kept : (start : Past) (input rest old mid new : Option (List ℕ)) (fault : Option ShellFault) → HasRun start input rest old mid fault → Keeps mid new → HasRun start input rest old new fault
 kept start input rest old mid new None ran same = (
   ran.0,
   record {
@@ -128,7 +128,7 @@ untaken None = tt
 untaken (Some xs) = refl
 
 -- a run that ended in any way has got as far as one whose writer failed
-as_write_fault : (start : RunState) (input rest old new : Option (List ℕ)) (fault : Option ShellFault) → HasRun start input rest old new fault → RanToAWriteFault start input old new
+as_write_fault : (start : Past) (input rest old new : Option (List ℕ)) (fault : Option ShellFault) → HasRun start input rest old new fault → RanToAWriteFault start input old new
 as_write_fault start input rest old new None ran =
     record {
       lines = ran.1.lines;
@@ -177,7 +177,7 @@ as_write_fault start input rest old new (Some NoMemory) ran =
     }
 
 -- a run, and then a flush
-pub run_flushed : (start : RunState) (input rest old mid new : Option (List ℕ)) (ran : Result ℕ ShellFault) (is_flushed : Bool) (ended : Result ℕ ShellFault) → HasRun start input rest old mid (result_err ran) → Keeps mid new
+pub run_flushed : (start : Past) (input rest old mid new : Option (List ℕ)) (ran : Result ℕ ShellFault) (is_flushed : Bool) (ended : Result ℕ ShellFault) → HasRun start input rest old mid (result_err ran) → Keeps mid new
     → ended ≡ (if is_flushed then ran else Err WriteFault) → HasRun start input rest old new (result_err ended)
 run_flushed start input rest old mid new ran true ended has same is = rw is (kept start input rest old mid new (result_err ran) has same)
 run_flushed start input rest old mid new ran false ended has same is =

@@ -4,7 +4,7 @@ use Rattle.std.specs.Io.KnownBytes.{Appends, Keeps}
 use Rattle.ele_printer.specs.Front.{AppendsFront}
 use Rattle.ele_printer.specs.Printed.{line_text}
 use Rattle.ele_runs.specs.Fault.{number_of, name_of}
-use Rattle.ele_runs.specs.RunState.{RunState, fresh}
+use Rattle.ele_history.specs.Past.{Past, fresh}
 use Rattle.ele_runs.specs.Running.{RanToTheEnd, RanToAReadFault, RanPastABound, RanToAWriteFault}
 use Rattle.ele_runs.specs.declared.fault.ShellFault.{ShellFault}
 use Rattle.ele_runs.specs.declared.fault.ShellFault.TheVariants.{ReadFault, WriteFault, TooManyLines, NoMemory}
@@ -13,7 +13,7 @@ use Rattle.ele_words.specs.declared.asked.Asked.{Asked}
 use Rattle.ele_words.specs.declared.asked.Asked.TheVariants as asked
 
 -- a run, by the fault that ended it: without one all was read and answered; without memory nothing was read or written
-abbrev pub HasRun : RunState → Option (List ℕ) → Option (List ℕ) → Option (List ℕ) → Option (List ℕ) → Option ShellFault → Type 0
+abbrev pub HasRun : Past → Option (List ℕ) → Option (List ℕ) → Option (List ℕ) → Option (List ℕ) → Option ShellFault → Type 0
 HasRun start input rest old new None = (lines : ℕ) × RanToTheEnd start lines input rest old new
 HasRun start input rest old new (Some ReadFault) = RanToAReadFault start input rest old new
 HasRun start input rest old new (Some TooManyLines) = RanPastABound start input rest old new

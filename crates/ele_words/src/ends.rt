@@ -2,7 +2,7 @@
 //! A contract sees how a run ended, what the ends hold then, and the status.
 ghost use Rattle.std.specs.Prelude.{◌≡◌, Err, is_ok, if◌then◌else◌};
 ghost use Rattle.std.specs.Result.{result_err};
-ghost use Rattle.ele_runs.specs.RunState.{fresh};
+ghost use Rattle.ele_history.specs.Past.{fresh};
 ghost use Rattle.ele_words.specs.Status.{fault_status, status_of};
 ghost use Rattle.ele_words.specs.Ends.{HasRun, HasHelped, Tells, EndsWith};
 

@@ -1,9 +1,10 @@
+use Rattle.ele_runs.proofs.Words.{outlet}
 use Rattle.ele_runs.proofs.Ran.{RanSoFar}
 use Rattle.ele_runs.proofs.script.run_pieces.Given as goal
 
 abbrev pub invariant-pieces : goal.invariant-pieces
 invariant-pieces g l =
-    RanSoFar l.fn.keeper l.lines l.keeper l.room l.buffer (g.R.Read.remaining l.fn.reader) (g.R.Read.remaining l.reader) (g.W.Write.contents l.fn.writer) (g.W.Write.contents l.writer) l.output
+    RanSoFar l.fn.keeper l.lines l.keeper l.room l.buffer (g.R.Read.remaining l.fn.reader) (g.R.Read.remaining l.reader) (outlet g.W.Write.contents l.fn.printer) (outlet g.W.Write.contents l.printer)
 
 abbrev pub decreases-pieces : goal.decreases-pieces
 decreases-pieces g l = l.room

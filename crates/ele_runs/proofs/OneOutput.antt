@@ -1,0 +1,102 @@
+-- Lines have one output, unless want of memory stops one of them.
+use Rattle.ele_runs.proofs.Basics.{◌≡◌, ◌≢◌, ℕ, List, [], ◌∷◌, ◌++◌, Option, Some, None, Ok, Err, refl, sym, ap, subst, ◌∙◌, append_assoc}
+use Rattle.ele_runs.proofs.Words.{Reply, IsBlock, MayAnswer, line_unless_long, AreBlocks, Past, cut_block}
+use Rattle.ele_moment.proofs.Moments.{one_text}
+use Rattle.ele_printer.specs.Printed.{IsReplyText, line_text, pass_text, stop_text}
+use Rattle.std.specs.Fmt.{decimal}
+use Rattle.std.specs.Prelude.{codes}
+use Rattle.ele_world.specs.declared.pass.PassEnd.TheVariants.{Stopped}
+use Rattle.ele_world.specs.declared.refusal.Stop.TheVariants.{NoMemory}
+use Rattle.ele_world.specs.declared.reply.Reply.TheVariants.{Now}
+use Rattle.ele_runs.specs.Answer.{Answer, IsForMemory}
+use Rattle.ele_runs.specs.Answer as answer
+use Rattle.ele_runs.specs.Block.{IsText}
+use Rattle.ele_runs.specs.OneAnswer.{OneAnswer}
+use Rattle.ele_runs.specs.OneOutput.{IsNowhere, OneOutput, TellsNoStop}
+use Rattle.ele_runs.specs.Output.{IsOutput}
+use Rattle.ele_runs.specs.Unstopped.{AreUnstopped, IsUnstopped, IsUnstoppedBlock}
+
+-- a reply has one text
+one_reply_text : (reply : Reply) (s t : List ℕ) → IsReplyText reply s → IsReplyText reply t → s ≡ t
+one_reply_text (Now moment) s t a b =
+    a.2 ∙ ap (λ (stamp : List ℕ). line_text (codes "ok now" ∷ decimal moment ∷ stamp ∷ [])) (one_text a.0 b.0 moment a.1 b.1) ∙ sym b.2
+one_reply_text reply s t a b = a ∙ sym b
+
+-- and so has an answer
+one_said : (said : Answer) (s t : List ℕ) → IsText said s → IsText said t → s ≡ t
+one_said (answer.Reply (Ok reply)) s t a b = one_reply_text reply s t a b
+one_said said s t a b = a ∙ sym b
+
+-- what stands nowhere stands in no part
+front_nowhere : (told text front back : List ℕ) → text ≡ front ++ back → IsNowhere told text → IsNowhere told front
+front_nowhere told text front back are none before behind is =
+    none before (behind ++ back) (are ∙ ap (λ (w : List ℕ). w ++ back) is ∙ append_assoc (before ++ told) behind back)
+
+rest_nowhere : (told text front back : List ℕ) → text ≡ front ++ back → IsNowhere told text → IsNowhere told back
+rest_nowhere told text front back are none before behind is =
+    none (front ++ before) behind
+    (are ∙ ap (λ (w : List ℕ). front ++ w) is ∙ sym (append_assoc front (before ++ told) behind) ∙ ap (λ (w : List ℕ). w ++ behind) (sym (append_assoc front before told)))
+
+own_nowhere : (told text front back : List ℕ) → text ≡ front ++ back → IsNowhere told text → front ≢ told
+own_nowhere told text front back are none is = none [] back (are ∙ ap (λ (w : List ℕ). w ++ back) is)
+
+front_tells : (text front back : List ℕ) → text ≡ front ++ back → TellsNoStop text → TellsNoStop front
+front_tells text front back are none = record {
+  stop = front_nowhere (stop_text NoMemory) text front back are none.stop;
+  pass = λ removed. front_nowhere (pass_text (Stopped NoMemory removed)) text front back are (none.pass removed);
+}
+
+rest_tells : (text front back : List ℕ) → text ≡ front ++ back → TellsNoStop text → TellsNoStop back
+rest_tells text front back are none = record {
+  stop = rest_nowhere (stop_text NoMemory) text front back are none.stop;
+  pass = λ removed. rest_nowhere (pass_text (Stopped NoMemory removed)) text front back are (none.pass removed);
+}
+
+-- an answer in a text that tells of no stop for memory is none
+not_stopped : (said : Answer) (text front back : List ℕ) → IsText said front → text ≡ front ++ back → TellsNoStop text → ¬ IsForMemory said
+not_stopped (answer.Reply (Err NoMemory)) text front back is are none for_memory =
+    own_nowhere (stop_text NoMemory) text front back are none.stop is
+not_stopped (answer.Pass (Stopped NoMemory removed)) text front back is are none for_memory =
+    own_nowhere (pass_text (Stopped NoMemory removed)) text front back are (none.pass removed) is
+not_stopped said text front back is are none for_memory = for_memory
+
+block_told : (before : Past) (line : Option (List ℕ)) (text block back : List ℕ) (after : Past) (is : IsBlock before line block after)
+    → text ≡ block ++ back → TellsNoStop text → IsUnstoppedBlock before line block after is
+block_told before None text block back after is are none = tt
+block_told before (Some []) text block back after is are none = tt
+block_told before (Some (byte ∷ bytes)) text block back after is are none = not_stopped is.0 text block back is.2 are none
+
+blocks_told : (before : Past) (lines : List (List ℕ)) (text : List ℕ) (after : Past) (are : AreBlocks before lines text after) → TellsNoStop text → AreUnstopped before lines text after are
+blocks_told before [] text after are none = tt
+blocks_told before (line ∷ lines) text after (block, rest, between, is, more, parts) none =
+    (block_told before (line_unless_long line) text block rest between is parts none, blocks_told between lines rest after more (rest_tells text block rest parts none))
+
+module _ (law : OneAnswer) where
+  one_block : (before other : Past) (line : Option (List ℕ)) (s t : List ℕ) (x y : Past) → before ≡ other → (a : IsBlock before line s x) (b : IsBlock other line t y)
+      → IsUnstoppedBlock before line s x a → IsUnstoppedBlock other line t y b → (s ≡ t) × (x ≡ y)
+  one_block before other None s t x y here a b p q = (a.0 ∙ sym b.0, a.1 ∙ here ∙ sym b.1)
+  one_block before other (Some []) s t x y here a b p q = (a.0 ∙ sym b.0, a.1 ∙ here ∙ sym b.1)
+  one_block before other (Some (byte ∷ bytes)) s t x y here a b p q =
+      let may : MayAnswer before (byte ∷ bytes) b.0 y = subst (λ (m : Past). MayAnswer m (byte ∷ bytes) b.0 y) (sym here) b.1 in
+      let same = law before (byte ∷ bytes) a.0 b.0 x y a.1 may p q in
+      (one_said b.0 s t (subst (λ said. IsText said s) same.0 a.2) b.2, same.1)
+
+  -- blocks of the same lines from one state are one text
+  one_blocks : (before other : Past) (lines : List (List ℕ)) (s t : List ℕ) (x y : Past) → before ≡ other → (a : AreBlocks before lines s x) (b : AreBlocks other lines t y)
+      → AreUnstopped before lines s x a → AreUnstopped other lines t y b → s ≡ t
+  one_blocks before other [] s t x y here a b p q = a.0 ∙ sym b.0
+  one_blocks before other (line ∷ lines) s t x y here (block, rest, mid, is, more, are) (own, others, between, also, behind, parts) p q =
+      let same = one_block before other (line_unless_long line) block own mid between here is also p.0 q.0 in
+      let rests = one_blocks mid between lines rest others x y same.1 more behind p.1 q.1 in
+      are ∙ ap (λ (w : List ℕ). w ++ rest) same.0 ∙ ap (λ (w : List ℕ). own ++ w) rests ∙ sym parts
+
+  one : (start : Past) (lines : List (List ℕ)) (last a b : List ℕ) (x : IsOutput start lines last a) (y : IsOutput start lines last b) → IsUnstopped start lines last a x → IsUnstopped start lines last b y → a ≡ b
+  one start lines last a b x y p q =
+      let same = one_blocks start start lines x.blocks y.blocks x.state y.state refl x.are y.are p q in
+      x.text_is ∙ ap (λ (w : List ℕ). w ++ cut_block (line_unless_long last)) same ∙ sym y.text_is
+
+  pub one_output : OneOutput
+  one_output = record {
+    one = one;
+    told = λ start lines last text output none. blocks_told start lines output.blocks output.state output.are (front_tells text output.blocks (cut_block (line_unless_long last)) output.text_is none);
+  }

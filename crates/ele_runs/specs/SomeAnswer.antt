@@ -1,0 +1,22 @@
+-- Each line has an answer.
+use Rattle.std.specs.Prelude.{ℕ, ◌≤◌, List}
+use Rattle.ele_runs.specs.Answer.{Answer, IsForMemory}
+use Rattle.ele_runs.specs.Block.{MayAnswer, IsText}
+use Rattle.ele_history.specs.Past.{Past, count_of}
+
+-- no more entries were made than may ever be
+abbrev pub IsWithin : Past → Type 0
+IsWithin past = count_of past ≤ past.base.limits.events
+
+-- the line has an answer that is no stop for memory; the answer has a text, and leaves no more entries than may be
+pub record HasAnswer (before : Past) (line : List ℕ) : Type 0 where
+  pub said : Answer
+  pub after : Past
+  pub may : MayAnswer before line said after
+  pub unstopped : ¬ IsForMemory said
+  pub text : List ℕ
+  pub is : IsText said text
+  pub within : IsWithin after
+
+abbrev pub SomeAnswer : Type 0
+SomeAnswer = (before : Past) (line : List ℕ) → IsWithin before → HasAnswer before line

@@ -1,0 +1,22 @@
+-- Outputs of lines none of which want of memory stopped.
+use Rattle.std.specs.Prelude.{ℕ, List, [], ◌∷◌, Option, Some}
+use Rattle.ele_runs.specs.Answer.{IsForMemory}
+use Rattle.ele_runs.specs.Block.{IsBlock}
+use Rattle.ele_runs.specs.LineLength.{line_unless_long}
+use Rattle.ele_runs.specs.Output.{AreBlocks, IsOutput}
+use Rattle.ele_history.specs.Past.{Past}
+
+-- the line was answered, and not stopped for memory; of an empty one and one that is too long nothing is asked
+abbrev pub IsUnstoppedBlock : (before : Past) (line : Option (List ℕ)) (block : List ℕ) (after : Past) → IsBlock before line block after → Type 0
+IsUnstoppedBlock before (Some (byte ∷ bytes)) block after is = ¬ IsForMemory is.0
+IsUnstoppedBlock before line block after is = Unit {0}
+
+-- so was each of the lines
+abbrev pub AreUnstopped : (before : Past) (lines : List (List ℕ)) (text : List ℕ) (after : Past) → AreBlocks before lines text after → Type 0
+AreUnstopped before [] text after are = Unit {0}
+AreUnstopped before (line ∷ lines) text after (block, rest, between, is, more, parts) =
+    IsUnstoppedBlock before (line_unless_long line) block between is × AreUnstopped between lines rest after more
+
+-- and so the lines of an output
+abbrev pub IsUnstopped : (start : Past) (lines : List (List ℕ)) (last text : List ℕ) → IsOutput start lines last text → Type 0
+IsUnstopped start lines last text output = AreUnstopped start lines output.blocks output.state output.are
