@@ -12,12 +12,14 @@ use std::rc::Rc;
 use std::test::Fail;
 
 /// Lines of a script, each with its block.
-const LINES: [(&str, &str); 11] = [
+const LINES: [(&str, &str); 13] = [
     ("tick 5", "ok now 5 1970-01-01T00:00:05Z\n"),
     ("", ""),
     ("create /f", "stop 1 NoMemory\n"),
     ("hello", "bad 32 Syntax\n"),
     ("stat /", "ok directory 0 default safe:86400\n"),
+    ("history", "ok history 0 2\n- tick 5\n- stat /\n"),
+    ("trim", "ok trimmed 2\n"),
     ("default / all", "ok done\n"),
     ("clock 4", "no 3 ClockBack\n"),
     ("", ""),
