@@ -1,0 +1,6 @@
+use Rattle.ele_state.proofs.Words.{arith, nat_tests}
+use Rattle.ele_state.proofs.Marked.{leave_queue}
+use Rattle.ele_state.proofs.State.remove_member.Goals as goal
+
+pub returns-clause-tracked : goal.returns-clause-tracked
+returns-clause-tracked c = grind (arith, nat_tests, leave_queue)
