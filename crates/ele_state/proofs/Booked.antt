@@ -1,5 +1,5 @@
 -- The book of usage, as the files change.
-use Rattle.ele_state.proofs.Words.{nat_tests, ◌≡◌, ℕ, ◌+◌, ◌-◌, ◌<◌, ◌≤◌, ◌^◌, Bool, true, cond, List, ◌∷◌, length, Some, Ok, refl, ◌∙◌, arith, sum_by, world_of, IsSound, IsTracked, held_world, blocks_of, only_blocks, IsOwed, IsBooked, Rows, content_of, Held, rows_after, rows_of, opened_by, written_by, fitted, sum_by-map, Kind, Policy, kind_of, is_kind, Usage, Book, sums_of, only_at, nothing, plus, Fits, usage_of, is_file_of, bytes_in, ChangesOnly, World, VersionRow, MakeFile, created, made_is, policy_of, file_by, usage_changes, usage_same, within_files, within_versions, within_bytes, within_blocks, whole_files, whole_versions, whole_bytes, created_usage, only_at_is, []}
+use Rattle.ele_state.proofs.Words.{IsFew, TruncateDraft, WriteDraft, changed_at, nat_tests, ◌≡◌, ℕ, ◌+◌, ◌-◌, ◌<◌, ◌≤◌, ◌^◌, Bool, true, cond, List, ◌∷◌, length, Some, Ok, refl, ◌∙◌, arith, sum_by, world_of, IsSound, IsTracked, held_world, blocks_of, only_blocks, IsOwed, IsBooked, Rows, content_of, Held, rows_after, rows_of, opened_by, written_by, fitted, sum_by-map, Kind, Policy, kind_of, is_kind, Usage, Book, sums_of, only_at, nothing, plus, Fits, usage_of, is_file_of, bytes_in, ChangesOnly, World, VersionRow, MakeFile, created, made_is, policy_of, file_by, usage_changes, usage_same, within_files, within_versions, within_bytes, within_blocks, whole_files, whole_versions, whole_bytes, created_usage, only_at_is, []}
 use Rattle.ele_world.proofs.Others.{drafts-opened, drafts-updated, other_drafts}
 
 pub booked : (rows : Rows) → IsTracked rows → (k : Kind) → sums_of rows.book k ≡ usage_of (world_of rows) k
@@ -66,6 +66,14 @@ written_owed rows handle file offset x4 now before tracked of is after = grind (
 -- a draft gets another length
 pub fitted_owed : (rows : Rows) (handle file size : ℕ) (now : Held) (before : ℕ) → IsTracked rows → Ok file ≡ file_by rows.files.handles handle → before ≡ blocks_of rows.files → now ≡ fitted rows.files handle size → IsOwed now rows.book file before
 fitted_owed rows handle file size now before tracked of is after = grind (arith, nat_tests, drafts_owed rows file now before tracked is, drafts-updated)
+
+-- with some bytes the draft changes, and with any length
+pub written_is : (h : Held) (handle file offset : ℕ) (bytes : List ℕ) → file_by h.handles handle ≡ Ok file → 0 < length bytes → written_by h handle offset bytes ≡ changed_at h 0 (WriteDraft file offset bytes ∷ [])
+written_is h handle file offset [] by some = absurd (omega (arith, some))
+written_is h handle file offset (byte ∷ bytes) by some = rw by refl
+
+pub fitted_is : (h : Held) (handle file size : ℕ) → file_by h.handles handle ≡ Ok file → fitted h handle size ≡ changed_at h 0 (TruncateDraft file size ∷ [])
+fitted_is h handle file size by = rw by refl
 
 -- ---- a file is made
 

@@ -1,6 +1,5 @@
 pub mod Words
 pub mod Settled
-pub mod Walked
 pub mod Following
 pub mod Governed
 pub mod Bounded
@@ -20,3 +19,4 @@ pub mod Revived
 pub mod Unlinked
 pub mod OpenedKeys
 pub mod ToldVersions
+pub mod Walked

@@ -1,7 +1,7 @@
 -- The keys of versions that were current at marks: which keys these are, and that the queue follows where marks come and go.
-use Rattle.ele_state.proofs.Words.{◌≡◌, ℕ, ◌+◌, ◌<◌, ◌==◌, ◌++◌, length, get_or, take, and-false, and_assoc, append_assoc, Bool, true, false, cond, not, ◌&&◌, ◌||◌, List, ◌∷◌, Option, Some, None, refl, ap, sym, ◌∙◌, arith, find, filter_map, list_any, cons_option, AllByRecursion, option_map, option_map_or, or-false, take_more, filter_map-append, nat_tests, IsSound, Rows, world_of, IsQueued, key_at, keys_at, marked_but, moment_but, Left, Key, has_key, is_key, Held, rows_of, all-found, found_passes, AllLater, is_moment, moment_under, covers_moment, had_life, lives_at, stamps_of, ArePlaced, HasParts, World, is_open, is_version, policy_of, GroupRow, Stamps, VersionRow, AddMark, AddMember, DropGroup, RemoveMark, RemoveMember, after_change, mark_comes, mark_goes, marks_of, member_comes, member_goes, members_of, group_goes, MarksCome, MarksGo, is_covered, is_touched, in_order_of, ripe_at_near, any-filter_map, placed_of, [], option_and_then}
+use Rattle.ele_state.proofs.Words.{MakeGroup, append-nil, filter, filter-append, ◌≡◌, ℕ, ◌+◌, ◌<◌, ◌==◌, ◌++◌, length, get_or, take, and-false, and_assoc, append_assoc, Bool, true, false, cond, not, ◌&&◌, ◌||◌, List, ◌∷◌, Option, Some, None, refl, ap, sym, ◌∙◌, arith, find, filter_map, list_any, cons_option, AllByRecursion, option_map, option_map_or, or-false, take_more, filter_map-append, nat_tests, IsSound, Rows, world_of, IsQueued, key_at, keys_at, marked_but, moment_but, Left, Key, has_key, is_key, Held, rows_of, all-found, found_passes, AllLater, is_moment, moment_under, covers_moment, had_life, lives_at, stamps_of, ArePlaced, HasParts, World, is_open, is_version, policy_of, GroupRow, Stamps, VersionRow, AddMark, AddMember, DropGroup, RemoveMark, RemoveMember, after_change, mark_comes, mark_goes, marks_of, member_comes, member_goes, members_of, group_goes, MarksCome, MarksGo, is_covered, is_touched, in_order_of, ripe_at_near, any-filter_map, placed_of, [], option_and_then}
 use Rattle.ele_state.proofs.Following.{follows}
-use Rattle.ele_world.specs.GroupRows.{has_member, is_marked_at}
+use Rattle.ele_world.specs.GroupRows.{is_member, new_group, has_member, is_marked_at}
 use Rattle.ele_world.proofs.SlotPlaces.{list_any-flat_map}
 
 -- ---- the version that was current at a moment, by its number
@@ -132,6 +132,10 @@ module _ (w v : World) (formed : HasParts w) (files marks : List ℕ) (queue : L
     unfreed_queue after edited k = grind (arith, nat_tests, keys_told, placed_of, absent, and-false)
 
 -- ---- the changes of groups
+
+-- a new group has no file, and so marks none
+pub group_made : (rows : Rows) (name : List ℕ) → IsSound rows → IsQueued (after_change (world_of rows) (MakeGroup name)) rows.queue
+group_made rows name sound k = sound.tracked.queue k ∙ ap (is_moment k.ripe) (rw (filter-append (is_member k.file) rows.groups (new_group name ∷ []), append-nil (filter (is_member k.file) rows.groups)) refl)
 
 module _ (rows : Rows) (name : List ℕ) (sound : IsSound rows) where
   abbrev world : World

@@ -1,5 +1,5 @@
 -- Names that come, move and go.
-use Rattle.ele_state.proofs.Words.{AllByRecursion, AreApart, File, FileRow, Files, IsNameRow, IsQueued, IsSound, IsThere, HasParts, List, NameRow, Names, Ok, Rows, Some, Target, World, [], all-both, all-weaker, ap, apart_from_new, append-nil, arith, bytes_eq-Decides, dies, false, false≢true, filter, filter-all, filter-append, in_order_of, is_live_name, is_moment, is_some, is_target_file, last_names, live_target, moments_stay, nat_tests, next_of, not, parent_now, refl, sym, true, update_first, walk_now, world_of, ℕ, ◌++◌, ◌+◌, ◌∙◌, ◌∷◌, ◌≡◌}
+use Rattle.ele_state.proofs.Words.{Key, AllByRecursion, AreApart, File, FileRow, Files, IsNameRow, IsQueued, IsSound, IsThere, HasParts, List, NameRow, Names, Ok, Rows, Some, Target, World, [], all-both, all-weaker, ap, apart_from_new, append-nil, arith, bytes_eq-Decides, dies, false, false≢true, filter, filter-all, filter-append, in_order_of, is_live_name, is_moment, is_some, is_target_file, last_names, live_target, moments_stay, nat_tests, next_of, not, parent_now, refl, sym, true, update_first, walk_now, world_of, ℕ, ◌++◌, ◌+◌, ◌∙◌, ◌∷◌, ◌≡◌}
 use Rattle.ele_lists.proofs.Cuts.{update_first-front}
 use Rattle.ele_names.specs.Rows.{Follows, born_row}
 use Rattle.ele_world.proofs.Files.{next_of-given}
@@ -32,6 +32,9 @@ placed_stands rows path directory name target = last_names rows path (directory,
 -- the queue stays right whatever the names are
 pub queue_stays : (rows : Rows) (names : List NameRow) → IsSound rows → IsQueued (record (world_of rows) { names = names }) rows.queue
 queue_stays rows names sound k = sound.tracked.queue k ∙ ap (is_moment k.ripe) (sym (moments_stay (world_of rows) (record (world_of rows) { names = names }) (in_order_of (world_of rows) sound.formed) refl refl refl refl k.file k.number))
+
+pub queue_back : (rows : Rows) (names : List NameRow) (queue : List Key) → IsSound rows → IsQueued (record (world_of rows) { names = names }) queue → IsQueued (world_of rows) queue
+queue_back rows names queue sound queued k = queued k ∙ ap (is_moment k.ripe) (moments_stay (world_of rows) (record (world_of rows) { names = names }) (in_order_of (world_of rows) sound.formed) refl refl refl refl k.file k.number)
 
 module _ (rows : List NameRow) (from : ℕ) (old : List ℕ) (to : ℕ) (new : List ℕ) (target : Target) (now : ℕ) (stands : live_target rows from old ≡ Some target) (free : is_some (live_target rows to new) ≡ false) where
   abbrev named : NameRow

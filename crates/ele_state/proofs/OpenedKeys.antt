@@ -1,11 +1,38 @@
 -- Which keys the versions have, once a handle was opened or closed.
-use Rattle.ele_state.proofs.Words.{◌≡◌, ℕ, ◌+◌, Bool, true, false, cond, ◌&&◌, ◌==◌, List, Option, None, Ok, refl, ◌∙◌, arith, nat_tests, world_of, IsSound, IsQueued, IsRekeyed, Rows, Key, has_key, opened_by, with_rows, OpenHandle, ShutHandle, after_change, ripe_at, free_moment, AreInOrder, in_order_of, World, is_open, reads_by, Draft, Version, opened_others, opened_own, read_moment, shut_others, shut_own, has_row, any-found}
+use Rattle.ele_state.proofs.Words.{◌≡◌, ◌<◌, ◌∷◌, [], sym, subst, list_any, Change, HasNoIdle, HasParts, IsSettled, IsTracked, StartDraft, change_keeps, change_settles, changed_at, has_draft, is_draft, next_of, shown_of, versions_made, ℕ, ◌+◌, Bool, true, false, cond, ◌&&◌, ◌==◌, List, Option, None, Ok, refl, ◌∙◌, arith, nat_tests, world_of, IsSound, IsQueued, IsRekeyed, Rows, Key, has_key, opened_by, with_rows, OpenHandle, ShutHandle, after_change, ripe_at, free_moment, AreInOrder, in_order_of, World, is_open, reads_by, Draft, Version, opened_others, opened_own, read_moment, shut_others, shut_own, has_row, any-found}
 use Rattle.ele_state.proofs.Asked.{ripe_told}
 use Rattle.ele_state.proofs.Following.{entry_follows}
+use Rattle.ele_state.proofs.Settled.{settled_by}
+use Rattle.ele_world.proofs.Basics.{list_any-insert_before}
 
 -- a handle that writes touches no key
 pub opened_queue : (rows : Rows) (file : ℕ) → IsSound rows → IsQueued (with_rows (world_of rows) (opened_by rows.files file rows.moment)) rows.queue
 opened_queue rows file sound k = grind (arith, nat_tests, opened_others (world_of rows) (rows.files.opened + 1) (Draft file) (in_order_of (world_of rows) sound.formed) k.file k.number refl, sound.tracked.queue k)
+
+-- and leaves all settled, with the draft that it begins where there is none
+module _ (rows : Rows) (settled : IsSettled rows) (file : ℕ) (there : 0 < next_of rows.files.files file) (handles : rows.files.opened < rows.limits.handles) (versions : has_draft (world_of rows) file ≡ false → versions_made (world_of rows) < rows.limits.versions) where
+  abbrev first : World
+  first = world_of rows
+
+  abbrev start : Change
+  start = StartDraft file
+
+  abbrev opens : Change
+  opens = OpenHandle (rows.files.opened + 1) (Draft file)
+
+  begun : list_any (is_draft file) (after_change first start).drafts ≡ true
+  begun = grind (arith, nat_tests, list_any-insert_before)
+
+  pub opened_settles : (now : Rows) → world_of now ≡ with_rows first (opened_by rows.files file rows.moment) → IsTracked now → IsSettled now
+  opened_settles now after tracked = by (has_draft first file) refl after where
+    by : (b : Bool) → has_draft first file ≡ b → world_of now ≡ with_rows first (changed_at rows.files rows.moment (cond b (opens ∷ []) (start ∷ opens ∷ []))) → IsSettled now
+    by true drafted is = settled_by rows (shown_of rows) refl settled opens (record { next = refl; room = handles; drafted = drafted; held = tt }) tt now is tracked
+    by false none is =
+        let formed = change_keeps first start (record { there = there; none = none; room = versions none }) settled.sound.formed in
+        record {
+          sound = record { formed = subst HasParts (sym is) (change_keeps (after_change first start) opens (record { next = refl; room = handles; drafted = begun; held = tt }) formed); tracked = tracked };
+          none_idle = subst HasNoIdle (sym is) (change_settles (after_change first start) opens tt formed (change_settles first start tt settled.sound.formed settled.none_idle));
+        }
 
 -- ---- a version that a handle reads, or read
 

@@ -1,5 +1,5 @@
 -- A clean event takes the row of the first key, and that key.
-use Rattle.ele_state.proofs.Words.{nat_tests, ◌≡◌, ℕ, ◌+◌, Bool, true, List, length, Some, None, sym, subst, ◌∙◌, arith, find, option_map, content_of, world_of, IsSound, IsQueued, IsRekeyed, held_world, blocks_of, one_version, of_file, IsOwed, Rows, Key, Held, without, remove_first, length-remove_first, Kind, Book, sums_of, plus, Fits, IsWithin, VersionRow, first_due, Take, after_change, HasParts, CleanOne, is_file_of, bytes_in, usage_of, ChangesOnly, World, is_version, takes, event_keeps, IsDueKey, sum_by-remove_first, usage_changes, changes_removed}
+use Rattle.ele_state.proofs.Words.{DropIdle, ap, refl, step, nat_tests, ◌≡◌, ℕ, ◌+◌, Bool, true, List, length, Some, None, sym, subst, ◌∙◌, arith, find, option_map, content_of, world_of, IsSound, IsQueued, IsRekeyed, held_world, blocks_of, one_version, of_file, IsOwed, Rows, Key, Held, without, remove_first, length-remove_first, Kind, Book, sums_of, plus, Fits, IsWithin, VersionRow, first_due, Take, after_change, HasParts, CleanOne, is_file_of, bytes_in, usage_of, ChangesOnly, World, is_version, takes, event_keeps, IsDueKey, sum_by-remove_first, usage_changes, changes_removed}
 use Rattle.ele_state.proofs.Booked.{few, owed, and_none, size, bytes_are}
 use Rattle.ele_state.proofs.Following.{entry_follows}
 use Rattle.ele_world.proofs.CleanKeepsKeys.{take_keeps_keys}
@@ -15,6 +15,10 @@ removed_queue rows key queue sound first taken =
 -- a well-formed world stays so
 pub removed_keeps : (rows : Rows) (key : Key) (v : World) → IsSound rows → first_due (world_of rows) ≡ Some key → v ≡ after_change (world_of rows) (Take key.file key.number) → HasParts v
 removed_keeps rows key v sound first is = let w = world_of rows in subst HasParts (sym is) (event_keeps CleanOne w w (Take key.file key.number) tt (takes w key sound.formed first) sound.formed)
+
+-- and with the file of which nothing is left the clean event is done
+pub removed_step : (rows : Rows) (key : Key) (between v : World) → first_due (world_of rows) ≡ Some key → between ≡ after_change (world_of rows) (Take key.file key.number) → v ≡ after_change between (DropIdle key.file) → v ≡ (step (world_of rows) CleanOne).1
+removed_step rows key between v first taken dropped = dropped ∙ ap (λ (u : World). after_change u (DropIdle key.file)) taken ∙ rw first refl
 
 -- ---- the book
 

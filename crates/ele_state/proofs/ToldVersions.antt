@@ -1,15 +1,10 @@
 -- Where a path leads by the names of any moment, and what is told of the version that its tag means.
 use Rattle.ele_state.proofs.Words.{IsSound, Names, Versions, Rows, HasParts, is_held, meant_held, true, world_of, arith, nat_tests, ◌≡◌, ℕ, Bool, List, ◌∷◌, Option, Some, Result, Ok, Err, refl, ap, subst, find, AllByRecursion, option_map_or, result_map_both, content_of, AllLater, all-found, target_at, found_outcome, step, version_cells, version_at, version_found, version_meant, walk_meant, walk_then, moment_of, file_stat, listing, stamps_of, directory_in, file_at, walk_now, ArePlaced, IsNameRow, IsThere, World, is_version, Read, Refusal, Reply, Bytes, FileStat, NameList, Stamps, Target, File, Directory, VersionRow, is_at, is_meant, file_there, []}
-use Rattle.ele_state.specs.Told.{found_of, told}
-use Rattle.ele_time_path.specs.declared.path_at.PathAt.{PathAt}
+use Rattle.ele_state.specs.Told.{found_of}
 use Rattle.ele_time_path.specs.declared.tagged.Tag.{Tag}
 use Rattle.ele_time_path.specs.declared.tagged.TaggedPath.{TaggedPath}
 use Rattle.ele_world.specs.WalkAt.{walk_covering}
-use Rattle.ele_world.specs.World.{policy_for}
-use Rattle.ele_world.specs.declared.event.Event.TheVariants.{List as ListNames}
-use Rattle.ele_world.specs.declared.event.Source.TheVariants.{Tagged}
 use Rattle.ele_world.specs.declared.refusal.Refusal.TheVariants.{NoEntry}
-use Rattle.ele_world.proofs.Versions.{IsFound, all_found}
 
 -- ---- where a path leads is there
 
@@ -45,9 +40,6 @@ has_meant w t file stamps is = grind (arith, nat_tests)
 pub told_found : (w : World) (found : Result ℕ Refusal) (t : Tag) (file : ℕ) (stamps : Stamps) → found ≡ Ok file → Ok stamps ≡ result_map_both stamps_of (λ refusal. refusal) (version_meant w.files w.versions file t) → Ok (file, stamps) ≡ found_of (version_found w found t)
 told_found w found t file stamps leads is = let m = has_meant w t file stamps is in let own = (is_meant w.files w.versions file t m.row m.meant).own in rw (leads, m.meant) (cc (m.same, own))
 
-pub told_stat : (w : World) (t : Tag) (file : ℕ) (stamps : Stamps) → Ok stamps ≡ result_map_both stamps_of (λ refusal. refusal) (version_meant w.files w.versions file t) → FileStat (record { file = file; stamps = stamps; policy = policy_for w.files file }) ≡ told (file_stat w (version_meant w.files w.versions file t))
-told_stat w t file stamps is = let m = has_meant w t file stamps is in let own = (is_meant w.files w.versions file t m.row m.meant).own in rw m.meant (cc (m.same, own))
-
 pub record IsTold (w : World) (tagged : TaggedPath) (found : ℕ × Stamps) : Type 0 where
   pub row : VersionRow
   pub meant : version_at w tagged ≡ Ok row
@@ -56,24 +48,6 @@ pub record IsTold (w : World) (tagged : TaggedPath) (found : ℕ × Stamps) : Ty
 pub told_row : (w : World) (tagged : TaggedPath) (found : ℕ × Stamps) → Ok found ≡ found_of (version_at w tagged) → IsTold w tagged found
 told_row w tagged found h = grind (arith, nat_tests)
 
--- it is the one that is found by its file and number
-pub found_itself : (versions : List VersionRow) (passes : VersionRow → Bool) (row : VersionRow) → AllLater ArePlaced versions → find passes versions ≡ Some row → find (is_version row.file row.number) versions ≡ Some row
-found_itself versions passes row placed found = all-found passes (IsFound versions) versions row found (all_found versions placed)
-
 -- so it is held
 pub found_held : (w : World) (tagged : TaggedPath) (found : ℕ × Stamps) → Ok found ≡ found_of (version_at w tagged) → is_held w found.0 found.1.number ≡ true
 found_held w tagged found h = let told = told_row w tagged found h in rw told.is (meant_held w told.row.file told.row (is_at w tagged told.row told.meant))
-
--- what is read of it are its bytes
-pub told_read : (rows : Rows) (tagged : TaggedPath) (found : ℕ × Stamps) (bytes : List ℕ) → IsSound rows → Ok found ≡ found_of (version_at (world_of rows) tagged) → bytes ≡ content_of (version_cells (world_of rows) found.0 found.1.number) → (v : World) → v ≡ world_of rows
-    → (Bytes bytes, v) ≡ step (world_of rows) (Read (Tagged tagged))
-told_read rows tagged found bytes sound h is v same = grind (arith, nat_tests, told_row, is_at, found_itself, sound.formed.holds Versions)
-
--- ---- what is listed
-
-pub told_list : (w : World) (at : PathAt) (directory : ℕ) (items : List (List ℕ × Target)) → directory_in (walk_then w at) ≡ Ok directory → items ≡ listing w.names directory (moment_of w at) → (NameList items, w) ≡ step w (ListNames at)
-told_list w at directory items leads is = rw (leads, is) refl
-
--- what is told, or why nothing is, leaves the world
-pub told_outcome : (w : World) (r : Result Reply Refusal) → (told r, w) ≡ found_outcome w r (λ reply. (reply, w))
-told_outcome w x1 = grind (arith, nat_tests)

@@ -1,7 +1,8 @@
 -- The words and lemmas of the crates below that proofs here use, in one place.
 pub use Rattle.ele_content.specs.declared.cell.Cell.{Cell}
 pub use Rattle.ele_state.specs.Home.{IsHome, IsPresent}
-pub use Rattle.ele_state.specs.Inside.{IsSettled, IsSound, IsTracked, world_of}
+pub use Rattle.ele_state.specs.Inside.{IsSettled, IsSound, IsTracked, shown_of, world_of}
+pub use Rattle.ele_state.specs.Shown.{Shown}
 pub use Rattle.ele_state.specs.Source.{Grows, HasSource, IsHeldAlone, IsLast, IsReady, IsRoomy, IsSource, appending, source_cells}
 pub use Rattle.ele_state.specs.declared.append.Source.{Source}
 pub use Rattle.ele_state.specs.Queued.{IsQueued, IsRekeyed, end_moment, former_moment, gained_moment, is_entry, is_new, is_under, key_at, key_under, keys_at, marked_but, moment_but, new_keys, own_moment, unread_under}
@@ -18,7 +19,7 @@ pub use Rattle.ele_policy.specs.declared.policy.Kind.{Kind}
 pub use Rattle.ele_policy.specs.declared.policy.Policy.{Policy}
 pub use Rattle.ele_usage.specs.Book.{Book, sums_of}
 pub use Rattle.ele_usage.specs.declared.usage.Usage.{Usage}
-pub use Rattle.ele_world.proofs.Allowed.{allowed, takes}
+pub use Rattle.ele_world.proofs.Allowed.{allowed, default_is, takes}
 pub use Rattle.ele_world.proofs.AppendMoments.{MayGrow, may_grow, newest_before, newest_is, newest_was, next_after, next_before, others_after, touches}
 pub use Rattle.ele_world.proofs.Basics.{AllByRecursion, AllLater, Bool, Err, IsSome, List, None, Ok, Option, Result, Some, YieldsList-from_filter_map, [], all-both, all-found, all-weaker, any-found, ap, append-nil, append_assoc, arith, bytes_eq-Decides, cond, cons_option, drop, false, false≢true, filter, filter-all, filter-append, filter_map, filter_map-append, find, find-append, found_passes, get_or, insert_before, is_some, items_from_collect, length, length-insert_before, length-remove_first, length-update_first, list_any, list_any-append, map, nat_le, nat_lt, nat_tests, not, not_found, option_and_then, option_map, option_map_or, option_or, refl, remove_first, remove_first-unfound, rules, slice_get, subst, sym, take, take_more, tests, true, unwrap_or, update_first, ℕ, ◌&&◌, ◌++◌, ◌+◌, ◌-◌, ◌<◌, ◌==◌, ◌^◌, ◌||◌, ◌∙◌, ◌∷◌, ◌≡◌, ◌≤◌, ◌⊎◌, last_has}
 pub use Rattle.ele_world.proofs.Created.{created, first_version, made_is, named_live, new_file, new_name, versions_before}
@@ -41,7 +42,7 @@ pub use Rattle.ele_world.proofs.StepKeeps.{fresh_is, step_keeps}
 pub use Rattle.ele_world.proofs.Usages.{changes_opened, changes_removed, changes_updated, created_usage, only_at_is, usage_changes, usage_same, usages_fit, whole_bytes, whole_files, whole_versions, within_blocks, within_bytes, within_files, within_versions}
 pub use Rattle.ele_world.proofs.Views.{placed_of, policy_is}
 pub use Rattle.ele_world.proofs.Walks.{file_live, file_of, file_there, last_names, live_target-push as name_stands, target_live}
-pub use Rattle.ele_world.proofs.Words.{AddMark, AddMember, AddName, Append, AreApart, ArePlaced, Bounded, ChangesOnly, Counted, Directories, Drafts, DropGroup, DropIdle, EndDraft, EndFileName, EndName, Files, Fits, Groups, Handles, IsCleaned, IsEvent, IsFile, IsGroup, IsLawful, IsNameRow, IsThere, HasParts, IsWithin, MakeFile, MoveName, Names, OpenHandle, PutUnder, RemoveMark, RemoveMember, Revive, ShutHandle, StartDraft, Take, Versions, World, after_change, after_changes, alone, born_row, bytes_in, changed_by, clean_step, content_of, covers_moment, current_cells, dies, directory_in, draft_read, due_key, ended_at, file_at, file_by, file_now, file_usage, file_written, first_due, fitted_by, forgotten, free_moment, fresh_world, had_life, has_draft, has_key, is_draft, is_draft_after, is_file, is_file_of, is_held, is_idle, is_key, is_kind, is_live, is_live_name, is_live_name_of, is_marked, is_moment, is_open, is_ripe_by, is_target_file, is_version, is_version_after, is_version_of, kind_of, live_target, lives_at, longest_content, marks_of, members_of, moment_under, near_moment, new_draft, newest_of, next_of, next_version, nothing, only_at, parent_now, plus, policy_of, reads_by, reads_version, returning_name, ripe_at, root, step, target_at, usages, version_at, version_found, version_meant, file_view, walk_meant, walk_now, whole, with_end, with_name, with_version, without_file, without_name, Change, Event, Homes, IsHoused, IsDirectoryThere, is_named, last_dead, Govern, MakeDirectory, Time, WriteDraft, TruncateDraft, MakeGroup, IsPolicy, is_reached, has_directory, Readers, current_of, Reads}
+pub use Rattle.ele_world.proofs.Words.{AddMark, AddMember, AddName, Append, AreApart, ArePlaced, Bounded, ChangesOnly, Counted, Directories, Drafts, DropGroup, DropIdle, EndDraft, EndFileName, EndName, Files, Fits, Groups, Handles, IsCleaned, IsEvent, IsFile, IsGroup, IsLawful, IsNameRow, IsThere, HasParts, IsWithin, MakeFile, MoveName, Names, OpenHandle, PutUnder, RemoveMark, RemoveMember, Revive, ShutHandle, StartDraft, Take, Versions, World, after_change, after_changes, alone, born_row, bytes_in, changed_by, clean_step, content_of, covers_moment, current_cells, dies, directory_in, draft_read, due_key, ended_at, file_at, file_by, file_now, file_usage, file_written, first_due, fitted_by, forgotten, free_moment, fresh_world, had_life, has_draft, has_key, is_draft, is_draft_after, is_file, is_file_of, is_held, is_idle, is_key, is_kind, is_live, is_live_name, is_live_name_of, is_marked, is_moment, is_open, is_ripe_by, is_target_file, is_version, is_version_after, is_version_of, kind_of, live_target, lives_at, longest_content, marks_of, members_of, moment_under, near_moment, new_draft, newest_of, next_of, next_version, nothing, only_at, parent_now, plus, policy_of, reads_by, reads_version, returning_name, ripe_at, root, step, target_at, usages, version_at, version_found, version_meant, file_view, walk_meant, walk_now, whole, with_end, with_name, with_version, without_file, without_name, Change, Homes, IsHoused, IsDirectoryThere, is_named, last_dead, Govern, MakeDirectory, Time, WriteDraft, TruncateDraft, MakeGroup, IsPolicy, is_reached, has_directory, Readers, current_of}
 pub use Rattle.ele_world.specs.May.{HasRoom, May, MayAdd, MayAppend, MayEnd, MayGroup, MayHaveMore, MayJoin, MayMake, MayMakeDirectory, MayMark, MayMove, MayName, MayOpen, MayRevive, MayStart}
 pub use Rattle.ele_world.specs.NoIdleStays.{HasNoIdle}
 pub use Rattle.ele_world.specs.Plan.{found_outcome}
@@ -49,6 +50,7 @@ pub use Rattle.ele_world.specs.Step.{has_other_writer, version_cells, versions_m
 pub use Rattle.ele_world.specs.Tagged.{moment_of, walk_then}
 pub use Rattle.ele_world.specs.Told.{file_stat, listing, stamps_of, stat_of}
 pub use Rattle.ele_world.specs.Usage.{usage_of}
+pub use Rattle.ele_world.specs.declared.event.Event.{Event}
 pub use Rattle.ele_world.specs.declared.event.Event.TheVariants.{CleanOne, Close, Read, Revert, Undelete}
 pub use Rattle.ele_world.specs.declared.refusal.Refusal.{Refusal}
 pub use Rattle.ele_world.specs.declared.reply.Reply.{Reply}
@@ -65,5 +67,6 @@ pub use Rattle.ele_world.specs.declared.rows.VersionRow.{VersionRow}
 pub use Rattle.std.proofs.Math.Bool.{and-false, and-or_distrib_right, and_assoc, or-false}
 pub use Rattle.std.proofs.lemmas.Result.{IfOk-weaker}
 pub use Rattle.std.specs.List.{count_by, sum_by}
-pub use Rattle.std.specs.Prelude.{IfOk, IfSome, OnErr}
+pub use Rattle.ele_moment.specs.declared.memory.NoMemory.{NoMemory}
+pub use Rattle.std.specs.Prelude.{IfOk, IfSome, OnErr, OnOk}
 pub use Rattle.std.specs.Result.{result_map_both, result_ok}

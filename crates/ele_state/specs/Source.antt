@@ -42,7 +42,7 @@ IsSource h file (Version number) = IsHeldAlone h file number
 
 -- what the files need to make it
 pub record IsReady (h : Held) (now file : ℕ) (source : Source) : Type 0 where
-  pub source : IsSource h file source
+  pub is : IsSource h file source
   pub few : length h.versions + length h.drafts ≤ 2 ^ 50
   pub numbered : AllByRecursion (λ row. row.next < 2 ^ 62) h.files
   pub past : AllByRecursion (IsPast now) h.versions

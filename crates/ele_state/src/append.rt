@@ -208,9 +208,7 @@ fn put_version(
     ensures err { OnErr result (files.new ≡ files.old) }
 {
     match source {
-        Source::Draft(handle, opened) => {
-            files.finish(handle, file, opened, now, is_live, meter)
-        }
+        Source::Draft(handle, opened) => { files.finish(handle, file, opened, now, is_live, meter) }
         Source::Version(number) => files.restore(file, number, now, is_live, meter),
     }
 }

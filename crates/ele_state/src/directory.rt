@@ -61,6 +61,7 @@ pub fn default_in(directories: &[DirectoryRow], id: DirId) -> Policy
 
 impl State {
     /// The policy that files get that are made in the directory; a day's where the directory is missing.
+    #[tactic(auto, using(crate::proofs::Words::nat_tests, crate::proofs::Bounded::directories_placed))]
     pub fn default_of(&self, id: DirId) -> Policy
         ensures { result ≡ default_of self.now.world.directories id }
     {
@@ -68,6 +69,7 @@ impl State {
     }
 
     /// Files that are made in the directory from now on get the policy.
+    #[tactic(auto, using(crate::proofs::Words::nat_tests, crate::proofs::Bounded::directories_placed))]
     pub fn govern(&mut self, directory: DirId, policy: Policy)
         ensures world { self.new.world ≡ after_change self.old.world (Govern directory policy) }
         ensures valid { IsPolicy policy }
@@ -79,6 +81,7 @@ impl State {
     /// A directory is made in another, with that one's policy, and its name.
     ///
     /// `NoMemory` where memory is refused; the world stays.
+    #[tactic(auto, using(crate::proofs::Words::nat_tests, crate::proofs::Bounded::directories_placed))]
     pub fn make_directory(&mut self, directory: DirId, name: Name) -> Result<DirId, NoMemory>
         requires home { IsHome self.old.world directory }
         requires free { is_some (live_target self.old.world.names directory name) ≡ false }
@@ -93,9 +96,12 @@ impl State {
         let id = DirId(self.rows.made.directories + 1);
         let default = default_in(&self.rows.directories, directory);
         self.rows.directories.reserve(1)?;
-        self.rows.names
+        self.rows
+            .names
             .add(directory, name, Target::Directory(id), self.rows.moment)?;
-        self.rows.directories.push_reserved(DirectoryRow { id, default });
+        self.rows
+            .directories
+            .push_reserved(DirectoryRow { id, default });
         self.rows.made.directories += 1;
         self.rows.made.names += 1;
         Ok(id)

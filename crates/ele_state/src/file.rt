@@ -51,7 +51,7 @@ impl State {
     /// A file is made in the directory, with that one's policy, its name, and an empty first version.
     ///
     /// `NoMemory` where memory is refused; the world stays.
-    #[tactic(auto, using(crate::proofs::Words::nat_tests, crate::proofs::Bounded::files_before, crate::proofs::Booked::made_fits))]
+    #[tactic(auto, using(crate::proofs::Words::nat_tests, crate::proofs::Bounded::directories_placed, crate::proofs::Bounded::files_before, crate::proofs::Booked::made_fits))]
     pub fn make_file(&mut self, directory: DirId, name: Name) -> Result<FileId, NoMemory>
         requires home { IsHome self.old.world directory }
         requires free { is_some (live_target self.old.world.names directory name) ≡ false }

@@ -35,7 +35,6 @@ impl State {
     /// The names that stood in the directory at the moment, by their bytes.
     ///
     /// `NoMemory` where memory is refused.
-    #[tactic(auto, using(crate::proofs::Walked::listed))]
     pub fn names_in(&self, directory: DirId, moment: Moment) -> Result<NameList, NoMemory>
         ensures { IfOk result
             (λ names. names ≡ listing self.now.world.names directory moment) }
@@ -45,7 +44,6 @@ impl State {
     }
 
     /// What the newest name of this kind stood for, if that name is dead.
-    #[tactic(auto, using(crate::proofs::Walked::lost_is_present))]
     pub fn last_dead(&self, directory: DirId, name: &Name) -> Option<Target>
         ensures value { result ≡ last_dead self.now.world.names directory name.now }
         ensures there { IfSome result (λ target. IsPresent self.now.world target) }
@@ -56,12 +54,7 @@ impl State {
     /// What is there has a name more, from now on.
     ///
     /// `NoMemory` where memory is refused; the world stays.
-    pub fn add_name(
-        &mut self,
-        directory: DirId,
-        name: Name,
-        target: Target,
-    ) -> Result<(), NoMemory>
+    pub fn add_name(&mut self, directory: DirId, name: Name, target: Target) -> Result<(), NoMemory>
         requires home { IsHome self.old.world directory }
         requires free { is_some (live_target self.old.world.names directory name) ≡ false }
         requires room { self.old.world.made.names < self.old.world.limits.names }
@@ -71,7 +64,9 @@ impl State {
             (self.new.world ≡ after_change self.old.world (AddName directory name target)) }
         ensures err { OnErr result (self.new.world ≡ self.old.world) }
     {
-        self.rows.names.add(directory, name, target, self.rows.moment)?;
+        self.rows
+            .names
+            .add(directory, name, target, self.rows.moment)?;
         self.rows.made.names += 1;
         Ok(())
     }
@@ -79,6 +74,7 @@ impl State {
     /// The live name gives way to another one of what it stands for.
     ///
     /// `NoMemory` where memory is refused; the world stays.
+    #[tactic(auto, using(crate::proofs::Words::nat_tests, crate::proofs::NewNames::dies_before, crate::proofs::Words::name_stands))]
     pub fn move_name(
         &mut self,
         from: &(DirId, Name),
@@ -103,6 +99,7 @@ impl State {
     /// The file's name dies, and with its last one its current version ends.
     ///
     /// `NoMemory` where memory is refused; the world stays.
+    #[tactic(auto, using(crate::proofs::Words::nat_tests, crate::proofs::Unlinked::others_live))]
     pub fn end_file_name(
         &mut self,
         directory: DirId,

@@ -59,31 +59,37 @@ impl State {
     }
 
     /// The file that the path names. Refused: `NoEntry`, `NotDirectory`, `IsDirectory`.
-    #[tactic(auto, using(crate::proofs::Walked::file_is_there, crate::proofs::Walked::file_is_live))]
+    #[tactic(auto, using(crate::proofs::Words::nat_tests, crate::proofs::Walked::file_is_there, crate::proofs::Walked::file_is_live))]
     pub fn file_now(&self, path: &Path) -> Result<FileId, Refusal>
         ensures value { result ≡ file_now self.now.world.names path.now }
         ensures there { IfOk result (λ file. 0 < next_of self.now.world.files file) }
         ensures live { IfOk result (λ file. is_live self.now.world file ≡ true) }
     {
-        file_in(resolve_now(&self.rows.names, path)?)
+        match resolve_now(&self.rows.names, path) {
+            Ok(target) => file_in(target),
+            Err(refusal) => Err(refusal),
+        }
     }
 
     /// The directory that the path names. Refused: `NoEntry`, `NotDirectory`.
     pub fn directory_now(&self, path: &Path) -> Result<DirId, Refusal>
         ensures { result ≡ directory_now self.now.world.names path.now }
     {
-        directory_in(resolve_now(&self.rows.names, path)?)
+        match resolve_now(&self.rows.names, path) {
+            Ok(target) => directory_in(target),
+            Err(refusal) => Err(refusal),
+        }
     }
 
     /// What the path leads to by the names of the tag's moment; for a number by those of now. Refused: as `walk_then`.
-    #[tactic(auto, using(crate::proofs::Walked::meant_is_there))]
     pub fn walk_meant(&self, path: &Path, tag: Tag) -> Result<Target, Refusal>
         ensures value { result ≡ walk_meant self.now.world path.now tag }
         ensures there { IfOk result (λ target. IsThere self.now.world.files target) }
     {
         match tag {
             Tag::At(moment) => resolve_at(&self.rows.names, path, moment, self.rows.moment),
-            Tag::Now | Tag::Number(_) => resolve_now(&self.rows.names, path),
+            Tag::Now => resolve_now(&self.rows.names, path),
+            Tag::Number(_) => resolve_now(&self.rows.names, path),
         }
     }
 

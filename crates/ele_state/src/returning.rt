@@ -2,32 +2,34 @@
 ghost use Rattle.std.specs.Prelude.{◌≡◌, ◌-◌, IfOk};
 ghost use Rattle.ele_world.specs.Restorable.{may_return, nameless, restorable, returning_name};
 ghost use Rattle.ele_world.specs.World.{is_held, next_of};
+ghost use Rattle.ele_state.specs.Inside.{world_of, IsSound};
 
 use crate::State;
+use crate::rows::Rows;
 use ele_files::Meter;
 use ele_world::{DeadName, DeadNameList, DirId, FileId, ListOf, Name, NoMemory, Target};
 
-impl State {
-    // Whether the file's last version is held.
-    #[tactic(auto, using(crate::proofs::Words::nat_tests, crate::proofs::Revived::unheld, crate::proofs::Revived::no_next, crate::proofs::Revived::stamped, crate::proofs::ClosedSteps::number_told))]
-    fn has_last_version(&self, file: FileId) -> bool
-        ensures { result ≡ is_held self.now.world file (next_of self.now.world.files file - 1) }
-    {
-        let Some(next) = self.rows.files.next_of(file) else {
-            return false;
-        };
-        self.rows
-            .files
-            .stamps(file, next.before(), &mut Meter::new())
-            .is_some()
-    }
+// Whether the file's last version is held.
+#[tactic(auto, using(crate::proofs::Words::nat_tests, crate::proofs::Revived::unheld, crate::proofs::Revived::no_next, crate::proofs::Revived::stamped, crate::proofs::ClosedSteps::number_told))]
+fn has_last_version(rows: &Rows, file: FileId) -> bool
+    requires { IsSound rows.now }
+    ensures { result ≡ is_held (world_of rows.now) file (next_of rows.now.files.files file - 1) }
+{
+    let Some(next) = rows.files.next_of(file) else {
+        return false;
+    };
+    rows.files
+        .stamps(file, next.before(), &mut Meter::new())
+        .is_some()
+}
 
+impl State {
     /// Whether it may have a name again: a directory that has none, or a file whose last version is held.
     pub fn may_return(&self, target: &Target) -> bool
         ensures { result ≡ may_return self.now.world target.now }
     {
         match *target {
-            Target::File(file) => self.has_last_version(file),
+            Target::File(file) => has_last_version(&self.rows, file),
             Target::Directory(id) => !self.rows.names.dir_live(id),
         }
     }

@@ -175,7 +175,12 @@ fn draft_bytes(files: &Files, file: FileId) -> u64
 
 // The last handle of a changed draft is closed, which becomes the file's next version.
 #[tactic(auto, using(crate::proofs::ClosedSteps::numbered, crate::proofs::ClosedSteps::past, crate::proofs::ClosedSteps::writes_file))]
-fn finish(rows: &mut Rows, handle: Handle, file: FileId, opened: Moment) -> Result<Option<VersionNo>, NoMemory>
+fn finish(
+    rows: &mut Rows,
+    handle: Handle,
+    file: FileId,
+    opened: Moment,
+) -> Result<Option<VersionNo>, NoMemory>
     requires sound { IsSound rows.old }
     requires meter { rows.old.meter ≡ 0 }
     requires reads { reads_by rows.old.files.handles handle ≡ Ok (Draft file) }

@@ -1,5 +1,5 @@
 //! Versions that come again or go, and what is asked of them.
-ghost use Rattle.std.specs.Prelude.{◌≡◌, ◌-◌, ◌≤◌, ◌<◌, ◌^◌, ◌∷◌, [], true, false, Some, IfOk, OnOk, OnErr, IsSome, find, filter, is_some, length, map, if◌then◌else◌};
+ghost use Rattle.std.specs.Prelude.{◌≡◌, ◌+◌, ◌-◌, ◌≤◌, ◌<◌, ◌^◌, ◌∷◌, [], true, false, Some, IfOk, OnOk, OnErr, IsSome, find, filter, is_some, length, map, if◌then◌else◌};
 ghost use Rattle.std.specs.Option.{option_map};
 ghost use Rattle.std.specs.Result.{result_map_both};
 ghost use Rattle.ele_content.specs.Content.{content_of};
@@ -32,7 +32,6 @@ use ele_world::{
 
 impl State {
     /// The file's version that the tag means; without one it is the current one. Refused: `NoVersion`, `Forgotten`.
-    #[tactic(auto, using(crate::proofs::ToldVersions::told_held))]
     pub fn version_meant(
         &self,
         file: FileId,
@@ -62,7 +61,7 @@ impl State {
     {
         let tag = tagged.tag();
         let file = file_in(self.walk_meant(tagged.path(), tag)?)?;
-        let stamps = self.rows.files.version_meant(file, tag, meter)?;
+        let stamps = self.version_meant(file, tag, meter)?;
         Ok((file, stamps))
     }
 

@@ -3,4 +3,4 @@ use Rattle.ele_state.proofs.Asked.{due_keys, scan_is}
 use Rattle.ele_state.proofs.State.due.Goals as goal
 
 pub returns : goal.returns
-returns c = grind (arith, nat_tests, due_keys c.self.inside.rows c.requires, scan_is (world_of c.self.inside.rows))
+returns c = rw (← c.self.view_is) (grind (arith, nat_tests, due_keys c.self.inside.rows c.self.invariant.sound, scan_is (world_of c.self.inside.rows)))

@@ -1,7 +1,7 @@
-use Rattle.ele_state.proofs.Words.{arith, nat_tests, refl, sym, world_of}
+use Rattle.ele_state.proofs.Words.{IsQueued, World, arith, refl, subst, sym, world_of}
 use Rattle.ele_state.proofs.Appended.{refused, taken_back}
 use Rattle.ele_state.proofs.ClosedSums.{added_fits, version_fits}
-use Rattle.ele_state.proofs.Grown.{grown_owed, grown_queue, grows}
+use Rattle.ele_state.proofs.Grown.{grown_owed, grown_queue, grown_world, grows}
 use Rattle.ele_state.proofs.append.append.Goals as goal
 
 pub add_version-requires : goal.add_version-requires
@@ -16,16 +16,14 @@ pub follow_blocks-requires-clause-fits : goal.follow_blocks-requires-clause-fits
 follow_blocks-requires-clause-fits c = added_fits c.args.rows.now c.put_version-made.new.files c.args.file c.add_version.new.book c.args.bytes c.requires.roomy c.requires.short c.add_version.ensures
 
 pub returns-clause-ok : goal.returns-clause-ok
-returns-clause-ok c = rw (c.in-Ok.ensures.ok (world_of c.args.rows.now) refl (sym c.is_live-is_live.ensures)) refl
+returns-clause-ok c = grown_world c.args.rows.now c.args.file c.requires.tracked c.args.source c.put_version-made.new.files (c.in-Ok.ensures.ok (world_of c.args.rows.now) refl (sym c.is_live-is_live.ensures))
 
 pub returns-clause-tracked : goal.returns-clause-tracked
-returns-clause-tracked c =
-    let after = c.in-Ok.ensures.ok (world_of c.args.rows.now) refl (sym c.is_live-is_live.ensures) in
-    rw after (assumption (
-      grown_queue c.args.rows.now c.args.file c.requires.tracked c.args.source c.put.new.queue c.is_live-is_live.result c.new_keys-keys.result c.requires.source c.is_live-is_live.ensures c.new_keys-keys.ensures.keys c.in_ok-put.ensures.ok,
-      rw after at c.follow_blocks.ensures,
-      c.requires.tracked.bounds,
-    ))
+returns-clause-tracked c = record {
+  queue = subst (λ (v : World). IsQueued v c.put.new.queue) (sym (returns-clause-ok c)) (grown_queue c.args.rows.now c.args.file c.requires.tracked c.args.source c.put.new.queue c.is_live-is_live.result c.new_keys-keys.result c.requires.source c.is_live-is_live.ensures c.new_keys-keys.ensures.keys c.in_ok-put.ensures.ok);
+  book = c.follow_blocks.ensures;
+  bounds = c.requires.tracked.bounds;
+}
 
 -- where memory is refused, to a key or to the version
 pub returns-in_err-put-clause-tracked : goal.returns-in_err-put-clause-tracked
