@@ -1,5 +1,5 @@
 -- Which keys the versions have, once a file has its next version: two came, and all others stayed.
-use Rattle.ele_state.proofs.Words.{◌≡◌, ℕ, ◌<◌, ◌==◌, Bool, true, false, cond, not, ◌&&◌, ◌||◌, List, Option, Some, None, refl, ◌∙◌, and-false, arith, or-false, unwrap_or, option_and_then, option_map_or, false≢true, nat_tests, Cell, IsTracked, NewKeys, Rows, world_of, IsQueued, is_entry, is_new, gained_moment, own_moment, new_keys, Key, has_key, IfSome, rows_of, Policy, IsLawful, VersionRow, with_version, ripe_at, is_moment, near_moment, newest_of, is_marked, World, is_live, is_open, may_grow, next_of, policy_is, policy_of, MayGrow, touches, next_before, next_after, newest_before, newest_was, newest_is, others_after, []}
+use Rattle.ele_state.proofs.Words.{◌≡◌, ℕ, ◌==◌, Bool, true, false, cond, not, ◌&&◌, ◌||◌, List, Option, Some, None, refl, ◌∙◌, and-false, arith, or-false, unwrap_or, option_and_then, option_map_or, false≢true, nat_tests, Cell, IsTracked, NewKeys, Rows, world_of, IsQueued, is_entry, is_new, gained_moment, own_moment, new_keys, Key, has_key, IfSome, rows_of, Policy, IsLawful, VersionRow, with_version, ripe_at, is_moment, near_moment, newest_of, is_marked, World, is_live, is_open, next_of, policy_is, policy_of, MayGrow, touches, next_before, next_after, newest_before, newest_was, newest_is, others_after, []}
 use Rattle.ele_state.proofs.Following.{follows}
 
 -- ---- what the newest version gets

@@ -1,10 +1,10 @@
 -- What the book of usage has, once a handle is closed.
-use Rattle.ele_state.proofs.Words.{None, left_by, opening_by, with_rows, Closed, Close, DropIdle, IsBooked, after_change, step, nat_tests, ◌≡◌, ℕ, ◌+◌, ◌-◌, ◌≤◌, ◌<◌, ◌^◌, cond, List, length, Ok, refl, sym, arith, content_of, longest_content, world_of, IsSound, IsRoomy, IsTracked, held_world, blocks_of, one_version, IsOwed, Rows, finishing, Held, cells_of_draft, rows_after, insert_before, update_first, remove_first, DraftRow, is_draft, all-found, length-update_first, length-insert_before, Kind, Book, sums_of, nothing, plus, Fits, VersionRow, ended_at, next_version, with_end, is_file_of, bytes_in, Drafts, ChangesOnly, Draft, World, reads_by, is_version, is_version_after, next_of, drafts-removed, versions-finished, kinds-numbered, files-numbered, sum_by-insert_before, sum_by-update_same, Bool, Usage, usage_of, subst, ap, ◌∙◌, IsQueued, HasParts}
+use Rattle.ele_state.proofs.Words.{None, left_by, opening_by, with_rows, Closed, Close, DropIdle, IsBooked, after_change, step, nat_tests, ◌≡◌, ℕ, ◌+◌, ◌-◌, ◌≤◌, ◌<◌, ◌^◌, cond, List, length, Ok, refl, sym, arith, content_of, longest_content, world_of, IsSound, IsRoomy, IsTracked, held_world, blocks_of, one_version, IsOwed, Rows, Held, cells_of_draft, insert_before, update_first, DraftRow, all-found, length-update_first, length-insert_before, Kind, Book, sums_of, nothing, plus, Fits, VersionRow, ended_at, with_end, is_file_of, bytes_in, Drafts, ChangesOnly, Draft, World, reads_by, is_version, is_version_after, next_of, versions-finished, kinds-numbered, files-numbered, sum_by-insert_before, sum_by-update_same, Bool, Usage, usage_of, subst, ap, ◌∙◌, IsQueued, HasParts}
 use Rattle.ele_state.proofs.Booked.{few_blocks, owed, drafts_owed, and_nothing, size, bytes_are}
 use Rattle.ele_state.proofs.ClosedSteps.{leaves, left_keeps, left_queue, left_step, left_world}
 use Rattle.ele_world.proofs.Others.{other_drafts}
 use Rattle.ele_world.specs.Change.{numbered_on}
-use Rattle.ele_world.specs.World.{is_file, is_handle}
+use Rattle.ele_world.specs.World.{is_file}
 use Rattle.ele_world.specs.declared.rows.HandleRow.{HandleRow}
 
 -- the book has the version of the file's kind

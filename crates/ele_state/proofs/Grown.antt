@@ -1,5 +1,5 @@
 -- What a file's next version leaves, whatever its content comes from.
-use Rattle.ele_state.proofs.Words.{◌≡◌, ℕ, ◌+◌, ◌<◌, ◌≤◌, ◌||◌, List, Some, arith, nat_tests, refl, sym, ◌∙◌, ap, Bool, Book, Grows, HasSource, Held, IsOwed, IsQueued, IsReady, IsRoomy, IsSound, IsSource, IsTracked, Key, MayGrow, NewKeys, Rows, Source, World, after_changes, appending, blocks_of, cells_of_draft, cells_of_version, content_of, has_key, is_draft, is_live, is_new, length, may_grow, new_keys, next_of, next_version, remove_first, rows_after, source_cells, with_rows, world_of, drafts-removed}
+use Rattle.ele_state.proofs.Words.{◌≡◌, ℕ, ◌+◌, ◌<◌, ◌||◌, List, arith, refl, ◌∙◌, ap, Bool, Book, HasSource, Held, IsOwed, IsQueued, IsReady, IsRoomy, IsSound, IsSource, IsTracked, Key, MayGrow, NewKeys, Rows, Source, World, after_changes, appending, blocks_of, cells_of_draft, cells_of_version, content_of, has_key, is_draft, is_live, is_new, length, may_grow, new_keys, next_of, next_version, remove_first, rows_after, source_cells, with_rows, world_of, drafts-removed}
 use Rattle.ele_state.proofs.Appended.{appended_queue}
 use Rattle.ele_state.proofs.Booked.{few}
 use Rattle.ele_state.proofs.Bounded.{rows_few, versions_few}

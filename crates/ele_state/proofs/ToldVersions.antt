@@ -1,5 +1,5 @@
 -- Where a path leads by the names of any moment, and what is told of the version that its tag means.
-use Rattle.ele_state.proofs.Words.{IsSound, Names, Versions, Rows, HasParts, is_held, meant_held, true, world_of, arith, nat_tests, ◌≡◌, ℕ, Bool, List, ◌∷◌, Option, Some, Result, Ok, Err, refl, ap, subst, find, AllByRecursion, option_map_or, result_map_both, content_of, AllLater, all-found, target_at, found_outcome, step, version_cells, version_at, version_found, version_meant, walk_meant, walk_then, moment_of, file_stat, listing, stamps_of, directory_in, file_at, walk_now, ArePlaced, IsNameRow, IsThere, World, is_version, Read, Refusal, Reply, Bytes, FileStat, NameList, Stamps, Target, File, Directory, VersionRow, is_at, is_meant, file_there, []}
+use Rattle.ele_state.proofs.Words.{Names, HasParts, is_held, meant_held, true, arith, nat_tests, ◌≡◌, ℕ, List, ◌∷◌, Option, Result, Ok, Err, refl, ap, subst, AllByRecursion, option_map_or, result_map_both, all-found, target_at, version_at, version_found, version_meant, walk_meant, stamps_of, file_at, walk_now, IsNameRow, IsThere, World, Refusal, Stamps, Target, File, Directory, VersionRow, is_at, is_meant, file_there, []}
 use Rattle.ele_state.specs.Told.{found_of}
 use Rattle.ele_time_path.specs.declared.tagged.Tag.{Tag}
 use Rattle.ele_time_path.specs.declared.tagged.TaggedPath.{TaggedPath}

@@ -1,5 +1,5 @@
 -- What a path leads to is there, and so is what a dead name stood for.
-use Rattle.ele_state.proofs.Words.{◌≡◌, ◌<◌, ℕ, true, List, Option, Some, None, Result, Ok, Err, IfOk, IfSome, Refusal, sym, arith, nat_tests, AllByRecursion, all-weaker, AreApart, HasParts, Homes, IsHome, IsHoused, IsNameRow, IsPresent, IsSound, IsThere, IsDirectoryThere, NameRow, Names, Rows, Target, file_live, file_now, file_there, is_live, is_named, last_dead, last_has, listing, next_of, parent_home, parent_now, walk_meant, world_of}
+use Rattle.ele_state.proofs.Words.{◌≡◌, ◌<◌, ℕ, true, List, Option, Some, None, Result, Ok, Err, IfOk, IfSome, Refusal, sym, arith, nat_tests, AllByRecursion, all-weaker, Homes, IsHome, IsHoused, IsNameRow, IsPresent, IsSound, IsThere, IsDirectoryThere, Names, Rows, Target, file_live, file_now, file_there, is_live, is_named, last_dead, last_has, next_of, parent_home, parent_now, walk_meant, world_of}
 use Rattle.ele_state.proofs.ToldVersions.{meant_there}
 use Rattle.ele_time_path.specs.declared.tagged.Tag.{Tag}
 

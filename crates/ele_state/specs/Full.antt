@@ -1,5 +1,5 @@
 -- Whether as much of a kind was made as may be.
-use Rattle.std.specs.Prelude.{ℕ, nat_le, Bool}
+use Rattle.std.specs.Prelude.{nat_le, Bool}
 use Rattle.ele_world.specs.declared.refusal.Which.{Which}
 use Rattle.ele_world.specs.declared.refusal.Which.TheVariants.{Files, Directories, Names, Versions, Handles, Groups, Members, Marks}
 use Rattle.ele_world.specs.Step.{versions_made}

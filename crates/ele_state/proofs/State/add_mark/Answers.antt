@@ -1,6 +1,6 @@
-use Rattle.ele_state.proofs.Words.{arith, nat_tests, refl, IsQueued, after_change, world_of, AddMark}
+use Rattle.ele_state.proofs.Words.{arith, nat_tests, refl, AddMark}
 use Rattle.ele_state.proofs.Marked.{mark_queue}
-use Rattle.ele_state.proofs.Settled.{settled_by, unchanged}
+use Rattle.ele_state.proofs.Settled.{settled_by}
 use Rattle.ele_state.proofs.State.add_mark.Goals as goal
 
 pub invariant_of-self-2 : goal.invariant_of-self-2

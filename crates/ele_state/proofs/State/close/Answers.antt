@@ -1,4 +1,4 @@
-use Rattle.ele_state.proofs.Words.{Close, Draft, Version, Ok}
+use Rattle.ele_state.proofs.Words.{Close}
 use Rattle.ele_state.proofs.Settled.{stepped_or}
 use Rattle.ele_state.proofs.State.close.Goals as goal
 

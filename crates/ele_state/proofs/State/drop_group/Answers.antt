@@ -1,4 +1,4 @@
-use Rattle.ele_state.proofs.Words.{arith, nat_tests, refl, IsQueued, after_change, world_of, DropGroup}
+use Rattle.ele_state.proofs.Words.{arith, nat_tests, refl, DropGroup}
 use Rattle.ele_state.proofs.Marked.{drop_queue, group_still}
 use Rattle.ele_state.proofs.Settled.{settled_by, unchanged}
 use Rattle.ele_state.proofs.State.drop_group.Goals as goal

@@ -1,7 +1,6 @@
 use Rattle.ele_state.proofs.Words.{MakeDirectory, Directories, Directory, default_is, refl, ◌+◌}
 use Rattle.ele_state.proofs.NewNames.{follows_new, queue_stays}
 use Rattle.ele_state.proofs.Settled.{named, settled_by}
-use Rattle.ele_state.proofs.Bounded.{directories_placed}
 use Rattle.ele_state.proofs.State.make_directory.Goals as goal
 
 pub add-requires : goal.add-requires

@@ -1,4 +1,4 @@
-use Rattle.ele_state.proofs.Words.{arith, nat_tests, ◌+◌, OpenHandle, Version, refl, after_change, world_of}
+use Rattle.ele_state.proofs.Words.{◌+◌, OpenHandle, Version, refl}
 use Rattle.ele_state.proofs.OpenedKeys.{read_queue}
 use Rattle.ele_state.proofs.Settled.{settled_by}
 use Rattle.ele_state.proofs.State.open_read.Goals as goal

@@ -1,4 +1,4 @@
-use Rattle.ele_state.proofs.Words.{arith, nat_tests, ◌+◌, refl, world_of}
+use Rattle.ele_state.proofs.Words.{arith, refl}
 use Rattle.ele_state.proofs.Booked.{fits, opened_owed}
 use Rattle.ele_state.proofs.Bounded.{rows_few}
 use Rattle.ele_state.proofs.OpenedKeys.{opened_queue, opened_settles}

@@ -1,4 +1,4 @@
-use Rattle.ele_state.proofs.Words.{◌||◌, ◌&&◌, not, ap, arith, nat_tests, sym, refl, ◌∙◌, has_key, PutUnder}
+use Rattle.ele_state.proofs.Words.{◌||◌, ◌&&◌, not, ap, sym, refl, ◌∙◌, has_key, PutUnder}
 use Rattle.ele_state.proofs.Governed.{governed_book, governed_queue, ungoverned_queue}
 use Rattle.ele_state.proofs.Settled.{settled_by, unchanged}
 use Rattle.ele_state.proofs.State.put_under.Goals as goal

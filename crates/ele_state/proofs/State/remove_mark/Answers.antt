@@ -1,4 +1,4 @@
-use Rattle.ele_state.proofs.Words.{arith, nat_tests, refl, IsQueued, after_change, world_of, RemoveMark}
+use Rattle.ele_state.proofs.Words.{arith, nat_tests, refl, RemoveMark}
 use Rattle.ele_state.proofs.Marked.{unmark_queue, marked_still}
 use Rattle.ele_state.proofs.Settled.{settled_by, unchanged}
 use Rattle.ele_state.proofs.State.remove_mark.Goals as goal

@@ -1,4 +1,4 @@
-use Rattle.ele_state.proofs.Words.{arith, nat_tests, refl, IsQueued, after_change, world_of, RemoveMember}
+use Rattle.ele_state.proofs.Words.{arith, nat_tests, refl, RemoveMember}
 use Rattle.ele_state.proofs.Marked.{leave_queue, member_still}
 use Rattle.ele_state.proofs.Settled.{settled_by, unchanged}
 use Rattle.ele_state.proofs.State.remove_member.Goals as goal

@@ -1,4 +1,4 @@
-use Rattle.ele_state.proofs.Words.{Ok, refl, sym, ◌∙◌, TruncateDraft}
+use Rattle.ele_state.proofs.Words.{refl, sym, ◌∙◌, TruncateDraft}
 use Rattle.ele_state.proofs.Booked.{fits, fitted_is, fitted_owed}
 use Rattle.ele_state.proofs.Settled.{settled_by}
 use Rattle.ele_state.proofs.State.truncate.Goals as goal

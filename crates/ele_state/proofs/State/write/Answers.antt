@@ -1,4 +1,4 @@
-use Rattle.ele_state.proofs.Words.{Ok, refl, sym, ◌∙◌, WriteDraft}
+use Rattle.ele_state.proofs.Words.{refl, sym, ◌∙◌, WriteDraft}
 use Rattle.ele_state.proofs.Booked.{fits, written_is, written_owed}
 use Rattle.ele_state.proofs.Settled.{settled_by}
 use Rattle.ele_state.proofs.State.write.Goals as goal
