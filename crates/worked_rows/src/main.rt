@@ -10,7 +10,22 @@ use std::fs;
 const ROWS: &str = "rows";
 
 /// Scripts under limits of their own: events, files, directories, names, versions, handles, groups, members, marks.
-const LIMITED: [(&str, [u64; 9]); 20] = [
+const LIMITED: [(&str, [u64; 9]); 24] = [
+    (
+        "first_run",
+        [
+            1_000_000_000,
+            100_000,
+            10_000,
+            200_000,
+            1_000_000,
+            1_000_000,
+            1_000,
+            100_000,
+            10_000,
+        ],
+    ),
+    ("a_history_of_no_events", [0, 9, 9, 9, 9, 9, 9, 9, 9]),
     ("full_history", [1, 9, 9, 9, 9, 9, 9, 9, 9]),
     ("pass_fills_the_history", [6, 9, 9, 9, 9, 9, 9, 9, 9]),
     (
@@ -38,11 +53,16 @@ const LIMITED: [(&str, [u64; 9]); 20] = [
     ("versions_limit", [99, 9, 9, 9, 2, 9, 9, 9, 9]),
     ("versions_limit_of_undelete", [9, 9, 9, 9, 2, 9, 9, 9, 9]),
     ("versions_limit_of_revert", [9, 9, 9, 9, 2, 9, 9, 9, 9]),
+    (
+        "versions_limit_with_a_draft_open",
+        [9, 9, 9, 9, 2, 9, 9, 9, 9],
+    ),
     ("handles_limit", [9, 9, 9, 9, 9, 1, 9, 9, 9]),
     ("handles_limit_of_readers", [9, 9, 9, 9, 9, 1, 9, 9, 9]),
     ("groups_limit", [9, 9, 9, 9, 9, 9, 1, 9, 9]),
     ("members_limit", [9, 9, 9, 9, 9, 9, 9, 1, 9]),
     ("marks_limit", [9, 9, 9, 9, 9, 9, 9, 9, 1]),
+    ("each_limit_is_one", [99, 1, 1, 1, 99, 1, 1, 1, 1]),
 ];
 
 /// What the script prints.
