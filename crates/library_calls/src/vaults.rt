@@ -118,16 +118,34 @@ fn take_told(alloc: Global, vault: &mut Vault, text: &[u8]) -> Result<(), Fail> 
     Ok(())
 }
 
-/// Whether what a vault tells makes the same entries and the same rows in a fresh one.
-fn comes_back(alloc: Global, parts: &[&[u8]]) -> Result<bool, Fail> {
+/// A vault that has taken the lines of all parts.
+fn filled(alloc: Global, parts: &[&[u8]]) -> Result<Vault, Fail> {
     let mut vault = Vault::new(alloc, Limits::largest())?;
     for lines in parts {
         take(alloc, &mut vault, lines)?;
     }
+    Ok(vault)
+}
+
+/// A fresh vault that has taken what is told.
+fn run_again(alloc: Global, text: &[u8]) -> Result<Vault, Fail> {
+    let mut vault = Vault::new(alloc, Limits::largest())?;
+    take_told(alloc, &mut vault, text)?;
+    Ok(vault)
+}
+
+/// Whether both have the same rows.
+fn have_same_rows(one: &Vault, other: &Vault) -> Result<bool, Fail> {
+    let rows = one.core().flat()?;
+    Ok(other.core().flat()? == rows)
+}
+
+/// Whether what a vault tells makes the same entries and the same rows in a fresh one.
+fn comes_back(alloc: Global, parts: &[&[u8]]) -> Result<bool, Fail> {
+    let vault = filled(alloc, parts)?;
     let text = told_by(alloc, &vault)?;
-    let mut other = Vault::new(alloc, Limits::largest())?;
-    take_told(alloc, &mut other, text.as_slice())?;
-    Ok(other.entries() == vault.entries() && other.core().flat()? == vault.core().flat()?)
+    let other = run_again(alloc, text.as_slice())?;
+    Ok(other.entries() == vault.entries() && have_same_rows(&vault, &other)?)
 }
 
 #[test]
