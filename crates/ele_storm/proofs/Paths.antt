@@ -1,16 +1,15 @@
 -- The words that the events of a storm name spell the paths that they are to.
-use Rattle.std.proofs.Common.{◌≡◌, ℕ, zero, suc, ◌+◌, ◌/◌, ◌%◌, ◌<◌, ◌≤◌, ◌^◌, true, ◌&&◌, List, [], ◌∷◌, ◌++◌, length, refl, sym, ap, ◌∙◌, arith, lit<, inl, inr, IsTrue}
+use Rattle.std.proofs.Common.{◌≡◌, ℕ, zero, suc, ◌+◌, ◌%◌, ◌<◌, ◌≤◌, ◌^◌, true, List, [], ◌∷◌, ◌++◌, length, refl, sym, arith, lit<, inl, inr}
 use Rattle.std.specs.Prelude.{All, ◌⊎◌, Result, Ok, Err, IfOk, MatchResult, IsErrAnd}
 use Rattle.std.specs.Prelude.{codes, decimal}
-use Rattle.std.specs.List.{list_all, flat_map}
+use Rattle.std.specs.List.{list_all}
 use Rattle.std.proofs.lemmas.Bool.Decides.{nat_tests}
 use Rattle.std.proofs.lemmas.Fmt.{decimal_by_steps, decimal_digit, length-decimal-le}
 use Rattle.std.proofs.lemmas.List.Folds.{list_all-append}
 use mathlib.Core.List.{append-nil}
 use Rattle.ele_moment.specs.Name.{IsName, is_name_byte}
-use Rattle.ele_moment.specs.Number.{SpellsNumber}
-use Rattle.ele_time_path.specs.Path.{IsPath, SpellsPath, path_text}
-use Rattle.ele_time_path.specs.Tagged.{SpellsTag, SpellsTaggedPath}
+use Rattle.ele_time_path.specs.Path.{SpellsPath}
+use Rattle.ele_time_path.specs.Tagged.{SpellsTaggedPath}
 use Rattle.ele_time_path.specs.declared.tagged.Tag.TheVariants.{Now, Number}
 use Rattle.ele_storm.specs.Plan.{file_of, tagged}
 

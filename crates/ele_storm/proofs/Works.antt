@@ -1,5 +1,5 @@
 -- What calls in a row leave a seat.
-use Rattle.std.proofs.Common.{◌≡◌, ℕ, List, [], ◌∷◌, ◌++◌, length, refl, sym, ap, ◌∙◌, append_assoc, Result, Ok, Err}
+use Rattle.std.proofs.Common.{◌≡◌, ℕ, List, [], ◌∷◌, ◌++◌, refl, sym, ap, ◌∙◌, append_assoc, Result, Ok, Err}
 use mathlib.Core.List.{append-nil}
 use Rattle.ele_shared.specs.declared.board.Call.{Call}
 use Rattle.ele_shared.specs.Calling.{Called}
@@ -8,7 +8,7 @@ use Rattle.ele_shared.specs.Running.{call, entries_of, entry, StartsWith}
 use Rattle.ele_world.specs.declared.entry.Entry.{Entry}
 use Rattle.ele_world.specs.declared.event.Event.{Event}
 use Rattle.ele_world.specs.declared.reply.Reply.{Reply}
-use Rattle.std.proofs.Common.{suc, zero, ◌+◌, add-one}
+use Rattle.std.proofs.Common.{◌+◌, add-one}
 use Rattle.std.specs.Int.{to_be_bytes, w64}
 use Rattle.ele_time_path.specs.declared.tagged.Tag.TheVariants.{Now, Number}
 use Rattle.ele_time_path.specs.declared.tagged.TaggedPath.{TaggedPath}
@@ -18,7 +18,7 @@ use Rattle.std.specs.Prelude.{OnOk}
 use Rattle.ele_storm.specs.declared.fault.StormFault.{StormFault}
 use Rattle.ele_storm.specs.declared.plan.Task.{Task}
 use Rattle.ele_storm.specs.declared.plan.Task.TheVariants.{Cleaner}
-use Rattle.ele_storm.specs.Plan.{AreRounds, file_of, handle_in, looks, tagged, writes}
+use Rattle.ele_storm.specs.Plan.{file_of, handle_in, looks, tagged, writes}
 use Rattle.ele_storm.specs.Work.{Adds, GoesOn, Makes, MakesOne, RunsRound, RunsRounds}
 
 pub starts_trans : {A : Type 0} (a b c : List A) → StartsWith a b → StartsWith b c → StartsWith a c
