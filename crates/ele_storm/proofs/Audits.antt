@@ -1,0 +1,39 @@
+-- What a storm over a history of its own came to.
+use Rattle.std.proofs.Common.{◌≡◌, ℕ, ◌+◌, ◌≤◌, Bool, true, false, cond, IsTrue, List, [], ◌∷◌, ◌++◌, length, ap, subst, arith}
+use Rattle.ele_history.specs.Legal.{IsLegal}
+use Rattle.ele_history.specs.Past.{Past, fresh, world_of}
+use Rattle.ele_shared.specs.declared.board.Call.{Call}
+use Rattle.ele_shared.specs.Closing.{Closes}
+use Rattle.ele_shared.specs.Knowledge.{Knowledge, Object}
+use Rattle.ele_shared.specs.Running.{entries_of, has, own_of}
+use Rattle.ele_shared.specs.Seats.{AreNew, IsNew}
+use Rattle.ele_world.specs.Bounds.{Bounds}
+use Rattle.ele_storm.specs.declared.plan.StormPlan.{StormPlan}
+use Rattle.ele_storm.specs.Audited.{IsAudited}
+use Rattle.ele_storm.specs.Plan.{storm_events}
+use Rattle.ele_storm.proofs.Halving.{length-entries_of}
+
+-- the last of a row of new seats is one
+pub last_is_new : (object : Object) (ns : List ℕ) (ks : List Knowledge) (k : Knowledge) → AreNew object ns (ks ++ k ∷ []) → (n : ℕ) × IsNew object n k
+last_is_new object (n ∷ ns) [] k new = (n, new.0)
+last_is_new object [] [] k new = absurd new
+last_is_new object (n ∷ ns) (l ∷ ks) k new = last_is_new object ns ks k new.1
+last_is_new object [] (l ∷ ks) k new = absurd new
+
+short_cond : (p : Bool) (call : Call) (xs ys : List Call) → length ys ≤ length xs → length (cond p (call ∷ ys) ys) ≤ length (call ∷ xs)
+short_cond true call xs ys short = omega arith
+short_cond false call xs ys short = omega arith
+
+own_is_short : (ns : List ℕ) (calls : List Call) → length (own_of ns calls) ≤ length calls
+own_is_short ns [] = omega arith
+own_is_short ns (call ∷ calls) = short_cond (has ns call.by) call calls (own_of ns calls) (own_is_short ns calls)
+
+pub audited : (limits : Bounds) (plan : StormPlan) (events : ℕ) (equal : Bool) (opening after : Past) (first last : Knowledge) → opening ≡ fresh limits → first.own ≡ [] → events ≡ storm_events plan
+    → length last.own ≡ length first.own + events → Closes opening last after → IsTrue equal → IsAudited limits plan events equal
+audited limits plan events equal opening after first last is none count more closes all = record {
+  count = count;
+  history = entries_of closes.log;
+  legal = subst (λ (p : Past). IsLegal (world_of p) (entries_of closes.log)) is closes.legal;
+  stand = omega (arith, more, ap length none, ap length closes.own, own_is_short last.numbers closes.log, length-entries_of closes.log);
+  is_equal = all;
+}

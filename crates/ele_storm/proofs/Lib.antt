@@ -1,0 +1,6 @@
+pub mod Paths
+pub mod Works
+pub mod Counts
+pub mod Sizes
+pub mod Halving
+pub mod Audits

@@ -1,0 +1,101 @@
+-- What calls in a row leave a seat.
+use Rattle.std.proofs.Common.{◌≡◌, ℕ, List, [], ◌∷◌, ◌++◌, refl, sym, ap, ◌∙◌, append_assoc, Result, Ok, Err}
+use mathlib.Core.List.{append-nil}
+use Rattle.ele_shared.specs.declared.board.Call.{Call}
+use Rattle.ele_shared.specs.Calling.{Called}
+use Rattle.ele_shared.specs.Knowledge.{Knowledge, Looked}
+use Rattle.ele_shared.specs.Running.{call, entries_of, entry, StartsWith}
+use Rattle.ele_world.specs.declared.entry.Entry.{Entry}
+use Rattle.ele_world.specs.declared.event.Event.{Event}
+use Rattle.ele_world.specs.declared.reply.Reply.{Reply}
+use Rattle.std.proofs.Common.{◌+◌, add-one}
+use Rattle.std.specs.Int.{to_be_bytes, w64}
+use Rattle.ele_time_path.specs.declared.tagged.Tag.TheVariants.{Now, Number}
+use Rattle.ele_time_path.specs.declared.tagged.TaggedPath.{TaggedPath}
+use Rattle.ele_world.specs.declared.event.Event.TheVariants.{Tick, OpenWrite, Write, Close, Stat, Read, CleanOne}
+use Rattle.ele_world.specs.declared.event.Source.TheVariants.{Tagged}
+use Rattle.std.specs.Prelude.{OnOk}
+use Rattle.ele_storm.specs.declared.fault.StormFault.{StormFault}
+use Rattle.ele_storm.specs.declared.plan.Task.{Task}
+use Rattle.ele_storm.specs.declared.plan.Task.TheVariants.{Cleaner}
+use Rattle.ele_storm.specs.Plan.{file_of, handle_in, looks, tagged, writes}
+use Rattle.ele_storm.specs.Work.{Adds, GoesOn, Makes, MakesOne, RunsRound, RunsRounds}
+
+pub starts_trans : {A : Type 0} (a b c : List A) → StartsWith a b → StartsWith b c → StartsWith a c
+starts_trans a b c p q = (q.0 ++ p.0, p.1 ∙ ap (λ l. l ++ p.0) q.1 ∙ append_assoc c q.0 p.0)
+
+pub goes_nowhere : (a : Knowledge) → GoesOn a a
+goes_nowhere a = record {
+  object = refl;
+  numbers = refl;
+  view = ([], sym (append-nil a.view));
+  own = ([], sym (append-nil a.own));
+}
+
+pub goes_further : (a b c : Knowledge) → GoesOn a b → GoesOn b c → GoesOn a c
+goes_further a b c p q = record {
+  object = q.object ∙ p.object;
+  numbers = q.numbers ∙ p.numbers;
+  view = starts_trans c.view b.view a.view q.view p.view;
+  own = starts_trans c.own b.own a.own q.own p.own;
+}
+
+pub goes_on_by_call : (a b : Knowledge) (e : Event) (r : Reply) → Called a e r b → GoesOn a b
+goes_on_by_call a b e r c = record {
+  object = c.object;
+  numbers = c.numbers;
+  view = (c.between ++ call c.by (entry e r) ∷ [], c.view ∙ append_assoc a.view c.between (call c.by (entry e r) ∷ []));
+  own = (call c.by (entry e r) ∷ [], c.own);
+}
+
+pub goes_on_by_look : (a b : Knowledge) → Looked a b → GoesOn a b
+goes_on_by_look a b l = record {
+  object = l.object;
+  numbers = l.numbers;
+  view = l.view;
+  own = ([], l.own ∙ sym (append-nil a.own));
+}
+
+pub adds_call : (a b : Knowledge) (e : Event) (r : Reply) → Called a e r b → Adds a (entry e r ∷ []) b
+adds_call a b e r c = (call c.by (entry e r) ∷ [], c.own, refl)
+
+entries_of-append : (xs ys : List Call) → entries_of (xs ++ ys) ≡ entries_of xs ++ entries_of ys
+entries_of-append [] ys = refl
+entries_of-append (x ∷ xs) ys = ap (λ l. x.entry ∷ l) (entries_of-append xs ys)
+
+pub adds_nothing : (a : Knowledge) → Adds a [] a
+adds_nothing a = ([], sym (append-nil a.own), refl)
+
+pub adds_more : (a b c : Knowledge) (xs ys : List Entry) → Adds a xs b → Adds b ys c → Adds a (xs ++ ys) c
+adds_more a b c xs ys (ps, p, pe) (qs, q, qe) = (
+  ps ++ qs,
+  q ∙ ap (λ l. l ++ qs) p ∙ append_assoc a.own ps qs,
+  rw (entries_of-append ps qs, pe, qe) refl,
+)
+
+pub written : (a b c d e : Knowledge) (writer round handle : ℕ) (path : List (List ℕ)) (bytes : List ℕ) (opened : Reply) → path ≡ file_of writer → bytes ≡ to_be_bytes w64 round → handle ≡ handle_in opened
+    → MakesOne (Tick 1) a b → Adds b (entry (OpenWrite path) opened ∷ []) c → MakesOne (Write handle 0 bytes) c d → MakesOne (Close handle) d e → Makes (writes writer round) a e
+written a b c d e writer round handle path bytes opened is_path is_bytes is_handle (r, ticks) opens (s, lays) (t, closes) = (
+  entry (Tick 1) r ∷ entry (OpenWrite path) opened ∷ entry (Write handle 0 bytes) s ∷ entry (Close handle) t ∷ [],
+  adds_more a d e (entry (Tick 1) r ∷ entry (OpenWrite path) opened ∷ entry (Write handle 0 bytes) s ∷ []) (entry (Close handle) t ∷ [])
+      (adds_more a c d (entry (Tick 1) r ∷ entry (OpenWrite path) opened ∷ []) (entry (Write handle 0 bytes) s ∷ []) (adds_more a b c (entry (Tick 1) r ∷ []) (entry (OpenWrite path) opened ∷ []) ticks opens) lays) closes,
+  rw (is_path, is_bytes, is_handle) refl,
+)
+
+pub looked_at : (a b c : Knowledge) (writer : ℕ) (file first : TaggedPath) → file ≡ tagged (file_of writer) Now → first ≡ tagged (file_of writer) (Number 1) → MakesOne (Stat file) a b → MakesOne (Read (Tagged first)) b c → Makes (looks writer) a c
+looked_at a b c writer file first is_file is_first (r, asks) (s, reads) = (
+  entry (Stat file) r ∷ entry (Read (Tagged first)) s ∷ [],
+  adds_more a b c (entry (Stat file) r ∷ []) (entry (Read (Tagged first)) s ∷ []) asks reads,
+  rw (is_file, is_first) refl,
+)
+
+pub cleaned : (writers round : ℕ) (a b : Knowledge) (x : Result (Unit {0}) StormFault) → OnOk x (MakesOne CleanOne a b) → OnOk x (RunsRound writers Cleaner round a b)
+cleaned writers round a b (Ok _) (r, cleans) = (entry CleanOne r ∷ [], cleans, refl)
+cleaned writers round a b (Err e) _ = tt
+
+pub no_rounds : (writers : ℕ) (task : Task) (a : Knowledge) → RunsRounds writers task 0 a a
+no_rounds writers task a = ([], adds_nothing a, refl)
+
+pub rounds_more : (writers : ℕ) (task : Task) (round : ℕ) (a b c : Knowledge) → RunsRounds writers task round a b → RunsRound writers task round b c → RunsRounds writers task (round + 1) a c
+rounds_more writers task round a b c (xs, adds, rounds) (ys, more, last) =
+    (xs ++ ys, adds_more a b c xs ys adds more, rw add-one (xs, ys, refl, rounds, last))

@@ -1,0 +1,17 @@
+-- What a storm over a history of its own came to.
+use Rattle.std.specs.Prelude.{◌≡◌, ℕ, ◌≤◌, Bool, List, length, IsTrue}
+use Rattle.ele_history.specs.Legal.{IsLegal}
+use Rattle.ele_world.specs.Bounds.{Bounds}
+use Rattle.ele_world.specs.declared.entry.Entry.{Entry}
+use Rattle.ele_world.specs.World.{fresh_world}
+use Rattle.ele_storm.specs.declared.plan.StormPlan.{StormPlan}
+use Rattle.ele_storm.specs.Plan.{storm_events}
+
+-- so many events of the plan stand in a legal history from the fresh world on, and what is told of the world behind it is
+-- what its scans give
+pub record IsAudited (limits : Bounds) (plan : StormPlan) (events : ℕ) (equal : Bool) : Type 0 where
+  pub count : events ≡ storm_events plan
+  pub history : List Entry
+  pub legal : IsLegal (fresh_world limits) history
+  pub stand : events ≤ length history
+  pub is_equal : IsTrue equal

@@ -1,0 +1,64 @@
+//! A storm over a history of its own, with an audit behind it.
+ghost use Rattle.std.specs.Prelude.{◌≡◌, IfOk, IsTrue, []};
+ghost use Rattle.ele_storm.specs.Audited.{IsAudited};
+
+use crate::fault::AuditFault;
+use crate::meet::Meet;
+use crate::plan::StormPlan;
+use crate::storms::storm;
+use ele_history::History;
+use ele_shared::{Seat, Shared};
+use ele_world::laws::usage_fits;
+use ele_world::{Auditable, Limits, NoMemory, Stepping, audit};
+use std::alloc::Global;
+use std::sync::Wait;
+use std::thread::Threads;
+
+/// Runs a storm over a fresh history of these limits, and then compares what its core tells with
+/// the scans of its rows. Answers how many events the storm ran, and whether all was equal.
+///
+/// At a fault there was no audit, or no memory for one.
+pub fn storm_and_audit<C: Auditable + Send, R: Threads + Wait + Sync, M: Meet + Sync>(
+    rt: &R,
+    alloc: Global,
+    limits: Limits,
+    plan: &StormPlan,
+    meet: &M,
+) -> Result<(u64, bool), AuditFault>
+    ensures { IfOk result (λ told. IsAudited limits plan.now told.0 told.1) }
+{
+    let history = History::<C>::new(alloc, limits)?;
+    let (shared, mut seat) = share(alloc, history)?;
+    let events = storm(rt, alloc, &shared, &mut seat, plan, meet)?;
+    let history = shared.close(seat)?;
+    let equal = is_equal(history.core())?;
+    Ok((events, equal))
+}
+
+// The history's object, and its seat.
+fn share<C: Stepping>(alloc: Global, history: History<C>) -> Result<(Shared<C>, Seat<C>), NoMemory>
+    ensures { IfOk result (λ made. (made.0.opening ≡ history) × (made.1.object ≡ made.0)
+        × (made.1.own ≡ [])) }
+{
+    let Ok((shared, mut seats)) = Shared::new(alloc, history, 1) else {
+        return Err(NoMemory);
+    };
+    let Some(seat) = seats.pop() else {
+        unreachable!()
+    };
+    Ok((shared, seat))
+}
+
+// Whether what the core tells is what the scans of its rows give.
+fn is_equal<C: Auditable>(core: &C) -> Result<bool, NoMemory>
+    ensures { IfOk result (λ equal. IsTrue equal) }
+{
+    let due = core.due()?;
+    let names = core.restorable()?;
+    let usage = core.usage();
+    let flat = core.flat()?;
+    // Told for the proof: the world is well formed, so the sums of its usage are within 64 bits.
+    let _now = core.now();
+    usage_fits();
+    audit(due.as_slice(), names.as_slice(), &usage, &flat)
+}

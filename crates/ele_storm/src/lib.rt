@@ -1,0 +1,21 @@
+//! Storms: many writers, historians and a cleaner call one history at once, each from a thread of
+//! its own. A contract sees which calls a worker has added to its seat, and how many a storm has.
+#![tactic(auto)]
+
+mod audited;
+mod events;
+mod fault;
+mod flags;
+mod halves;
+mod meet;
+mod plan;
+mod storms;
+mod worker;
+
+pub use audited::storm_and_audit;
+pub use fault::{AuditFault, StormFault};
+pub use flags::Flags;
+pub use meet::{Meet, MeetEnd};
+pub use plan::{StormPlan, Task};
+pub use storms::storm;
+pub use worker::work;

@@ -1,0 +1,79 @@
+//! A storm of workers.
+ghost use Rattle.std.specs.Prelude.{◌≡◌, ◌+◌, IfOk, OnOk, length};
+ghost use Rattle.ele_shared.specs.Running.{StartsWith};
+ghost use Rattle.ele_storm.specs.Plan.{storm_events};
+ghost use Rattle.ele_storm.specs.Work.{GoesOn};
+
+use crate::events::file_of;
+use crate::fault::StormFault;
+use crate::halves::run;
+use crate::meet::Meet;
+use crate::plan::StormPlan;
+use crate::worker::make;
+use ele_shared::{Seat, Shared};
+use ele_world::{Event, Ladder, NoMemory, Path, Policy, Stepping};
+use std::alloc::Global;
+use std::sync::Wait;
+use std::thread::Threads;
+
+/// Sets the policy of the root, makes a file for each writer, and then lets all workers work at
+/// once, each in a thread of its own. Answers how many events these were, once all have ended.
+///
+/// After a fault some of them were run: `NoThread` where a thread was refused, and else the fault of
+/// the worker with the lowest number.
+pub fn storm<C: Stepping + Send, R: Threads + Wait + Sync, M: Meet + Sync>(
+    rt: &R,
+    alloc: Global,
+    shared: &Shared<C>,
+    seat: &mut Seat<C>,
+    plan: &StormPlan,
+    meet: &M,
+) -> Result<u64, StormFault>
+    requires { seat.old.object ≡ shared.now }
+    ensures count { IfOk result (λ count. count ≡ storm_events plan.now) }
+    ensures own { IfOk result (λ count. length seat.new.own ≡ length seat.old.own + count) }
+    ensures view { StartsWith seat.new.view seat.old.view }
+    ensures object { seat.new.object ≡ seat.old.object }
+{
+    prepare(rt, alloc, shared, seat, plan)?;
+    let part = shared.split(seat)?;
+    let (part, ended) = run(rt, alloc, shared, part, *plan, 0, plan.workers(), meet);
+    shared.join(seat, part);
+    ended?;
+    Ok(plan.events())
+}
+
+// Sets the policy of the root, and makes a file for each writer.
+fn prepare<C: Stepping, R: Wait>(
+    rt: &R,
+    alloc: Global,
+    shared: &Shared<C>,
+    seat: &mut Seat<C>,
+    plan: &StormPlan,
+) -> Result<(), StormFault>
+    requires { seat.old.object ≡ shared.now }
+    ensures own { OnOk result
+        (length seat.new.own ≡ length seat.old.own + 1 + plan.now.writers) }
+    ensures seen { GoesOn seat.old seat.new }
+{
+    let root = root(alloc)?;
+    make(rt, shared, seat, Event::SetDefault(root, policy()))?;
+    for writer in 0..plan.writers {
+        let path = file_of(alloc, u64::from(writer) + 1)?;
+        make(rt, shared, seat, Event::Create(path))?;
+    }
+    Ok(())
+}
+
+// The root's path.
+fn root(alloc: Global) -> Result<Path, NoMemory> {
+    Path::read(alloc, b"/").map_err(|_| NoMemory)
+}
+
+// Under which versions come and go within a few rounds.
+fn policy() -> Policy {
+    let Ok(ladder) = Ladder::new(&[(3, 2), (10, 10)]) else {
+        unreachable!()
+    };
+    Policy::Landmarks(ladder)
+}

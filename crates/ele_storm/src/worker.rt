@@ -1,0 +1,171 @@
+//! One worker of a storm.
+ghost use Rattle.std.specs.Prelude.{◌≡◌, ◌*◌, ◌<◌, IfOk, [], ◌∷◌, OnOk};
+ghost use Rattle.ele_shared.specs.Running.{entry};
+ghost use Rattle.ele_storm.specs.Plan.{looks, round_size, task_of, workers_of, writes};
+ghost use Rattle.ele_storm.specs.Work.{Adds, GoesOn, Makes, MakesOne, RunsRound, RunsRounds, Works};
+
+use crate::events::{bytes_of, file_now, file_of, first_version, handle_in};
+use crate::fault::StormFault;
+use crate::meet::{Meet, MeetEnd};
+use crate::plan::{StormPlan, Task};
+use ele_shared::{Seat, Shared};
+use ele_world::{Event, Reply, Source, Stepping};
+use std::alloc::Global;
+use std::sync::Wait;
+
+/// Does what the plan has for the worker: it arrives, and then makes the events of each round, in
+/// order. A writer whose file couldn't be opened writes and closes by handle 0. Answers how many
+/// events these were.
+///
+/// After a fault it has made some of them: `Alone` where it arrived alone, and then none;
+/// `NoMemory` where memory was refused, `HistoryFull` where the history is full.
+pub fn work<C: Stepping, R: Wait, M: Meet>(
+    rt: &R,
+    alloc: Global,
+    shared: &Shared<C>,
+    seat: &mut Seat<C>,
+    plan: &StormPlan,
+    worker: u32,
+    meet: &M,
+) -> Result<u64, StormFault>
+    requires object { seat.old.object ≡ shared.now }
+    requires worker { worker < workers_of plan.now }
+    ensures ok { IfOk result (λ count. Works plan.now worker seat.old count seat.new) }
+    ensures count { IfOk result (λ count. count ≡ round_size (task_of plan.now worker) * plan.now.rounds) }
+    ensures seen { GoesOn seat.old seat.new }
+{
+    let task = plan.task(worker);
+    if meet.arrive(worker) == MeetEnd::Alone {
+        return Err(StormFault::Alone);
+    }
+    run_rounds(rt, alloc, shared, seat, plan, task)?;
+    Ok(count_of(task, plan.rounds))
+}
+
+// How many events so many rounds have.
+fn count_of(task: Task, rounds: u32) -> u64
+    ensures { result ≡ round_size task * rounds }
+{
+    let rounds = u64::from(rounds);
+    match task {
+        Task::Writer(_) => 4 * rounds,
+        Task::Historian(_) => 2 * rounds,
+        Task::Cleaner => rounds,
+    }
+}
+
+// Makes the events of all rounds.
+fn run_rounds<C: Stepping, R: Wait>(
+    rt: &R,
+    alloc: Global,
+    shared: &Shared<C>,
+    seat: &mut Seat<C>,
+    plan: &StormPlan,
+    task: Task,
+) -> Result<(), StormFault>
+    requires { seat.old.object ≡ shared.now }
+    ensures ok { OnOk result
+        (RunsRounds plan.now.writers task plan.now.rounds seat.old seat.new) }
+    ensures seen { GoesOn seat.old seat.new }
+{
+    for round in 0..u64::from(plan.rounds) {
+        run_round(rt, alloc, shared, seat, plan, task, round)?;
+    }
+    Ok(())
+}
+
+// Makes the events of one round.
+fn run_round<C: Stepping, R: Wait>(
+    rt: &R,
+    alloc: Global,
+    shared: &Shared<C>,
+    seat: &mut Seat<C>,
+    plan: &StormPlan,
+    task: Task,
+    round: u64,
+) -> Result<(), StormFault>
+    requires object { seat.old.object ≡ shared.now }
+    requires round { round < plan.now.rounds }
+    ensures ok { OnOk result (RunsRound plan.now.writers task round seat.old seat.new) }
+    ensures seen { GoesOn seat.old seat.new }
+{
+    match task {
+        Task::Writer(writer) => write(rt, alloc, shared, seat, writer, round),
+        Task::Historian(historian) => {
+            let file = 1 + (u64::from(historian) + round) % u64::from(plan.writers);
+            look(rt, alloc, shared, seat, file)
+        }
+        Task::Cleaner => make(rt, shared, seat, Event::CleanOne),
+    }
+}
+
+// Writes the round's number over the writer's file, as the clock goes on by a second.
+fn write<C: Stepping, R: Wait>(
+    rt: &R,
+    alloc: Global,
+    shared: &Shared<C>,
+    seat: &mut Seat<C>,
+    writer: u32,
+    round: u64,
+) -> Result<(), StormFault>
+    requires { seat.old.object ≡ shared.now }
+    ensures ok { OnOk result (Makes (writes writer round) seat.old seat.new) }
+    ensures seen { GoesOn seat.old seat.new }
+{
+    let path = file_of(alloc, u64::from(writer))?;
+    let bytes = bytes_of(alloc, round)?;
+    make(rt, shared, seat, Event::Tick(1))?;
+    let opened = ask(rt, shared, seat, Event::OpenWrite(path))?;
+    let handle = handle_in(&opened);
+    make(rt, shared, seat, Event::Write(handle, 0, bytes))?;
+    make(rt, shared, seat, Event::Close(handle))?;
+    Ok(())
+}
+
+// Asks for a writer's file, and reads its first version.
+fn look<C: Stepping, R: Wait>(
+    rt: &R,
+    alloc: Global,
+    shared: &Shared<C>,
+    seat: &mut Seat<C>,
+    writer: u64,
+) -> Result<(), StormFault>
+    requires { seat.old.object ≡ shared.now }
+    ensures ok { OnOk result (Makes (looks writer) seat.old seat.new) }
+    ensures seen { GoesOn seat.old seat.new }
+{
+    let file = file_now(alloc, writer)?;
+    let first = first_version(alloc, writer)?;
+    make(rt, shared, seat, Event::Stat(file))?;
+    make(rt, shared, seat, Event::Read(Source::Tagged(first)))?;
+    Ok(())
+}
+
+/// Makes one event, whatever it is answered.
+pub(crate) fn make<C: Stepping, R: Wait>(
+    rt: &R,
+    shared: &Shared<C>,
+    seat: &mut Seat<C>,
+    event: Event,
+) -> Result<(), StormFault>
+    requires { seat.old.object ≡ shared.now }
+    ensures ok { OnOk result (MakesOne event seat.old seat.new) }
+    ensures seen { GoesOn seat.old seat.new }
+{
+    ask(rt, shared, seat, event)?;
+    Ok(())
+}
+
+// Makes one event, and answers the reply.
+fn ask<C: Stepping, R: Wait>(
+    rt: &R,
+    shared: &Shared<C>,
+    seat: &mut Seat<C>,
+    event: Event,
+) -> Result<Reply, StormFault>
+    requires { seat.old.object ≡ shared.now }
+    ensures ok { IfOk result (λ reply. Adds seat.old (entry event reply ∷ []) seat.new) }
+    ensures seen { GoesOn seat.old seat.new }
+{
+    Ok(shared.call(rt, seat, event)?)
+}
