@@ -18,7 +18,7 @@ ghost use Rattle.ele_state.specs.Inside.{world_of, IsTracked, IsSound};
 ghost use Rattle.ele_state.specs.Told.{found_of};
 
 use crate::State;
-use crate::append::{Source, append, next_number};
+use crate::append::{Source, append, standing};
 use crate::book::{blocks, follow_blocks, take_version};
 use crate::file::drop_idle;
 use crate::keys::take;
@@ -120,7 +120,8 @@ impl State {
             ≡ after_change self.old.world (Revive directory name file)) }
         ensures err { OnErr result (self.new.world ≡ self.old.world) }
     {
-        let last = next_number(&self.rows.files, file).before();
+        let standing = standing(&self.rows.files, file, &mut self.rows.meter);
+        let last = standing.next.before();
         let bytes = version_bytes(&self.rows.files, file, last, &mut self.rows.meter);
         // The name comes first: it can be taken back without memory.
         self.rows
