@@ -61,7 +61,7 @@ fn ripens_alone(groups: &Groups, file: FileId, policy: &Policy, stamps: &Stamps)
             &None,
             file,
             policy,
-            None,
+            &None,
             stamps.closed,
             ended,
         ).is_some(),
@@ -89,7 +89,7 @@ fn gained_moment(
         &None,
         file,
         policy,
-        Some(now),
+        &Some(now),
         stamps.closed,
         stamps.ended.unwrap_or(now),
     )
@@ -133,7 +133,7 @@ fn new_keys(
     let own = if is_live {
         None
     } else {
-        near_moment(groups, &None, file, policy, None, now, now)
+        near_moment(groups, &None, file, policy, &None, now, now)
     };
     let number = standing.next;
     match &standing.newest {
@@ -182,7 +182,7 @@ pub fn end_moment(
         &None,
         file,
         &standing.policy,
-        None,
+        &None,
         stamps.closed,
         now,
     )

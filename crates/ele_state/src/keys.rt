@@ -2,8 +2,7 @@
 ghost use Rattle.std.specs.Prelude.{◌≡◌, ◌<◌, ◌≤◌, ◌+◌, ◌^◌, ◌||◌, ◌&&◌, not, false, true, Some, None, OnOk, OnErr};
 ghost use Rattle.ele_due.specs.declared.key.Key.{Key};
 ghost use Rattle.ele_due.specs.HasKey.{has_key};
-ghost use Rattle.ele_world.specs.GroupRows.{is_marked};
-ghost use Rattle.ele_world.specs.Neighbours.{free_moment, moment_under, near_moment};
+ghost use Rattle.ele_world.specs.Neighbours.{free_moment, near_moment};
 ghost use Rattle.ele_state.specs.Queued.{IsRekeyed, is_entry, is_new, marked_but};
 
 use crate::mark::Left;
@@ -71,13 +70,13 @@ pub fn near_moment(
     left: &Option<Left>,
     file: FileId,
     policy: &Policy,
-    next_closed: Option<Moment>,
+    next_closed: &Option<Moment>,
     closed: Moment,
     ended: Moment,
 ) -> Option<Moment>
     ensures { result
-        ≡ near_moment (marked_but left.now groups.now file) (Some policy.now) next_closed closed
-        ended }
+        ≡ near_moment (marked_but left.now groups.now file) (Some policy.now) next_closed.now
+        closed ended }
 {
     let is_marked = match left {
         Some(left) => groups.covering_without(&left.group, left.mark, file, closed, Some(ended)),
@@ -86,36 +85,7 @@ pub fn near_moment(
     if is_marked {
         return None;
     }
-    ripe(policy, closed, ended, next_closed)
-}
-
-// The ripe moment that the version would have under the policy while no handle reads it; none where it isn't held, has no end, is
-// marked, or would never be due.
-pub fn moment_under(
-    files: &Files,
-    groups: &Groups,
-    policy: &Policy,
-    file: FileId,
-    number: VersionNo,
-    meter: &mut Meter,
-) -> Option<Moment>
-    requires { meter.old < 2 ^ 59 }
-    ensures moment { result
-        ≡ moment_under (is_marked groups.now file) (Some policy.now) files.now.versions file number }
-    ensures read { meter.new ≤ meter.old + 2 }
-{
-    let stamps = files.stamps(file, number, meter)?;
-    let ended = stamps.ended?;
-    let next_closed = files.next_closing(file, number, meter);
-    near_moment(
-        groups,
-        &None,
-        file,
-        policy,
-        next_closed,
-        stamps.closed,
-        ended,
-    )
+    ripe(policy, closed, ended, *next_closed)
 }
 
 // The ripe moment that the version has while no handle reads it; none where it isn't held, has no end, is marked, or is never
@@ -132,7 +102,11 @@ pub fn free_moment(
     ensures read { meter.new ≤ meter.old + 2 }
 {
     let policy = files.policy_of(file)?;
-    moment_under(files, groups, &policy, file, number, meter)
+    let stamps = files.stamps(file, number, meter)?;
+    let ended = stamps.ended?;
+    let next_closed = files.next_closing(file, number, meter);
+    let closed = stamps.closed;
+    near_moment(groups, &None, file, &policy, &next_closed, closed, ended)
 }
 
 // The keys that come with a version: that of the file's newest held one, which may have ended before or ends now, and its own.

@@ -39,7 +39,7 @@ fn moment_but(
         left,
         file,
         &policy,
-        next_closed,
+        &next_closed,
         stamps.closed,
         ended,
     )
@@ -66,7 +66,7 @@ fn key_at(
 }
 
 // Adds the key, if there is one.
-fn add_key(keys: &mut Vec<Key>, key: Option<Key>) -> Result<(), NoMemory>
+pub fn add_key(keys: &mut Vec<Key>, key: Option<Key>) -> Result<(), NoMemory>
     ensures { OnOk result (keys.new.items ≡ keys.old.items ++ cons_option key []) }
 {
     if let Some(key) = key {
