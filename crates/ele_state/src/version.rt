@@ -57,11 +57,13 @@ impl State {
         requires { meter.old < 2 ^ 60 }
         ensures value { result ≡ found_of (version_at self.now.world tagged.now) }
         ensures held { IfOk result (λ found. is_held self.now.world found.0 found.1.number ≡ true) }
+        ensures cells { IfOk result (λ found. IfOk (version_at self.now.world tagged.now)
+            (λ row. version_cells self.now.world found.0 found.1.number ≡ row.cells)) }
         ensures read { meter.new ≤ meter.old + 1 }
     {
         let tag = tagged.tag();
         let file = file_in(self.walk_meant(tagged.path(), tag)?)?;
-        let stamps = self.version_meant(file, tag, meter)?;
+        let stamps = self.rows.files.version_meant(file, tag, meter)?;
         Ok((file, stamps))
     }
 
