@@ -20,7 +20,7 @@ mod closing;
 mod copies;
 mod dropping;
 mod governing;
-mod neighbours;
+pub mod neighbours;
 mod restoring;
 mod usage;
 mod versions;

@@ -10,3 +10,4 @@ mod meant;
 pub use ele_inode_log::Meter;
 pub use ele_sessions::SessionFault;
 pub use files::Files;
+pub use files::neighbours::Standing;

@@ -34,7 +34,3 @@ gained_by groups h file now number closed ended = cond (is_open h.handles file n
 pub former_told : (groups : List GroupRow) (h : Held) (file now : ℕ) (newest : Stamps) → option_map stamps_of (newest_of h.versions file) ≡ Some newest
     → former_moment groups h file now ≡ gained_by groups h file now newest.number newest.closed newest.ended
 former_told groups h file now newest told = grind (arith, nat_tests)
-
--- a file that isn't there has no policy, and so no moment
-pub ungoverned : (marks : ℕ → Option ℕ → Bool) (now closed : ℕ) (ended : Option ℕ) → gained_moment marks None now closed ended ≡ None
-ungoverned marks now closed x3 = grind (arith, nat_tests)

@@ -1,5 +1,5 @@
 -- The keys and the book, once a file has another policy.
-use Rattle.ele_state.proofs.Words.{rows_of, ◌≡◌, ℕ, ◌<◌, ◌==◌, Bool, true, false, cond, not, ◌&&◌, ◌||◌, List, ◌∷◌, Option, Some, refl, sym, subst, arith, filter, map, AllByRecursion, filter_map, list_any, option_map_or, nat_tests, world_of, IsSound, IsQueued, is_under, key_under, unread_under, held_world, IsBooked, Rows, Key, has_key, is_key, Held, changed_at, found_passes, any-found, Kind, Policy, IsLawful, is_kind, kind_of, Usage, Book, sums_of, only_at, plus, Fits, IsWithin, GroupRow, Stamps, VersionRow, PutUnder, after_change, is_moment, is_version_of, stamps_of, file_usage, usage_of, usages, Bounded, World, is_version, next_of, policy_of, in_order_of, ripe_at_near, put_under_keeps, usage_same, usages_fit, [], HasParts, cons_option}
+use Rattle.ele_state.proofs.Words.{IsTold, key_unless, ◌∙◌, None, Versions, all_found, ap, find, is_marked, moment_under, near_moment, next_closing, option_and_then, option_map, rows_of, ◌≡◌, ℕ, ◌<◌, ◌==◌, Bool, true, false, cond, not, ◌&&◌, ◌||◌, List, ◌∷◌, Option, Some, refl, sym, subst, arith, filter, map, AllByRecursion, filter_map, list_any, option_map_or, nat_tests, world_of, IsSound, IsQueued, is_under, key_under, unread_under, held_world, IsBooked, Rows, Key, has_key, is_key, Held, changed_at, found_passes, any-found, Kind, Policy, IsLawful, is_kind, kind_of, Usage, Book, sums_of, only_at, plus, Fits, IsWithin, GroupRow, Stamps, VersionRow, PutUnder, after_change, is_moment, is_version_of, stamps_of, file_usage, usage_of, usages, Bounded, World, is_version, next_of, policy_of, in_order_of, ripe_at_near, put_under_keeps, usage_same, usages_fit, [], HasParts, cons_option}
 use Rattle.ele_state.proofs.Booked.{booked, plus-cancel, same_kind}
 use Rattle.ele_state.proofs.Following.{follows}
 use Rattle.ele_world.proofs.PolicyUsage.{file_within, policy_usage}
@@ -11,9 +11,15 @@ module _ (groups : List GroupRow) (h : Held) (file : ℕ) (policy other : Policy
   abbrev its : ℕ → Option Key
   its number = key_under groups h file policy other number
 
+  its_key : (k : Key) (number : ℕ) (moment unless : Option ℕ) → option_map_or (is_key k) (key_unless file number moment unless) false ≡ ((number == k.number) && ((k.file == file) && (is_moment k.ripe moment && not (is_moment k.ripe unless))))
+  its_key k number x2 unless = grind (arith, nat_tests)
+
   -- a version's key is the key exactly if its number is the key's and the key is one of those
   is_its : (k : Key) (number : ℕ) → option_map_or (is_key k) (its number) false ≡ ((number == k.number) && is_under groups h file policy other k)
-  is_its k number = grind (arith, nat_tests)
+  is_its k number = its_key k number (unread_under groups policy h file number) (unread_under groups other h file number) ∙ by (number == k.number) refl where
+    by : (b : Bool) → (number == k.number) ≡ b → (b && ((k.file == file) && (is_moment k.ripe (unread_under groups policy h file number) && not (is_moment k.ripe (unread_under groups other h file number))))) ≡ (b && is_under groups h file policy other k)
+    by false e = refl
+    by true e = let same : number ≡ k.number = grind (arith, nat_tests) in rw same refl
 
   told_key : (rows : List VersionRow) (k : Key) → has_key k (filter_map (λ (s : Stamps). its s.number) (map stamps_of (filter (is_version_of file) rows))) ≡ (list_any (is_version file k.number) rows && is_under groups h file policy other k)
   told_key [] k = refl
@@ -32,8 +38,26 @@ module _ (groups : List GroupRow) (h : Held) (file : ℕ) (policy other : Policy
     more x0 is then = grind (arith, nat_tests, and_or)
 
   -- so those told of the file's versions are just those
-  pub keys_told : (keys : List Key) → keys ≡ filter_map (λ (s : Stamps). its s.number) (map stamps_of (filter (is_version_of file) h.versions)) → (k : Key) → has_key k keys ≡ is_under groups h file policy other k
-  keys_told keys is k = grind (arith, nat_tests, told_key h.versions k, any-found, found_passes)
+  pub keys_told : (keys : List Key) (held : List Stamps) → held ≡ map stamps_of (filter (is_version_of file) h.versions) → keys ≡ filter_map (λ (s : Stamps). its s.number) held → (k : Key) → has_key k keys ≡ is_under groups h file policy other k
+  keys_told keys held told is k = grind (arith, nat_tests, told_key h.versions k, any-found, found_passes, ap (has_key k) (is ∙ ap (filter_map (λ (s : Stamps). its s.number)) told))
+
+-- what is told of a held version tells its moment
+pub under_told : (groups : List GroupRow) (policy : Policy) (h : Held) (file : ℕ) (stamps : Stamps) → IsTold h file stamps
+    → moment_under (is_marked groups file) (Some policy) h.versions file stamps.number ≡ option_and_then (near_moment (is_marked groups file) (Some policy) (next_closing h.versions file stamps.number) stamps.closed) stamps.ended
+under_told groups policy h file stamps told = by (find (is_version file stamps.number) h.versions) told where
+  by : (o : Option VersionRow) → option_map stamps_of o ≡ Some stamps → option_and_then (λ row. option_and_then (near_moment (is_marked groups file) (Some policy) (next_closing h.versions file stamps.number) row.closed) row.ended) o ≡ option_and_then (near_moment (is_marked groups file) (Some policy) (next_closing h.versions file stamps.number) stamps.closed) stamps.ended
+  by x0 told = grind (arith, nat_tests)
+
+-- so is each that is told of a file whose versions are in order
+all_told : (h : Held) (file : ℕ) (rows : List VersionRow) → AllByRecursion (λ row. find (is_version row.file row.number) h.versions ≡ Some row) rows → AllByRecursion (IsTold h file) (map stamps_of (filter (is_version_of file) rows))
+all_told h file [] all = tt
+all_told h file (row ∷ rows) all = by (all_told h file rows all.1) (row.file == file) refl where
+  by : AllByRecursion (IsTold h file) (map stamps_of (filter (is_version_of file) rows)) → (b : Bool) → (row.file == file) ≡ b → AllByRecursion (IsTold h file) (map stamps_of (cond b (row ∷ filter (is_version_of file) rows) (filter (is_version_of file) rows)))
+  by rest true own = let file_is : row.file ≡ file = grind (arith, nat_tests) in (ap (option_map stamps_of) (subst (λ f. find (is_version f row.number) h.versions ≡ Some row) file_is all.0), rest)
+  by rest false other = rest
+
+pub stamps_told : (rows : Rows) (file : ℕ) (held : List Stamps) → IsSound rows → held ≡ map stamps_of (filter (is_version_of file) rows.files.versions) → AllByRecursion (IsTold rows.files file) held
+stamps_told rows file held sound is = rw is (all_told rows.files file rows.files.versions (all_found rows.files.versions (sound.formed.holds Versions).placed))
 
 -- ---- the queue
 

@@ -31,7 +31,7 @@ living_numbered file number moment g (x ∷ xs) placed = by (living_numbered fil
 -- ---- lists
 
 -- with one item more it has what that gives
-pub one_more : (h : ℕ → Option Key) (before : List Key) (xs : List ℕ) (i x : ℕ) → i < length xs → x ≡ get_or xs i x → before ++ filter_map h (take (i + 1) xs) ≡ (before ++ filter_map h (take i xs)) ++ cons_option (h x) []
+pub one_more : {X : Type 0} (h : X → Option Key) (before : List Key) (xs : List X) (i : ℕ) (x : X) → i < length xs → x ≡ get_or xs i x → before ++ filter_map h (take (i + 1) xs) ≡ (before ++ filter_map h (take i xs)) ++ cons_option (h x) []
 one_more h before xs i x lt is =
     ap (λ t. before ++ filter_map h t) (take_more xs i x lt) ∙ rw (← is, filter_map-append h (take i xs) (x ∷ [])) (sym (append_assoc before (filter_map h (take i xs)) (cons_option (h x) [])))
 

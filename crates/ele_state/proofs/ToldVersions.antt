@@ -1,8 +1,9 @@
 -- Where a path leads by the names of any moment, and what is told of the version that its tag means.
-use Rattle.ele_state.proofs.Words.{Names, HasParts, is_held, meant_held, true, arith, nat_tests, ◌≡◌, ℕ, List, ◌∷◌, Option, Result, Ok, Err, refl, ap, subst, AllByRecursion, option_map_or, result_map_both, all-found, target_at, version_at, version_found, version_meant, walk_meant, stamps_of, file_at, walk_now, IsNameRow, IsThere, World, Refusal, Stamps, Target, File, Directory, VersionRow, is_at, is_meant, file_there, []}
+use Rattle.ele_state.proofs.Words.{Names, HasParts, is_held, meant_held, true, arith, nat_tests, ◌≡◌, ℕ, List, ◌∷◌, Option, Result, Ok, Err, refl, ap, subst, AllByRecursion, option_map_or, result_map_both, all-found, target_at, version_at, version_found, version_meant, walk_meant, stamps_of, file_at, walk_now, IsNameRow, IsThere, World, Refusal, Stamps, Target, File, Directory, VersionRow, is_at, is_meant, file_there, [], AllLater, ArePlaced, IfOk, Some, all_found, find, is_version, version_cells, sym, ◌∙◌}
 use Rattle.ele_state.specs.Told.{found_of}
 use Rattle.ele_time_path.specs.declared.tagged.Tag.{Tag}
 use Rattle.ele_time_path.specs.declared.tagged.TaggedPath.{TaggedPath}
+use Rattle.ele_world.proofs.Versions.{IsFound}
 use Rattle.ele_world.specs.WalkAt.{walk_covering}
 use Rattle.ele_world.specs.declared.refusal.Refusal.TheVariants.{NoEntry}
 
@@ -51,3 +52,12 @@ told_row w tagged found h = grind (arith, nat_tests)
 -- so it is held
 pub found_held : (w : World) (tagged : TaggedPath) (found : ℕ × Stamps) → Ok found ≡ found_of (version_at w tagged) → is_held w found.0 found.1.number ≡ true
 found_held w tagged found h = let told = told_row w tagged found h in rw told.is (meant_held w told.row.file told.row (is_at w tagged told.row told.meant))
+
+-- it is the one that is found by its file and number, so what is read of it are its cells
+pub found_cells : (w : World) (tagged : TaggedPath) (found : ℕ × Stamps) → AllLater ArePlaced w.versions → Ok found ≡ found_of (version_at w tagged) → IfOk (version_at w tagged) (λ row. version_cells w found.0 found.1.number ≡ row.cells)
+found_cells w tagged found placed h =
+    let told = told_row w tagged found h in
+    let meant = is_at w tagged told.row told.meant in
+    let itself : find (is_version told.row.file told.row.number) w.versions ≡ Some told.row = all-found meant.passes (IsFound w.versions) w.versions told.row meant.found (all_found w.versions placed) in
+    let cells : version_cells w found.0 found.1.number ≡ told.row.cells = ap (λ (f : ℕ × Stamps). version_cells w f.0 f.1.number) told.is ∙ ap (λ o. option_map_or (λ (row : VersionRow). row.cells) o []) itself in
+    subst (λ (r : Result VersionRow Refusal). IfOk r (λ row. version_cells w found.0 found.1.number ≡ row.cells)) (sym told.meant) cells

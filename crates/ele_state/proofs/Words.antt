@@ -5,7 +5,7 @@ pub use Rattle.ele_state.specs.Inside.{IsSettled, IsSound, IsTracked, shown_of, 
 pub use Rattle.ele_state.specs.Shown.{Shown}
 pub use Rattle.ele_state.specs.Source.{Grows, HasSource, IsHeldAlone, IsLast, IsReady, IsRoomy, IsSource, appending, source_cells}
 pub use Rattle.ele_state.specs.declared.append.Source.{Source}
-pub use Rattle.ele_state.specs.Queued.{IsQueued, IsRekeyed, end_moment, former_moment, gained_moment, is_entry, is_new, is_under, key_at, key_under, keys_at, marked_but, moment_but, new_keys, own_moment, unread_under}
+pub use Rattle.ele_state.specs.Queued.{IsQueued, IsRekeyed, IsTold, key_unless, end_moment, former_moment, gained_moment, is_entry, is_new, is_under, key_at, key_under, keys_at, marked_but, moment_but, new_keys, own_moment, unread_under}
 pub use Rattle.ele_state.specs.Tracked.{IsBooked, IsFew, IsOwed, blocks_of, held_world, of_file, one_version, only_blocks}
 pub use Rattle.ele_state.specs.declared.keys.NewKeys.{NewKeys}
 pub use Rattle.ele_state.specs.declared.mark.Left.{Left}
@@ -41,8 +41,9 @@ pub use Rattle.ele_world.proofs.Formed.{in_parts, well_formed}
 pub use Rattle.ele_world.proofs.StepKeeps.{fresh_is, step_keeps}
 pub use Rattle.ele_world.proofs.Usages.{changes_opened, changes_removed, changes_updated, created_usage, only_at_is, usage_changes, usage_same, usages_fit, whole_bytes, whole_files, whole_versions, within_blocks, within_bytes, within_files, within_versions}
 pub use Rattle.ele_world.proofs.Views.{placed_of, policy_is}
+pub use Rattle.ele_world.proofs.Versions.{all_found}
 pub use Rattle.ele_world.proofs.Walks.{file_live, file_of, file_there, last_names, live_target-push as name_stands, target_live}
-pub use Rattle.ele_world.proofs.Words.{AddMark, AddMember, AddName, Append, AreApart, ArePlaced, Bounded, ChangesOnly, Counted, Directories, Drafts, DropGroup, DropIdle, EndDraft, EndFileName, EndName, Files, Fits, Groups, Handles, IsCleaned, IsEvent, IsFile, IsGroup, IsLawful, IsNameRow, IsThere, HasParts, IsWithin, MakeFile, MoveName, Names, OpenHandle, PutUnder, RemoveMark, RemoveMember, Revive, ShutHandle, StartDraft, Take, Versions, World, after_change, after_changes, alone, born_row, bytes_in, changed_by, clean_step, content_of, covers_moment, current_cells, dies, directory_in, draft_read, due_key, ended_at, file_at, file_by, file_now, file_usage, file_written, first_due, fitted_by, forgotten, free_moment, fresh_world, had_life, has_draft, has_key, is_draft, is_draft_after, is_file, is_file_of, is_held, is_idle, is_key, is_kind, is_live, is_live_name, is_live_name_of, is_marked, is_moment, is_open, is_ripe_by, is_target_file, is_version, is_version_after, is_version_of, kind_of, live_target, lives_at, longest_content, marks_of, members_of, moment_under, near_moment, new_draft, newest_of, next_of, next_version, nothing, only_at, parent_now, plus, policy_of, reads_by, reads_version, returning_name, ripe_at, root, step, target_at, usages, version_at, version_found, version_meant, file_view, walk_meant, walk_now, whole, with_end, with_name, with_version, without_file, without_name, Change, Homes, IsHoused, IsDirectoryThere, is_named, last_dead, Govern, MakeDirectory, Time, WriteDraft, TruncateDraft, MakeGroup, IsPolicy, is_reached, has_directory, Readers, current_of}
+pub use Rattle.ele_world.proofs.Words.{AddMark, AddMember, AddName, Append, AreApart, ArePlaced, Bounded, ChangesOnly, Counted, Directories, Drafts, DropGroup, DropIdle, EndDraft, EndFileName, EndName, Files, Fits, Groups, Handles, IsCleaned, IsEvent, IsFile, IsGroup, IsLawful, IsNameRow, IsThere, HasParts, IsWithin, MakeFile, MoveName, Names, OpenHandle, PutUnder, RemoveMark, RemoveMember, Revive, ShutHandle, StartDraft, Take, Versions, World, after_change, after_changes, alone, born_row, bytes_in, changed_by, clean_step, content_of, covers_moment, current_cells, dies, directory_in, draft_read, due_key, ended_at, file_at, file_by, file_now, file_usage, file_written, first_due, fitted_by, forgotten, free_moment, fresh_world, had_life, has_draft, has_key, is_draft, is_draft_after, is_file, is_file_of, is_held, is_idle, is_key, is_kind, is_live, is_live_name, is_live_name_of, is_marked, is_moment, is_open, is_ripe_by, is_target_file, is_version, is_version_after, is_version_of, kind_of, live_target, lives_at, longest_content, marks_of, members_of, moment_under, near_moment, new_draft, newest_of, next_closing, next_of, next_version, nothing, only_at, parent_now, plus, policy_of, reads_by, reads_version, returning_name, ripe_at, root, step, target_at, usages, version_at, version_found, version_meant, file_view, walk_meant, walk_now, whole, with_end, with_name, with_version, without_file, without_name, Change, Homes, IsHoused, IsDirectoryThere, is_named, last_dead, Govern, MakeDirectory, Time, WriteDraft, TruncateDraft, MakeGroup, IsPolicy, is_reached, has_directory, Readers, current_of}
 pub use Rattle.ele_world.specs.May.{HasRoom, May, MayAdd, MayAppend, MayEnd, MayGroup, MayHaveMore, MayJoin, MayMake, MayMakeDirectory, MayMark, MayMove, MayName, MayOpen, MayRevive, MayStart}
 pub use Rattle.ele_world.specs.NoIdleStays.{HasNoIdle}
 pub use Rattle.ele_world.specs.Plan.{found_outcome}

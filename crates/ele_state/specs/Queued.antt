@@ -15,6 +15,8 @@ use Rattle.ele_world.specs.Neighbours.{is_moment, moment_under, near_moment, new
 use Rattle.ele_world.specs.GroupRows.{is_marked}
 use Rattle.ele_world.specs.GroupsAsked.{is_marked_without}
 use Rattle.ele_world.specs.Tagged.{had_life}
+use Rattle.ele_world.specs.Told.{stamps_of}
+use Rattle.ele_world.specs.declared.rows.Stamps.{Stamps}
 use Rattle.ele_world.specs.World.{World, policy_of, next_of, is_open, is_version}
 
 -- the queue has the key of each version that has a ripe moment, and no other
@@ -81,10 +83,18 @@ abbrev pub unread_under : List GroupRow → Policy → Held → ℕ → ℕ → 
 unread_under groups policy h file number =
     if is_open h.handles file number then None else moment_under (is_marked groups file) (Some policy) h.versions file number
 
+-- the version of these stamps is held
+abbrev pub IsTold : Held → ℕ → Stamps → Type 0
+IsTold h file stamps = option_map stamps_of (find (is_version file stamps.number) h.versions) ≡ Some stamps
+
+-- the key with that moment, unless it is the other one
+abbrev pub key_unless : ℕ → ℕ → Option ℕ → Option ℕ → Option Key
+key_unless file number moment other =
+    option_and_then (λ m. if is_moment m other then None else Some (record { ripe = m; file = file; number = number })) moment
+
 -- the key of the version under the one policy, unless it is that under the other
 abbrev pub key_under : List GroupRow → Held → ℕ → Policy → Policy → ℕ → Option Key
-key_under groups h file policy other number =
-    option_and_then (λ m. if is_moment m (unread_under groups other h file number) then None else Some (record { ripe = m; file = file; number = number })) (unread_under groups policy h file number)
+key_under groups h file policy other number = key_unless file number (unread_under groups policy h file number) (unread_under groups other h file number)
 
 -- the key is one that a version of the file has under the one policy and not under the other
 abbrev pub is_under : List GroupRow → Held → ℕ → Policy → Policy → Key → Bool

@@ -3,6 +3,7 @@ ghost use Rattle.std.specs.Prelude.{◌≡◌, ◌≤◌, ◌<◌, ◌+◌, ◌^
 ghost use Rattle.std.specs.Option.{option_map};
 ghost use Rattle.ele_content.specs.Content.{content_of, longest_content};
 ghost use Rattle.ele_files.specs.Held.{Became};
+ghost use Rattle.ele_files.specs.Standing.{Stands};
 ghost use Rattle.ele_policy.specs.declared.policy.Kind.{Kind};
 ghost use Rattle.ele_usage.specs.Book.{sums_of};
 ghost use Rattle.ele_usage.specs.Sums.{nothing, plus, Fits};
@@ -11,7 +12,7 @@ ghost use Rattle.ele_world.specs.GroupRows.{is_marked};
 ghost use Rattle.ele_world.specs.Neighbours.{near_moment, newest_of};
 ghost use Rattle.ele_world.specs.Told.{stamps_of};
 ghost use Rattle.ele_world.specs.Usage.{is_file_of};
-ghost use Rattle.ele_world.specs.World.{next_of};
+ghost use Rattle.ele_world.specs.World.{next_of, policy_of};
 ghost use Rattle.ele_state.specs.Inside.{world_of, IsTracked};
 ghost use Rattle.ele_state.specs.Queued.{end_moment, former_moment, gained_moment, own_moment, new_keys};
 ghost use Rattle.ele_state.specs.Source.{HasSource, IsReady, IsRoomy, appending, source_cells};
@@ -20,7 +21,7 @@ ghost use Rattle.ele_state.specs.Tracked.{one_version};
 use crate::book::{blocks, follow_blocks, one_version};
 use crate::keys::{NewKeys, near_moment};
 use crate::rows::Rows;
-use ele_files::{Files, Meter};
+use ele_files::{Files, Meter, Standing};
 use ele_groups::Groups;
 use ele_policy::Policy;
 use ele_usage::UsageBook;
@@ -34,16 +35,18 @@ pub enum Source {
     Version(VersionNo),
 }
 
-// The number of the file's next version; the file is there.
-#[tactic(auto, using(crate::proofs::ClosedSteps::untold, crate::proofs::ClosedSteps::number_told))]
-pub fn next_number(files: &Files, file: FileId) -> VersionNo
-    requires { 0 < next_of files.now.files file }
-    ensures { result ≡ next_of files.now.files file }
+// How the file stands, which is there.
+#[tactic(auto, using(crate::proofs::Words::nat_tests))]
+pub fn standing(files: &Files, file: FileId, meter: &mut Meter) -> Standing
+    requires there { 0 < next_of files.now.files file }
+    requires meter { meter.old < 2 ^ 60 }
+    ensures stands { Stands files.now file result }
+    ensures read { meter.new ≤ meter.old + 1 }
 {
-    let Some(number) = files.next_of(file) else {
+    let Some(standing) = files.standing(file, meter) else {
         unreachable!()
     };
-    number
+    standing
 }
 
 // Whether the policy has a ripe moment for a version without a newer one.
@@ -53,7 +56,15 @@ fn ripens_alone(groups: &Groups, file: FileId, policy: &Policy, stamps: &Stamps)
         stamps.now.ended) }
 {
     match stamps.ended {
-        Some(ended) => near_moment(groups, file, policy, None, stamps.closed, ended).is_some(),
+        Some(ended) => near_moment(
+            groups,
+            &None,
+            file,
+            policy,
+            &None,
+            stamps.closed,
+            ended,
+        ).is_some(),
         None => false,
     }
 }
@@ -75,9 +86,10 @@ fn gained_moment(
     }
     near_moment(
         groups,
+        &None,
         file,
         policy,
-        Some(now),
+        &Some(now),
         stamps.closed,
         stamps.ended.unwrap_or(now),
     )
@@ -85,63 +97,51 @@ fn gained_moment(
 
 // The ripe moment that the file's newest held version gets, of which these are the stamps, as the next one closes now; none
 // where a handle reads it.
-#[tactic(auto, using(crate::proofs::Asked::former_told, crate::proofs::Words::nat_tests, crate::proofs::Asked::ungoverned))]
+#[tactic(auto, using(crate::proofs::Asked::former_told, crate::proofs::Words::nat_tests))]
 fn former_moment(
     files: &Files,
     groups: &Groups,
     file: FileId,
+    policy: &Policy,
     newest: &Stamps,
     now: Moment,
 ) -> Option<Moment>
-    requires { option_map stamps_of (newest_of files.now.versions file) ≡ Some newest.now }
+    requires policy { policy_of files.now.files file ≡ Some policy.now }
+    requires newest { option_map stamps_of (newest_of files.now.versions file) ≡ Some newest.now }
     ensures { result ≡ former_moment groups.now files.now file now }
 {
     if files.is_open(file, newest.number) {
         return None;
     }
-    let policy = files.policy_of(file)?;
-    gained_moment(groups, file, &policy, newest, now)
+    gained_moment(groups, file, policy, newest, now)
 }
 
-// The ripe moment of the file's next version, which closes now; none where it doesn't end at once.
-fn own_moment(
-    files: &Files,
-    groups: &Groups,
-    file: FileId,
-    now: Moment,
-    is_live: bool,
-) -> Option<Moment>
-    ensures { result ≡ own_moment groups.now files.now.files file now is_live }
-{
-    if is_live {
-        return None;
-    }
-    let policy = files.policy_of(file)?;
-    near_moment(groups, file, &policy, None, now, now)
-}
-
-// The keys that come with the file's next version, which closes now.
+// The keys that come with the next version of a file that stands so, which closes now.
+#[tactic(auto, using(crate::proofs::Words::nat_tests))]
 fn new_keys(
     files: &Files,
     groups: &Groups,
     file: FileId,
+    standing: &Standing,
     now: Moment,
     is_live: bool,
-    meter: &mut Meter,
 ) -> NewKeys
-    requires there { 0 < next_of files.now.files file }
-    requires meter { meter.old < 2 ^ 60 }
-    ensures keys { result ≡ new_keys groups.now files.now file now is_live }
-    ensures read { meter.new ≤ meter.old + 1 }
+    requires { Stands files.now file standing.now }
+    ensures { result ≡ new_keys groups.now files.now file now is_live }
 {
-    let number = next_number(files, file);
-    let own = own_moment(files, groups, file, now, is_live);
-    match files.newest(file, meter) {
+    let policy = &standing.policy;
+    let own = if is_live {
+        None
+    } else {
+        near_moment(groups, &None, file, policy, &None, now, now)
+    };
+    let number = standing.next;
+    match &standing.newest {
         Some(newest) => NewKeys {
             file,
             newest: newest.number,
             number,
-            former: former_moment(files, groups, file, &newest, now),
+            former: former_moment(files, groups, file, policy, newest, now),
             own,
         },
         None => NewKeys {
@@ -154,30 +154,38 @@ fn new_keys(
     }
 }
 
-// The ripe moment that the version before the file's next one gets, which ends now; none where it isn't held or has ended, or
-// where a handle reads it.
+// The ripe moment that the version before the next one of a file that stands so gets, which ends now; none where it isn't held or
+// has ended, or where a handle reads it.
 pub fn end_moment(
     files: &Files,
     groups: &Groups,
     file: FileId,
-    next: VersionNo,
+    standing: &Standing,
     now: Moment,
     meter: &mut Meter,
 ) -> Option<Moment>
-    requires next { next ≡ next_of files.now.files file }
+    requires stands { Stands files.now file standing.now }
     requires meter { meter.old < 2 ^ 60 }
     ensures moment { result ≡ end_moment groups.now files.now file now }
     ensures read { meter.new ≤ meter.old + 1 }
 {
-    if files.is_open(file, next.before()) {
+    let number = standing.next.before();
+    if files.is_open(file, number) {
         return None;
     }
-    let stamps = files.stamps(file, next.before(), meter)?;
+    let stamps = files.stamps(file, number, meter)?;
     if stamps.ended.is_some() {
         return None;
     }
-    let policy = files.policy_of(file)?;
-    near_moment(groups, file, &policy, None, stamps.closed, now)
+    near_moment(
+        groups,
+        &None,
+        file,
+        &standing.policy,
+        &None,
+        stamps.closed,
+        now,
+    )
 }
 
 // The book has one version more for the kind of the file, of so many bytes.
@@ -237,14 +245,8 @@ pub fn append(
 {
     let is_live = rows.names.is_live(file);
     let now = rows.moment;
-    let keys = new_keys(
-        &rows.files,
-        &rows.groups,
-        file,
-        now,
-        is_live,
-        &mut rows.meter,
-    );
+    let standing = standing(&rows.files, file, &mut rows.meter);
+    let keys = new_keys(&rows.files, &rows.groups, file, &standing, now, is_live);
     let before = blocks(&rows.files);
     // All keys come before the version does, so that one that is refused is still without trace.
     keys.put(&mut rows.queue)?;

@@ -2,10 +2,10 @@
 ghost use Rattle.std.specs.Prelude.{◌≡◌, ◌<◌, ◌≤◌, ◌+◌, ◌^◌, ◌||◌, ◌&&◌, not, false, true, Some, None, OnOk, OnErr};
 ghost use Rattle.ele_due.specs.declared.key.Key.{Key};
 ghost use Rattle.ele_due.specs.HasKey.{has_key};
-ghost use Rattle.ele_world.specs.GroupRows.{is_marked};
-ghost use Rattle.ele_world.specs.Neighbours.{free_moment, moment_under, near_moment};
-ghost use Rattle.ele_state.specs.Queued.{IsRekeyed, is_entry, is_new};
+ghost use Rattle.ele_world.specs.Neighbours.{free_moment, near_moment};
+ghost use Rattle.ele_state.specs.Queued.{IsRekeyed, is_entry, is_new, marked_but};
 
+use crate::mark::Left;
 use ele_due::DueQueue;
 use ele_files::{Files, Meter};
 use ele_groups::Groups;
@@ -63,43 +63,29 @@ pub fn take_all(queue: &mut DueQueue, keys: &[Key])
 }
 
 // The ripe moment that a version of the file has under the policy while no handle reads it, which closed and ended then, and
-// beside which the next one closed at that moment; none where it is marked or never due.
+// beside which the next one closed at that moment, while marks are left out; none where others cover it, or where it is never
+// due.
 pub fn near_moment(
     groups: &Groups,
+    left: &Option<Left>,
     file: FileId,
     policy: &Policy,
-    next_closed: Option<Moment>,
+    next_closed: &Option<Moment>,
     closed: Moment,
     ended: Moment,
 ) -> Option<Moment>
     ensures { result
-        ≡ near_moment (is_marked groups.now file) (Some policy.now) next_closed closed ended }
+        ≡ near_moment (marked_but left.now groups.now file) (Some policy.now) next_closed.now
+        closed ended }
 {
-    if groups.covering(file, closed, Some(ended)) {
+    let is_marked = match left {
+        Some(left) => groups.covering_without(&left.group, left.mark, file, closed, Some(ended)),
+        None => groups.covering(file, closed, Some(ended)),
+    };
+    if is_marked {
         return None;
     }
-    ripe(policy, closed, ended, next_closed)
-}
-
-// The ripe moment that the version would have under the policy while no handle reads it; none where it isn't held, has no end, is
-// marked, or would never be due.
-pub fn moment_under(
-    files: &Files,
-    groups: &Groups,
-    policy: &Policy,
-    file: FileId,
-    number: VersionNo,
-    meter: &mut Meter,
-) -> Option<Moment>
-    requires { meter.old < 2 ^ 59 }
-    ensures moment { result
-        ≡ moment_under (is_marked groups.now file) (Some policy.now) files.now.versions file number }
-    ensures read { meter.new ≤ meter.old + 2 }
-{
-    let stamps = files.stamps(file, number, meter)?;
-    let ended = stamps.ended?;
-    let next_closed = files.next_closing(file, number, meter);
-    near_moment(groups, file, policy, next_closed, stamps.closed, ended)
+    ripe(policy, closed, ended, *next_closed)
 }
 
 // The ripe moment that the version has while no handle reads it; none where it isn't held, has no end, is marked, or is never
@@ -116,7 +102,11 @@ pub fn free_moment(
     ensures read { meter.new ≤ meter.old + 2 }
 {
     let policy = files.policy_of(file)?;
-    moment_under(files, groups, &policy, file, number, meter)
+    let stamps = files.stamps(file, number, meter)?;
+    let ended = stamps.ended?;
+    let next_closed = files.next_closing(file, number, meter);
+    let closed = stamps.closed;
+    near_moment(groups, &None, file, &policy, &next_closed, closed, ended)
 }
 
 // The keys that come with a version: that of the file's newest held one, which may have ended before or ends now, and its own.

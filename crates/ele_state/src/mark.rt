@@ -1,12 +1,12 @@
 //! The keys of versions that were current at marks of groups.
 ghost use Rattle.std.specs.Prelude.{◌≡◌, ◌++◌, [], IfOk, OnOk};
 ghost use Rattle.std.specs.List.{cons_option, filter_map};
-ghost use Rattle.ele_state.specs.Queued.{key_at, keys_at, marked_but, moment_but};
+ghost use Rattle.ele_state.specs.Queued.{key_at, keys_at, moment_but};
 
+use crate::keys::near_moment;
 use crate::rows::Rows;
 use ele_files::{Files, Meter};
 use ele_groups::Groups;
-use ele_policy::ripe;
 use ele_world::{FileId, Key, Moment, Name, NoMemory, Stamps};
 
 // A mark of a group that is left out, or all its marks.
@@ -14,22 +14,6 @@ use ele_world::{FileId, Key, Moment, Name, NoMemory, Stamps};
 pub struct Left {
     pub group: Name,
     pub mark: Option<Moment>,
-}
-
-// Whether a version of the file is marked that was current then, but for the marks that are left out.
-fn is_marked_but(
-    groups: &Groups,
-    left: &Option<Left>,
-    file: FileId,
-    closed: Moment,
-    ended: Option<Moment>,
-) -> bool
-    ensures { result ≡ marked_but left.now groups.now file closed ended }
-{
-    match left {
-        Some(left) => groups.covering_without(&left.group, left.mark, file, closed, ended),
-        None => groups.covering(file, closed, ended),
-    }
 }
 
 // The ripe moment that the file's version of these stamps has while marks are left out; none where a handle reads it, where
@@ -48,12 +32,17 @@ fn moment_but(
         return None;
     }
     let ended = stamps.ended?;
-    if is_marked_but(groups, left, file, stamps.closed, Some(ended)) {
-        return None;
-    }
     let policy = files.policy_of(file)?;
     let next_closed = files.next_closing(file, stamps.number, &mut Meter::new());
-    ripe(&policy, stamps.closed, ended, next_closed)
+    near_moment(
+        groups,
+        left,
+        file,
+        &policy,
+        &next_closed,
+        stamps.closed,
+        ended,
+    )
 }
 
 // The key of the file's version that was current at the mark, while marks are left out.
@@ -77,7 +66,7 @@ fn key_at(
 }
 
 // Adds the key, if there is one.
-fn add_key(keys: &mut Vec<Key>, key: Option<Key>) -> Result<(), NoMemory>
+pub fn add_key(keys: &mut Vec<Key>, key: Option<Key>) -> Result<(), NoMemory>
     ensures { OnOk result (keys.new.items ≡ keys.old.items ++ cons_option key []) }
 {
     if let Some(key) = key {

@@ -12,7 +12,7 @@ ghost use Rattle.ele_state.specs.Home.{IsHome, IsPresent};
 ghost use Rattle.ele_state.specs.Inside.{world_of, IsTracked, IsSound};
 
 use crate::State;
-use crate::append::{end_moment, next_number};
+use crate::append::{end_moment, standing};
 use crate::keys::put;
 use crate::rows::Rows;
 use ele_world::{DirId, FileId, ListOf, Moment, Name, NameList, NoMemory, Target};
@@ -137,16 +137,16 @@ fn end_last_name(
     ensures err { OnErr result (world_of rows.new ≡ world_of rows.old) }
     ensures tracked { IsTracked rows.new }
 {
-    let next = next_number(&rows.files, file);
+    let standing = standing(&rows.files, file, &mut rows.meter);
     let moment = end_moment(
         &rows.files,
         &rows.groups,
         file,
-        next,
+        &standing,
         rows.moment,
         &mut rows.meter,
     );
-    put(&mut rows.queue, file, next.before(), moment)?;
+    put(&mut rows.queue, file, standing.next.before(), moment)?;
     rows.names.kill(directory, name, rows.moment);
     rows.files.end_current(file, rows.moment, &mut rows.meter);
     Ok(())

@@ -1,15 +1,14 @@
 //! The policy of a file, and the keys that another one brings.
-ghost use Rattle.std.specs.Prelude.{◌≡◌, ◌<◌, ◌&&◌, Some, IfOk, OnOk, OnErr, cond};
-ghost use Rattle.std.specs.List.{filter_map};
-ghost use Rattle.ele_due.specs.declared.key.Key.{Key};
-ghost use Rattle.ele_due.specs.HasKey.{has_key};
+ghost use Rattle.std.specs.Prelude.{◌≡◌, ◌<◌, IfOk, OnOk, OnErr};
+ghost use Rattle.std.specs.List.{AllByRecursion, filter_map};
 ghost use Rattle.ele_policy.specs.Policy.{IsPolicy};
 ghost use Rattle.ele_world.specs.Change.{PutUnder, after_change};
 ghost use Rattle.ele_world.specs.World.{next_of};
-ghost use Rattle.ele_state.specs.Queued.{is_under, key_under, unread_under};
+ghost use Rattle.ele_state.specs.Queued.{IsTold, key_under, key_unless, unread_under};
 
 use crate::State;
-use crate::keys::{moment_under, put_all, take_all};
+use crate::keys::{near_moment, put_all, take_all};
+use crate::mark::add_key;
 use ele_files::{Files, Meter};
 use ele_groups::Groups;
 use ele_policy::Policy;
@@ -34,8 +33,9 @@ impl State {
         };
         let (files, groups) = (&self.rows.files, &self.rows.groups);
         let usage = files.usage_of(file)?;
-        let come = keys_under(self.rows.alloc, files, groups, &policy, &was, file)?;
-        let gone = keys_under(self.rows.alloc, files, groups, &was, &policy, file)?;
+        let held = files.stamps_of_file(file)?;
+        let held = held.as_slice();
+        let (come, gone) = rekeyed(self.rows.alloc, files, groups, file, &was, &policy, held)?;
         // All keys come before one goes, so that one that is refused is still without trace.
         put_all(&mut self.rows.queue, &come)?;
         take_all(&mut self.rows.queue, &gone);
@@ -45,73 +45,78 @@ impl State {
     }
 }
 
-// The ripe moment that the version has under the policy; none where a handle reads it.
-fn unread_under(
-    files: &Files,
-    groups: &Groups,
-    policy: &Policy,
+// The key of the file's version with that number and moment, unless the moment is the other one.
+fn key_unless(
     file: FileId,
     number: VersionNo,
-) -> Option<Moment>
-    ensures { result ≡ unread_under groups.now policy.now files.now file number }
-{
-    if files.is_open(file, number) {
-        return None;
-    }
-    moment_under(files, groups, policy, file, number, &mut Meter::new())
-}
-
-// The key that the version has under the one policy, unless it has it under the other.
-fn key_under(
-    files: &Files,
-    groups: &Groups,
-    policy: &Policy,
-    other: &Policy,
-    file: FileId,
-    number: VersionNo,
+    moment: &Option<Moment>,
+    other: &Option<Moment>,
 ) -> Option<Key>
-    ensures { result ≡ key_under groups.now files.now file policy.now other.now number }
+    ensures { result ≡ key_unless file number moment.now other.now }
 {
-    let ripe = unread_under(files, groups, policy, file, number)?;
-    if unread_under(files, groups, other, file, number) == Some(ripe) {
+    let Some(ripe) = *moment else {
+        return None;
+    };
+    if *other == Some(ripe) {
         return None;
     }
     Some(Key { ripe, file, number })
 }
 
-// The keys that versions with these stamps have under the one policy and not under the other.
-fn keys_of(
-    alloc: Global,
-    held: &[Stamps],
+// The ripe moments that the file's version of these stamps has under the one policy and under the other; none where a handle
+// reads it.
+#[tactic(auto, using(crate::proofs::Words::nat_tests, crate::proofs::Governed::under_told))]
+fn moments_of(
     files: &Files,
     groups: &Groups,
-    policy: &Policy,
-    other: &Policy,
     file: FileId,
-) -> Result<Vec<Key>, NoMemory>
-    ensures { IfOk result (λ keys. keys.items ≡ filter_map
-        (λ stamps. key_under groups.now files.now file policy.now other.now stamps.number) held.now) }
+    one: &Policy,
+    other: &Policy,
+    stamps: &Stamps,
+) -> (Option<Moment>, Option<Moment>)
+    requires { IsTold files.now file stamps.now }
+    ensures one { result.0
+        ≡ unread_under groups.now one.now files.now file stamps.now.number }
+    ensures other { result.1
+        ≡ unread_under groups.now other.now files.now file stamps.now.number }
 {
-    let keys: Vec<Key> = held
-        .iter()
-        .filter_map(|stamps| key_under(files, groups, policy, other, file, stamps.number))
-        .collect(alloc)?;
-    Ok(keys)
+    if files.is_open(file, stamps.number) {
+        return (None, None);
+    }
+    let Some(ended) = stamps.ended else {
+        return (None, None);
+    };
+    let next = files.next_closing(file, stamps.number, &mut Meter::new());
+    let closed = stamps.closed;
+    (
+        near_moment(groups, &None, file, one, &next, closed, ended),
+        near_moment(groups, &None, file, other, &next, closed, ended),
+    )
 }
 
-// The keys that the file's versions have under the one policy and not under the other.
-#[tactic(auto, using(crate::proofs::Words::nat_tests, crate::proofs::Governed::keys_told))]
-fn keys_under(
+// The keys that come and those that go, where the file's versions, of which these are the stamps, come from under the one policy
+// under the other: one walk, which looks at each once.
+fn rekeyed(
     alloc: Global,
     files: &Files,
     groups: &Groups,
-    policy: &Policy,
-    other: &Policy,
     file: FileId,
-) -> Result<Vec<Key>, NoMemory>
-    ensures { IfOk result (λ keys.
-        (k : Key) → has_key k keys.items ≡ is_under groups.now files.now file policy.now other.now k) }
+    one: &Policy,
+    other: &Policy,
+    held: &[Stamps],
+) -> Result<(Vec<Key>, Vec<Key>), NoMemory>
+    requires { AllByRecursion (IsTold files.now file) held.now }
+    ensures come { IfOk result (λ keys. keys.0.items ≡ filter_map
+        (λ stamps. key_under groups.now files.now file other.now one.now stamps.number) held.now) }
+    ensures gone { IfOk result (λ keys. keys.1.items ≡ filter_map
+        (λ stamps. key_under groups.now files.now file one.now other.now stamps.number) held.now) }
 {
-    let held = files.stamps_of_file(file)?;
-    keys_of(alloc, held.as_slice(), files, groups, policy, other, file)
+    let mut come = Vec::new(alloc);
+    let mut gone = Vec::new(alloc);
+    for stamps in held {
+        let (was, is) = moments_of(files, groups, file, one, other, stamps);
+        add_key(&mut come, key_unless(file, stamps.number, &is, &was))?;
+        add_key(&mut gone, key_unless(file, stamps.number, &was, &is))?;
+    }
+    Ok((come, gone))
 }

@@ -18,7 +18,7 @@ ghost use Rattle.ele_state.specs.Inside.{world_of, IsTracked, IsSound};
 ghost use Rattle.ele_state.specs.Told.{found_of};
 
 use crate::State;
-use crate::append::{Source, append, next_number};
+use crate::append::{Source, append, standing};
 use crate::book::{blocks, follow_blocks, take_version};
 use crate::file::drop_idle;
 use crate::keys::take;
@@ -57,11 +57,13 @@ impl State {
         requires { meter.old < 2 ^ 60 }
         ensures value { result ≡ found_of (version_at self.now.world tagged.now) }
         ensures held { IfOk result (λ found. is_held self.now.world found.0 found.1.number ≡ true) }
+        ensures cells { IfOk result (λ found. IfOk (version_at self.now.world tagged.now)
+            (λ row. version_cells self.now.world found.0 found.1.number ≡ row.cells)) }
         ensures read { meter.new ≤ meter.old + 1 }
     {
         let tag = tagged.tag();
         let file = file_in(self.walk_meant(tagged.path(), tag)?)?;
-        let stamps = self.version_meant(file, tag, meter)?;
+        let stamps = self.rows.files.version_meant(file, tag, meter)?;
         Ok((file, stamps))
     }
 
@@ -120,7 +122,8 @@ impl State {
             ≡ after_change self.old.world (Revive directory name file)) }
         ensures err { OnErr result (self.new.world ≡ self.old.world) }
     {
-        let last = next_number(&self.rows.files, file).before();
+        let standing = standing(&self.rows.files, file, &mut self.rows.meter);
+        let last = standing.next.before();
         let bytes = version_bytes(&self.rows.files, file, last, &mut self.rows.meter);
         // The name comes first: it can be taken back without memory.
         self.rows

@@ -1,15 +1,26 @@
-//! A file's newest held version, and the next one behind a number.
+//! How a file stands, and when the next version behind one closed.
 //! A contract sees each answer as a look at the rows.
-ghost use Rattle.std.specs.Prelude.{◌≡◌, ◌<◌, ◌≤◌, ◌+◌, ◌^◌};
-ghost use Rattle.std.specs.Option.{option_map};
-ghost use Rattle.ele_world.specs.Neighbours.{newest_of, next_closing};
-ghost use Rattle.ele_world.specs.Told.{stamps_of};
+ghost use Rattle.std.specs.Prelude.{◌≡◌, ◌<◌, ◌≤◌, ◌+◌, ◌^◌, IfNone, IfSome};
+ghost use Rattle.ele_files.specs.Standing.{Stands};
+ghost use Rattle.ele_world.specs.Neighbours.{next_closing};
+ghost use Rattle.ele_world.specs.World.{next_of};
 
 use crate::files::{Files, file_of};
 use crate::meant::stamps_of;
 use ele_inode_log::Meter;
 use ele_moment::{FileId, Moment, VersionNo};
+use ele_policy::Policy;
 use ele_world::Stamps;
+
+/// How a file stands: what its next version is, and what the moments of its versions depend on.
+#[derive(Clone, Copy)]
+pub struct Standing {
+    pub policy: Policy,
+    /// The number of its next version.
+    pub next: VersionNo,
+    /// Its newest held version.
+    pub newest: Option<Stamps>,
+}
 
 impl Files {
     /// When the file's next held version behind the number closed; none where there is none. It
@@ -25,15 +36,21 @@ impl Files {
         Some(row.closed)
     }
 
-    /// The file's newest held version; none where it holds none. It reads at most one row.
-    #[tactic(auto, using(std::proofs::lemmas::Bool::Decides::nat_tests, crate::proofs::Tagged::newest_told, crate::proofs::Tagged::none_shown, crate::proofs::Tagged::newest_shown))]
-    pub fn newest(&self, file: FileId, meter: &mut Meter) -> Option<Stamps>
+    /// How the file stands, by one look-up; none where there is no such file. It reads at most one
+    /// row.
+    #[tactic(auto, using(std::proofs::lemmas::Bool::Decides::nat_tests, crate::proofs::Rows::next_found, crate::proofs::Rows::file_row_found, crate::proofs::Tagged::newest_shown))]
+    pub fn standing(&self, file: FileId, meter: &mut Meter) -> Option<Standing>
         requires meter { meter.old < 2 ^ 60 }
-        ensures value { result ≡ option_map stamps_of (newest_of self.now.versions file) }
+        ensures some { IfSome result (λ standing. Stands self.now file standing) }
+        ensures none { IfNone result (next_of self.now.files file ≡ 0) }
         ensures read { meter.new ≤ meter.old + 1 }
     {
         let held = file_of(&self.files, file)?;
-        let row = held.log.prev_held(held.next, meter)?;
-        Some(stamps_of(row))
+        let newest = held.log.prev_held(held.next, meter).map(stamps_of);
+        Some(Standing {
+            policy: held.policy,
+            next: held.next,
+            newest,
+        })
     }
 }

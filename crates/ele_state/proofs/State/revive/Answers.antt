@@ -5,15 +5,15 @@ use Rattle.ele_state.proofs.Revived.{given_back, last_held, named_source, named_
 use Rattle.ele_state.proofs.Settled.{settled_by}
 use Rattle.ele_state.proofs.State.revive.Goals as goal
 
-pub next_number-requires : goal.next_number-requires
-next_number-requires c =
+pub standing-standing-requires-clause-there : goal.standing-standing-requires-clause-there
+standing-standing-requires-clause-there c =
     let may = revives c.self.inside.rows _ c.self.view_is c.args.directory c.args.name c.args.file c.requires.home c.requires.free c.requires.names c.requires.versions c.requires.dead c.requires.held in
     revived_there c.self.inside.rows c.args.directory c.args.name c.args.file c.self.invariant.sound may
 
 pub version_bytes-bytes-requires-clause-held : goal.version_bytes-bytes-requires-clause-held
 version_bytes-bytes-requires-clause-held c =
     let may = revives c.self.inside.rows _ c.self.view_is c.args.directory c.args.name c.args.file c.requires.home c.requires.free c.requires.names c.requires.versions c.requires.dead c.requires.held in
-    let last = rw c.next_number.ensures at c.before-last.ensures in
+    let last = rw (← c.standing-standing.ensures.stands.next) at c.before-last.ensures in
     rw last (last_held c.self.inside.rows c.args.directory c.args.name c.args.file c.self.invariant.sound may)
 
 pub add-requires : goal.add-requires
@@ -36,7 +36,7 @@ append-requires-clause-there c =
 pub append-requires-clause-source : goal.append-requires-clause-source
 append-requires-clause-source c =
     let may = revives c.self.inside.rows _ c.self.view_is c.args.directory c.args.name c.args.file c.requires.home c.requires.free c.requires.names c.requires.versions c.requires.dead c.requires.held in
-    let last = rw c.next_number.ensures at c.before-last.ensures in
+    let last = rw (← c.standing-standing.ensures.stands.next) at c.before-last.ensures in
     let s = named_source c.self.inside.rows c.args.directory c.args.name c.args.file c.self.invariant.sound may c.before-last.result last (rw (← c.self.view_is) at c.requires.undrafted) in
     rw c.in_ok-add.ensures.ok (record { ready = s.ready; grows = s.grows })
 
@@ -49,7 +49,7 @@ append-requires-clause-short c = version_short c.self.inside.rows c.self.invaria
 pub invariant_of-self-in-Ok : goal.invariant_of-self-in-Ok
 invariant_of-self-in-Ok c =
     let may = revives c.self.inside.rows _ c.self.view_is c.args.directory c.args.name c.args.file c.requires.home c.requires.free c.requires.names c.requires.versions c.requires.dead c.requires.held in
-    let last = rw c.next_number.ensures at c.before-last.ensures in
+    let last = rw (← c.standing-standing.ensures.stands.next) at c.before-last.ensures in
     let t = c.append.ensures.tracked in
     settled_by c.self.inside.rows (shown_of c.self.inside.rows) refl c.self.invariant (Revive c.args.directory c.args.name c.args.file) may tt _ (revived_world c.self.inside.rows c.args.directory c.args.name c.args.file c.before-last.result (world_of c.append.new.rows) last (rw c.in_ok-add.ensures.ok at c.in-Ok.ensures.ok)) (record { queue = t.queue; book = t.book; bounds = t.bounds })
 

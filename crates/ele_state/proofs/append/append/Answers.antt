@@ -20,7 +20,7 @@ returns-clause-ok c = grown_world c.args.rows.now c.args.file c.requires.tracked
 
 pub returns-clause-tracked : goal.returns-clause-tracked
 returns-clause-tracked c = record {
-  queue = subst (λ (v : World). IsQueued v c.put.new.queue) (sym (returns-clause-ok c)) (grown_queue c.args.rows.now c.args.file c.requires.tracked c.args.source c.put.new.queue c.is_live-is_live.result c.new_keys-keys.result c.requires.source c.is_live-is_live.ensures c.new_keys-keys.ensures.keys c.in_ok-put.ensures.ok);
+  queue = subst (λ (v : World). IsQueued v c.put.new.queue) (sym (returns-clause-ok c)) (grown_queue c.args.rows.now c.args.file c.requires.tracked c.args.source c.put.new.queue c.is_live-is_live.result c.new_keys-keys.result c.requires.source c.is_live-is_live.ensures c.new_keys-keys.ensures c.in_ok-put.ensures.ok);
   book = c.follow_blocks.ensures;
   bounds = c.requires.tracked.bounds;
 }
@@ -29,12 +29,12 @@ returns-clause-tracked c = record {
 pub returns-in_err-put-clause-tracked : goal.returns-in_err-put-clause-tracked
 returns-in_err-put-clause-tracked c =
     let may = grows c.args.rows.now c.args.file c.requires.tracked c.args.source c.requires.there c.requires.source in
-    assumption (refused c.args.rows.now c.args.file c.is_live-is_live.result c.new_keys-keys.result c.put.new.queue c.requires.tracked may c.new_keys-keys.ensures.keys c.in_err-put.ensures.err, c.requires.tracked.book, c.requires.tracked.bounds)
+    assumption (refused c.args.rows.now c.args.file c.is_live-is_live.result c.new_keys-keys.result c.put.new.queue c.requires.tracked may c.new_keys-keys.ensures c.in_err-put.ensures.err, c.requires.tracked.book, c.requires.tracked.bounds)
 
 pub returns-in-Err-clause-tracked : goal.returns-in-Err-clause-tracked
 returns-in-Err-clause-tracked c =
     let may = grows c.args.rows.now c.args.file c.requires.tracked c.args.source c.requires.there c.requires.source in
-    rw c.in-Err.ensures.err (assumption (taken_back c.args.rows.now c.args.file c.is_live-is_live.result c.new_keys-keys.result c.take.new.queue c.requires.tracked may c.new_keys-keys.ensures.keys c.put.new.queue c.in_ok-put.ensures.ok c.take.ensures, c.requires.tracked.book, c.requires.tracked.bounds))
+    rw c.in-Err.ensures.err (assumption (taken_back c.args.rows.now c.args.file c.is_live-is_live.result c.new_keys-keys.result c.take.new.queue c.requires.tracked may c.new_keys-keys.ensures c.put.new.queue c.in_ok-put.ensures.ok c.take.ensures, c.requires.tracked.book, c.requires.tracked.bounds))
 
 pub overflow_add-rows : goal.overflow_add-rows
 overflow_add-rows c = omega (arith, c.requires.roomy.made)
