@@ -1,9 +1,14 @@
 //! Keys: a version, and the moment from which on it is due.
 //! A contract sees a key as the three numbers, and its order as `key_cmp`.
+ghost use Rattle.std.specs.Prelude.{Some};
+ghost use Rattle.ele_due.specs.KeyText.{key_word};
+
 use ele_moment::{FileId, Moment, VersionNo};
+use std::fmt;
 
 /// A version and the first moment at which it is due. Keys are ordered by that moment, then by
-/// file, then by number, which is the order in which versions are removed.
+/// file, then by number, which is the order in which versions are removed. A key is displayed as the
+/// three numbers.
 #[derive(Clone, Copy, Debug, PartialEq, Eq, PartialOrd, Ord, Hash)]
 pub struct Key {
     /// The moment from which on the version is due.
@@ -12,4 +17,13 @@ pub struct Key {
     pub file: FileId,
     /// The number of the version within its file.
     pub number: VersionNo,
+}
+
+impl fmt::Display for Key {
+    ghost output = { λ key. Some (key_word key) };
+
+    fn fmt<W: fmt::Write>(&self, f: &mut fmt::Formatter<W>) -> fmt::Result {
+        let (ripe, file, number) = (self.ripe, self.file.0, self.number.0);
+        write!(f, "{ripe} {file} {number}")
+    }
 }

@@ -1,5 +1,5 @@
 -- How far a copy of rows has come, or a count of the places of a map.
-use Rattle.ele_files.proofs.Words.{AllByRecursion, AllLater, Bool, Cell, Draft, DraftRow, File, IsFileKept, IsRowOf, Layout, List, LivesIn, LogRow, None, Option, Precedes, Slot, Some, Stamps, StockLaws, Store, [], all-got, all-weaker, ap, append_assoc, arith, bytes_at, cell_of, draft_in, eqb, filter, filter-all, find, found_passes, get_or, get_or_from_slice_get, is_after, later-weaker, length, map, map-append, nat_tests, option_map, row_in, shown, slice_get, slice_get_within, slots_of, stamps_in, subst, suc, sym, take, take_more, true, zero, ℕ, ◌++◌, ◌+◌, ◌<◌, ◌∙◌, ◌∷◌, ◌≡◌, ◌≤◌, log_bytes, sum_by_cons, AllSessions, Counts, Keeps, Meets, Place, Usage, VersionRow, all_found, append_nil, bytes_in, cond, different, draft_of, file_usage, filter-buckets, flat_map, flat_map-map, flat_map_single, is_among, is_id, is_key, is_place, is_version_of, length-map, length-split, length-take-le, list_any, list_any-append, log_places, not, option_map_or, places, places_from, refl, rows_in, sum-map, sum_by-map, sum_by-same, ◌*◌, ◌^◌, Named, Tagged, file_stock, flat_map-append, names_from, names_in, names_of, stock_of}
+use Rattle.ele_files.proofs.Words.{AllByRecursion, AllLater, Bool, Cell, Draft, DraftRow, File, Layout, List, LivesIn, LogRow, None, Option, Slot, Some, StockLaws, Store, [], all-got, all-weaker, ap, append_assoc, arith, bytes_at, cell_of, draft_in, eqb, filter, find, found_passes, get_or, get_or_from_slice_get, length, map, map-append, nat_tests, option_map, row_in, shown, slice_get, slice_get_within, slots_of, subst, suc, sym, take, take_more, true, zero, ℕ, ◌++◌, ◌+◌, ◌<◌, ◌∙◌, ◌∷◌, ◌≡◌, ◌≤◌, log_bytes, sum_by_cons, AllSessions, Counts, Keeps, Meets, Place, Usage, VersionRow, all_found, append_nil, bytes_in, cond, different, draft_of, file_usage, filter-buckets, flat_map, flat_map-map, flat_map_single, is_among, is_id, is_key, is_place, is_version_of, length-map, length-split, length-take-le, list_any, list_any-append, log_places, not, option_map_or, places, places_from, refl, rows_in, sum-map, sum_by-map, sum_by-same, ◌*◌, ◌^◌, Named, Tagged, file_stock, flat_map-append, names_from, names_in, names_of, stock_of}
 use Rattle.ele_files.proofs.Rows.{its_id}
 use Rattle.ele_files.proofs.Stock.{logs_live}
 use Rattle.ele_files.proofs.Tagged.{own_rows}
@@ -19,14 +19,6 @@ module _ {X : Type 0} where
   found-got key (y ∷ ys) zero x rise h = grind (arith, nat_tests, h)
   found-got key (y ∷ ys) (suc i) x rise h = grind (arith, nat_tests, all-got, found-got key ys i x rise.1 h)
 
--- the rows that are left behind one that was found
-all-after : (behind : ℕ) (x : LogRow) (xs : List LogRow) → behind ≤ x.number → AllByRecursion (λ (y : LogRow). x.number < y.number) xs → filter (is_after behind) xs ≡ xs
-all-after behind x xs le all = filter-all (is_after behind) xs (all-weaker (λ (y : LogRow). x.number < y.number) (λ y. is_after behind y ≡ true) xs (λ y lt. grind (arith, nat_tests, le)) all)
-
-pub left_behind : (behind : ℕ) (xs : List LogRow) (row : LogRow) → AllLater (λ (x y : LogRow). x.number < y.number) xs → find (is_after behind) xs ≡ Some row → filter (is_after behind) xs ≡ row ∷ filter (is_after row.number) xs
-left_behind behind [] row rise h = absurd cc
-left_behind behind (x ∷ xs) row rise h = grind (arith, nat_tests, h, all-after x.number x xs, all-after behind x xs, rise.0, left_behind behind xs row rise.1, found_passes (is_after behind) xs row)
-
 -- the cells of a map
 module _ (laws : StockLaws) (s : Store) (m : Layout) (lives : LivesIn s m) (k : ℕ) (cell : ℕ × ℕ) (got : Some cell ≡ option_map (λ (x : Slot). (x.writer, x.block)) (slice_get (slots_of s m) k)) where
   slot : (x : Slot) × (slice_get (slots_of s m) k ≡ Some x) × ((x.writer, x.block) ≡ cell)
@@ -35,31 +27,6 @@ module _ (laws : StockLaws) (s : Store) (m : Layout) (lives : LivesIn s m) (k : 
   pub cell_next : (bytes : List ℕ) → bytes ≡ bytes_at s cell.1 → map (cell_of s) (take (k + 1) (slots_of s m)) ≡ map (cell_of s) (take k (slots_of s m)) ++ record { writer = cell.0; bytes = bytes } ∷ []
   cell_next bytes is =
       let next = taken-next (cell_of s) (slots_of s m) k slot.0 slot.1 in grind (arith, nat_tests, next, slot.2, is)
-
--- the rows of a log
-module _ (f : File) (kept : IsFileKept f) where
-  pub rise : AllLater (λ (x y : LogRow). x.number < y.number) f.log.rows
-  rise = later-weaker Precedes (λ (x y : LogRow). x.number < y.number) f.log.rows (λ x y p. p.number) kept.order.order
-
-  pub log_all : filter (is_after 0) f.log.rows ≡ f.log.rows
-  log_all = filter-all (is_after 0) f.log.rows (all-weaker (IsRowOf f.next) (λ row. is_after 0 row ≡ true) f.log.rows (λ row is. let h = is.first in grind (arith, nat_tests)) kept.rows)
-
-  module _ (behind : ℕ) (row : LogRow) (found : Some row ≡ find (is_after behind) f.log.rows) where
-    pub log_left : filter (is_after behind) f.log.rows ≡ row ∷ filter (is_after row.number) f.log.rows
-    log_left = left_behind behind f.log.rows row rise (sym found)
-
-    pub bytes_next : log_bytes (filter (is_after behind) f.log.rows) ≡ row.cells.size + log_bytes (filter (is_after row.number) f.log.rows)
-    bytes_next = ap log_bytes log_left ∙ sum_by_cons (λ (r : LogRow). r.cells.size) row (filter (is_after row.number) f.log.rows)
-
-    -- what is told of the rows behind begins with the row
-    pub told_next : (told : List Stamps) → told ++ map stamps_in (filter (is_after behind) f.log.rows) ≡ map stamps_in f.log.rows → (told ++ stamps_in row ∷ []) ++ map stamps_in (filter (is_after row.number) f.log.rows) ≡ map stamps_in f.log.rows
-    told_next told h = grind (arith, nat_tests, left_behind, rise, found, append_assoc)
-
-    pub log_fewer : length (filter (is_after row.number) f.log.rows) < length (filter (is_after behind) f.log.rows)
-    log_fewer = let left = left_behind behind f.log.rows row rise (sym found) in rw left (omega arith)
-
-    pub log_next : (s : Store) (rows all : List world.VersionRow) (cells : List Cell) → cells ≡ shown s row.cells → rows ++ map (row_in s f.id) (filter (is_after behind) f.log.rows) ≡ all → (rows ++ record { file = f.id; number = row.number; opened = row.opened; closed = row.closed; ended = row.ended; cells = cells } ∷ []) ++ map (row_in s f.id) (filter (is_after row.number) f.log.rows) ≡ all
-    log_next s rows all cells is h = grind (arith, nat_tests, left_behind, rise, found, append_assoc)
 
 -- the rows of drafts
 module _ (s : Store) (drafts : List Draft) (rise : AllLater (λ (x y : Draft). x.file < y.file) drafts) (k : ℕ) (t : ℕ × ℕ × Bool) (got : Some t ≡ option_map (λ (d : Draft). (d.file, d.opened, d.changed)) (slice_get drafts k)) where

@@ -3,7 +3,7 @@ pub use Rattle.ele_files.proofs.Words.{remove_first-position, remove_first-map, 
 pub use Rattle.ele_files.proofs.Appends.{same_next, found, appended_keeps, placed, added_keeps, added_shows, fresh_kept, IsRestored, not_lost, restored}
 pub use Rattle.ele_files.proofs.Tagged.{any_found, drafted, last-kept, newest_told, closing_none, closing_shown, newest_shown, last-map, at_shown, forgotten_none, list_shown, meant_shown, none_lived, none_shown, told_found}
 pub use Rattle.ele_files.proofs.Closes.{last_shown, shows_it, next_is, keeps_it, IsFinished, finished, given, its_map, leaves, not_missing, on_err, opening_shown}
-pub use Rattle.ele_files.proofs.Copies.{bytes_next, taken-next, rise, left_behind, cell_next, draft_next, draft_there, log_all, log_fewer, log_left, log_next, told_next, met_all, places_from-push, bytes_few, shows, draft_places, meets_none, meets_then, met_next, none_count, own_bytes, own_count, own_few, own_places, places_next, usage_counts, places_shown}
+pub use Rattle.ele_files.proofs.Copies.{taken-next, cell_next, draft_next, draft_there, met_all, places_from-push, bytes_few, shows, draft_places, meets_none, meets_then, met_next, none_count, own_bytes, own_count, own_few, own_places, places_next, usage_counts, places_shown}
 pub use Rattle.ele_files.proofs.Drafts.{length_is, cut, wrote}
 pub use Rattle.ele_files.proofs.Drops.{drops, rows_left, any_held, drops_at, unheld}
 pub use Rattle.ele_files.proofs.Endings.{all_precede, can_end, last_row, no_end, ends, its_few, its_past, ready_past, waits}

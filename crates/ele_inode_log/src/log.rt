@@ -8,14 +8,14 @@ ghost use Rattle.ele_lists.specs.Last.{last_passing, passing};
 
 use crate::meter::Meter;
 use crate::row::{ClosedBy, EndsAt, VersionRow};
-use ele_lists::{BeforeKey, BehindKey, Chunks};
+use ele_lists::{BeforeKey, BehindKey, ChunkRows, Chunks};
 use ele_moment::{Moment, NoMemory, VersionNo};
 use std::alloc::Global;
 use std::marker::Model;
 
 /// The held versions of one file. Numbers rise, a version has ended when the next one closes, and
 /// only the last may have no end. Each row that a call finds and reads or removes adds one to the
-/// call's meter, and no call without a meter finds one. On its way a search compares numbers or
+/// call's meter, and no call without a meter finds one; `rows` goes over all. On its way a search compares numbers or
 /// closings of rows, which no meter counts.
 #[derive(Debug, Drop)]
 pub struct InodeLog {
@@ -57,6 +57,13 @@ impl InodeLog {
         ensures { IsTrue result ↔ (self.now.rows ≡ []) }
     {
         self.len() == 0
+    }
+
+    /// All rows by number, for what is told of a whole file; no meter counts them.
+    pub fn rows(&self) -> ChunkRows<'_, VersionRow>
+        ensures { result ≡ self.now.rows }
+    {
+        self.rows.iter()
     }
 
     /// Takes the memory for one more row at least, if it isn't there. Where memory is refused, the

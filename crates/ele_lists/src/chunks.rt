@@ -9,6 +9,7 @@ ghost use Rattle.ele_lists.specs.Chunks.{Sinks};
 
 use crate::cut::{Change, Cut};
 use crate::keyed::Keyed;
+use crate::rows::ChunkRows;
 use crate::seam::{
     change_last, find_key, last_has_room, last_row, push_last, row_at, row_before, seek, take_out,
 };
@@ -106,6 +107,16 @@ impl<T: Drop> Chunks<T> {
         if let Some(mut chunk) = self.fresh.take() {
             chunk.push_reserved(row);
             self.chunks.push_reserved(chunk);
+        }
+    }
+
+    /// All rows, one after the other.
+    pub fn iter(&self) -> ChunkRows<'_, T>
+        ensures { result ≡ self.now.rows }
+    {
+        ChunkRows {
+            rows: &[],
+            chunks: self.chunks.as_slice(),
         }
     }
 

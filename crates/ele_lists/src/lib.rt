@@ -8,6 +8,7 @@ mod index;
 mod keyed;
 mod list;
 mod room;
+mod rows;
 mod seam;
 mod tally;
 
@@ -17,4 +18,5 @@ pub use index::Index;
 pub use keyed::{BeforeKey, BehindKey, Keyed, place_of};
 pub use list::{ByteList, ListOf};
 pub use room::put_at;
+pub use rows::ChunkRows;
 pub use tally::Tally;

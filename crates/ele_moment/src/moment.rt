@@ -1,11 +1,12 @@
 //! Moments: seconds since 1970-01-01T00:00:00Z, up to the end of the year 9999.
 //! A contract sees a moment as that number of seconds, and a word as its bytes.
-ghost use Rattle.std.specs.Prelude.{◌≡◌, ◌≤◌, ◌+◌, ◌↔◌, ℕ, List, IsSome, IfSome, IfOk, Ok};
+ghost use Rattle.std.specs.Prelude.{◌≡◌, ◌≤◌, ◌+◌, ◌↔◌, ℕ, List, IsSome, IfSome, IfOk, Ok, Some, decimal};
 ghost use Rattle.ele_moment.specs.Spelled.{last_moment, SpellsMoment, SpellsTimestamp, IsTimestamp, IsWorth};
 
 use crate::calendar::{date_of, day_number};
 use crate::number::read_number;
 use crate::timestamp::{Fields, read_fields, text_of};
+use std::fmt;
 use std::marker::Model;
 use thiserror::Error;
 
@@ -17,7 +18,7 @@ const SECONDS_PER_DAY: u64 = 86400;
 pub struct BadMoment;
 
 /// A whole number of seconds since 1970-01-01T00:00:00Z, from 0 to 253402300799, which is
-/// 9999-12-31T23:59:59Z.
+/// 9999-12-31T23:59:59Z. It is displayed as that number; `text` has the date.
 #[derive(Clone, Copy, Debug, PartialEq, Eq, PartialOrd, Ord, Hash)]
 pub struct Moment {
     seconds: u64,
@@ -109,6 +110,15 @@ impl Moment {
         ensures { result ≡ Ok self }
     {
         Moment::read(&self.text())
+    }
+}
+
+impl fmt::Display for Moment {
+    ghost output = { λ moment. Some (decimal moment) };
+
+    fn fmt<W: fmt::Write>(&self, f: &mut fmt::Formatter<W>) -> fmt::Result {
+        let seconds = self.seconds;
+        write!(f, "{seconds}")
     }
 }
 

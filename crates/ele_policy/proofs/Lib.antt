@@ -6,3 +6,5 @@ mod Earliest
 mod Nesting
 -- ladders in their fields
 mod Rungs
+-- the text of a ladder
+mod Pairs

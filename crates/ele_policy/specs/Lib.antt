@@ -1,6 +1,7 @@
 pub mod Interval
 pub mod Ladder
 pub mod Policy
+pub mod PolicyText
 pub mod Ripe
 pub mod Lawful
 pub mod LetsGoFrom

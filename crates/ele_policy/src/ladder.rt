@@ -5,16 +5,18 @@ ghost use Rattle.std.specs.Option.{option_map};
 ghost use Rattle.std.specs.Cmp.{partial_equiv_from_equiv, and_equiv, on_equiv, nat_eq_equiv};
 ghost use Rattle.std.specs.Cmp.Lexicographic.{pointwise, lists_equiv};
 ghost use Rattle.ele_policy.specs.Ladder.{IsLadder, climbs, ground, is_above, level_of, rung_at, shares, span_of};
+ghost use Rattle.ele_policy.specs.PolicyText.{ladder_word};
 ghost use Rattle.ele_policy.specs.Wait.{has_newer};
 
 use crate::interval::BadLadder;
 use ele_moment::Moment;
+use std::fmt;
 use std::marker::Model;
 
 /// One to eight pairs of an age and a width, in seconds. The ages rise from at least 1, each width
 /// is at least 1 and divides the next, and no number exceeds 253402300799. From an age on, one
 /// version is kept of each span of the width beside it. It is kept in place, so that it takes no
-/// memory.
+/// memory, and displayed as its pairs, `A/W,A/W`.
 #[derive(Clone, Copy, Debug)]
 pub struct Ladder {
     rungs: [(u64, u64); Ladder::MOST_PAIRS],
@@ -168,6 +170,21 @@ impl Ladder {
             .iter()
             .find(|rung| has_newer(rung, closed, newer))?;
         Some(rung.0)
+    }
+}
+
+impl fmt::Display for Ladder {
+    ghost output = { λ ladder. Some (ladder_word ladder) };
+
+    fn fmt<W: fmt::Write>(&self, f: &mut fmt::Formatter<W>) -> fmt::Result {
+        let Some(((age, width), rest)) = self.pairs().split_first() else {
+            return Ok(());
+        };
+        write!(f, "{age}/{width}")?;
+        for (age, width) in rest {
+            write!(f, ",{age}/{width}")?;
+        }
+        Ok(())
     }
 }
 

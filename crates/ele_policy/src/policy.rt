@@ -1,13 +1,15 @@
 //! The policies of files, and their kinds.
 //! A contract sees both as plain data.
-ghost use Rattle.std.specs.Prelude.{◌≡◌};
+ghost use Rattle.std.specs.Prelude.{◌≡◌, Some};
 ghost use Rattle.ele_policy.specs.Lawful.{IsLawful};
 ghost use Rattle.ele_policy.specs.Policy.{kind_of, IsPolicy};
+ghost use Rattle.ele_policy.specs.PolicyText.{kind_word, policy_word};
 
 use crate::interval::Interval;
 use crate::ladder::Ladder;
+use std::fmt;
 
-/// The four kinds of policy, in the order in which usage is told.
+/// The four kinds of policy, in the order in which usage is told. Each is displayed as its word in scripts.
 #[derive(Clone, Copy, Debug, PartialEq, Eq, Hash)]
 pub enum Kind {
     /// Keep the current version alone.
@@ -20,7 +22,7 @@ pub enum Kind {
     Landmarks,
 }
 
-/// Which versions of a file that have ended are due, and from when on.
+/// Which versions of a file that have ended are due, and from when on. It is displayed as its word in scripts.
 #[derive(Clone, Copy, Debug, PartialEq, Eq)]
 pub enum Policy {
     /// Each is due as soon as it has ended.
@@ -68,5 +70,34 @@ impl Policy {
         ensures lawful { IsLawful self.now }
     {
         self.is_policy();
+    }
+}
+
+impl fmt::Display for Kind {
+    ghost output = { λ kind. Some (kind_word kind) };
+
+    fn fmt<W: fmt::Write>(&self, f: &mut fmt::Formatter<W>) -> fmt::Result {
+        match self {
+            Kind::One => f.write_str("one"),
+            Kind::All => f.write_str("all"),
+            Kind::Safe => f.write_str("safe"),
+            Kind::Landmarks => f.write_str("landmarks"),
+        }
+    }
+}
+
+impl fmt::Display for Policy {
+    ghost output = { λ policy. Some (policy_word policy) };
+
+    fn fmt<W: fmt::Write>(&self, f: &mut fmt::Formatter<W>) -> fmt::Result {
+        match self {
+            Policy::One => f.write_str("one"),
+            Policy::All => f.write_str("all"),
+            Policy::Safe(interval) => {
+                let seconds = interval.seconds();
+                write!(f, "safe:{seconds}")
+            }
+            Policy::Landmarks(ladder) => write!(f, "landmarks:{ladder}"),
+        }
     }
 }

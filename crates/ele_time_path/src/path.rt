@@ -1,17 +1,20 @@
 //! Names behind one another, from the root. A contract sees a path as the list of its names.
-ghost use Rattle.std.specs.Prelude.{◌≡◌, ◌≤◌, ◌⊎◌, ℕ, List, All, length, nat_eq, slice_get, Some, Ok, Err, IfOk, IfErr, OnOk, ◌<◌};
+ghost use Rattle.std.specs.Prelude.{◌≡◌, ◌≤◌, ◌⊎◌, ◌↔◌, ◌++◌, ◌∷◌, [], ℕ, List, All, length, nat_eq, slice_get, Some, Ok, Err, IfOk, IfErr, OnOk, IsErrOf, MatchOption, ◌<◌};
 ghost use Rattle.std.specs.Cmp.{on_per, on_equiv, partial_equiv_from_equiv};
 ghost use Rattle.std.specs.Cmp.Lexicographic.{pointwise, lists_per, lists_equiv, nat_list_eq_equiv};
 ghost use Rattle.ele_moment.specs.Name.{IsName};
 ghost use Rattle.ele_time_path.specs.Path.{IsPath, SpellsPath, pieces_of};
+ghost use Rattle.ele_time_path.specs.PathText.{path_word};
 ghost use Rattle.ele_time_path.specs.FirstFault.{piece_fault, piece_faults, path_fault};
 
 use crate::fault::PathFault;
-use ele_moment::Name;
-use std::alloc::Global;
+use ele_moment::{Name, NoMemory};
+use std::alloc::{AllocError, Global};
+use std::fmt;
 use std::marker::Model;
 
-/// A way from the root: at most 32 names, and none for the root itself.
+/// A way from the root: at most 32 names, and none for the root itself. It is displayed as `/`, or as its names with a
+/// slash in front of each.
 #[derive(Debug, Drop)]
 pub struct Path {
     names: Vec<Name>,
@@ -55,6 +58,42 @@ impl Path {
         }
     }
 
+    /// The path of the root. It takes no memory.
+    pub fn root(alloc: Global) -> Path
+        ensures { result ≡ [] }
+    {
+        Path {
+            names: Vec::new(alloc),
+        }
+    }
+
+    /// The path of that name in the directory at this path. `BadPath` behind 32 names.
+    pub fn join(&self, name: Name) -> Result<Path, PathFault>
+        ensures found { IfOk result (λ path. path ≡ self.now ++ name ∷ []) }
+        ensures full { IsErrOf result PathFault.BadPath ↔ (32 ≤ length self.now) }
+        ensures fault { IfErr result
+            (λ fault. (fault ≡ PathFault.BadPath) ⊎ (fault ≡ PathFault.NoMemory)) }
+    {
+        if self.names.len() >= Path::MOST_NAMES {
+            return Err(PathFault::BadPath);
+        }
+        let mut path = self.clone().map_err(|_| PathFault::NoMemory)?;
+        path.names.push(name)?;
+        Ok(path)
+    }
+
+    /// The path of the directory in which this one stands. None of the root.
+    pub fn parent(&self) -> Result<Option<Path>, NoMemory>
+        ensures { IfOk result (λ parent. MatchOption parent (self.now ≡ [])
+            (λ path. (name : List ℕ) × (self.now ≡ path ++ name ∷ []))) }
+    {
+        let Some((_, names)) = self.names.split_last() else {
+            return Ok(None);
+        };
+        let names = Vec::from_slice(*self.names.allocator(), names)?;
+        Ok(Some(Path { names }))
+    }
+
     /// The names, from the root on.
     pub fn names(&self) -> &[Name]
         ensures names { result.now ≡ self.now }
@@ -91,6 +130,29 @@ fn read_piece(before: usize, piece: &[u8]) -> Result<Name, PathFault>
         return Err(PathFault::BadPath);
     }
     Name::new(piece).map_err(|_| PathFault::BadName)
+}
+
+impl Clone for Path {
+    ghost is_clone = { λ path clone. clone ≡ path };
+
+    fn clone(&self) -> Result<Path, AllocError> {
+        let names = Vec::from_slice(*self.names.allocator(), self.names.as_slice())?;
+        Ok(Path { names })
+    }
+}
+
+impl fmt::Display for Path {
+    ghost output = { λ path. Some (path_word path) };
+
+    fn fmt<W: fmt::Write>(&self, f: &mut fmt::Formatter<W>) -> fmt::Result {
+        if self.names.is_empty() {
+            return f.write_str("/");
+        }
+        for name in self.names() {
+            write!(f, "/{name}")?;
+        }
+        Ok(())
+    }
 }
 
 impl PartialEq for Path {

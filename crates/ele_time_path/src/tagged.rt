@@ -1,7 +1,8 @@
 //! Paths with tags. A contract sees one as the record of its path, a list of names, and its tag.
-ghost use Rattle.std.specs.Prelude.{◌≡◌, ◌⊎◌, IsTrue, Ok, Err, IfOk, IfErr};
+ghost use Rattle.std.specs.Prelude.{◌≡◌, ◌⊎◌, IsTrue, Some, Ok, Err, IfOk, IfErr};
 ghost use Rattle.std.specs.List.{position, position_or_len};
 ghost use Rattle.ele_time_path.specs.Begins.{is_tag_text};
+ghost use Rattle.ele_time_path.specs.PathText.{tag_text, tagged_word};
 ghost use Rattle.ele_time_path.specs.Tagged.{is_mark, SpellsTag, SpellsTaggedPath};
 ghost use Rattle.ele_time_path.specs.TaggedFault.{IsTagFault, IsTaggedFault};
 ghost use Rattle.ele_time_path.specs.declared.tagged.Tag.{Tag};
@@ -11,8 +12,9 @@ use crate::fault::PathFault;
 use crate::path::Path;
 use ele_moment::{BadMoment, Moment, VersionNo, read_number};
 use std::alloc::Global;
+use std::fmt;
 
-/// Which version is meant.
+/// Which version is meant. It is displayed as it stands behind a path: not at all, `@12` or `#3`.
 #[derive(Clone, Copy, Debug, PartialEq, Eq)]
 pub enum Tag {
     /// What stands there now.
@@ -23,7 +25,7 @@ pub enum Tag {
     Number(VersionNo),
 }
 
-/// A path, and which version of what it names is meant.
+/// A path, and which version of what it names is meant. It is displayed as both, `/f@12`.
 #[derive(Debug, Drop, PartialEq, Eq)]
 pub struct TaggedPath {
     path: Path,
@@ -31,6 +33,14 @@ pub struct TaggedPath {
 }
 
 impl TaggedPath {
+    /// The path with the tag.
+    pub fn new(path: Path, tag: Tag) -> TaggedPath
+        ensures path { result.path ≡ path }
+        ensures tag { result.tag ≡ tag }
+    {
+        TaggedPath { path, tag }
+    }
+
     /// The path and the tag that a word spells: a path, then nothing for now, `@` and a moment, or
     /// `#` and the number of a version.
     ///
@@ -62,6 +72,27 @@ impl TaggedPath {
         ensures { result ≡ self.now.tag }
     {
         self.tag
+    }
+}
+
+impl fmt::Display for Tag {
+    ghost output = { λ tag. Some (tag_text tag) };
+
+    fn fmt<W: fmt::Write>(&self, f: &mut fmt::Formatter<W>) -> fmt::Result {
+        match self {
+            Tag::Now => Ok(()),
+            Tag::At(moment) => write!(f, "@{moment}"),
+            Tag::Number(VersionNo(number)) => write!(f, "#{number}"),
+        }
+    }
+}
+
+impl fmt::Display for TaggedPath {
+    ghost output = { λ tagged. Some (tagged_word tagged.path tagged.tag) };
+
+    fn fmt<W: fmt::Write>(&self, f: &mut fmt::Formatter<W>) -> fmt::Result {
+        let (path, tag) = (&self.path, &self.tag);
+        write!(f, "{path}{tag}")
     }
 }
 

@@ -2,6 +2,8 @@
 //! a contract sees the world as the flat rows of `Flat`.
 #![tactic(auto)]
 
+mod auditable;
+mod audits;
 mod copy;
 mod entry;
 mod event;
@@ -19,6 +21,8 @@ pub mod schedule;
 mod stepping;
 mod sums;
 
+pub use auditable::Auditable;
+pub use audits::audit;
 pub use ele_content::Cell;
 pub use ele_due::Key;
 pub use ele_lists::{ByteList, ListOf};

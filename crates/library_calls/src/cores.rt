@@ -58,3 +58,18 @@ fn the_longest_content_is_written_at_once(rt: HostRuntime) -> Result<(), Fail> {
     assert!(rt; write_longest(rt.alloc(), &mut core)? == wanted);
     Ok(())
 }
+
+/// What a core replies to a question for names.
+fn listed(alloc: Global, core: &mut Core) -> Result<Reply, Fail> {
+    reply_to(alloc, core, "create /f")?;
+    reply_to(alloc, core, "list /")
+}
+
+#[test]
+fn a_reply_with_names_is_copied(rt: HostRuntime) -> Result<(), Fail> {
+    let mut core = Core::new(rt.alloc(), Limits::largest())?;
+    let reply = listed(rt.alloc(), &mut core)?;
+    assert!(rt; matches!(&reply, Reply::NameList(_)));
+    assert_eq!(rt; reply.copy(rt.alloc())?, reply);
+    Ok(())
+}

@@ -17,3 +17,5 @@ mod names;
 mod reads;
 #[cfg(test)]
 mod rooms;
+#[cfg(test)]
+mod vaults;

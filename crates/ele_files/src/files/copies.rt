@@ -1,21 +1,18 @@
 //! Plain copies of the rows.
 //! A contract sees each as the list of the rows.
-ghost use Rattle.std.specs.Prelude.{◌≡◌, ◌++◌, IfOk, OnOk, find};
+ghost use Rattle.std.specs.Prelude.{◌≡◌, ◌++◌, IfOk, OnOk};
 ghost use Rattle.std.specs.List.{AllByRecursion};
-ghost use Rattle.std.specs.Option.{option_copied};
 ghost use Rattle.ele_blocks.specs.Layout.{shown};
 ghost use Rattle.ele_blocks.specs.LivesIn.{LivesIn};
 ghost use Rattle.ele_blocks.specs.Stock.{StockLaws};
 ghost use Rattle.ele_files.specs.Inside.{IsFileKept, rows_in};
-ghost use Rattle.ele_inode_log.specs.Rows.{is_after};
 
 use crate::file::File;
 use crate::files::Files;
 use crate::files::asking::reads_in;
 use ele_blocks::{BlockMap, BlockStore};
-use ele_inode_log::{Meter, VersionRow as LogRow};
 use ele_lists::ListOf;
-use ele_moment::{NoMemory, VersionNo};
+use ele_moment::NoMemory;
 use ele_world::{Cell, DraftRow, FileRow, HandleRow, VersionRow};
 use std::alloc::Global;
 
@@ -104,16 +101,7 @@ fn copy_cells(alloc: Global, store: &BlockStore, map: &BlockMap) -> Result<ListO
     Ok(ListOf::from_vec(cells))
 }
 
-/// The file's first row with a greater number.
-pub fn next_row(file: &File, behind: VersionNo) -> Option<&LogRow>
-    ensures { option_copied result ≡ find (is_after behind) file.now.log.rows }
-{
-    let mut meter = Meter::new();
-    file.log.next_held(behind, &mut meter)
-}
-
 // Adds copies of the file's rows.
-#[tactic(auto, using(std::proofs::lemmas::Bool::Decides::nat_tests, crate::proofs::Copies::log_all, crate::proofs::Words::all_found, crate::proofs::Copies::log_fewer, crate::proofs::Words::filter_none, crate::proofs::Words::all_not_found, crate::proofs::Words::append_nil))]
 fn copy_log(
     alloc: Global,
     store: &BlockStore,
@@ -125,9 +113,7 @@ fn copy_log(
     requires lives { AllByRecursion (λ row. LivesIn store.now row.cells) file.now.log.rows }
     ensures { OnOk result (rows.new.items ≡ rows.old.items ++ rows_in store.now file.now) }
 {
-    let mut behind = VersionNo(0);
-    while let Some(row) = next_row(file, behind) {
-        behind = row.number;
+    for row in file.log.rows() {
         let cells = copy_cells(alloc, store, &row.cells)?;
         rows.push(VersionRow {
             file: file.id,

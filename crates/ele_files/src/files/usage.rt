@@ -14,10 +14,9 @@ ghost use Rattle.ele_world.specs.Usage.{bytes_in, places, places_from};
 ghost use Rattle.ele_world.specs.World.{is_draft};
 
 use crate::file::File;
-use crate::files::copies::next_row;
 use crate::files::{Files, file_of};
 use ele_blocks::{BlockMap, BlockStore};
-use ele_moment::{FileId, NoMemory, VersionNo};
+use ele_moment::{FileId, NoMemory};
 use ele_world::Usage;
 use std::collections::HashSet;
 
@@ -39,7 +38,6 @@ fn meet(met: &mut HashSet<(usize, u64)>, store: &BlockStore, map: &BlockMap) -> 
 }
 
 // Meets the slots of all versions in the file's log.
-#[tactic(auto, using(std::proofs::lemmas::Bool::Decides::nat_tests, crate::proofs::Copies::log_all, crate::proofs::Words::all_found, crate::proofs::Copies::log_fewer))]
 fn meet_log(
     met: &mut HashSet<(usize, u64)>,
     store: &BlockStore,
@@ -51,25 +49,20 @@ fn meet_log(
     ensures { OnOk result ((id : ℕ) → Meets id met.old.keys met.new.keys
         (log_places store.now file.now.log.rows id)) }
 {
-    let mut behind = VersionNo(0);
-    while let Some(row) = next_row(file, behind) {
-        behind = row.number;
+    for row in file.log.rows() {
         meet(met, store, &row.cells)?;
     }
     Ok(())
 }
 
 // How many bytes the versions in the file's log have.
-#[tactic(auto, using(std::proofs::lemmas::Bool::Decides::nat_tests, crate::proofs::Copies::log_all, crate::proofs::Copies::log_fewer, crate::proofs::Copies::bytes_next, crate::proofs::Words::filter_none, crate::proofs::Words::all_not_found))]
 fn log_bytes(file: &File) -> u64
     requires kept { IsFileKept file.now }
     requires few { log_bytes file.now.log.rows < 2 ^ 64 }
     ensures { result ≡ log_bytes file.now.log.rows }
 {
     let mut bytes = 0;
-    let mut behind = VersionNo(0);
-    while let Some(row) = next_row(file, behind) {
-        behind = row.number;
+    for row in file.log.rows() {
         bytes += row.cells.length();
     }
     bytes

@@ -5,7 +5,6 @@ ghost use Rattle.std.specs.Option.{option_map};
 ghost use Rattle.std.specs.Result.{result_map_both};
 ghost use Rattle.ele_content.specs.Content.{content_of};
 ghost use Rattle.ele_files.specs.Held.{cells_of_version};
-ghost use Rattle.ele_files.specs.Inside.{IsFileKept};
 ghost use Rattle.ele_files.specs.Meant.{stamps_in};
 ghost use Rattle.ele_world.specs.FileView.{is_version_of};
 ghost use Rattle.ele_world.specs.Tagged.{had_life, version_meant};
@@ -13,7 +12,6 @@ ghost use Rattle.ele_world.specs.Told.{stamps_of};
 ghost use Rattle.ele_world.specs.World.{is_version, next_of};
 
 use crate::file::File;
-use crate::files::copies::next_row;
 use crate::files::{Files, file_of};
 use crate::meant::stamps_of;
 use ele_inode_log::Meter;
@@ -115,15 +113,11 @@ impl Files {
 }
 
 // What is told of all rows of the file's log.
-#[tactic(auto, using(std::proofs::lemmas::Bool::Decides::nat_tests, crate::proofs::Copies::log_all, crate::proofs::Copies::log_fewer, crate::proofs::Copies::told_next, crate::proofs::Words::filter_none, crate::proofs::Words::all_not_found, crate::proofs::Words::append_nil))]
 fn log_stamps(alloc: Global, file: &File) -> Result<Vec<Stamps>, NoMemory>
-    requires { IsFileKept file.now }
     ensures { IfOk result (λ list. list.items ≡ map stamps_in file.now.log.rows) }
 {
     let mut list = Vec::with_capacity(alloc, file.log.len())?;
-    let mut behind = VersionNo(0);
-    while let Some(row) = next_row(file, behind) {
-        behind = row.number;
+    for row in file.log.rows() {
         list.push(stamps_of(row))?;
     }
     Ok(list)
