@@ -1,0 +1,12 @@
+-- the words and lemmas that proofs here use
+mod Words
+-- a version with a next one behind it
+mod Followed
+-- the version of a closing
+mod Lives
+-- closings that never fall
+mod Rising
+-- the versions that stay at a moment
+mod Kept
+-- what a finished pass leaves
+mod Whenever

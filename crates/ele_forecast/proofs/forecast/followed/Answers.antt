@@ -1,0 +1,15 @@
+use Rattle.std.proofs.Common.{ℕ, Option, Some, None, sym, subst, ◌∙◌}
+use Rattle.ele_policy.specs.Ripe.{IsRipe}
+use Rattle.ele_forecast.specs.declared.forecast.Why.TheVariants.{Never}
+use Rattle.ele_forecast.proofs.Followed.{has_ended, tells_of}
+use Rattle.ele_forecast.proofs.forecast.followed.Goals as goal
+
+pub returns-in-Some-clause-tells : goal.returns-in-Some-clause-tells
+returns-in-Some-clause-tells c v row next is closes ends numbered =
+    let ripe = subst (λ (x : Option ℕ). IsRipe c.args.policy.now c.args.closed c.args.ended (Some c.args.ended) x) c.in-Some.is c.ripe.ensures.value in
+    tells_of c.args.policy.now v row next is c.args.closed c.args.ended (Some c.in-Some.moment) closes ends c.args.number c.reason-why.result c.told.result c.told.ensures ripe (λ ripens. c.reason-why.ensures v row next is closes ends (numbered ∙ sym c.after.ensures) ripens)
+
+pub returns-in-None-clause-tells : goal.returns-in-None-clause-tells
+returns-in-None-clause-tells c v row next is closes ends numbered =
+    let ripe = subst (λ (x : Option ℕ). IsRipe c.args.policy.now c.args.closed c.args.ended (Some c.args.ended) x) c.in-None.is c.ripe.ensures.value in
+    tells_of c.args.policy.now v row next is c.args.closed c.args.ended None closes ends c.args.number Never c.told-in-None.result c.told-in-None.ensures ripe (λ ripens. (has_ended c.args.policy.now v row next is, ripens))

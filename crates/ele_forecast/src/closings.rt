@@ -1,0 +1,152 @@
+//! The moments at which a file closed. A contract sees them as their list, which never falls.
+ghost use Rattle.std.specs.Prelude.{◌≡◌, ◌≤◌, ◌<◌, ◌+◌, ◌-◌, ◌++◌, ◌∷◌, ◌^◌, ◌↔◌, [], ℕ, false, IsTrue, OnOk, OnErr, IfOk, IfErr, IfSome, IsSome, Some, None, length, slice_get};
+ghost use Rattle.std.specs.List.{AllByRecursion};
+ghost use Rattle.ele_lists.specs.Lists.{AllLater};
+ghost use Rattle.ele_world.specs.FileView.{FileView};
+ghost use Rattle.ele_forecast.specs.FileOf.{IsFileOf};
+ghost use Rattle.ele_forecast.specs.Stays.{AreKept};
+ghost use Rattle.ele_forecast.specs.Tells.{Tells};
+
+use crate::forecast::{Forecast, current, followed, stays};
+use ele_moment::{Moment, NoMemory, VersionNo};
+use ele_policy::Policy;
+use std::alloc::Global;
+use std::marker::Model;
+use thiserror::Error;
+
+/// A closing wasn't taken.
+#[derive(Clone, Copy, Debug, PartialEq, Eq, Error)]
+pub enum NotClosed {
+    /// It comes before the last one.
+    #[error("before the closing ahead of it")]
+    Falls,
+    /// There was no memory for it.
+    #[error("out of memory")]
+    NoMemory,
+}
+
+/// The moments at which a file closed, in order: version 1 closed at the first. None comes before
+/// the one ahead of it, and several may be one moment.
+#[derive(Debug, Drop)]
+pub struct Closings {
+    moments: Vec<Moment>,
+}
+
+impl Model for Closings {
+    ghost use Rattle.std.specs.Prelude.{List, ℕ, ◌≤◌};
+    ghost use Rattle.ele_lists.specs.Lists.{AllLater};
+
+    ghost Value = { List ℕ };
+
+    ghost view = { λ closings. closings.moments.items };
+
+    ghost invariant = { λ closings. AllLater ◌≤◌ closings.moments.items };
+}
+
+impl Closings {
+    /// No closing; this takes no memory.
+    pub fn new(alloc: Global) -> Closings
+        ensures { result ≡ [] }
+    {
+        Closings {
+            moments: Vec::new(alloc),
+        }
+    }
+
+    /// Adds a closing. At an error there are those of before:
+    /// - Falls: it comes before the last one.
+    /// - NoMemory: there was no memory for it.
+    pub fn push(&mut self, closed: Moment) -> Result<(), NotClosed>
+        ensures ok { OnOk result (self.new ≡ self.old ++ closed ∷ []) }
+        ensures rises { OnOk result (AllByRecursion (λ other. other ≤ closed) self.old) }
+        ensures err { OnErr result (self.new ≡ self.old) }
+        ensures falls { IfErr result (λ why. why ≡ NotClosed.Falls
+            → IfSome (slice_get self.old (length self.old - 1)) (λ last. closed < last)) }
+    {
+        if self.is_before_last(closed) {
+            return Err(NotClosed::Falls);
+        }
+        match self.moments.push(closed) {
+            Ok(()) => Ok(()),
+            Err(_) => Err(NotClosed::NoMemory),
+        }
+    }
+
+    // Whether the moment comes before the last closing.
+    fn is_before_last(&self, moment: Moment) -> bool
+        ensures before { IsTrue result
+            → IfSome (slice_get self.now (length self.now - 1)) (λ last. moment < last) }
+        ensures behind { result ≡ false → AllByRecursion (λ closed. closed ≤ moment) self.now }
+    {
+        match self.moments.last() {
+            Some(last) => moment.seconds() < last.seconds(),
+            None => false,
+        }
+    }
+
+    /// How many there are.
+    pub fn len(&self) -> usize
+        ensures { result ≡ length self.now }
+    {
+        self.moments.len()
+    }
+
+    /// What is told of the version that the closing at this place made; the first place is 0.
+    pub fn forecast(&self, policy: &Policy, place: usize) -> Forecast
+        requires { place < length self.now }
+        ensures number { result.number ≡ place + 1 }
+        ensures closed { Some result.closed ≡ slice_get self.now place }
+        ensures ended { result.ended ≡ slice_get self.now (place + 1) }
+        ensures tells { (v : FileView) → IsFileOf policy.now self.now v → Tells v result }
+    {
+        self.rise();
+        let number = VersionNo(place as u64 + 1);
+        let closed = self.at(place);
+        match self.next(place) {
+            Some(ended) => followed(policy, number, closed, ended),
+            None => current(number, closed),
+        }
+    }
+
+    /// Says that no closing comes before the one ahead of it, and that there are not too many to be
+    /// numbered.
+    pub fn rise(&self)
+        ensures rises { AllLater ◌≤◌ self.now }
+        ensures few { length self.now < 2 ^ 64 }
+    {
+        self.moments.len();
+    }
+
+    /// The numbers of the versions that stay at the moment: those that have closed by then and may
+    /// not be forgotten. A finished pass at that moment leaves them, whatever was cleaned before.
+    pub fn staying(&self, policy: &Policy, at: Moment) -> Result<Vec<VersionNo>, NoMemory>
+        ensures { IfOk result (λ numbers. AreKept policy.now self.now at numbers.items) }
+    {
+        policy.is_given();
+        at.seconds();
+        self.rise();
+        let mut numbers = Vec::new(*self.moments.allocator());
+        for place in 0..self.len() {
+            if stays(policy, self.at(place), self.next(place), at) {
+                numbers.push(VersionNo(place as u64 + 1))?;
+            }
+        }
+        Ok(numbers)
+    }
+
+    // The closing at that place.
+    fn at(&self, place: usize) -> Moment
+        requires { place < length self.now }
+        ensures { slice_get self.now place ≡ Some result }
+    {
+        self.moments[place]
+    }
+
+    // The closing behind the one at that place, if there is one.
+    fn next(&self, place: usize) -> Option<Moment>
+        requires { place < length self.now }
+        ensures { result ≡ slice_get self.now (place + 1) }
+    {
+        self.moments.get(place + 1).copied()
+    }
+}

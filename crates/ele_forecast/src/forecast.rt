@@ -1,0 +1,137 @@
+//! What is told of one version. A contract sees it as plain data, beside the version's row and the
+//! file that holds it.
+ghost use Rattle.std.specs.Prelude.{◌≡◌, ◌≤◌, ◌<◌, ◌+◌, ◌^◌, Some, None, IfSome, true};
+ghost use Rattle.ele_policy.specs.Ripe.{alone, is_due_by};
+ghost use Rattle.ele_world.specs.FileView.{FileView, ripe_in};
+ghost use Rattle.ele_world.specs.declared.rows.VersionRow.{VersionRow};
+ghost use Rattle.ele_forecast.specs.Followed.{IsFollowed};
+ghost use Rattle.ele_forecast.specs.StaysBehind.{stays};
+ghost use Rattle.ele_forecast.specs.Tells.{IsWhy, TellsOf};
+
+use ele_moment::{Moment, VersionNo};
+use ele_policy::{Interval, Policy, ripe};
+
+/// Why a version may be forgotten from a moment on, or why from none.
+#[derive(Clone, Copy, Debug, PartialEq, Eq)]
+pub enum Why {
+    /// It has no end.
+    Current,
+    /// Its policy never lets it go, or not before the last moment.
+    Never,
+    /// Its policy keeps no version that has ended.
+    AtOnce,
+    /// It has been ended for that long.
+    Age(Interval),
+    /// At the level of the ladder that it has reached by then, the first of which is 1, that newer
+    /// version closed in the same span: the nearest one that did.
+    Displaced { level: usize, by: VersionNo },
+}
+
+/// A version of a file: when it closed and ended, and the moment from which it may be forgotten.
+#[derive(Clone, Copy, Debug, PartialEq, Eq)]
+pub struct Forecast {
+    pub number: VersionNo,
+    pub closed: Moment,
+    pub ended: Option<Moment>,
+    /// The first moment at which it is due, if there is one.
+    pub ripe: Option<Moment>,
+    pub why: Why,
+}
+
+// Why the policy lets a version go from its ripe moment on, behind which that one closed as it ended.
+fn reason(policy: &Policy, closed: Moment, ended: Moment, ripe: Moment, by: VersionNo) -> Why
+    requires { is_due_by policy.now closed (alone (Some ended)) ended ripe ≡ true }
+    ensures { (v : FileView) (row next : VersionRow) → IsFollowed policy.now v row next
+        → row.closed ≡ closed → next.closed ≡ ended → next.number ≡ by
+        → ripe_in v row ≡ Some ripe → IsWhy v row result }
+{
+    match policy {
+        Policy::One => Why::AtOnce,
+        Policy::All => Why::Never,
+        Policy::Safe(interval) => Why::Age(*interval),
+        Policy::Landmarks(ladder) => {
+            let age = ripe.seconds().saturating_sub(ended.seconds());
+            let level = ladder.level(age);
+            Why::Displaced { level, by }
+        }
+    }
+}
+
+// A forecast of these parts.
+fn told(
+    number: VersionNo,
+    closed: Moment,
+    ended: Option<Moment>,
+    ripe: Option<Moment>,
+    why: Why,
+) -> Forecast
+    ensures { result ≡ record {
+      number = number;
+      closed = closed;
+      ended = ended;
+      ripe = ripe;
+      why = why;
+    } }
+{
+    Forecast {
+        number,
+        closed,
+        ended,
+        ripe,
+        why,
+    }
+}
+
+/// What is told of a version without an end.
+pub(crate) fn current(number: VersionNo, closed: Moment) -> Forecast
+    ensures number { result.number ≡ number }
+    ensures closed { result.closed ≡ closed }
+    ensures ended { result.ended ≡ None }
+    ensures tells { (v : FileView) (row : VersionRow) → row.closed ≡ closed → row.ended ≡ None
+        → TellsOf v row result }
+{
+    told(number, closed, None, None, Why::Current)
+}
+
+/// What is told of a version that ended as the next one closed.
+pub(crate) fn followed(
+    policy: &Policy,
+    number: VersionNo,
+    closed: Moment,
+    ended: Moment,
+) -> Forecast
+    requires rises { closed ≤ ended }
+    requires numbered { number + 1 < 2 ^ 64 }
+    ensures number { result.number ≡ number }
+    ensures closed { result.closed ≡ closed }
+    ensures ended { result.ended ≡ Some ended }
+    ensures tells { (v : FileView) (row next : VersionRow) → IsFollowed policy.now v row next
+        → row.closed ≡ closed → next.closed ≡ ended → next.number ≡ number + 1
+        → TellsOf v row result }
+{
+    match ripe(policy, closed, ended, Some(ended)) {
+        Some(moment) => {
+            let why = reason(policy, closed, ended, moment, number.after());
+            told(number, closed, Some(ended), Some(moment), why)
+        }
+        None => told(number, closed, Some(ended), None, Why::Never),
+    }
+}
+
+/// Whether a version that closed then, and ended as the next one closed, stays at the moment.
+pub(crate) fn stays(policy: &Policy, closed: Moment, next: Option<Moment>, at: Moment) -> bool
+    requires { IfSome next (λ ended. closed ≤ ended) }
+    ensures { result ≡ stays policy.now at closed next }
+{
+    if closed.seconds() > at.seconds() {
+        return false;
+    }
+    let Some(ended) = next else {
+        return true;
+    };
+    let goes = ripe(policy, closed, ended, Some(ended));
+    match goes {
+        Some(moment) => moment.seconds() > at.seconds(),
+        None => true,
+    }
+}

@@ -1,0 +1,11 @@
+//! What becomes of the versions of one file, told by the moments at which it closed: from when on
+//! each may be forgotten, and why, and which stay at a moment. A contract sees the closings as their
+//! list, and a forecast as what the definitions of the world say of a file with these versions.
+#![tactic(auto)]
+
+mod closings;
+mod forecast;
+pub mod laws;
+
+pub use closings::{Closings, NotClosed};
+pub use forecast::{Forecast, Why};
