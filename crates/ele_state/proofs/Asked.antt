@@ -1,5 +1,5 @@
 -- What is told of one version, and of the first that are due.
-use Rattle.ele_state.proofs.Words.{◌≡◌, ℕ, Bool, false, ◌&&◌, List, cond, Option, Some, None, refl, ap, sym, ◌∙◌, arith, nat_le, slice_get, filter_map, option_map, option_map_or, nat_tests, world_of, IsSound, former_moment, gained_moment, Rows, Key, has_key, is_ripe_by, Held, Stamps, ripe_at, free_moment, newest_of, due_key, first_due, is_marked, GroupRow, stamps_of, World, is_open, policy_of, in_order_of, ripe_at_near, is_due_is, scan_members}
+use Rattle.ele_state.proofs.Words.{◌≡◌, ℕ, false, ◌&&◌, List, cond, Option, Some, None, refl, ap, sym, ◌∙◌, arith, nat_le, slice_get, filter_map, option_map, option_map_or, nat_tests, world_of, IsSound, former_moment, gained_moment, Rows, Key, has_key, is_ripe_by, Held, Stamps, ripe_at, free_moment, newest_of, due_key, first_due, is_marked, GroupRow, stamps_of, World, is_open, policy_of, in_order_of, ripe_at_near, is_due_is, scan_members}
 use Rattle.ele_due.specs.InOrder.{in_order}
 use Rattle.ele_due.specs.Key.{if_ripe}
 use Rattle.ele_world.specs.Due.{is_due}

@@ -1,5 +1,5 @@
 -- What the rows of a sound core keep.
-use Rattle.ele_state.proofs.Words.{◌≡◌, ℕ, List, Ok, AllLater, Directories, Names, file_now, file_there, next_of, ◌+◌, ◌<◌, ◌≤◌, length, arith, AllByRecursion, IsSound, Rows, all-weaker, IsFile, Counted, Files}
+use Rattle.ele_state.proofs.Words.{AllLater, Directories, ◌+◌, ◌<◌, ◌≤◌, length, arith, AllByRecursion, IsSound, Rows, all-weaker, IsFile, Counted, Files}
 
 pub versions_few : (rows : Rows) → IsSound rows → rows.made.versions + length rows.files.drafts ≤ 1000000
 versions_few rows sound = let counts = sound.formed.holds Counted in let made = counts.versions_made in let most = sound.tracked.bounds.versions in omega arith
@@ -13,7 +13,3 @@ files_before rows sound = all-weaker (IsFile rows.made.files rows.made.versions)
 
 pub directories_placed : (rows : Rows) → IsSound rows → AllLater (λ x y. x.id < y.id) rows.directories.items
 directories_placed rows sound = (sound.formed.holds Directories).placed
-
--- a file to which a path leads is there
-pub file_found : (rows : Rows) (path : List (List ℕ)) (file : ℕ) → IsSound rows → file_now rows.names path ≡ Ok file → 0 < next_of rows.files.files file
-file_found rows path file sound leads = file_there rows.files.files rows.moment rows.names path file (sound.formed.holds Names).each leads

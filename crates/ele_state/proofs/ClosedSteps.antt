@@ -99,9 +99,6 @@ module _ (w : World) (handle file : ℕ) (reads : reads_by w.handles handle ≡ 
 pub number_told : (o : Option FileRow) (n : ℕ) → Some n ≡ option_map (λ (row : FileRow). row.next) o → n ≡ option_map_or (λ (row : FileRow). row.next) o 0
 number_told x0 n e = grind (arith, nat_tests)
 
-pub untold : (o : Option FileRow) → None ≡ option_map (λ (row : FileRow). row.next) o → 0 < option_map_or (λ (row : FileRow). row.next) o 0 → ⊥
-untold x0 e there = grind (arith, nat_tests)
-
 pub bytes_told : (o : Option DraftRow) (n : ℕ) → Some n ≡ option_map (λ (row : DraftRow). length (content_of row.cells)) o → n ≡ length (content_of (option_map_or (λ (row : DraftRow). row.cells) o []))
 bytes_told x0 n e = grind (arith, nat_tests)
 

@@ -1,5 +1,5 @@
 -- The keys and the book, once a file has another policy.
-use Rattle.ele_state.proofs.Words.{IsTold, key_unless, ◌∙◌, None, Versions, all_found, ap, find, is_marked, moment_under, near_moment, next_closing, option_and_then, option_map, rows_of, ◌≡◌, ℕ, ◌<◌, ◌==◌, Bool, true, false, cond, not, ◌&&◌, ◌||◌, List, ◌∷◌, Option, Some, refl, sym, subst, arith, filter, map, AllByRecursion, filter_map, list_any, option_map_or, nat_tests, world_of, IsSound, IsQueued, is_under, key_under, unread_under, held_world, IsBooked, Rows, Key, has_key, is_key, Held, changed_at, found_passes, any-found, Kind, Policy, IsLawful, is_kind, kind_of, Usage, Book, sums_of, only_at, plus, Fits, IsWithin, GroupRow, Stamps, VersionRow, PutUnder, after_change, is_moment, is_version_of, stamps_of, file_usage, usage_of, usages, Bounded, World, is_version, next_of, policy_of, in_order_of, ripe_at_near, put_under_keeps, usage_same, usages_fit, [], HasParts, cons_option}
+use Rattle.ele_state.proofs.Words.{IsTold, key_unless, ◌∙◌, Versions, all_found, ap, find, is_marked, moment_under, near_moment, next_closing, option_and_then, option_map, rows_of, ◌≡◌, ℕ, ◌<◌, ◌==◌, Bool, true, false, cond, not, ◌&&◌, ◌||◌, List, ◌∷◌, Option, Some, refl, sym, subst, arith, filter, map, AllByRecursion, filter_map, list_any, option_map_or, nat_tests, world_of, IsSound, IsQueued, is_under, key_under, unread_under, held_world, IsBooked, Rows, Key, has_key, is_key, Held, changed_at, found_passes, any-found, Kind, Policy, IsLawful, is_kind, kind_of, Usage, Book, sums_of, only_at, plus, Fits, IsWithin, GroupRow, Stamps, VersionRow, PutUnder, after_change, is_moment, is_version_of, stamps_of, file_usage, usage_of, usages, Bounded, World, is_version, next_of, policy_of, in_order_of, ripe_at_near, put_under_keeps, usage_same, usages_fit, [], HasParts, cons_option}
 use Rattle.ele_state.proofs.Booked.{booked, plus-cancel, same_kind}
 use Rattle.ele_state.proofs.Following.{follows}
 use Rattle.ele_world.proofs.PolicyUsage.{file_within, policy_usage}

@@ -26,10 +26,6 @@ module _ (rows : Rows) (sound : IsSound rows) where
   lost_are_present directory name None is = tt
   lost_are_present directory name (Some lost) is = lost_is_present directory name lost (sym is)
 
-  pub homes : (path : List (List ℕ)) (r : Result (ℕ × List ℕ) Refusal) → r ≡ parent_now rows.names path → IfOk r (λ at. IsHome (world_of rows) at.0)
-  homes path (Ok at) is = parent_is_home path at (sym is)
-  homes path (Err refusal) is = tt
-
   pub files_there : (path : List (List ℕ)) (r : Result ℕ Refusal) → r ≡ file_now rows.names path → IfOk r (λ file. 0 < next_of rows.files.files file)
   files_there path (Ok file) is = file_is_there path file (sym is)
   files_there path (Err refusal) is = tt

@@ -1,4 +1,4 @@
-use Rattle.ele_state.proofs.Words.{ℕ, Option, [], ◌++◌, Key, Policy, Stamps, ap, sym, ◌∙◌, cons_option, filter_map, key_under, take}
+use Rattle.ele_state.proofs.Words.{Option, [], ◌++◌, Key, Policy, Stamps, ap, sym, ◌∙◌, cons_option, filter_map, key_under, take}
 use Rattle.ele_state.proofs.Marked.{one_more}
 use Rattle.ele_state.proofs.policy.rekeyed.Goals as goal
 
