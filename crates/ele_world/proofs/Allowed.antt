@@ -5,7 +5,7 @@ use Rattle.ele_world.proofs.Words.{is_named, last_target, may_return, nameless, 
 use Rattle.ele_world.proofs.Words.{version_meant, live_target, parent_now, IsPolicy, default_of, DirectoryRow, Counted, Directories, Versions, Drafts, next_of, is_draft, is_draft_after, Event, MakeDir, Create, Undelete, OpenWrite, OpenRead, Close, Revert, CleanOne, Read, DraftRow, VersionRow}
 use Rattle.ele_time_path.specs.declared.tagged.Tag.TheVariants as tag
 use Rattle.ele_lists.proofs.Cuts.{any-found}
-use Rattle.ele_world.proofs.May.{HasRoom, MayName, MayAdd, MayRevive, MayAppend, MayTake, MayPlan}
+use Rattle.ele_world.proofs.May.{HasRoom, MayName, MayAdd, MayRevive, MayAppend, MayClean, MayPlan}
 use Rattle.ele_world.proofs.DueRows.{first_is_due, due_has_ended, due_is_unread}
 use Rattle.ele_world.proofs.Homes.{parent_home}
 use Rattle.ele_world.proofs.Meant.{is_meant, meant_held, is_at}
@@ -32,7 +32,7 @@ may_revive w at lost file named none returns room = grind (arith, nat_tests, any
 begun : (w : World) (file : ℕ) → list_any (is_draft file) (insert_before (is_draft_after file) (new_draft w file) w.drafts) ≡ true
 begun w file = grind (arith, nat_tests, list_any-insert_before)
 
-pub takes : (w : World) (key : Key) → HasParts w → first_due w ≡ Some key → MayTake CleanOne w w key.file key.number
+pub takes : (w : World) (key : Key) → HasParts w → first_due w ≡ Some key → MayClean CleanOne w w key.file key.number
 takes w key k first = grind (arith, nat_tests, k.holds Versions, first_is_due w key (k.holds Versions).placed first, due_has_ended w, found_passes, due_is_unread)
 
 -- the draft becomes a version, once the last handle and the draft have gone

@@ -14,10 +14,10 @@ use Rattle.ele_world.proofs.BothDrafts.{drop_both, end_draft_both, open_both, sh
 use Rattle.ele_world.proofs.BothNames.{add_both, directory_both, end_both, end_file_both, govern_both, move_both, time_both}
 use Rattle.ele_world.proofs.BothSteps.{both_after, same_reply}
 use Rattle.ele_world.proofs.BothVersions.{append_both, make_both}
-use Rattle.ele_world.proofs.Keeps.{change_keeps}
+use Rattle.ele_world.proofs.Keeps.{event_keeps}
 use Rattle.ele_world.proofs.Lagging.{next_same, stays_name}
 use Rattle.ele_world.proofs.LiveNames.{names_in_stay, stands_stays, target_stays, walk_stays}
-use Rattle.ele_world.proofs.May.{May}
+use Rattle.ele_world.proofs.May.{MayBy}
 use Rattle.ele_world.proofs.Outcomes.{InAll, asking_stays}
 use Rattle.ele_world.proofs.Walks.{file_live, target_live}
 
@@ -55,8 +55,8 @@ module _ (gone : ℕ → ℕ → Bool) (dropped : ℕ → Bool) (v : World) (b :
   }
 
   -- a change that may be made
-  one : (event : Event) → IsEvent event → (change : Change) → May event v v change → (HasParts (after_change v change) → Behind gone dropped (after_change behind change) (after_change v change)) → Lags (after_change behind change) (after_change v change)
-  one event is change may both = lagging gone dropped (after_change behind change) (after_change v change) (both (change_keeps event v v change is may b.formed))
+  one : (event : Event) → IsEvent event → (change : Change) → MayBy event v v change → (HasParts (after_change v change) → Behind gone dropped (after_change behind change) (after_change v change)) → Lags (after_change behind change) (after_change v change)
+  one event is change may both = lagging gone dropped (after_change behind change) (after_change v change) (both (event_keeps event v v change is may b.formed))
 
   target_there : (target : Target) (directory : ℕ) (name : List ℕ) → live_target v.names directory name ≡ Some target → is_dropped dropped target ≡ false
   target_there (Directory id) directory name is = refl
@@ -89,7 +89,7 @@ module _ (gone : ℕ → ℕ → Bool) (dropped : ℕ → Bool) (v : World) (b :
     c = ShutHandle handle
 
     shut_behind : Behind gone dropped (after_change behind c) (after_change v c)
-    shut_behind = shut_both gone dropped behind v b handle (change_keeps (Close handle) v v c is tt b.formed)
+    shut_behind = shut_both gone dropped behind v b handle (event_keeps (Close handle) v v c is tt b.formed)
 
     shut : Lagging (c ∷ [])
     shut = lagging gone dropped (after_change behind c) (after_change v c) shut_behind
@@ -99,7 +99,7 @@ module _ (gone : ℕ → ℕ → Bool) (dropped : ℕ → Bool) (v : World) (b :
       d = EndDraft file
 
       ended_behind : Behind gone dropped (after_changes behind (c ∷ d ∷ [])) (after_changes v (c ∷ d ∷ []))
-      ended_behind = end_draft_both gone dropped (after_change behind c) (after_change v c) shut_behind file (change_keeps (Close handle) v (after_change v c) d is last shut_behind.formed)
+      ended_behind = end_draft_both gone dropped (after_change behind c) (after_change v c) shut_behind file (event_keeps (Close handle) v (after_change v c) d is last shut_behind.formed)
 
       file_there : 0 < next_of v.files file
       file_there =
@@ -107,12 +107,12 @@ module _ (gone : ℕ → ℕ → Bool) (dropped : ℕ → Bool) (v : World) (b :
           let passes = found_passes (is_draft file) v.drafts draft drafted in
           grind (arith, nat_tests, its.there, passes)
 
-      finished : May (Close handle) v (after_changes v (c ∷ d ∷ [])) (Append file draft.opened draft.cells) → Lagging (c ∷ d ∷ Append file draft.opened draft.cells ∷ [])
+      finished : MayBy (Close handle) v (after_changes v (c ∷ d ∷ [])) (Append file draft.opened draft.cells) → Lagging (c ∷ d ∷ Append file draft.opened draft.cells ∷ [])
       finished may =
           let a = Append file draft.opened draft.cells in
           let v2 : World = after_changes v (c ∷ d ∷ []) in
           let u2 : World = after_changes behind (c ∷ d ∷ []) in
-          lagging gone dropped (after_change u2 a) (after_change v2 a) (append_both gone dropped u2 v2 ended_behind file draft.opened draft.cells file_there (draft_there file draft drafted) (change_keeps (Close handle) v v2 a is may ended_behind.formed))
+          lagging gone dropped (after_change u2 a) (after_change v2 a) (append_both gone dropped u2 v2 ended_behind file draft.opened draft.cells file_there (draft_there file draft drafted) (event_keeps (Close handle) v v2 a is may ended_behind.formed))
 
       vanished : Lagging (c ∷ d ∷ DropIdle file ∷ [])
       vanished = drop_both gone dropped (after_changes behind (c ∷ d ∷ [])) (after_changes v (c ∷ d ∷ [])) ended_behind file file_there (draft_there file draft drafted)
@@ -149,8 +149,8 @@ module _ (gone : ℕ → ℕ → Bool) (dropped : ℕ → Bool) (v : World) (b :
         let may = (allowed v (OpenWrite path) b.formed file leads room).1 none versions in
         let c = StartDraft file in
         let d = OpenHandle (v.made.handles + 1) (Draft file) in
-        let then = start_both gone dropped behind v b file (file_live v.names path file leads) (change_keeps (OpenWrite path) v v c is may.0 b.formed) in
-        lagging gone dropped (after_changes behind (c ∷ d ∷ [])) (after_changes v (c ∷ d ∷ [])) (open_both gone dropped (after_change behind c) (after_change v c) then (v.made.handles + 1) file (change_keeps (OpenWrite path) v (after_change v c) d is may.1.0 then.formed)),
+        let then = start_both gone dropped behind v b file (file_live v.names path file leads) (event_keeps (OpenWrite path) v v c is may.0 b.formed) in
+        lagging gone dropped (after_changes behind (c ∷ d ∷ [])) (after_changes v (c ∷ d ∷ [])) (open_both gone dropped (after_change behind c) (after_change v c) then (v.made.handles + 1) file (event_keeps (OpenWrite path) v (after_change v c) d is may.1.0 then.formed)),
   ))
   names_lag (Close handle) is plain changes = by_plan (Close handle) (close_same handle) (λ read found. (
     λ reader. shut handle is,

@@ -3,7 +3,7 @@
 use Rattle.ele_world.proofs.Basics.{◌≡◌, ℕ, ◌-◌, ◌<◌, ◌≤◌, true, false, List, [], Option, Some, None, refl, ap, sym, subst, ◌∙◌, arith, find, AllByRecursion, option_or, false≢true, nat_tests, all-found, find-insert_before, find-inserted, not_found, remove_first, all-not_found, all-remove_first, all-weaker, found_passes, AllLater, ◌++◌, ◌∷◌, list_any, cases_lt, update_first, all-filter, all-both, all-push}
 use Rattle.ele_world.proofs.Words.{Cell, current_cells, Change, Time, EndFileName, Revive, MakeFile, Append, Take, DropIdle, after_change, ended_at, next_version, with_end, with_file, with_name, with_version, covers, lives_at, ArePlaced, IsVersion, Versions, HasParts, World, is_live, is_version, is_version_after, next_of, Event, NameRow, File, VersionRow, MakeDirectory, EndName, AddName, MoveName, born_row, dies, is_live_name, IsNameRow, Names, is_live_name_of, Target, Directory}
 use Rattle.ele_world.proofs.Dropped.{dropped, dropped_versions, stays_named}
-use Rattle.ele_world.proofs.May.{May}
+use Rattle.ele_world.proofs.May.{MayBy}
 use Rattle.ele_world.proofs.Moves.{IsBehind, IsPast, change_past, Moves, row_of, found_updated, Same, Ended, Taken, change_moves}
 use Rattle.ele_world.proofs.Stays.{held_past}
 use Rattle.ele_world.proofs.Versions.{IsEndedBy, other_ended}
@@ -145,7 +145,7 @@ data From (w u : World) (known : Known) (file number : ℕ) (row : VersionRow) :
   New : row_of w file number ≡ None → row_of u file number ≡ Some row → row.closed ≡ u.now → From w u known file number row
 
 -- the time never goes back
-change_later : (event : Event) (first w : World) (change : Change) → May event first w change → w.now ≤ (after_change w change).now
+change_later : (event : Event) (first w : World) (change : Change) → MayBy event first w change → w.now ≤ (after_change w change).now
 change_later event first w (Time to) may = may.0
 change_later event first w (DropIdle of) may = dropped (λ v. w.now ≤ v.now) w of (λ idle. omega arith) (λ busy. omega arith)
 change_later event first w change may = omega arith
@@ -162,7 +162,7 @@ pub record IsTurn (start : ℕ) (event : Event) (first w : World) (change : Chan
   pub first_held : (file number : ℕ) (row : VersionRow) → row_of first file number ≡ Some row → before file number ≡ Some row
   pub formed : HasParts w
   pub formed_after : HasParts (after_change w change)
-  pub may : May event first w change
+  pub may : MayBy event first w change
   pub known : AreKnown start w (known_in w before)
 
 module _ (start : ℕ) (event : Event) (first w : World) (change : Change) (before : Known) (t : IsTurn start event first w change before) where

@@ -4,7 +4,7 @@ use Rattle.ele_world.proofs.Words.{World, Event, Change, Time, VersionRow, HasPa
 use Rattle.ele_world.specs.LifeStays.{LivesAsBefore}
 use Rattle.ele_world.proofs.Allowed.{allowed}
 use Rattle.ele_world.proofs.Keeps.{reached}
-use Rattle.ele_world.proofs.May.{May, MayAll}
+use Rattle.ele_world.proofs.May.{MayBy, MayAll}
 use Rattle.ele_world.proofs.Moves.{IsPast, change_past, Moves, Same, Ended, Taken, change_moves}
 use Rattle.ele_world.proofs.Stays.{held_past}
 use Rattle.ele_world.proofs.Versions.{IsFound, all_found}
@@ -23,7 +23,7 @@ moved event first since now rows row None after le was (Ended e) = λ later mome
 moved event first since now rows row (Some old) after le was (Ended e) = λ later moment found less. grind (arith, e, found, was old moment, ends old now moment)
 moved event first since now rows row before after le was (Taken w may is e) = λ later moment found less. absurd cc
 
-goes_on : (event : Event) (first w : World) (change : Change) → May event first w change → w.now ≤ (after_change w change).now
+goes_on : (event : Event) (first w : World) (change : Change) → MayBy event first w change → w.now ≤ (after_change w change).now
 goes_on event first w (Time to) may = grind (arith, nat_tests)
 goes_on event first w change may = grind (arith, nat_tests)
 

@@ -1,72 +1,12 @@
--- What each change needs, so that it leaves a well-formed world, and takes only what was due.
-use Rattle.ele_world.proofs.Basics.{◌≡◌, ℕ, ◌+◌, ◌<◌, ◌≤◌, true, false, List, [], ◌∷◌, length, Some, is_some, is_none, find, list_any}
-use Rattle.ele_world.proofs.Words.{Cell, longest_content, last_moment, Policy, Change, Time, Govern, MakeDirectory, EndName, AddName, MoveName, EndFileName, Revive, MakeFile, PutUnder, Append, Take, StartDraft, WriteDraft, TruncateDraft, EndDraft}
-use Rattle.ele_world.proofs.Words.{OpenHandle, MakeGroup, AddMember, AddMark, after_change, is_due_at, has_group, has_member, is_marked_at, is_live_in, is_live_directory, Plan, IsEvent, live_target, IsPolicy, IsThere, IsDirectoryThere, has_directory}
-use Rattle.ele_world.proofs.Words.{is_reached, IsContent, AreWrittenBy, IsReadable, IsHeldRead, World, next_of, is_version, is_live, current_of, is_open, has_draft, is_writer, Event, CleanOne, Reads, Target, File, Directory, VersionRow}
+-- What each change of an event needs: what it needs of the world, by what the event's types say of it; and a version leaves only
+-- where it was due.
+use Rattle.ele_world.proofs.Basics.{◌≡◌, ℕ, ◌≤◌, true, false, List, [], ◌∷◌, Some, is_none, find}
+use Rattle.ele_world.proofs.Words.{last_moment, Change, Time, Govern, PutUnder, Take, after_change, is_due_at, Plan, IsEvent, IsPolicy, World, is_version, is_open, Event, CleanOne, VersionRow}
 use Rattle.ele_world.proofs.Outcomes.{InAll}
-
-abbrev pub HasRoom : World → Type 0
-HasRoom w = w.made.versions + length w.drafts < w.limits.versions
-
--- a new name, in a directory that is there
-pub record MayName (w : World) (directory : ℕ) (name : List ℕ) : Type 0 where
-  pub room : w.made.names < w.limits.names
-  pub free : is_some (live_target w.names directory name) ≡ false
-  pub home : has_directory w.directories directory ≡ true
-  pub reached : is_reached w.names directory ≡ true
-
-pub record MayMakeDirectory (w : World) (directory : ℕ) (name : List ℕ) (id : ℕ) (policy : Policy) : Type 0 where
-  pub next : id ≡ w.made.directories + 1
-  pub directories : w.made.directories < w.limits.directories
-  pub named : MayName w directory name
-  pub valid : IsPolicy policy
-
--- the name is of a directory that has no live name in it
-pub record MayEnd (w : World) (directory : ℕ) (name : List ℕ) : Type 0 where
-  pub id : ℕ
-  pub stands : live_target w.names directory name ≡ Some (Directory id)
-  pub empty : list_any (is_live_in id) w.names ≡ false
-
--- a file that has a live name, or a directory that has none
-abbrev pub MayHaveMore : World → Target → Type 0
-MayHaveMore w (File file) = is_live w file ≡ true
-MayHaveMore w (Directory id) = list_any (is_live_directory id) w.names ≡ false
-
-pub record MayAdd (w : World) (directory : ℕ) (name : List ℕ) (target : Target) : Type 0 where
-  pub named : MayName w directory name
-  pub there : IsThere w.files target
-  pub housed : IsDirectoryThere w.directories target
-  pub more : MayHaveMore w target
-
--- the old name stands for what is moved
-pub record MayMove (w : World) (from : ℕ) (old : List ℕ) (to : ℕ) (new : List ℕ) (target : Target) : Type 0 where
-  pub stands : live_target w.names from old ≡ Some target
-  pub named : MayName w to new
-
--- the file has no live name, and its last version is held
-pub record MayRevive (w : World) (directory : ℕ) (name : List ℕ) (file : ℕ) : Type 0 where
-  pub named : MayName w directory name
-  pub nameless : is_live w file ≡ false
-  pub last : VersionRow
-  pub held : current_of w file ≡ Some last
-  pub room : HasRoom w
-
-pub record MayMake (w : World) (directory : ℕ) (name : List ℕ) (id : ℕ) (policy : Policy) : Type 0 where
-  pub next : id ≡ w.made.files + 1
-  pub files : w.made.files < w.limits.files
-  pub named : MayName w directory name
-  pub room : HasRoom w
-  pub valid : IsPolicy policy
-
-pub record MayAppend (w : World) (file opened : ℕ) (cells : List Cell) : Type 0 where
-  pub there : 0 < next_of w.files file
-  pub by_now : opened ≤ w.now
-  pub room : HasRoom w
-  pub content : IsContent cells
-  pub written : AreWrittenBy (next_of w.files file) cells
+pub use Rattle.ele_world.specs.May.{HasRoom, MayName, MayMakeDirectory, MayEnd, MayHaveMore, MayAdd, MayMove, MayRevive, MayMake, MayAppend, MayTake, MayStart, MayOpen, MayGroup, MayJoin, MayMark, May}
 
 -- a version leaves only by a clean, before whose changes it was due
-pub record MayTake (event : Event) (first w : World) (file number : ℕ) : Type 0 where
+pub record MayClean (event : Event) (first w : World) (file number : ℕ) : Type 0 where
   pub clean : event ≡ CleanOne
   pub row : VersionRow
   pub found : find (is_version file number) first.versions ≡ Some row
@@ -75,62 +15,18 @@ pub record MayTake (event : Event) (first w : World) (file number : ℕ) : Type 
   pub unread : is_open w.handles file number ≡ false
   pub same : w.versions ≡ first.versions
 
-pub record MayStart (w : World) (file : ℕ) : Type 0 where
-  pub there : 0 < next_of w.files file
-  pub none : has_draft w file ≡ false
-  pub room : HasRoom w
-
-pub record MayOpen (w : World) (number : ℕ) (reads : Reads) : Type 0 where
-  pub next : number ≡ w.made.handles + 1
-  pub room : w.made.handles < w.limits.handles
-  pub drafted : IsReadable w.drafts reads
-  pub held : IsHeldRead w.versions reads
-
--- no group has the name yet
-pub record MayGroup (w : World) (name : List ℕ) : Type 0 where
-  pub room : w.made.groups < w.limits.groups
-  pub free : has_group w.groups name ≡ false
-
--- the file is there, and not yet in the group
-pub record MayJoin (w : World) (name : List ℕ) (file : ℕ) : Type 0 where
-  pub there : 0 < next_of w.files file
-  pub room : w.made.members < w.limits.members
-  pub free : has_member w.groups name file ≡ false
-
--- the moment has passed, and the group isn't marked at it yet
-pub record MayMark (w : World) (name : List ℕ) (mark : ℕ) : Type 0 where
-  pub past : mark < w.now
-  pub room : w.made.marks < w.limits.marks
-  pub free : is_marked_at w.groups name mark ≡ false
-
 -- the change, by an event and from the world before the event's first change
-abbrev pub May : Event → World → World → Change → Type 0
-May event first w (Time to) = (w.now ≤ to) × (IsEvent event → to ≤ last_moment)
-May event first w (Govern directory policy) = IsEvent event → IsPolicy policy
-May event first w (MakeDirectory directory name id policy) = MayMakeDirectory w directory name id policy
-May event first w (EndName directory name) = MayEnd w directory name
-May event first w (AddName directory name target) = MayAdd w directory name target
-May event first w (MoveName from old to new target) = MayMove w from old to new target
-May event first w (EndFileName directory name file) = live_target w.names directory name ≡ Some (File file)
-May event first w (Revive directory name file) = MayRevive w directory name file
-May event first w (MakeFile directory name id policy) = MayMake w directory name id policy
-May event first w (PutUnder file policy) = IsEvent event → IsPolicy policy
-May event first w (Append file opened cells) = MayAppend w file opened cells
-May event first w (Take file number) = MayTake event first w file number
-May event first w (StartDraft file) = MayStart w file
-May event first w (WriteDraft file offset bytes) = offset + length bytes ≤ longest_content
-May event first w (TruncateDraft file size) = size ≤ longest_content
-May event first w (EndDraft file) = list_any (is_writer file) w.handles ≡ false
-May event first w (OpenHandle number reads) = MayOpen w number reads
-May event first w (MakeGroup name) = MayGroup w name
-May event first w (AddMember name file) = MayJoin w name file
-May event first w (AddMark name mark) = MayMark w name mark
-May event first w change = Unit {0}
+abbrev pub MayBy : Event → World → World → Change → Type 0
+MayBy event first w (Time to) = (w.now ≤ to) × (IsEvent event → to ≤ last_moment)
+MayBy event first w (Govern directory policy) = IsEvent event → IsPolicy policy
+MayBy event first w (PutUnder file policy) = IsEvent event → IsPolicy policy
+MayBy event first w (Take file number) = MayClean event first w file number
+MayBy event first w change = May w change
 
 -- each in its turn
 abbrev pub MayAll : Event → World → World → List Change → Type 0
 MayAll event first w [] = Unit {0}
-MayAll event first w (change ∷ changes) = May event first w change × MayAll event first (after_change w change) changes
+MayAll event first w (change ∷ changes) = MayBy event first w change × MayAll event first (after_change w change) changes
 
 -- where the checks pass, the changes may be made
 abbrev pub MayPlan : Event → World → Plan → Type 0

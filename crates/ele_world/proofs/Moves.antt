@@ -4,7 +4,7 @@ use Rattle.ele_world.proofs.Basics.{not_found, find-insert_before, find-remove_f
 use Rattle.ele_world.proofs.Words.{Cell, Change, MakeFile, PutUnder, Append, Take, after_change, ended_at, next_version, with_end, with_file, with_name, with_version, EndFileName, Revive, DropIdle, without_name, current_cells, numbered_on, put_under}
 use Rattle.ele_world.proofs.Words.{ArePlaced, World, next_of, is_version, is_version_after, is_live, is_file, Event, FileRow, File, VersionRow}
 use Rattle.ele_world.proofs.Dropped.{dropped_versions}
-use Rattle.ele_world.proofs.May.{May, MayTake}
+use Rattle.ele_world.proofs.May.{MayBy, MayClean}
 
 -- ---- a number that was given isn't given again
 
@@ -30,7 +30,7 @@ past_numbered files of file number = grind (arith, nat_tests, all-update_first (
 not_next : (w : World) (of file number opened : ℕ) (cells : List Cell) → IsPast w file number → is_version file number (next_version w of opened cells) ≡ false
 not_next w of file number opened cells is = grind (arith, nat_tests, found_passes, all-found)
 
-pub change_past : (event : Event) (first w : World) (change : Change) (file number : ℕ) → May event first w change → IsPast w file number → IsPast (after_change w change) file number
+pub change_past : (event : Event) (first w : World) (change : Change) (file number : ℕ) → MayBy event first w change → IsPast w file number → IsPast (after_change w change) file number
 change_past event first w (MakeFile directory name id policy) file number may is = grind (arith, nat_tests, past_numbered, all-push)
 change_past event first w (PutUnder of policy) file number may is = grind (arith, nat_tests, all-update_first (is_file of) (IsBehind file number) (IsBehind file number) (put_under policy) w.files)
 change_past event first w (Append of opened cells) file number may is = record { given = is.given; first = is.first; past = past_numbered w.files of file number is.past }
@@ -43,7 +43,7 @@ change_past event first w change file number may is = record { given = is.given;
 pub data Moves (event : Event) (first : World) (now : ℕ) (rows : List VersionRow) (file number : ℕ) (before after : Option VersionRow) : Type 0 where
   Same : after ≡ before → Moves event first now rows file number before after
   Ended : after ≡ option_map (ended_at now) before → Moves event first now rows file number before after
-  Taken : (w : World) → MayTake event first w file number → rows ≡ w.versions → after ≡ None → Moves event first now rows file number before after
+  Taken : (w : World) → MayClean event first w file number → rows ≡ w.versions → after ≡ None → Moves event first now rows file number before after
 
 -- the version's row, if it is held
 abbrev pub row_of : World → ℕ → ℕ → Option VersionRow
@@ -69,10 +69,10 @@ module _ (event : Event) (first : World) (file number : ℕ) where
   appends : (w : World) (of opened : ℕ) (cells : List Cell) → is_version file number (next_version w of opened cells) ≡ false → MovesTo w (with_version w of opened cells).versions
   appends w of opened cells other = rw (find-insert_before (is_version_after of (next_of w.files of)) (is_version file number) (next_version w of opened cells) (with_end w of) other) (ends w of)
 
-  takes : (w : World) (of taken : ℕ) → MayTake event first w of taken → AllLater ArePlaced first.versions → of ≡ file → taken ≡ number → MovesTo w (remove_first (is_version of taken) w.versions)
+  takes : (w : World) (of taken : ℕ) → MayClean event first w of taken → AllLater ArePlaced first.versions → of ≡ file → taken ≡ number → MovesTo w (remove_first (is_version of taken) w.versions)
   takes w of taken may placed a b = Taken w (rw (a, b) at may) refl (grind (arith, nat_tests, removed_gone of taken w.versions, may.same))
 
-  pub change_moves : (w : World) (change : Change) → AllLater ArePlaced first.versions → May event first w change → IsPast w file number → MovesTo w (after_change w change).versions
+  pub change_moves : (w : World) (change : Change) → AllLater ArePlaced first.versions → MayBy event first w change → IsPast w file number → MovesTo w (after_change w change).versions
   change_moves w (MakeFile directory name id policy) placed may is = appends (with_name (with_file w id policy) directory name (File id)) id w.now [] (grind (arith, nat_tests, is.given, may.next))
   change_moves w (Append of opened cells) placed may is = appends w of opened cells (not_next w of file number opened cells is)
   change_moves w (Revive directory name of) placed may is = appends (with_name w directory name (File of)) of w.now (current_cells w of) (not_next (with_name w directory name (File of)) of file number w.now (current_cells w of) (record { given = is.given; first = is.first; past = is.past }))

@@ -2,12 +2,12 @@
 -- each file has a version or a draft.
 use Rattle.ele_world.proofs.Basics.{rules, ◌≡◌, ◌==◌, ℕ, Bool, true, false, not, ◌||◌, List, [], ◌∷◌, arith, AllByRecursion, list_any, false≢true, not-true, nat_tests, update_first, remove_first, filter-passes, all-push, all-weaker, all-both}
 use Rattle.ele_world.proofs.Basics.{all-update_first, all-remove_first, found_passes, list_any-update_first, list_any-insert_before, list_any-remove_first, any-found, remove_first-key}
-use Rattle.ele_world.proofs.Words.{Cell, Policy, Take, MakeFile, PutUnder, EndFileName, EndDraft, DropIdle, ShutHandle, StartDraft, after_change, is_idle, numbered_on, put_under, with_file, with_name, with_version, without_file, is_version_of, IsEvent}
+use Rattle.ele_world.proofs.Words.{Change, Cell, Policy, Take, MakeFile, PutUnder, EndFileName, EndDraft, DropIdle, ShutHandle, StartDraft, after_change, is_idle, numbered_on, put_under, with_file, with_name, with_version, without_file, is_version_of, IsEvent}
 use Rattle.ele_world.proofs.Words.{HasNoIdle, run_of, plan, step, Files, Current, HasParts, World, is_file, is_draft, has_draft, Event, Close, CleanOne, Read, DraftRow, FileRow, File}
 use Rattle.ele_lists.proofs.Cuts.{any-found as first_passing}
 use Rattle.ele_world.proofs.Allowed.{takes}
 use Rattle.ele_world.proofs.Dropped.{dropped}
-use Rattle.ele_world.proofs.Keeps.{change_keeps}
+use Rattle.ele_world.proofs.Keeps.{event_keeps}
 use Rattle.ele_world.proofs.KeptDrafts.{same_file, end_keeps, shut_keeps}
 use Rattle.ele_world.proofs.Outcomes.{AfterAll, in_all}
 use Rattle.ele_world.proofs.StepKeeps.{step_keeps}
@@ -69,6 +69,27 @@ idle_gone w file k but = dropped AreBusy w file (λ idle. gone) (λ busy. grind 
   gone = all-weaker (λ row. (not (row.id == file) ≡ true) × ((row.id == file) ≡ false → has_rows w row.id ≡ true)) (λ row. has_rows w row.id ≡ true) (remove_first (is_file file) w.files) (λ row h. h.1 (not-true (row.id == file) h.0))
       (all-both _ _ (remove_first (is_file file) w.files) others (all-remove_first (is_file file) (λ row. (row.id == file) ≡ false → has_rows w row.id ≡ true) w.files but))
 
+-- no file is idle exactly where each has rows
+busy_all : (w : World) → HasParts w → HasNoIdle w → AreBusy w
+busy_all w k none = all-weaker (λ row. is_idle w row.id ≡ false) (λ row. has_rows w row.id ≡ true) w.files (λ row h. busy_is w row.id k h) none
+
+idle_none : (w : World) → AreBusy w → HasNoIdle w
+idle_none w all = all-weaker (λ row. has_rows w row.id ≡ true) (λ row. is_idle w row.id ≡ false) w.files (λ row h. grind (arith, nat_tests)) all
+
+-- ---- each change by which no version and no draft goes
+
+abbrev pub LeavesRows : Change → Type 0
+LeavesRows (Take file number) = ⊥
+LeavesRows (EndDraft file) = ⊥
+LeavesRows change = Unit {0}
+
+busy_still : (w : World) (change : Change) → LeavesRows change → HasParts w → AreBusy w → AreBusy (after_change w change)
+busy_still w (DropIdle file) leaves k all = idle_gone w file k (all-weaker (λ row. has_rows w row.id ≡ true) (λ row. (row.id == file) ≡ false → has_rows w row.id ≡ true) w.files (λ row h apart. h) all)
+busy_still w change leaves k all = search (rules, made, grown, nameless, begun, edited, same_file, put)
+
+pub change_settles : (w : World) (change : Change) → LeavesRows change → HasParts w → HasNoIdle w → HasNoIdle (after_change w change)
+change_settles w change leaves k none = idle_none (after_change w change) (busy_still w change leaves k (busy_all w k none))
+
 -- ---- each event
 
 tidy : (w : World) (event : Event) → HasParts w → AreBusy w → AfterAll w (λ answer. AreBusy (answer.1)) (plan w event)
@@ -87,7 +108,7 @@ tidy w (Close handle) k all = λ read found. (
     ),
   ),
 )
-tidy w CleanOne k all = (λ none. all, λ key first. idle_gone (after_change w (Take key.file key.number)) key.file (change_keeps CleanOne w w (Take key.file key.number) tt (takes w key k first) k) (taken w key.file key.number all))
+tidy w CleanOne k all = (λ none. all, λ key first. idle_gone (after_change w (Take key.file key.number)) key.file (event_keeps CleanOne w w (Take key.file key.number) tt (takes w key k first) k) (taken w key.file key.number all))
 tidy w (Read source) k all = grind (arith, nat_tests)
 tidy w event k all = search (rules, made, grown, nameless, begun, edited, same_file, put)
 

@@ -3,7 +3,7 @@ use Rattle.ele_world.proofs.Basics.{◌≡◌, ℕ, true, false, List, [], ◌�
 use Rattle.ele_world.proofs.Words.{Change, after_change, after_changes, last_stood, HasOneLife, NamesOneLife, OneLife, HasLivesFrom, NamesOneLifeFrom, OneLifeFrom, run_of, PoliciesAreLawful, plan, step, had_closed, had_life, last_number, lives_at, version_living, ArePlaced, Versions, HasParts, World, fresh_world, is_held, is_version, Event, Forgotten, VersionRow, IsEvent}
 use Rattle.ele_lists.proofs.Cuts.{any-found as first_passing}
 use Rattle.ele_world.proofs.Allowed.{allowed}
-use Rattle.ele_world.proofs.Keeps.{change_keeps, reached}
+use Rattle.ele_world.proofs.Keeps.{event_keeps, reached}
 use Rattle.ele_world.proofs.Known.{change_known, known_first, Known, known_in, HadLife, IsCovered, AreKnown, or_none}
 use Rattle.ele_world.proofs.Moves.{row_of}
 use Rattle.ele_world.proofs.May.{MayAll}
@@ -25,7 +25,7 @@ all_known : (start : ℕ) (event : Event) (first w : World) (changes : List Chan
     → IsEvent event → HasParts w → MayAll event first w changes → AreKnown start w (known_in w before) → AreKnown start (after_changes w changes) (known_in (after_changes w changes) before)
 all_known start event first w [] before placed first_held is k may s = s
 all_known start event first w (change ∷ changes) before placed first_held is k may s =
-    let k' = change_keeps event first w change is may.0 k in
+    let k' = event_keeps event first w change is may.0 k in
     all_known start event first (after_change w change) changes before placed first_held is k' may.1
     (change_known start event first w change before (record { placed = placed; first_held = first_held; formed = k; formed_after = k'; may = may.0; known = s }))
 

@@ -20,6 +20,8 @@ pub mod Restorable
 pub mod Plan
 pub mod Step
 pub mod WellFormed
+pub mod May
+pub mod ChangeKeeps
 pub mod Parts
 pub mod Run
 pub mod Ready

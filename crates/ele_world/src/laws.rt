@@ -1,6 +1,7 @@
 //! What every event does to a well-formed world, and so what is true of every run: each law is the contract of a function that
 //! does nothing.
 ghost use Rattle.ele_world.specs.CleanKeepsKeys.{CleanKeepsKeys};
+ghost use Rattle.ele_world.specs.ChangeKeeps.{ChangeKeepsWellFormed};
 ghost use Rattle.ele_world.specs.CloseKeeps.{CloseKeeps};
 ghost use Rattle.ele_world.specs.CreateLeads.{CreateLeads};
 ghost use Rattle.ele_world.specs.AlwaysWellFormed.{FreshIsWellFormed, StepKeepsWellFormed, AlwaysWellFormed};
@@ -39,6 +40,14 @@ use ele_policy::laws::policies_are_lawful;
 pub fn fresh_is_well_formed()
     ensures { FreshIsWellFormed }
 {}
+
+/// A change that may be made leaves a well-formed world well formed.
+#[tactic(auto, using(crate::proofs::Keeps::change_keeps_well_formed))]
+pub fn change_keeps_well_formed()
+    ensures { ChangeKeepsWellFormed }
+{
+    policies_are_lawful();
+}
 
 /// An event leaves a well-formed world well formed.
 #[tactic(auto, using(crate::proofs::StepKeeps::step_keeps_well_formed))]

@@ -1,0 +1,40 @@
+-- What is told of one version, and of the first that are due.
+use Rattle.ele_state.proofs.Words.{◌≡◌, ℕ, Bool, false, ◌&&◌, List, cond, Option, Some, None, refl, ap, sym, ◌∙◌, arith, nat_le, slice_get, filter_map, option_map, option_map_or, nat_tests, world_of, IsSound, former_moment, gained_moment, Rows, Key, has_key, is_ripe_by, Held, Stamps, ripe_at, free_moment, newest_of, due_key, first_due, is_marked, GroupRow, stamps_of, World, is_open, policy_of, in_order_of, ripe_at_near, is_due_is, scan_members}
+use Rattle.ele_due.specs.InOrder.{in_order}
+use Rattle.ele_due.specs.Key.{if_ripe}
+use Rattle.ele_world.specs.Due.{is_due}
+use Rattle.ele_world.specs.Scan.{scan}
+
+-- the due rows have the keys of the queue that are ripe
+pub due_keys : (rows : Rows) → IsSound rows → (k : Key) → has_key k (filter_map (due_key (world_of rows)) rows.files.versions) ≡ (is_ripe_by rows.moment k && has_key k rows.queue)
+due_keys rows sound k = scan_members (world_of rows) sound.formed k ∙ ap (λ b. is_ripe_by rows.moment k && b) (sym (sound.tracked.queue k))
+
+pub scan_is : (w : World) → in_order (filter_map (due_key w) w.versions) ≡ scan w
+unfolding scan
+scan_is w = refl
+
+-- the first of the queue is the first of the scan, if it is ripe
+pub first_is : (rows : Rows) (first : Option Key) → IsSound rows
+    → ((moment : ℕ) (ripe : List Key) → ((k : Key) → has_key k ripe ≡ (is_ripe_by moment k && has_key k rows.queue)) → slice_get (in_order ripe) 0 ≡ if_ripe moment first) → if_ripe rows.moment first ≡ first_due (world_of rows)
+unfolding scan
+first_is rows first sound is = sym (is rows.moment (filter_map (due_key (world_of rows)) rows.files.versions) (due_keys rows sound))
+
+-- a version is due where its key is ripe and in the queue
+pub due_by_key : (rows : Rows) (file number : ℕ) → IsSound rows → is_due (world_of rows) file number ≡ option_map_or (λ m. nat_le m rows.moment && has_key (record { ripe = m; file = file; number = number }) rows.queue) (ripe_at (world_of rows) file number) false
+due_by_key rows file number sound = grind (arith, nat_tests, is_due_is (world_of rows) file number sound.formed)
+
+-- the ripe moment of a version, by whether a handle reads it
+pub ripe_told : (rows : Rows) (file number : ℕ) → IsSound rows → ripe_at (world_of rows) file number ≡ cond (is_open rows.files.handles file number) None (free_moment rows.groups rows.files.files rows.files.versions file number)
+ripe_told rows file number sound = ripe_at_near (world_of rows) file number (in_order_of (world_of rows) sound.formed)
+
+-- the moment that the newest version gets, by what is told of it
+abbrev gained_by : List GroupRow → Held → ℕ → ℕ → ℕ → ℕ → Option ℕ → Option ℕ
+gained_by groups h file now number closed ended = cond (is_open h.handles file number) None (gained_moment (is_marked groups file) (policy_of h.files file) now closed ended)
+
+pub former_told : (groups : List GroupRow) (h : Held) (file now : ℕ) (newest : Stamps) → option_map stamps_of (newest_of h.versions file) ≡ Some newest
+    → former_moment groups h file now ≡ gained_by groups h file now newest.number newest.closed newest.ended
+former_told groups h file now newest told = grind (arith, nat_tests)
+
+-- a file that isn't there has no policy, and so no moment
+pub ungoverned : (marks : ℕ → Option ℕ → Bool) (now closed : ℕ) (ended : Option ℕ) → gained_moment marks None now closed ended ≡ None
+ungoverned marks now closed x3 = grind (arith, nat_tests)

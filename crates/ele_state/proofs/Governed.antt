@@ -1,0 +1,97 @@
+-- The keys and the book, once a file has another policy.
+use Rattle.ele_state.proofs.Words.{rows_of, ◌≡◌, ℕ, ◌<◌, ◌==◌, Bool, true, false, cond, not, ◌&&◌, ◌||◌, List, ◌∷◌, Option, Some, refl, sym, subst, arith, filter, map, AllByRecursion, filter_map, list_any, option_map_or, nat_tests, world_of, IsSound, IsQueued, is_under, key_under, unread_under, held_world, IsBooked, Rows, Key, has_key, is_key, Held, changed_at, found_passes, any-found, Kind, Policy, IsLawful, is_kind, kind_of, Usage, Book, sums_of, only_at, plus, Fits, IsWithin, GroupRow, Stamps, VersionRow, PutUnder, after_change, is_moment, is_version_of, stamps_of, file_usage, usage_of, usages, Bounded, World, is_version, next_of, policy_of, in_order_of, ripe_at_near, put_under_keeps, usage_same, usages_fit, [], HasParts, cons_option}
+use Rattle.ele_state.proofs.Booked.{booked, plus-cancel, same_kind}
+use Rattle.ele_state.proofs.Following.{follows}
+use Rattle.ele_world.proofs.PolicyUsage.{file_within, policy_usage}
+use Rattle.ele_world.proofs.PolicyMoments.{policy_others, policy_own}
+
+-- ---- the keys of a file's versions
+
+module _ (groups : List GroupRow) (h : Held) (file : ℕ) (policy other : Policy) where
+  abbrev its : ℕ → Option Key
+  its number = key_under groups h file policy other number
+
+  -- a version's key is the key exactly if its number is the key's and the key is one of those
+  is_its : (k : Key) (number : ℕ) → option_map_or (is_key k) (its number) false ≡ ((number == k.number) && is_under groups h file policy other k)
+  is_its k number = grind (arith, nat_tests)
+
+  told_key : (rows : List VersionRow) (k : Key) → has_key k (filter_map (λ (s : Stamps). its s.number) (map stamps_of (filter (is_version_of file) rows))) ≡ (list_any (is_version file k.number) rows && is_under groups h file policy other k)
+  told_key [] k = refl
+  told_key (row ∷ rows) k = elim (row.file == file) as (λ b. (row.file == file) ≡ b → has_key k (filter_map (λ (s : Stamps). its s.number) (map stamps_of (cond b (row ∷ filter (is_version_of file) rows) (filter (is_version_of file) rows)))) ≡ (((b && (row.number == k.number)) || list_any (is_version file k.number) rows) && is_under groups h file policy other k)) [
+    | true ↦ λ e. more (its row.number) (is_its k row.number) (told_key rows k)
+    | false ↦ λ e. told_key rows k
+  ] refl where
+    rest : List Key
+    rest = filter_map (λ (s : Stamps). its s.number) (map stamps_of (filter (is_version_of file) rows))
+
+    and_or : (a b c : Bool) → ((a && c) || (b && c)) ≡ ((a || b) && c)
+    and_or x0 b c = grind (arith, nat_tests)
+
+    more : (o : Option Key) → option_map_or (is_key k) o false ≡ ((row.number == k.number) && is_under groups h file policy other k) → has_key k rest ≡ (list_any (is_version file k.number) rows && is_under groups h file policy other k)
+        → has_key k (cons_option o rest) ≡ (((row.number == k.number) || list_any (is_version file k.number) rows) && is_under groups h file policy other k)
+    more x0 is then = grind (arith, nat_tests, and_or)
+
+  -- so those told of the file's versions are just those
+  pub keys_told : (keys : List Key) → keys ≡ filter_map (λ (s : Stamps). its s.number) (map stamps_of (filter (is_version_of file) h.versions)) → (k : Key) → has_key k keys ≡ is_under groups h file policy other k
+  keys_told keys is k = grind (arith, nat_tests, told_key h.versions k, any-found, found_passes)
+
+-- ---- the queue
+
+module _ (w : World) (file : ℕ) (was policy : Policy) (k : HasParts w) (filed : policy_of w.files file ≡ Some was) (there : 0 < next_of w.files file) (given : IsLawful policy) where
+  abbrev h : Held
+  h = rows_of w
+
+  abbrev v : World
+  v = after_change w (PutUnder file policy)
+
+  module _ (queue between : List Key) (queued : IsQueued w queue) where
+    -- the queue has a version's key under the policy that the file had
+    had : (j : Key) → (j.file == file) ≡ true → has_key j queue ≡ is_moment j.ripe (unread_under w.groups was h file j.number)
+    had j own = grind (arith, nat_tests, ripe_at_near w file j.number (in_order_of w k), in_order_of w k)
+
+    -- with the keys that come, and without those that go, it has those of all versions
+    governed_in : (after : List Key) → ((j : Key) → has_key j between ≡ (is_under w.groups h file policy was j || has_key j queue)) → ((j : Key) → has_key j after ≡ (not (is_under w.groups h file was policy j) && has_key j between)) → IsQueued v after
+    governed_in after came went = grind (arith, nat_tests, follows, policy_others w file policy k, had, policy_own)
+
+    -- none of those that come was there
+    pub ungoverned_in : ((j : Key) → has_key j between ≡ (not (is_under w.groups h file policy was j) && has_key j queue)) → IsQueued w between
+    ungoverned_in stays j = grind (arith, nat_tests, had)
+
+module _ (rows : Rows) (file : ℕ) (was policy : Policy) (between after : List Key) (sound : IsSound rows) (filed : policy_of rows.files.files file ≡ Some was) (there : 0 < next_of rows.files.files file) (given : IsLawful policy) where
+  pub governed_queue : ((j : Key) → has_key j between ≡ (is_under rows.groups rows.files file policy was j || has_key j rows.queue)) → ((j : Key) → has_key j after ≡ (not (is_under rows.groups rows.files file was policy j) && has_key j between)) → IsQueued (after_change (world_of rows) (PutUnder file policy)) after
+  governed_queue = governed_in (world_of rows) file was policy sound.formed filed there given rows.queue between sound.tracked.queue after
+
+  pub ungoverned_queue : ((j : Key) → has_key j between ≡ (not (is_under rows.groups rows.files file policy was j) && has_key j rows.queue)) → IsQueued (world_of rows) between
+  ungoverned_queue = ungoverned_in (world_of rows) file was policy sound.formed filed there given rows.queue between sound.tracked.queue
+
+-- ---- the book
+
+kinds_apart : (a b : Kind) → (a ≡ b → ⊥) → is_kind a b ≡ false
+kinds_apart x0 x1 other = grind (arith, nat_tests)
+
+fits_at : (w : World) → AllByRecursion Fits (usages w) → (k : Kind) → Fits (usage_of w k)
+fits_at w all x2 = grind (arith, nat_tests)
+
+module _ (rows : Rows) (file : ℕ) (was : Policy) (sound : IsSound rows) (filed : policy_of rows.files.files file ≡ Some was) where
+  abbrev uses : Usage
+  uses = file_usage rows.files.versions rows.files.drafts file
+
+  -- the kind that the file leaves has what it uses
+  pub uses_within : IsWithin uses (sums_of rows.book (kind_of was))
+  uses_within = subst (IsWithin uses) (sym (booked rows sound.tracked (kind_of was))) (file_within (world_of rows) file was was sound.formed filed)
+
+  module _ (policy : Policy) (given : IsLawful policy) where
+    abbrev now : World
+    now = after_change (world_of rows) (PutUnder file policy)
+
+    -- and the one to which it comes has room for it
+    pub uses_fit : (kind_of was ≡ kind_of policy → ⊥) → Fits (plus (sums_of rows.book (kind_of policy)) uses)
+    uses_fit other =
+        let formed = put_under_keeps (world_of rows) file policy given.given sound.formed in
+        let moves = policy_usage (world_of rows) file was policy sound.formed filed (kind_of policy) in
+        grind (arith, nat_tests, moves, kinds_apart, same_kind, booked rows sound.tracked (kind_of policy), fits_at now (usages_fit now formed (formed.holds Bounded)) (kind_of policy))
+
+    -- once it has moved the book follows
+    pub governed_book : (book : Book) → ((k : Kind) → plus (sums_of book k) (only_at (kind_of was) uses k) ≡ plus (sums_of rows.book k) (only_at (kind_of policy) uses k)) → IsBooked (changed_at rows.files 0 (PutUnder file policy ∷ [])) book
+    governed_book book moved k =
+        grind (arith, nat_tests, plus-cancel (sums_of book k) (usage_of now k) (only_at (kind_of was) uses k), moved k, booked rows sound.tracked k, policy_usage (world_of rows) file was policy sound.formed filed k, usage_same (held_world (changed_at rows.files 0 (PutUnder file policy ∷ []))) now refl refl refl k)

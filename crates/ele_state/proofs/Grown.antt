@@ -1,0 +1,44 @@
+-- What a file's next version leaves, whatever its content comes from.
+use Rattle.ele_state.proofs.Words.{◌≡◌, ℕ, ◌+◌, ◌<◌, ◌||◌, List, arith, refl, ◌∙◌, ap, Bool, Book, HasSource, Held, IsOwed, IsQueued, IsReady, IsRoomy, IsSound, IsSource, IsTracked, Key, MayGrow, NewKeys, Rows, Source, World, after_changes, appending, blocks_of, cells_of_draft, cells_of_version, content_of, has_key, is_draft, is_live, is_new, length, may_grow, new_keys, next_of, next_version, remove_first, rows_after, source_cells, with_rows, world_of, drafts-removed}
+use Rattle.ele_state.proofs.Appended.{appended_queue}
+use Rattle.ele_state.proofs.Booked.{few}
+use Rattle.ele_state.proofs.Bounded.{rows_few, versions_few}
+use Rattle.ele_state.proofs.ClosedSteps.{finished_queue, numbered, past}
+use Rattle.ele_state.proofs.ClosedSums.{HasAdded, version_owed}
+use Rattle.ele_world.specs.World.{is_handle}
+use Rattle.ele_state.specs.declared.append.Source.TheVariants.{Draft, Version}
+
+-- ---- what a sound state has
+
+pub roomy : (rows : Rows) → IsSound rows → IsRoomy rows
+roomy rows sound = record { made = grind (arith, versions_few rows sound); sums = few rows sound }
+
+pub ready : (rows : Rows) (file : ℕ) (source : Source) → IsSound rows → IsSource rows.files file source → IsReady rows.files rows.moment file source
+ready rows file source sound is = record { is = is; few = omega (arith, rows_few rows sound); numbered = numbered rows sound; past = past rows sound }
+
+-- ---- what follows
+
+module _ (rows : Rows) (file : ℕ) (tracked : IsTracked rows) where
+  abbrev w : World
+  w = world_of rows
+
+  abbrev h : Held
+  h = rows.files
+
+  pub grows : (source : Source) → 0 < next_of h.files file → HasSource rows file source → MayGrow w file
+  grows (Draft handle opened) there has = may_grow w file has.grows there
+  grows (Version number) there has = has.grows
+
+  pub grown_queue : (source : Source) (after : List Key) (live : Bool) (keys : NewKeys) → HasSource rows file source → live ≡ is_live w file → keys ≡ new_keys rows.groups h file rows.moment live → ((j : Key) → has_key j after ≡ (is_new keys j || has_key j rows.queue))
+      → IsQueued (after_changes w (appending h rows.moment file source)) after
+  grown_queue (Draft handle opened) after live keys has lives are = finished_queue w handle file has.ready.is.reads opened has.ready.is.changed has.grows rows.queue after live keys tracked.queue lives are
+  grown_queue (Version number) after live keys has lives are = appended_queue w file rows.moment (cells_of_version h file number) has.grows rows.queue after tracked.queue keys (are ∙ ap (new_keys rows.groups h file rows.moment) lives)
+
+  pub grown_owed : (source : Source) (after : Held) (book : Book) (bytes before : ℕ) → after ≡ rows_after w h (appending h rows.moment file source) → bytes ≡ length (content_of (source_cells h file source)) → before ≡ blocks_of h → HasAdded after file rows.book book bytes → IsOwed after book file before
+  grown_owed (Draft handle opened) = version_owed rows file (next_version w file opened (cells_of_draft h file)) (remove_first (is_draft file) h.drafts) (remove_first (is_handle handle) h.handles) refl (drafts-removed file h.drafts) tracked
+  grown_owed (Version number) = version_owed rows file (next_version w file rows.moment (cells_of_version h file number)) h.drafts h.handles refl refl tracked
+
+  -- the world with the files that have it, once it is counted
+  pub grown_world : (source : Source) (after : Held) → after ≡ rows_after w h (appending h rows.moment file source) → with_rows (record w { made = record w.made { versions = w.made.versions + 1 } }) after ≡ after_changes w (appending h rows.moment file source)
+  grown_world (Draft handle opened) after is = rw is refl
+  grown_world (Version number) after is = rw is refl

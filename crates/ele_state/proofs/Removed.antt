@@ -1,0 +1,49 @@
+-- A clean event takes the row of the first key, and that key.
+use Rattle.ele_state.proofs.Words.{DropIdle, ap, refl, step, nat_tests, ◌≡◌, ℕ, ◌+◌, Bool, true, List, length, Some, None, sym, subst, ◌∙◌, arith, find, option_map, content_of, world_of, IsSound, IsQueued, IsRekeyed, held_world, blocks_of, one_version, of_file, IsOwed, Rows, Key, Held, without, remove_first, length-remove_first, Kind, Book, sums_of, plus, Fits, IsWithin, VersionRow, first_due, Take, after_change, HasParts, CleanOne, is_file_of, bytes_in, usage_of, ChangesOnly, World, is_version, takes, event_keeps, IsDueKey, sum_by-remove_first, usage_changes, changes_removed}
+use Rattle.ele_state.proofs.Booked.{few, owed, and_none, size, bytes_are}
+use Rattle.ele_state.proofs.Following.{entry_follows}
+use Rattle.ele_world.proofs.CleanKeepsKeys.{take_keeps_keys}
+
+-- the queue without the first key
+pub removed_queue : (rows : Rows) (key : Key) (queue : List Key) → IsSound rows → first_due (world_of rows) ≡ Some key → IsRekeyed key.file key.number (Some key.ripe) None rows.queue queue
+    → IsQueued (record (world_of rows) { versions = remove_first (is_version key.file key.number) rows.files.versions }) queue
+removed_queue rows key queue sound first taken =
+    let w = world_of rows in
+    let one = take_keeps_keys w key sound.formed first in
+    entry_follows w (after_change w (Take key.file key.number)) rows.queue queue sound.tracked.queue key.file key.number one.others (rw (one.was, one.gone) taken)
+
+-- a well-formed world stays so
+pub removed_keeps : (rows : Rows) (key : Key) (v : World) → IsSound rows → first_due (world_of rows) ≡ Some key → v ≡ after_change (world_of rows) (Take key.file key.number) → HasParts v
+removed_keeps rows key v sound first is = let w = world_of rows in subst HasParts (sym is) (event_keeps CleanOne w w (Take key.file key.number) tt (takes w key sound.formed first) sound.formed)
+
+-- and with the file of which nothing is left the clean event is done
+pub removed_step : (rows : Rows) (key : Key) (between v : World) → first_due (world_of rows) ≡ Some key → between ≡ after_change (world_of rows) (Take key.file key.number) → v ≡ after_change between (DropIdle key.file) → v ≡ (step (world_of rows) CleanOne).1
+removed_step rows key between v first taken dropped = dropped ∙ ap (λ (u : World). after_change u (DropIdle key.file)) taken ∙ rw first refl
+
+-- ---- the book
+
+bytes-removed : (p : VersionRow → Bool) (xs : List VersionRow) (row : VersionRow) → find p xs ≡ Some row → bytes_in (remove_first p xs) + length (content_of row.cells) ≡ bytes_in xs
+bytes-removed p xs row e = omega (arith, bytes_are (remove_first p xs), bytes_are xs, sum_by-remove_first size p xs row e)
+
+-- the version is in what its kind uses
+pub removed_within : (rows : Rows) (file number : ℕ) (row : VersionRow) (now : Held) → IsSound rows → find (is_version file number) rows.files.versions ≡ Some row → now ≡ without rows.files file number → (k : Kind) → is_file_of now.files k file ≡ true → IsWithin (one_version (length (content_of row.cells))) (sums_of rows.book k)
+removed_within rows file number row now sound found after k of =
+    let w = held_world rows.files in
+    grind (arith, nat_tests, usage_changes file w (held_world (without rows.files file number)) (changes_removed file number w) k, length-remove_first (is_version file number) rows.files.versions row found, bytes-removed (is_version file number) rows.files.versions row found, sound.tracked.book k)
+
+pub removed_owed : (rows : Rows) (file number before : ℕ) (row : VersionRow) (now : Held) (book : Book) → IsSound rows → find (is_version file number) rows.files.versions ≡ Some row → before ≡ blocks_of rows.files → now ≡ without rows.files file number → ((k : Kind) → plus (sums_of book k) (of_file now file (one_version (length (content_of row.cells))) k) ≡ sums_of rows.book k) → IsOwed now book file before
+removed_owed rows file number before row now book sound found is after taken =
+    let w = held_world rows.files in
+    subst (IsOwed now book file) (sym is)
+    (owed file rows.files now book 0 0 1 (length (content_of row.cells))
+    (subst (λ (h : Held). ChangesOnly file w (held_world h)) (sym after) (changes_removed file number w))
+    (rw after (omega (arith, length-remove_first (is_version file number) rows.files.versions row found)))
+    (rw after (omega (arith, bytes-removed (is_version file number) rows.files.versions row found)))
+    (λ k. taken k ∙ sound.tracked.book k ∙ sym (and_none (usage_of w k) (is_file_of now.files k file))))
+
+pub removed_fits : (rows : Rows) (book : Book) (now : Held) (file bytes : ℕ) → IsSound rows → ((k : Kind) → plus (sums_of book k) (of_file now file (one_version bytes) k) ≡ sums_of rows.book k) → (k : Kind) → Fits (record (sums_of book k) { blocks = 0 })
+removed_fits rows book now file bytes sound taken k = grind (arith, nat_tests, few rows sound k)
+
+-- how many bytes it had
+pub removed_bytes : (w : World) (key : Key) (first : IsDueKey w key) (bytes : ℕ) → Some bytes ≡ option_map (λ (row : VersionRow). length (content_of row.cells)) (find (is_version key.file key.number) w.versions) → bytes ≡ length (content_of first.row.cells)
+removed_bytes w key first bytes e = let e' = rw first.found at e in cc

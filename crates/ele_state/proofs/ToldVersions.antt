@@ -1,0 +1,53 @@
+-- Where a path leads by the names of any moment, and what is told of the version that its tag means.
+use Rattle.ele_state.proofs.Words.{Names, HasParts, is_held, meant_held, true, arith, nat_tests, ◌≡◌, ℕ, List, ◌∷◌, Option, Result, Ok, Err, refl, ap, subst, AllByRecursion, option_map_or, result_map_both, all-found, target_at, version_at, version_found, version_meant, walk_meant, stamps_of, file_at, walk_now, IsNameRow, IsThere, World, Refusal, Stamps, Target, File, Directory, VersionRow, is_at, is_meant, file_there, []}
+use Rattle.ele_state.specs.Told.{found_of}
+use Rattle.ele_time_path.specs.declared.tagged.Tag.{Tag}
+use Rattle.ele_time_path.specs.declared.tagged.TaggedPath.{TaggedPath}
+use Rattle.ele_world.specs.WalkAt.{walk_covering}
+use Rattle.ele_world.specs.declared.refusal.Refusal.TheVariants.{NoEntry}
+
+-- ---- where a path leads is there
+
+module _ (w : World) (formed : HasParts w) where
+  each : AllByRecursion (IsNameRow w.files w.now) w.names
+  each = (formed.holds Names).each
+
+  walked_there : (moment : ℕ) (at target : Target) (names : List (List ℕ)) → IsThere w.files at → walk_covering w.names moment at names ≡ Ok target → IsThere w.files target
+  walked_there moment at target [] so h = let same : at ≡ target = cc in subst (IsThere w.files) same so
+  walked_there moment (File file) target (name ∷ names) so h = absurd cc
+  walked_there moment (Directory directory) target (name ∷ names) so h =
+      go (λ next so. walked_there moment next target names so) (target_at w.names moment directory name) refl h where
+        go : ((next : Target) → IsThere w.files next → walk_covering w.names moment next names ≡ Ok target → IsThere w.files target) → (o : Option Target) → target_at w.names moment directory name ≡ o → option_map_or (λ target. walk_covering w.names moment target names) o (Err NoEntry) ≡ Ok target → IsThere w.files target
+        go onward x1 e h = grind (arith, nat_tests, all-found, each)
+
+  now_there : (path : List (List ℕ)) (target : Target) → walk_now w.names path ≡ Ok target → IsThere w.files target
+  now_there path (File file) h = file_there w.files w.now w.names path file each (ap file_at h)
+  now_there path (Directory directory) h = tt
+
+  pub meant_there : (path : List (List ℕ)) (t : Tag) (target : Target) → walk_meant w path t ≡ Ok target → IsThere w.files target
+  meant_there path x1 target h = grind (arith, nat_tests, now_there, walked_there)
+
+-- ---- the version that is meant, by its stamps
+
+record HasMeant (w : World) (t : Tag) (file : ℕ) (stamps : Stamps) : Type 0 where
+  row : VersionRow
+  meant : version_meant w.files w.versions file t ≡ Ok row
+  same : stamps ≡ stamps_of row
+
+has_meant : (w : World) (t : Tag) (file : ℕ) (stamps : Stamps) → Ok stamps ≡ result_map_both stamps_of (λ refusal. refusal) (version_meant w.files w.versions file t) → HasMeant w t file stamps
+has_meant w t file stamps is = grind (arith, nat_tests)
+
+pub told_found : (w : World) (found : Result ℕ Refusal) (t : Tag) (file : ℕ) (stamps : Stamps) → found ≡ Ok file → Ok stamps ≡ result_map_both stamps_of (λ refusal. refusal) (version_meant w.files w.versions file t) → Ok (file, stamps) ≡ found_of (version_found w found t)
+told_found w found t file stamps leads is = let m = has_meant w t file stamps is in let own = (is_meant w.files w.versions file t m.row m.meant).own in rw (leads, m.meant) (cc (m.same, own))
+
+pub record IsTold (w : World) (tagged : TaggedPath) (found : ℕ × Stamps) : Type 0 where
+  pub row : VersionRow
+  pub meant : version_at w tagged ≡ Ok row
+  pub is : found ≡ (row.file, stamps_of row)
+
+pub told_row : (w : World) (tagged : TaggedPath) (found : ℕ × Stamps) → Ok found ≡ found_of (version_at w tagged) → IsTold w tagged found
+told_row w tagged found h = grind (arith, nat_tests)
+
+-- so it is held
+pub found_held : (w : World) (tagged : TaggedPath) (found : ℕ × Stamps) → Ok found ≡ found_of (version_at w tagged) → is_held w found.0 found.1.number ≡ true
+found_held w tagged found h = let told = told_row w tagged found h in rw told.is (meant_held w told.row.file told.row (is_at w tagged told.row told.meant))

@@ -1,0 +1,43 @@
+-- What a path leads to is there, and so is what a dead name stood for.
+use Rattle.ele_state.proofs.Words.{◌≡◌, ◌<◌, ℕ, true, List, Option, Some, None, Result, Ok, Err, IfOk, IfSome, Refusal, sym, arith, nat_tests, AllByRecursion, all-weaker, Homes, IsHome, IsHoused, IsNameRow, IsPresent, IsSound, IsThere, IsDirectoryThere, Names, Rows, Target, file_live, file_now, file_there, is_live, is_named, last_dead, last_has, next_of, parent_home, parent_now, walk_meant, world_of}
+use Rattle.ele_state.proofs.ToldVersions.{meant_there}
+use Rattle.ele_time_path.specs.declared.tagged.Tag.{Tag}
+
+module _ (rows : Rows) (sound : IsSound rows) where
+  pub parent_is_home : (path : List (List ℕ)) (at : ℕ × List ℕ) → parent_now rows.names path ≡ Ok at → IsHome (world_of rows) at.0
+  parent_is_home path at found = let home = parent_home (world_of rows) path at sound.formed found in record { there = home.0; reached = home.1 }
+
+  pub file_is_there : (path : List (List ℕ)) (file : ℕ) → file_now rows.names path ≡ Ok file → 0 < next_of rows.files.files file
+  file_is_there path file leads = file_there rows.files.files rows.moment rows.names path file (sound.formed.holds Names).each leads
+
+  pub file_is_live : (path : List (List ℕ)) (file : ℕ) → file_now rows.names path ≡ Ok file → is_live (world_of rows) file ≡ true
+  file_is_live path file leads = file_live rows.names path file leads
+
+  lost_is : (P : Target → Type 0) (directory : ℕ) (name : List ℕ) (lost : Target) → AllByRecursion (λ row. P row.target) rows.names → last_dead rows.names directory name ≡ Some lost → P lost
+  lost_is P directory name lost all h = grind (arith, nat_tests, last_has (is_named directory name) (λ row. P row.target) rows.names)
+
+  pub lost_is_present : (directory : ℕ) (name : List ℕ) (lost : Target) → last_dead rows.names directory name ≡ Some lost → IsPresent (world_of rows) lost
+  lost_is_present directory name lost last = record {
+    file = lost_is (IsThere rows.files.files) directory name lost (all-weaker (IsNameRow rows.files.files rows.moment) (λ row. IsThere rows.files.files row.target) rows.names (λ row h. h.there) (sound.formed.holds Names).each) last;
+    directory = lost_is (IsDirectoryThere rows.directories.items) directory name lost (all-weaker (IsHoused rows.directories.items rows.names) (λ row. IsDirectoryThere rows.directories.items row.target) rows.names (λ row h. h.there) (sound.formed.holds Homes).each) last;
+  }
+
+  pub lost_are_present : (directory : ℕ) (name : List ℕ) (o : Option Target) → o ≡ last_dead rows.names directory name → IfSome o (λ target. IsPresent (world_of rows) target)
+  lost_are_present directory name None is = tt
+  lost_are_present directory name (Some lost) is = lost_is_present directory name lost (sym is)
+
+  pub homes : (path : List (List ℕ)) (r : Result (ℕ × List ℕ) Refusal) → r ≡ parent_now rows.names path → IfOk r (λ at. IsHome (world_of rows) at.0)
+  homes path (Ok at) is = parent_is_home path at (sym is)
+  homes path (Err refusal) is = tt
+
+  pub files_there : (path : List (List ℕ)) (r : Result ℕ Refusal) → r ≡ file_now rows.names path → IfOk r (λ file. 0 < next_of rows.files.files file)
+  files_there path (Ok file) is = file_is_there path file (sym is)
+  files_there path (Err refusal) is = tt
+
+  pub files_live : (path : List (List ℕ)) (r : Result ℕ Refusal) → r ≡ file_now rows.names path → IfOk r (λ file. is_live (world_of rows) file ≡ true)
+  files_live path (Ok file) is = file_is_live path file (sym is)
+  files_live path (Err refusal) is = tt
+
+  pub targets_there : (path : List (List ℕ)) (t : Tag) (r : Result Target Refusal) → r ≡ walk_meant (world_of rows) path t → IfOk r (λ target. IsThere rows.files.files target)
+  targets_there path t (Ok target) is = meant_there (world_of rows) sound.formed path t target (sym is)
+  targets_there path t (Err refusal) is = tt

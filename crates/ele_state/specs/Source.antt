@@ -1,0 +1,62 @@
+-- Where the content of a file's next version comes from. No public clause cites this module.
+use Rattle.std.specs.Prelude.{◌≡◌, ℕ, ◌+◌, ◌≤◌, ◌<◌, ◌^◌, false, List, [], ◌∷◌, length, Some, Ok, IsSome, find}
+use Rattle.std.specs.List.{AllByRecursion, list_any}
+use Rattle.ele_content.specs.declared.cell.Cell.{Cell}
+use Rattle.ele_files.specs.Closing.{IsPast, finishing, opening_by}
+use Rattle.ele_files.specs.Held.{Held, cells_of_draft, cells_of_version}
+use Rattle.ele_policy.specs.declared.policy.Kind.{Kind}
+use Rattle.ele_state.specs.Inside.{world_of}
+use Rattle.ele_state.specs.Tracked.{IsFew}
+use Rattle.ele_state.specs.declared.append.Source.{Source}
+use Rattle.ele_state.specs.declared.append.Source.TheVariants.{Draft, Version}
+use Rattle.ele_state.specs.declared.rows.Rows.{Rows}
+use Rattle.ele_usage.specs.Book.{sums_of}
+use Rattle.ele_world.proofs.AppendMoments.{MayGrow}
+use Rattle.ele_world.specs.Change.{Change, Append}
+use Rattle.ele_world.specs.Parts.{HasParts}
+use Rattle.ele_world.specs.World.{is_draft, is_version, reads_by}
+use Rattle.ele_world.specs.declared.rows.Reads.TheVariants as reads
+
+-- the changes by which the file gets the version
+abbrev pub appending : Held → ℕ → ℕ → Source → List Change
+appending h now file (Draft handle opened) = finishing h handle file opened
+appending h now file (Version number) = Append file now (cells_of_version h file number) ∷ []
+
+-- the cells that it gets
+abbrev pub source_cells : Held → ℕ → Source → List Cell
+source_cells h file (Draft handle opened) = cells_of_draft h file
+source_cells h file (Version number) = cells_of_version h file number
+
+-- the last handle of a changed draft, or a held version of a file without a draft
+pub record IsLast (h : Held) (file handle opened : ℕ) : Type 0 where
+  pub reads : reads_by h.handles handle ≡ Ok (reads.Draft file)
+  pub changed : opening_by h handle ≡ Some opened
+
+pub record IsHeldAlone (h : Held) (file number : ℕ) : Type 0 where
+  pub held : IsSome (find (is_version file number) h.versions)
+  pub undrafted : list_any (is_draft file) h.drafts ≡ false
+
+abbrev pub IsSource : Held → ℕ → Source → Type 0
+IsSource h file (Draft handle opened) = IsLast h file handle opened
+IsSource h file (Version number) = IsHeldAlone h file number
+
+-- what the files need to make it
+pub record IsReady (h : Held) (now file : ℕ) (source : Source) : Type 0 where
+  pub is : IsSource h file source
+  pub few : length h.versions + length h.drafts ≤ 2 ^ 50
+  pub numbered : AllByRecursion (λ row. row.next < 2 ^ 62) h.files
+  pub past : AllByRecursion (IsPast now) h.versions
+
+-- what the queue needs to follow: a world that is well formed, or is but for the names of the file
+abbrev pub Grows : Rows → ℕ → Source → Type 0
+Grows rows file (Draft handle opened) = HasParts (world_of rows)
+Grows rows file (Version number) = MayGrow (world_of rows) file
+
+pub record HasSource (rows : Rows) (file : ℕ) (source : Source) : Type 0 where
+  pub ready : IsReady rows.files rows.moment file source
+  pub grows : Grows rows file source
+
+-- there is room for one more, in the counts and in the sums
+pub record IsRoomy (rows : Rows) : Type 0 where
+  pub made : rows.made.versions ≤ 1000000
+  pub sums : (k : Kind) → IsFew (sums_of rows.book k)

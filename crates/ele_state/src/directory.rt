@@ -1,0 +1,117 @@
+//! Directories, and the policies that they give.
+ghost use Rattle.std.specs.Prelude.{◌≡◌, ◌<◌, ◌+◌, IfOk, OnErr, find, is_some, position, false};
+ghost use Rattle.std.specs.Option.{option_copied};
+ghost use Rattle.ele_lists.specs.Lists.{update_first, AllLater};
+ghost use Rattle.ele_policy.specs.Policy.{IsPolicy};
+ghost use Rattle.ele_world.specs.Change.{EndName, Govern, MakeDirectory, after_change, governed_by};
+ghost use Rattle.ele_world.specs.May.{MayEnd};
+ghost use Rattle.ele_world.specs.Walk.{live_target};
+ghost use Rattle.ele_world.specs.World.{default_of, is_directory};
+ghost use Rattle.ele_state.specs.Home.{IsHome};
+
+use crate::State;
+use ele_lists::place_of;
+use ele_policy::{Interval, Policy};
+use ele_world::{DirId, DirectoryRow, Name, NoMemory, Target};
+
+// The place of the directory's row, by a binary search of the numbers.
+fn directory_at(directories: &[DirectoryRow], id: DirId) -> Option<usize>
+    requires { AllLater (λ x y. x.id < y.id) directories.now }
+    ensures { result ≡ position (is_directory id) directories.now }
+{
+    match place_of(directories, id.0) {
+        Ok(at) => Some(at),
+        Err(_gap) => None,
+    }
+}
+
+// The directory's row.
+#[tactic(auto, using(ele_lists::proofs::Places::first_places))]
+fn directory_row(directories: &[DirectoryRow], id: DirId) -> Option<&DirectoryRow>
+    requires { AllLater (λ x y. x.id < y.id) directories.now }
+    ensures { option_copied result ≡ find (is_directory id) directories.now }
+{
+    let at = directory_at(directories, id)?;
+    directories.get(at)
+}
+
+// Files that are made in the directory from now on get the policy.
+#[tactic(auto, using(ele_lists::proofs::Places::first_places, crate::proofs::Words::nat_tests, crate::proofs::Words::set_first))]
+fn put_default(directories: &mut Vec<DirectoryRow>, directory: DirId, policy: Policy)
+    requires { AllLater (λ x y. x.id < y.id) directories.old.items }
+    ensures { directories.new.items
+        ≡ update_first (is_directory directory) (governed_by policy) directories.old.items }
+{
+    if let Some(at) = directory_at(directories, directory) {
+        let row = &mut directories[at];
+        row.default = policy;
+    }
+}
+
+// The policy that files get that are made in the directory; a day's where the directory is missing.
+pub fn default_in(directories: &[DirectoryRow], id: DirId) -> Policy
+    requires { AllLater (λ x y. x.id < y.id) directories.now }
+    ensures { result ≡ default_of directories.now id }
+{
+    match directory_row(directories, id) {
+        Some(row) => row.default,
+        None => Policy::Safe(Interval::DAY),
+    }
+}
+
+impl State {
+    /// The policy that files get that are made in the directory; a day's where the directory is missing.
+    #[tactic(auto, using(crate::proofs::Words::nat_tests, crate::proofs::Bounded::directories_placed))]
+    pub fn default_of(&self, id: DirId) -> Policy
+        ensures { result ≡ default_of self.now.world.directories id }
+    {
+        default_in(&self.rows.directories, id)
+    }
+
+    /// Files that are made in the directory from now on get the policy.
+    #[tactic(auto, using(crate::proofs::Words::nat_tests, crate::proofs::Bounded::directories_placed))]
+    pub fn govern(&mut self, directory: DirId, policy: Policy)
+        ensures world { self.new.world ≡ after_change self.old.world (Govern directory policy) }
+        ensures valid { IsPolicy policy }
+    {
+        policy.is_given();
+        put_default(&mut self.rows.directories, directory, policy);
+    }
+
+    /// A directory is made in another, with that one's policy, and its name.
+    ///
+    /// `NoMemory` where memory is refused; the world stays.
+    #[tactic(auto, using(crate::proofs::Words::nat_tests, crate::proofs::Bounded::directories_placed))]
+    pub fn make_directory(&mut self, directory: DirId, name: Name) -> Result<DirId, NoMemory>
+        requires home { IsHome self.old.world directory }
+        requires free { is_some (live_target self.old.world.names directory name) ≡ false }
+        requires directories { self.old.world.made.directories
+            < self.old.world.limits.directories }
+        requires names { self.old.world.made.names < self.old.world.limits.names }
+        ensures id { IfOk result (λ id. id ≡ self.old.world.made.directories + 1) }
+        ensures ok { IfOk result (λ id. self.new.world ≡ after_change self.old.world
+            (MakeDirectory directory name id (default_of self.old.world.directories directory))) }
+        ensures err { OnErr result (self.new.world ≡ self.old.world) }
+    {
+        let id = DirId(self.rows.made.directories + 1);
+        let default = default_in(&self.rows.directories, directory);
+        self.rows.directories.reserve(1)?;
+        self.rows
+            .names
+            .add(directory, name, Target::Directory(id), self.rows.moment)?;
+        self.rows
+            .directories
+            .push_reserved(DirectoryRow { id, default });
+        self.rows.made.directories += 1;
+        self.rows.made.names += 1;
+        Ok(id)
+    }
+
+    /// The name of a directory dies, in which no name is live.
+    pub fn end_name(&mut self, directory: DirId, name: &Name)
+        requires { MayEnd self.old.world directory name.now }
+        ensures { self.new.world ≡ after_change self.old.world (EndName directory name.now) }
+    {
+        self.rows.names.kill(directory, name, self.rows.moment);
+    }
+}

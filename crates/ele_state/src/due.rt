@@ -1,0 +1,77 @@
+//! The versions that are due, and what the files use.
+ghost use Rattle.std.specs.Prelude.{◌≡◌, IfOk};
+ghost use Rattle.ele_due.specs.Key.{is_ripe_by};
+ghost use Rattle.ele_world.specs.Due.{is_due, ripe_at};
+ghost use Rattle.ele_world.specs.Scan.{scan, first_due};
+ghost use Rattle.ele_world.specs.Usage.{usages};
+ghost use Rattle.ele_state.specs.Inside.{world_of, IsSound};
+
+use crate::State;
+use crate::keys::free_moment;
+use crate::rows::Rows;
+use ele_files::Meter;
+use ele_usage::Usage;
+use ele_world::{FileId, Key, KeyList, ListOf, Moment, NoMemory, VersionNo};
+
+// Whether the key's version is due at the moment.
+fn is_ripe(key: &Key, now: Moment) -> bool
+    ensures { result ≡ is_ripe_by now key.now }
+{
+    key.ripe <= now
+}
+
+// The moment from which on the version is due; none where it isn't held, where a handle reads it, or where it is never due.
+#[tactic(auto, using(crate::proofs::Asked::ripe_told))]
+fn ripe_moment(rows: &Rows, file: FileId, number: VersionNo) -> Option<Moment>
+    requires { IsSound rows.now }
+    ensures { result ≡ ripe_at (world_of rows.now) file number }
+{
+    if rows.files.is_open(file, number) {
+        return None;
+    }
+    free_moment(&rows.files, &rows.groups, file, number, &mut Meter::new())
+}
+
+impl State {
+    /// Whether the version is held and due now.
+    #[tactic(auto, using(crate::proofs::Asked::due_by_key))]
+    pub fn is_due(&self, file: FileId, number: VersionNo) -> bool
+        ensures { result ≡ is_due self.now.world file number }
+    {
+        let Some(ripe) = ripe_moment(&self.rows, file, number) else {
+            return false;
+        };
+        let key = Key { ripe, file, number };
+        is_ripe(&key, self.rows.moment) && self.rows.queue.holds(&key)
+    }
+
+    /// The keys of the versions that are due now, in the order in which they are removed.
+    ///
+    /// `NoMemory` where memory is refused.
+    pub fn due(&self) -> Result<KeyList, NoMemory>
+        ensures { IfOk result (λ keys. keys ≡ scan self.now.world) }
+    {
+        Ok(ListOf::from_vec(self.rows.queue.until(self.rows.moment)?))
+    }
+
+    /// The key of the version that is removed next, if one is due now.
+    pub fn due_first(&self) -> Option<Key>
+        ensures { result ≡ first_due self.now.world }
+    {
+        let Some(key) = self.rows.queue.first() else {
+            return None;
+        };
+        if is_ripe(&key, self.rows.moment) {
+            Some(key)
+        } else {
+            None
+        }
+    }
+
+    /// What the files of each kind of policy use, in the order of `Kind`.
+    pub fn usage(&self) -> [Usage; 4]
+        ensures { result ≡ usages self.now.world }
+    {
+        self.rows.book.all()
+    }
+}

@@ -1,0 +1,160 @@
+//! Groups: their files and their marks.
+ghost use Rattle.std.specs.Prelude.{◌≡◌, ◌<◌, true, false, OnOk, OnErr, IfOk};
+ghost use Rattle.ele_world.specs.Change.{AddMark, AddMember, DropGroup, MakeGroup, RemoveMark, RemoveMember, after_change};
+ghost use Rattle.ele_world.specs.GroupRows.{has_group, has_member, is_marked_at};
+ghost use Rattle.ele_world.specs.World.{next_of};
+
+use crate::State;
+use crate::keys::{put_all, take_all};
+use crate::mark::{Left, keys_at};
+use ele_world::{FileId, GroupList, Moment, Name, NoMemory};
+
+impl State {
+    /// Whether there is a group of that name.
+    pub fn has_group(&self, name: &Name) -> bool
+        ensures { result ≡ has_group self.now.world.groups name.now }
+    {
+        self.rows.groups.has_group(name)
+    }
+
+    /// Whether the group of that name has the file.
+    pub fn is_member(&self, name: &Name, file: FileId) -> bool
+        ensures { result ≡ has_member self.now.world.groups name.now file }
+    {
+        self.rows.groups.is_member(name, file)
+    }
+
+    /// Whether the group of that name was marked at the moment.
+    pub fn has_mark(&self, name: &Name, mark: Moment) -> bool
+        ensures { result ≡ is_marked_at self.now.world.groups name.now mark }
+    {
+        self.rows.groups.has_mark(name, mark)
+    }
+
+    /// All groups with their files and marks, in order of making.
+    ///
+    /// `NoMemory` where memory is refused.
+    pub fn groups(&self) -> Result<GroupList, NoMemory>
+        ensures { IfOk result (λ groups. groups ≡ self.now.world.groups) }
+    {
+        self.rows.groups.rows()
+    }
+
+    /// A group of a name that none has is made.
+    ///
+    /// `NoMemory` where memory is refused; the world stays.
+    pub fn make_group(&mut self, name: &Name) -> Result<(), NoMemory>
+        requires free { has_group self.old.world.groups name.now ≡ false }
+        requires room { self.old.world.made.groups < self.old.world.limits.groups }
+        ensures ok { OnOk result
+            (self.new.world ≡ after_change self.old.world (MakeGroup name.now)) }
+        ensures err { OnErr result (self.new.world ≡ self.old.world) }
+    {
+        self.rows.groups.add_group(name)?;
+        self.rows.made.groups += 1;
+        Ok(())
+    }
+
+    /// The group of that name goes, and the versions that its marks alone kept have their keys again.
+    ///
+    /// `NoMemory` where memory is refused; the world stays.
+    #[tactic(auto, using(crate::proofs::Words::nat_tests, crate::proofs::Marked::drop_queue))]
+    pub fn drop_group(&mut self, name: &Name) -> Result<(), NoMemory>
+        ensures ok { OnOk result
+            (self.new.world ≡ after_change self.old.world (DropGroup name.now)) }
+        ensures err { OnErr result (self.new.world ≡ self.old.world) }
+    {
+        let members = self.rows.groups.members(name)?;
+        let marks = self.rows.groups.marks(name)?;
+        let left = Left {
+            group: *name,
+            mark: None,
+        };
+        let come = keys_at(&self.rows, &Some(left), &members, &marks)?;
+        put_all(&mut self.rows.queue, &come)?;
+        self.rows.groups.take_group(name);
+        Ok(())
+    }
+
+    /// The group of that name gets the file, whose versions that its marks cover lose their keys.
+    ///
+    /// `NoMemory` where memory is refused; the world stays.
+    #[tactic(auto, using(crate::proofs::Words::nat_tests, crate::proofs::Marked::member_queue))]
+    pub fn add_member(&mut self, name: &Name, file: FileId) -> Result<(), NoMemory>
+        requires there { 0 < next_of self.old.world.files file }
+        requires other { has_member self.old.world.groups name.now file ≡ false }
+        requires room { self.old.world.made.members < self.old.world.limits.members }
+        ensures ok { OnOk result
+            (self.new.world ≡ after_change self.old.world (AddMember name.now file)) }
+        ensures err { OnErr result (self.new.world ≡ self.old.world) }
+    {
+        let marks = self.rows.groups.marks(name)?;
+        let gone = keys_at(&self.rows, &None, &[file], &marks)?;
+        self.rows.groups.add_member(name, file)?;
+        take_all(&mut self.rows.queue, &gone);
+        self.rows.made.members += 1;
+        Ok(())
+    }
+
+    /// The group of that name loses the file, whose versions that its marks alone kept have their keys again.
+    ///
+    /// `NoMemory` where memory is refused; the world stays.
+    #[tactic(auto, using(crate::proofs::Words::nat_tests, crate::proofs::Marked::leave_queue, crate::proofs::Marked::member_still))]
+    pub fn remove_member(&mut self, name: &Name, file: FileId) -> Result<(), NoMemory>
+        requires { has_member self.old.world.groups name.now file ≡ true }
+        ensures ok { OnOk result
+            (self.new.world ≡ after_change self.old.world (RemoveMember name.now file)) }
+        ensures err { OnErr result (self.new.world ≡ self.old.world) }
+    {
+        let marks = self.rows.groups.marks(name)?;
+        let left = Left {
+            group: *name,
+            mark: None,
+        };
+        let come = keys_at(&self.rows, &Some(left), &[file], &marks)?;
+        put_all(&mut self.rows.queue, &come)?;
+        self.rows.groups.take_member(name, file);
+        Ok(())
+    }
+
+    /// The group of that name is marked at a moment that has passed, and the versions that the mark covers lose their keys.
+    ///
+    /// `NoMemory` where memory is refused; the world stays.
+    #[tactic(auto, using(crate::proofs::Words::nat_tests, crate::proofs::Marked::mark_queue))]
+    pub fn add_mark(&mut self, name: &Name, mark: Moment) -> Result<(), NoMemory>
+        requires past { mark < self.old.world.now }
+        requires other { is_marked_at self.old.world.groups name.now mark ≡ false }
+        requires room { self.old.world.made.marks < self.old.world.limits.marks }
+        ensures ok { OnOk result
+            (self.new.world ≡ after_change self.old.world (AddMark name.now mark)) }
+        ensures err { OnErr result (self.new.world ≡ self.old.world) }
+    {
+        let members = self.rows.groups.members(name)?;
+        let gone = keys_at(&self.rows, &None, &members, &[mark])?;
+        self.rows.groups.add_mark(name, mark)?;
+        take_all(&mut self.rows.queue, &gone);
+        self.rows.made.marks += 1;
+        Ok(())
+    }
+
+    /// The group of that name loses the mark, and the versions that it alone kept have their keys again.
+    ///
+    /// `NoMemory` where memory is refused; the world stays.
+    #[tactic(auto, using(crate::proofs::Words::nat_tests, crate::proofs::Marked::unmark_queue, crate::proofs::Marked::marked_still))]
+    pub fn remove_mark(&mut self, name: &Name, mark: Moment) -> Result<(), NoMemory>
+        requires { is_marked_at self.old.world.groups name.now mark ≡ true }
+        ensures ok { OnOk result
+            (self.new.world ≡ after_change self.old.world (RemoveMark name.now mark)) }
+        ensures err { OnErr result (self.new.world ≡ self.old.world) }
+    {
+        let members = self.rows.groups.members(name)?;
+        let left = Left {
+            group: *name,
+            mark: Some(mark),
+        };
+        let come = keys_at(&self.rows, &Some(left), &members, &[mark])?;
+        put_all(&mut self.rows.queue, &come)?;
+        self.rows.groups.take_mark(name, mark);
+        Ok(())
+    }
+}

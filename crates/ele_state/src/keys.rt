@@ -1,0 +1,159 @@
+//! How the queue of keys follows the files: keys come and go by the version that they are of.
+ghost use Rattle.std.specs.Prelude.{◌≡◌, ◌<◌, ◌≤◌, ◌+◌, ◌^◌, ◌||◌, ◌&&◌, not, false, true, Some, None, OnOk, OnErr};
+ghost use Rattle.ele_due.specs.declared.key.Key.{Key};
+ghost use Rattle.ele_due.specs.HasKey.{has_key};
+ghost use Rattle.ele_world.specs.GroupRows.{is_marked};
+ghost use Rattle.ele_world.specs.Neighbours.{free_moment, moment_under, near_moment};
+ghost use Rattle.ele_state.specs.Queued.{IsRekeyed, is_entry, is_new};
+
+use ele_due::DueQueue;
+use ele_files::{Files, Meter};
+use ele_groups::Groups;
+use ele_policy::{Policy, ripe};
+use ele_world::{FileId, Key, Moment, NoMemory, VersionNo};
+
+// Puts in the key of the version with that moment, if there is one.
+pub fn put(
+    queue: &mut DueQueue,
+    file: FileId,
+    number: VersionNo,
+    moment: Option<Moment>,
+) -> Result<(), NoMemory>
+    ensures ok { OnOk result (IsRekeyed file number None moment queue.old queue.new) }
+    ensures err { OnErr result (queue.new ≡ queue.old) }
+{
+    let Some(ripe) = moment else {
+        return Ok(());
+    };
+    queue.insert(Key { ripe, file, number })
+}
+
+// Takes out the key of the version with that moment, if there is one.
+pub fn take(queue: &mut DueQueue, file: FileId, number: VersionNo, moment: Option<Moment>)
+    ensures { IsRekeyed file number moment None queue.old queue.new }
+{
+    if let Some(ripe) = moment {
+        let _was = queue.remove(&Key { ripe, file, number });
+    }
+}
+
+// Puts in all the keys, or none where memory is refused; none of them is there.
+pub fn put_all(queue: &mut DueQueue, keys: &[Key]) -> Result<(), NoMemory>
+    ensures ok { OnOk result
+        ((k : Key) → has_key k queue.new ≡ (has_key k keys.now || has_key k queue.old)) }
+    ensures err { OnErr result
+        ((k : Key) → has_key k queue.new ≡ (not (has_key k keys.now) && has_key k queue.old)) }
+{
+    for key in keys {
+        if let Err(refused) = queue.insert(*key) {
+            take_all(queue, keys);
+            return Err(refused);
+        }
+    }
+    Ok(())
+}
+
+// Takes out all the keys.
+pub fn take_all(queue: &mut DueQueue, keys: &[Key])
+    ensures { (k : Key) → has_key k queue.new ≡ (not (has_key k keys.now) && has_key k queue.old) }
+{
+    for key in keys {
+        let _was = queue.remove(key);
+    }
+}
+
+// The ripe moment that a version of the file has under the policy while no handle reads it, which closed and ended then, and
+// beside which the next one closed at that moment; none where it is marked or never due.
+pub fn near_moment(
+    groups: &Groups,
+    file: FileId,
+    policy: &Policy,
+    next_closed: Option<Moment>,
+    closed: Moment,
+    ended: Moment,
+) -> Option<Moment>
+    ensures { result
+        ≡ near_moment (is_marked groups.now file) (Some policy.now) next_closed closed ended }
+{
+    if groups.covering(file, closed, Some(ended)) {
+        return None;
+    }
+    ripe(policy, closed, ended, next_closed)
+}
+
+// The ripe moment that the version would have under the policy while no handle reads it; none where it isn't held, has no end, is
+// marked, or would never be due.
+pub fn moment_under(
+    files: &Files,
+    groups: &Groups,
+    policy: &Policy,
+    file: FileId,
+    number: VersionNo,
+    meter: &mut Meter,
+) -> Option<Moment>
+    requires { meter.old < 2 ^ 59 }
+    ensures moment { result
+        ≡ moment_under (is_marked groups.now file) (Some policy.now) files.now.versions file number }
+    ensures read { meter.new ≤ meter.old + 2 }
+{
+    let stamps = files.stamps(file, number, meter)?;
+    let ended = stamps.ended?;
+    let next_closed = files.next_closing(file, number, meter);
+    near_moment(groups, file, policy, next_closed, stamps.closed, ended)
+}
+
+// The ripe moment that the version has while no handle reads it; none where it isn't held, has no end, is marked, or is never
+// due.
+pub fn free_moment(
+    files: &Files,
+    groups: &Groups,
+    file: FileId,
+    number: VersionNo,
+    meter: &mut Meter,
+) -> Option<Moment>
+    requires { meter.old < 2 ^ 59 }
+    ensures moment { result ≡ free_moment groups.now files.now.files files.now.versions file number }
+    ensures read { meter.new ≤ meter.old + 2 }
+{
+    let policy = files.policy_of(file)?;
+    moment_under(files, groups, &policy, file, number, meter)
+}
+
+// The keys that come with a version: that of the file's newest held one, which may have ended before or ends now, and its own.
+#[derive(Clone, Copy)]
+pub struct NewKeys {
+    pub file: FileId,
+    pub newest: VersionNo,
+    pub number: VersionNo,
+    pub former: Option<Moment>,
+    pub own: Option<Moment>,
+}
+
+impl NewKeys {
+    // Puts in both keys, or neither where memory is refused.
+    pub fn put(&self, queue: &mut DueQueue) -> Result<(), NoMemory>
+        ensures ok { OnOk result ((k : Key) → has_key k queue.new
+            ≡ (is_new self.now k || has_key k queue.old)) }
+        ensures err { OnErr result ((k : Key)
+            → (is_entry self.now.file self.now.newest self.now.former k ≡ true
+            → has_key k queue.old ≡ false) → has_key k queue.new ≡ has_key k queue.old) }
+    {
+        put(queue, self.file, self.newest, self.former)?;
+        match put(queue, self.file, self.number, self.own) {
+            Ok(()) => Ok(()),
+            Err(refused) => {
+                take(queue, self.file, self.newest, self.former);
+                Err(refused)
+            }
+        }
+    }
+
+    // Takes both out again.
+    pub fn take(&self, queue: &mut DueQueue)
+        ensures { (k : Key) → has_key k queue.new
+            ≡ (not (is_new self.now k) && has_key k queue.old) }
+    {
+        take(queue, self.file, self.number, self.own);
+        take(queue, self.file, self.newest, self.former);
+    }
+}

@@ -1,0 +1,188 @@
+//! One world, kept fast: its rows, and the queue of keys and the book of usage, which follow each change. A contract sees a
+//! state as its flat world, with a count of the rows that were read.
+#![tactic(auto)]
+
+ghost use Rattle.std.specs.Prelude.{◌≡◌, ◌≤◌, IfOk};
+ghost use Rattle.ele_moment.specs.Last.{last_moment};
+ghost use Rattle.ele_world.specs.Bounds.{AreBounds};
+ghost use Rattle.ele_world.specs.Change.{Time, after_change};
+ghost use Rattle.ele_world.specs.NoIdleStays.{HasNoIdle};
+ghost use Rattle.ele_world.specs.WellFormed.{IsWellFormed};
+ghost use Rattle.ele_world.specs.World.{fresh_world};
+ghost use Rattle.ele_state.specs.Full.{is_full};
+
+mod append;
+mod book;
+mod directory;
+mod due;
+mod file;
+mod group;
+mod keys;
+mod mark;
+mod name;
+mod path;
+mod policy;
+mod returning;
+mod rows;
+mod session;
+mod version;
+
+pub use crate::path::{directory_in, file_in};
+use crate::rows::{Made, Rows};
+use ele_due::DueQueue;
+use ele_files::Files;
+pub use ele_files::Meter;
+use ele_groups::Groups;
+use ele_names::Names;
+use ele_policy::Interval;
+use ele_policy::laws::policies_are_lawful;
+use ele_usage::UsageBook;
+use ele_world::{
+    Counts, DirId, DirectoryRow, Flat, Limits, ListOf, Moment, NoMemory, Policy, Which,
+};
+use std::alloc::Global;
+use std::marker::Model;
+
+/// One world, which is well formed and has no file of which nothing is left.
+#[derive(Drop)]
+pub struct State {
+    rows: Rows,
+}
+
+impl Model for State {
+    ghost use Rattle.ele_state.specs.Shown.{Shown};
+
+    ghost Value = { Shown };
+
+    ghost use Rattle.ele_state.specs.Inside.{shown_of, IsSettled};
+
+    ghost view = { λ state. shown_of state.rows };
+
+    ghost invariant = { λ state. IsSettled state.rows };
+}
+
+impl State {
+    /// The fresh world of these limits.
+    ///
+    /// `NoMemory` where memory is refused.
+    pub fn new(alloc: Global, limits: Limits) -> Result<State, NoMemory>
+        ensures { IfOk result (λ state. state.world ≡ fresh_world limits) }
+    {
+        limits.are_within();
+        policies_are_lawful();
+        let mut directories = Vec::new(alloc);
+        directories.push(DirectoryRow {
+            id: DirId(0),
+            default: Policy::Safe(Interval::DAY),
+        })?;
+        Ok(State {
+            rows: Rows {
+                moment: Moment::START,
+                directories,
+                names: Names::new(alloc),
+                files: Files::new(alloc),
+                groups: Groups::new(alloc),
+                queue: DueQueue::new(alloc),
+                book: UsageBook::new(),
+                made: Made {
+                    files: 0,
+                    directories: 0,
+                    names: 0,
+                    versions: 0,
+                    groups: 0,
+                    members: 0,
+                    marks: 0,
+                },
+                limits,
+                meter: Meter::new(),
+                alloc,
+            },
+        })
+    }
+
+    /// The moment that it is. The world is well formed, its limits are within theirs, and it has no file of which nothing is
+    /// left, so the laws of `ele_world` hold.
+    pub fn now(&self) -> Moment
+        ensures value { result ≡ self.now.world.now }
+        ensures formed { IsWellFormed self.now.world }
+        ensures bounds { AreBounds self.now.world.limits }
+        ensures idle { HasNoIdle self.now.world }
+    {
+        self.rows.moment
+    }
+
+    /// The time goes on to the moment.
+    pub fn set_time(&mut self, to: Moment)
+        requires { self.old.world.now ≤ to }
+        ensures world { self.new.world ≡ after_change self.old.world (Time to) }
+        ensures valid { to ≤ last_moment }
+    {
+        let _within = to.seconds();
+        self.rows.moment = to;
+    }
+
+    /// Whether as many were made as may be; with the versions count the drafts that are open.
+    #[tactic(auto, using(crate::proofs::Bounded::versions_few))]
+    pub fn is_full(&self, which: Which) -> bool
+        ensures { result ≡ is_full self.now.world which }
+    {
+        let made = &self.rows.made;
+        let limits = &self.rows.limits;
+        match which {
+            Which::Files => made.files >= limits.files(),
+            Which::Directories => made.directories >= limits.directories(),
+            Which::Names => made.names >= limits.names(),
+            Which::Versions => {
+                made.versions + self.rows.files.drafts_open() as u64 >= limits.versions()
+            }
+            Which::Handles => self.rows.files.handles_opened() >= limits.handles(),
+            Which::Groups => made.groups >= limits.groups(),
+            Which::Members => made.members >= limits.members(),
+            Which::Marks => made.marks >= limits.marks(),
+        }
+    }
+
+    /// How many version rows were read since the count began.
+    pub fn rows_read(&self) -> u64
+        ensures { result ≡ self.now.rows_read }
+    {
+        self.rows.meter.rows()
+    }
+
+    /// The count of the rows read goes on from that of the meter.
+    pub fn count_from(&mut self, meter: Meter)
+        ensures { self.new ≡ record self.old { rows_read = meter } }
+    {
+        self.rows.meter = meter;
+    }
+
+    /// A plain copy of all rows and counts.
+    ///
+    /// `NoMemory` where memory is refused.
+    pub fn flat(&self) -> Result<Flat, NoMemory>
+        ensures { IfOk result (λ flat. flat ≡ self.now.world) }
+    {
+        let rows = &self.rows;
+        Ok(Flat {
+            now: rows.moment,
+            directories: ListOf::from_vec(Vec::from_slice(rows.alloc, &rows.directories)?),
+            files: rows.files.file_rows()?,
+            names: ListOf::from_vec(rows.names.rows()?),
+            versions: rows.files.version_rows()?,
+            drafts: rows.files.draft_rows()?,
+            handles: rows.files.handle_rows()?,
+            groups: rows.groups.rows()?,
+            made: Counts {
+                files: rows.made.files,
+                directories: rows.made.directories,
+                names: rows.made.names,
+                versions: rows.made.versions,
+                handles: rows.files.handles_opened(),
+                groups: rows.made.groups,
+                members: rows.made.members,
+                marks: rows.made.marks,
+            },
+            limits: rows.limits,
+        })
+    }
+}

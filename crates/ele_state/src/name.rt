@@ -1,0 +1,153 @@
+//! Names that come, move and die.
+ghost use Rattle.std.specs.Prelude.{◌≡◌, ◌<◌, OnOk, OnErr, IfOk, IfSome, Some, is_some, false, not};
+ghost use Rattle.std.specs.List.{count_by, list_any};
+ghost use Rattle.ele_world.specs.Change.{AddName, EndFileName, MoveName, after_change};
+ghost use Rattle.ele_world.specs.May.{MayHaveMore};
+ghost use Rattle.ele_world.specs.NameRows.{is_live_in, last_dead};
+ghost use Rattle.ele_world.specs.Told.{listing};
+ghost use Rattle.ele_world.specs.Walk.{live_target};
+ghost use Rattle.ele_world.specs.declared.rows.Target.TheVariants.{File};
+ghost use Rattle.ele_world.specs.World.{is_live_name_of};
+ghost use Rattle.ele_state.specs.Home.{IsHome, IsPresent};
+ghost use Rattle.ele_state.specs.Inside.{world_of, IsTracked, IsSound};
+
+use crate::State;
+use crate::append::{end_moment, next_number};
+use crate::keys::put;
+use crate::rows::Rows;
+use ele_world::{DirId, FileId, ListOf, Moment, Name, NameList, NoMemory, Target};
+
+impl State {
+    /// Whether the name is live there.
+    pub fn is_taken(&self, directory: DirId, name: &Name) -> bool
+        ensures { result ≡ is_some (live_target self.now.world.names directory name.now) }
+    {
+        self.rows.names.live(directory, name).is_some()
+    }
+
+    /// Whether no name in the directory is live.
+    pub fn is_empty(&self, directory: DirId) -> bool
+        ensures { result ≡ not (list_any (is_live_in directory) self.now.world.names) }
+    {
+        self.rows.names.is_empty(directory)
+    }
+
+    /// The names that stood in the directory at the moment, by their bytes.
+    ///
+    /// `NoMemory` where memory is refused.
+    pub fn names_in(&self, directory: DirId, moment: Moment) -> Result<NameList, NoMemory>
+        ensures { IfOk result
+            (λ names. names ≡ listing self.now.world.names directory moment) }
+    {
+        let names = self.rows.names.list(directory, moment)?;
+        Ok(ListOf::from_vec(names))
+    }
+
+    /// What the newest name of this kind stood for, if that name is dead.
+    pub fn last_dead(&self, directory: DirId, name: &Name) -> Option<Target>
+        ensures value { result ≡ last_dead self.now.world.names directory name.now }
+        ensures there { IfSome result (λ target. IsPresent self.now.world target) }
+    {
+        self.rows.names.last_dead(directory, name)
+    }
+
+    /// What is there has a name more, from now on.
+    ///
+    /// `NoMemory` where memory is refused; the world stays.
+    pub fn add_name(&mut self, directory: DirId, name: Name, target: Target) -> Result<(), NoMemory>
+        requires home { IsHome self.old.world directory }
+        requires free { is_some (live_target self.old.world.names directory name) ≡ false }
+        requires room { self.old.world.made.names < self.old.world.limits.names }
+        requires there { IsPresent self.old.world target }
+        requires more { MayHaveMore self.old.world target }
+        ensures ok { OnOk result
+            (self.new.world ≡ after_change self.old.world (AddName directory name target)) }
+        ensures err { OnErr result (self.new.world ≡ self.old.world) }
+    {
+        self.rows
+            .names
+            .add(directory, name, target, self.rows.moment)?;
+        self.rows.made.names += 1;
+        Ok(())
+    }
+
+    /// The live name gives way to another one of what it stands for.
+    ///
+    /// `NoMemory` where memory is refused; the world stays.
+    #[tactic(auto, using(crate::proofs::Words::nat_tests, crate::proofs::NewNames::dies_before, crate::proofs::Words::name_stands))]
+    pub fn move_name(
+        &mut self,
+        from: &(DirId, Name),
+        to: &(DirId, Name),
+        target: Target,
+    ) -> Result<(), NoMemory>
+        requires stands { live_target self.old.world.names from.now.0 from.now.1 ≡ Some target }
+        requires home { IsHome self.old.world to.now.0 }
+        requires free { is_some (live_target self.old.world.names to.now.0 to.now.1) ≡ false }
+        requires room { self.old.world.made.names < self.old.world.limits.names }
+        ensures ok { OnOk result (self.new.world ≡ after_change self.old.world
+            (MoveName from.now.0 from.now.1 to.now.0 to.now.1 target)) }
+        ensures err { OnErr result (self.new.world ≡ self.old.world) }
+    {
+        // The new name comes first, since it may be refused memory.
+        self.rows.names.add(to.0, to.1, target, self.rows.moment)?;
+        self.rows.names.kill(from.0, &from.1, self.rows.moment);
+        self.rows.made.names += 1;
+        Ok(())
+    }
+
+    /// The file's name dies, and with its last one its current version ends.
+    ///
+    /// `NoMemory` where memory is refused; the world stays.
+    #[tactic(auto, using(crate::proofs::Words::nat_tests, crate::proofs::Unlinked::others_live))]
+    pub fn end_file_name(
+        &mut self,
+        directory: DirId,
+        name: &Name,
+        file: FileId,
+    ) -> Result<(), NoMemory>
+        requires stands { live_target self.old.world.names directory name.now ≡ Some (File file) }
+        requires meter { self.old.rows_read ≡ 0 }
+        ensures ok { OnOk result (self.new.world
+            ≡ after_change self.old.world (EndFileName directory name.now file)) }
+        ensures err { OnErr result (self.new.world ≡ self.old.world) }
+    {
+        if self.rows.names.names_of(file) == 1 {
+            return end_last_name(&mut self.rows, directory, name, file);
+        }
+        self.rows.names.kill(directory, name, self.rows.moment);
+        Ok(())
+    }
+}
+
+// The only name of the file dies, and its current version ends.
+#[tactic(auto, using(crate::proofs::Words::nat_tests, crate::proofs::ClosedSteps::past, crate::proofs::Unlinked::name_there, crate::proofs::Unlinked::last_ends, crate::proofs::Unlinked::ended_queue, crate::proofs::Unlinked::ended_book))]
+fn end_last_name(
+    rows: &mut Rows,
+    directory: DirId,
+    name: &Name,
+    file: FileId,
+) -> Result<(), NoMemory>
+    requires sound { IsSound rows.old }
+    requires meter { rows.old.meter ≡ 0 }
+    requires stands { live_target rows.old.names directory name.now ≡ Some (File file) }
+    requires last { count_by (is_live_name_of file) rows.old.names ≡ 1 }
+    ensures ok { OnOk result (world_of rows.new
+        ≡ after_change (world_of rows.old) (EndFileName directory name.now file)) }
+    ensures err { OnErr result (world_of rows.new ≡ world_of rows.old) }
+    ensures tracked { IsTracked rows.new }
+{
+    let next = next_number(&rows.files, file);
+    let moment = end_moment(
+        &rows.files,
+        &rows.groups,
+        file,
+        next,
+        rows.moment,
+        &mut rows.meter,
+    );
+    put(&mut rows.queue, file, next.before(), moment)?;
+    rows.names.kill(directory, name, rows.moment);
+    rows.files.end_current(file, rows.moment, &mut rows.meter);
+    Ok(())
+}

@@ -1,0 +1,75 @@
+//! The names that may come back.
+ghost use Rattle.std.specs.Prelude.{◌≡◌, ◌-◌, IfOk};
+ghost use Rattle.ele_world.specs.Restorable.{may_return, nameless, restorable, returning_name};
+ghost use Rattle.ele_world.specs.World.{is_held, next_of};
+ghost use Rattle.ele_state.specs.Inside.{world_of, IsSound};
+
+use crate::State;
+use crate::rows::Rows;
+use ele_files::Meter;
+use ele_world::{DeadName, DeadNameList, DirId, FileId, ListOf, Name, NoMemory, Target};
+
+// Whether the file's last version is held.
+#[tactic(auto, using(crate::proofs::Words::nat_tests, crate::proofs::Revived::unheld, crate::proofs::Revived::no_next, crate::proofs::Revived::stamped, crate::proofs::ClosedSteps::number_told))]
+fn has_last_version(rows: &Rows, file: FileId) -> bool
+    requires { IsSound rows.now }
+    ensures { result ≡ is_held (world_of rows.now) file (next_of rows.now.files.files file - 1) }
+{
+    let Some(next) = rows.files.next_of(file) else {
+        return false;
+    };
+    rows.files
+        .stamps(file, next.before(), &mut Meter::new())
+        .is_some()
+}
+
+impl State {
+    /// Whether it may have a name again: a directory that has none, or a file whose last version is held.
+    pub fn may_return(&self, target: &Target) -> bool
+        ensures { result ≡ may_return self.now.world target.now }
+    {
+        match *target {
+            Target::File(file) => has_last_version(&self.rows, file),
+            Target::Directory(id) => !self.rows.names.dir_live(id),
+        }
+    }
+
+    /// The file, if it has no live name.
+    pub fn nameless(&self, target: &Target) -> Option<FileId>
+        ensures { result ≡ nameless self.now.world target.now }
+    {
+        match *target {
+            Target::File(file) if !self.rows.names.is_live(file) => Some(file),
+            _ => None,
+        }
+    }
+
+    // The dead name, if what it last stood for may have a name again.
+    fn returning(&self, lost: (DirId, Name, Target)) -> Option<DeadName>
+        ensures { result ≡ returning_name self.now.world lost }
+    {
+        let (directory, name, target) = lost;
+        if self.may_return(&target) {
+            return Some(DeadName {
+                directory,
+                name,
+                target,
+            });
+        }
+        None
+    }
+
+    /// The names that may come back, by directory and then by the bytes of the name.
+    ///
+    /// `NoMemory` where memory is refused.
+    pub fn restorable(&self) -> Result<DeadNameList, NoMemory>
+        ensures { IfOk result (λ names. names ≡ restorable self.now.world) }
+    {
+        let dead = self.rows.names.dead()?;
+        let names: Vec<DeadName> = dead
+            .into_iter()
+            .filter_map(|lost| self.returning(lost))
+            .collect(self.rows.alloc)?;
+        Ok(ListOf::from_vec(names))
+    }
+}

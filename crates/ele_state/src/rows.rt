@@ -1,0 +1,37 @@
+//! What stands behind a state: the rows of directories by number, the names, the files, the groups, and beside them the queue
+//! of keys and the book of usage.
+use ele_due::DueQueue;
+use ele_files::{Files, Meter};
+use ele_groups::Groups;
+use ele_names::Names;
+use ele_usage::UsageBook;
+use ele_world::{DirectoryRow, Limits, Moment};
+use std::alloc::Global;
+
+// How much was ever made, but for handles, which the files count.
+#[derive(Clone, Copy, Debug)]
+pub struct Made {
+    pub files: u64,
+    pub directories: u64,
+    pub names: u64,
+    pub versions: u64,
+    pub groups: u64,
+    pub members: u64,
+    pub marks: u64,
+}
+
+// All rows and counts. The meter counts the version rows that the last event read.
+#[derive(Drop)]
+pub struct Rows {
+    pub moment: Moment,
+    pub directories: Vec<DirectoryRow>,
+    pub names: Names,
+    pub files: Files,
+    pub groups: Groups,
+    pub queue: DueQueue,
+    pub book: UsageBook,
+    pub made: Made,
+    pub limits: Limits,
+    pub meter: Meter,
+    pub alloc: Global,
+}

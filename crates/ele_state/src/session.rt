@@ -1,0 +1,257 @@
+//! Handles and drafts: what they read, and how they open, change and close.
+ghost use Rattle.std.specs.Prelude.{◌≡◌, ◌<◌, ◌≤◌, ◌+◌, ◌^◌, ◌∷◌, [], true, false, Some, None, Ok, IfOk, OnOk, OnErr, find, is_some, length};
+ghost use Rattle.ele_content.specs.Content.{content_of, longest_content};
+ghost use Rattle.ele_files.specs.Closing.{opening_by};
+ghost use Rattle.ele_files.specs.Held.{cells_of_draft};
+ghost use Rattle.ele_world.specs.Change.{OpenHandle, StartDraft, TruncateDraft, WriteDraft, after_change, after_changes};
+ghost use Rattle.ele_world.specs.Step.{cells_read, step, versions_made};
+ghost use Rattle.ele_world.specs.World.{file_by, has_draft, is_draft, is_held, next_of, reads_by};
+ghost use Rattle.ele_world.specs.declared.event.Event.TheVariants as event;
+ghost use Rattle.ele_world.specs.declared.reply.Reply.TheVariants.{Closed};
+ghost use Rattle.ele_world.specs.declared.rows.Reads.TheVariants.{Draft, Version};
+ghost use Rattle.ele_state.specs.Inside.{world_of, IsTracked, IsSound};
+
+use crate::State;
+use crate::append::{Source, append};
+use crate::book::{blocks, follow_blocks};
+use crate::file::drop_idle;
+use crate::keys::{free_moment, put, take};
+use crate::rows::Rows;
+use ele_files::{Files, Meter};
+use ele_world::{ByteList, FileId, Handle, Moment, NoMemory, Reads, Refusal, VersionNo};
+
+impl State {
+    /// What is read through the handle. Refused: `NoHandle`.
+    pub fn reads_by(&self, handle: Handle) -> Result<Reads, Refusal>
+        ensures { result ≡ reads_by self.now.world.handles handle }
+    {
+        self.rows.files.reads_by(handle)
+    }
+
+    /// The file that is written through the handle. Refused: `NoHandle`, `NotWriter`.
+    pub fn file_by(&self, handle: Handle) -> Result<FileId, Refusal>
+        ensures { result ≡ file_by self.now.world.handles handle }
+    {
+        self.rows.files.file_by(handle)
+    }
+
+    /// The bytes of the draft or the version.
+    ///
+    /// `NoMemory` where memory is refused.
+    pub fn bytes_of(&self, reads: Reads, meter: &mut Meter) -> Result<ByteList, NoMemory>
+        requires { meter.old < 2 ^ 60 }
+        ensures { IfOk result (λ bytes. bytes ≡ content_of (cells_read self.now.world reads)) }
+    {
+        match reads {
+            Reads::Draft(file) => self.rows.files.draft_content(file),
+            Reads::Version(file, number) => self.rows.files.version_content(file, number, meter),
+        }
+    }
+
+    /// A handle is opened by which the file is written; a draft is begun where there is none. The answer is its number.
+    ///
+    /// `NoMemory` where memory is refused; the world stays.
+    pub fn open_write(&mut self, file: FileId) -> Result<Handle, NoMemory>
+        requires there { 0 < next_of self.old.world.files file }
+        requires handles { self.old.world.made.handles < self.old.world.limits.handles }
+        requires versions { has_draft self.old.world file ≡ false
+            → versions_made self.old.world < self.old.world.limits.versions }
+        requires meter { self.old.rows_read ≡ 0 }
+        ensures number { IfOk result (λ number. number ≡ self.old.world.made.handles + 1) }
+        ensures first { has_draft self.old.world file ≡ false → IfOk result (λ number.
+            self.new.world ≡ after_changes self.old.world
+            (StartDraft file ∷ OpenHandle number (Draft file) ∷ [])) }
+        ensures more { has_draft self.old.world file ≡ true → IfOk result (λ number.
+            self.new.world ≡ after_changes self.old.world (OpenHandle number (Draft file) ∷ [])) }
+        ensures err { OnErr result (self.new.world ≡ self.old.world) }
+    {
+        let before = blocks(&self.rows.files);
+        let number = self
+            .rows
+            .files
+            .open_write(file, self.rows.moment, &mut self.rows.meter)?;
+        follow_blocks(&mut self.rows.book, &self.rows.files, file, before);
+        Ok(number)
+    }
+
+    /// A handle is opened that reads the version, whose key goes, for while the handle is open the version isn't due. The
+    /// answer is the handle's number.
+    ///
+    /// `NoMemory` where memory is refused; the world stays.
+    pub fn open_read(&mut self, file: FileId, number: VersionNo) -> Result<Handle, NoMemory>
+        requires held { is_held self.old.world file number ≡ true }
+        requires room { self.old.world.made.handles < self.old.world.limits.handles }
+        requires meter { self.old.rows_read < 2 ^ 59 }
+        ensures number { IfOk result (λ handle. handle ≡ self.old.world.made.handles + 1) }
+        ensures ok { IfOk result (λ handle. self.new.world
+            ≡ after_change self.old.world (OpenHandle handle (Version file number))) }
+        ensures err { OnErr result (self.new.world ≡ self.old.world) }
+    {
+        let moment = free_moment(
+            &self.rows.files,
+            &self.rows.groups,
+            file,
+            number,
+            &mut self.rows.meter,
+        );
+        let handle = self.rows.files.open_read(file, number)?;
+        take(&mut self.rows.queue, file, number, moment);
+        Ok(handle)
+    }
+
+    /// The bytes, of which there are some, are written from that offset on into the draft of the file that the handle writes.
+    ///
+    /// `NoMemory` where memory is refused; the world stays.
+    pub fn write(
+        &mut self,
+        handle: Handle,
+        file: FileId,
+        offset: u64,
+        bytes: &[u8],
+    ) -> Result<(), NoMemory>
+        requires file { file_by self.old.world.handles handle ≡ Ok file }
+        requires some { 0 < length bytes.now }
+        requires short { offset + length bytes.now ≤ longest_content }
+        ensures ok { OnOk result (self.new.world
+            ≡ after_change self.old.world (WriteDraft file offset bytes.now)) }
+        ensures err { OnErr result (self.new.world ≡ self.old.world) }
+    {
+        let before = blocks(&self.rows.files);
+        if let Err(_fault) = self.rows.files.write(handle, offset, bytes) {
+            return Err(NoMemory);
+        }
+        follow_blocks(&mut self.rows.book, &self.rows.files, file, before);
+        Ok(())
+    }
+
+    /// The draft of the file that the handle writes gets so many bytes.
+    ///
+    /// `NoMemory` where memory is refused; the world stays.
+    pub fn truncate(&mut self, handle: Handle, file: FileId, size: u64) -> Result<(), NoMemory>
+        requires file { file_by self.old.world.handles handle ≡ Ok file }
+        requires short { size ≤ longest_content }
+        ensures ok { OnOk result
+            (self.new.world ≡ after_change self.old.world (TruncateDraft file size)) }
+        ensures err { OnErr result (self.new.world ≡ self.old.world) }
+    {
+        let before = blocks(&self.rows.files);
+        if let Err(_fault) = self.rows.files.truncate(handle, size) {
+            return Err(NoMemory);
+        }
+        follow_blocks(&mut self.rows.book, &self.rows.files, file, before);
+        Ok(())
+    }
+
+    /// The handle goes, which reads that. With a file's last writer its draft goes: a changed one becomes the file's next
+    /// version, and the answer is its number; with any other goes a file of which nothing else is left. A version that is read
+    /// by no other has its key again.
+    ///
+    /// `NoMemory` where memory is refused; the world stays.
+    pub fn close(&mut self, handle: Handle, reads: Reads) -> Result<Option<VersionNo>, NoMemory>
+        requires reads { reads_by self.old.world.handles handle ≡ Ok reads }
+        requires meter { self.old.rows_read ≡ 0 }
+        ensures ok { IfOk result (λ number.
+            (Closed number, self.new.world) ≡ step self.old.world (event.Close handle)) }
+        ensures err { OnErr result (self.new.world ≡ self.old.world) }
+    {
+        match reads {
+            Reads::Draft(file) => unwrite(&mut self.rows, handle, file),
+            Reads::Version(file, number) => unread(&mut self.rows, handle, file, number),
+        }
+    }
+}
+
+// How many bytes the file's draft has; it has one.
+#[tactic(auto, using(crate::proofs::ClosedSteps::undrafted, crate::proofs::ClosedSteps::bytes_told))]
+fn draft_bytes(files: &Files, file: FileId) -> u64
+    requires { is_some (find (is_draft file) files.now.drafts) ≡ true }
+    ensures { result ≡ length (content_of (cells_of_draft files.now file)) }
+{
+    let Some(bytes) = files.draft_length(file) else {
+        unreachable!()
+    };
+    bytes
+}
+
+// The last handle of a changed draft is closed, which becomes the file's next version.
+#[tactic(auto, using(crate::proofs::ClosedSteps::numbered, crate::proofs::ClosedSteps::past, crate::proofs::ClosedSteps::writes_file))]
+fn finish(
+    rows: &mut Rows,
+    handle: Handle,
+    file: FileId,
+    opened: Moment,
+) -> Result<Option<VersionNo>, NoMemory>
+    requires sound { IsSound rows.old }
+    requires meter { rows.old.meter ≡ 0 }
+    requires reads { reads_by rows.old.files.handles handle ≡ Ok (Draft file) }
+    requires changed { opening_by rows.old.files handle ≡ Some opened }
+    ensures step { IfOk result
+        (λ number. (Closed number, world_of rows.new) ≡ step (world_of rows.old) (event.Close handle)) }
+    ensures err { OnErr result (world_of rows.new ≡ world_of rows.old) }
+    ensures tracked { IsTracked rows.new }
+{
+    let bytes = draft_bytes(&rows.files, file);
+    let number = append(rows, file, Source::Draft(handle, opened), bytes)?;
+    Ok(Some(number))
+}
+
+// A handle is closed whose draft stays, or goes without a trace, and with it a file of which nothing else is left.
+#[tactic(auto, using(crate::proofs::Words::nat_tests, crate::proofs::Booked::fits, crate::proofs::ClosedSums::left_owed, crate::proofs::ClosedSums::left_answer))]
+fn leave(rows: &mut Rows, handle: Handle, file: FileId) -> Option<VersionNo>
+    requires sound { IsSound rows.old }
+    requires meter { rows.old.meter ≡ 0 }
+    requires reads { reads_by rows.old.files.handles handle ≡ Ok (Draft file) }
+    requires unchanged { opening_by rows.old.files handle ≡ None }
+    ensures step { (Closed result, world_of rows.new) ≡ step (world_of rows.old) (event.Close handle) }
+    ensures tracked { IsTracked rows.new }
+{
+    let before = blocks(&rows.files);
+    rows.files.leave(handle);
+    follow_blocks(&mut rows.book, &rows.files, file, before);
+    drop_idle(rows, file);
+    None
+}
+
+// A handle that reads a version is closed. With the last one that reads it the version's key comes again, where it has one. The
+// key comes before the handle goes, so that one that is refused leaves all as it was, and goes again while others read.
+#[tactic(auto, using(crate::proofs::Words::nat_tests, crate::proofs::OpenedKeys::unread_queue))]
+fn unread(
+    rows: &mut Rows,
+    handle: Handle,
+    file: FileId,
+    number: VersionNo,
+) -> Result<Option<VersionNo>, NoMemory>
+    requires sound { IsSound rows.old }
+    requires meter { rows.old.meter ≡ 0 }
+    requires reads { reads_by rows.old.files.handles handle ≡ Ok (Version file number) }
+    ensures step { IfOk result
+        (λ number. (Closed number, world_of rows.new) ≡ step (world_of rows.old) (event.Close handle)) }
+    ensures err { OnErr result (world_of rows.new ≡ world_of rows.old) }
+    ensures tracked { IsTracked rows.new }
+{
+    let moment = free_moment(&rows.files, &rows.groups, file, number, &mut rows.meter);
+    put(&mut rows.queue, file, number, moment)?;
+    rows.files.leave(handle);
+    if !rows.files.is_open(file, number) {
+        return Ok(None);
+    }
+    let moment = free_moment(&rows.files, &rows.groups, file, number, &mut rows.meter);
+    take(&mut rows.queue, file, number, moment);
+    Ok(None)
+}
+
+// A handle that writes a file is closed.
+fn unwrite(rows: &mut Rows, handle: Handle, file: FileId) -> Result<Option<VersionNo>, NoMemory>
+    requires sound { IsSound rows.old }
+    requires meter { rows.old.meter ≡ 0 }
+    requires reads { reads_by rows.old.files.handles handle ≡ Ok (Draft file) }
+    ensures step { IfOk result
+        (λ number. (Closed number, world_of rows.new) ≡ step (world_of rows.old) (event.Close handle)) }
+    ensures err { OnErr result (world_of rows.new ≡ world_of rows.old) }
+    ensures tracked { IsTracked rows.new }
+{
+    match rows.files.changed_draft(handle) {
+        Some(opened) => finish(rows, handle, file, opened),
+        None => Ok(leave(rows, handle, file)),
+    }
+}

@@ -1,0 +1,192 @@
+//! Versions that come again or go, and what is asked of them.
+ghost use Rattle.std.specs.Prelude.{◌≡◌, ◌+◌, ◌-◌, ◌≤◌, ◌<◌, ◌^◌, ◌∷◌, [], true, false, Some, IfOk, OnOk, OnErr, IsSome, find, filter, is_some, length, map, if◌then◌else◌};
+ghost use Rattle.std.specs.Option.{option_map};
+ghost use Rattle.std.specs.Result.{result_map_both};
+ghost use Rattle.ele_content.specs.Content.{content_of};
+ghost use Rattle.ele_files.specs.Held.{cells_of_version};
+ghost use Rattle.ele_lists.specs.Lists.{remove_first};
+ghost use Rattle.ele_world.specs.Change.{Append, DropIdle, Revive, Take, after_change, after_changes};
+ghost use Rattle.ele_world.specs.FileView.{is_version_of};
+ghost use Rattle.ele_world.specs.Scan.{first_due};
+ghost use Rattle.ele_world.specs.Step.{version_cells, versions_made};
+ghost use Rattle.ele_world.specs.Tagged.{version_at, version_meant};
+ghost use Rattle.ele_world.specs.Told.{stamps_of};
+ghost use Rattle.ele_world.specs.Walk.{live_target};
+ghost use Rattle.ele_world.specs.World.{has_draft, is_held, is_live, is_version, next_of};
+ghost use Rattle.ele_state.specs.Home.{IsHome};
+ghost use Rattle.ele_state.specs.Inside.{world_of, IsTracked, IsSound};
+ghost use Rattle.ele_state.specs.Told.{found_of};
+
+use crate::State;
+use crate::append::{Source, append, next_number};
+use crate::book::{blocks, follow_blocks, take_version};
+use crate::file::drop_idle;
+use crate::keys::take;
+use crate::path::file_in;
+use crate::rows::Rows;
+use ele_files::{Files, Meter};
+use ele_world::{
+    DirId, FileId, Key, Name, NoMemory, Refusal, Stamps, StampsList, Tag, TaggedPath, Target,
+    VersionNo,
+};
+
+impl State {
+    /// The file's version that the tag means; without one it is the current one. Refused: `NoVersion`, `Forgotten`.
+    pub fn version_meant(
+        &self,
+        file: FileId,
+        tag: Tag,
+        meter: &mut Meter,
+    ) -> Result<Stamps, Refusal>
+        requires there { 0 < next_of self.now.world.files file }
+        requires meter { meter.old < 2 ^ 60 }
+        ensures value { result ≡ result_map_both stamps_of (λ refusal. refusal)
+            (version_meant self.now.world.files self.now.world.versions file tag) }
+        ensures read { meter.new ≤ meter.old + 1 }
+    {
+        self.rows.files.version_meant(file, tag, meter)
+    }
+
+    /// The file and the stamps of the version that the path and its tag mean. Refused: as `walk_meant`, `IsDirectory`, and as
+    /// `version_meant`.
+    pub fn version_at(
+        &self,
+        tagged: &TaggedPath,
+        meter: &mut Meter,
+    ) -> Result<(FileId, Stamps), Refusal>
+        requires { meter.old < 2 ^ 60 }
+        ensures value { result ≡ found_of (version_at self.now.world tagged.now) }
+        ensures held { IfOk result (λ found. is_held self.now.world found.0 found.1.number ≡ true) }
+        ensures read { meter.new ≤ meter.old + 1 }
+    {
+        let tag = tagged.tag();
+        let file = file_in(self.walk_meant(tagged.path(), tag)?)?;
+        let stamps = self.version_meant(file, tag, meter)?;
+        Ok((file, stamps))
+    }
+
+    /// The versions that are held of the file, by number.
+    ///
+    /// `NoMemory` where memory is refused.
+    pub fn versions(&self, file: FileId) -> Result<StampsList, NoMemory>
+        ensures { IfOk result (λ rows. rows
+            ≡ map stamps_of (filter (is_version_of file) self.now.world.versions)) }
+    {
+        self.rows.files.stamps_of_file(file)
+    }
+
+    /// A live file without a draft gets a version more, with the content of the held version of these stamps; the answer is its
+    /// number.
+    ///
+    /// `NoMemory` where memory is refused; the world stays.
+    #[tactic(auto, using(crate::proofs::Words::nat_tests))]
+    pub fn bring_back(&mut self, file: FileId, stamps: &Stamps) -> Result<VersionNo, NoMemory>
+        requires live { is_live self.old.world file ≡ true }
+        requires held { option_map stamps_of (find (is_version file stamps.now.number)
+            self.old.world.versions) ≡ Some stamps.now }
+        requires undrafted { has_draft self.old.world file ≡ false }
+        requires room { versions_made self.old.world < self.old.world.limits.versions }
+        requires meter { self.old.rows_read < 2 ^ 59 }
+        ensures number { IfOk result (λ number. number ≡ next_of self.old.world.files file) }
+        ensures ok { OnOk result (self.new.world ≡ after_change self.old.world
+            (Append file self.old.world.now
+            (version_cells self.old.world file stamps.now.number))) }
+        ensures err { OnErr result (self.new.world ≡ self.old.world) }
+    {
+        let source = Source::Version(stamps.number);
+        append(&mut self.rows, file, source, stamps.length)
+    }
+
+    /// A file without a live name and without a draft has a name again, and a version with the content of its last one; the
+    /// answer is its number.
+    ///
+    /// `NoMemory` where memory is refused; the world stays.
+    pub fn revive(
+        &mut self,
+        directory: DirId,
+        name: Name,
+        file: FileId,
+    ) -> Result<VersionNo, NoMemory>
+        requires home { IsHome self.old.world directory }
+        requires free { is_some (live_target self.old.world.names directory name) ≡ false }
+        requires names { self.old.world.made.names < self.old.world.limits.names }
+        requires versions { versions_made self.old.world < self.old.world.limits.versions }
+        requires dead { is_live self.old.world file ≡ false }
+        requires held { is_held self.old.world file (next_of self.old.world.files file - 1) ≡ true }
+        requires undrafted { has_draft self.old.world file ≡ false }
+        requires meter { self.old.rows_read ≡ 0 }
+        ensures number { IfOk result (λ number. number ≡ next_of self.old.world.files file) }
+        ensures ok { OnOk result (self.new.world
+            ≡ after_change self.old.world (Revive directory name file)) }
+        ensures err { OnErr result (self.new.world ≡ self.old.world) }
+    {
+        let last = next_number(&self.rows.files, file).before();
+        let bytes = version_bytes(&self.rows.files, file, last, &mut self.rows.meter);
+        // The name comes first: it can be taken back without memory.
+        self.rows
+            .names
+            .add(directory, name, Target::File(file), self.rows.moment)?;
+        match append(&mut self.rows, file, Source::Version(last), bytes) {
+            Ok(number) => {
+                self.rows.made.names += 1;
+                Ok(number)
+            }
+            Err(refused) => {
+                self.rows.names.take_back();
+                Err(refused)
+            }
+        }
+    }
+
+    /// The version of the key goes, which is the first due one, and with it a file of which nothing else is left. It takes no
+    /// memory, and reads one row.
+    pub fn remove(&mut self, key: &Key)
+        requires first { first_due self.old.world ≡ Some key.now }
+        requires meter { self.old.rows_read ≡ 0 }
+        ensures world { self.new.world ≡ after_changes self.old.world
+            (Take key.now.file key.now.number ∷ DropIdle key.now.file ∷ []) }
+        ensures read { self.new.rows_read ≡ 1 }
+    {
+        take_out(&mut self.rows, key);
+        drop_idle(&mut self.rows, key.file);
+    }
+}
+
+// How many bytes the version has; it is held.
+fn version_bytes(files: &Files, file: FileId, number: VersionNo, meter: &mut Meter) -> u64
+    requires held { IsSome (find (is_version file number) files.now.versions) }
+    requires meter { meter.old < 2 ^ 60 }
+    ensures length { result ≡ length (content_of (cells_of_version files.now file number)) }
+    ensures read { meter.new ≡ meter.old + 1 }
+{
+    let Some(stamps) = files.stamps(file, number, meter) else {
+        unreachable!()
+    };
+    stamps.length
+}
+
+// The version of the key goes, which is the first due one.
+#[tactic(auto, using(crate::proofs::Words::nat_tests, crate::proofs::Words::first_is_due, crate::proofs::Words::placed_of, crate::proofs::Removed::removed_bytes, crate::proofs::Removed::removed_within, crate::proofs::Removed::removed_owed, crate::proofs::Removed::removed_queue))]
+fn take_out(rows: &mut Rows, key: &Key)
+    requires sound { IsSound rows.old }
+    requires meter { rows.old.meter ≡ 0 }
+    requires first { first_due (world_of rows.old) ≡ Some key.now }
+    ensures world { world_of rows.new ≡ record (world_of rows.old) {
+      versions =
+          remove_first (is_version key.now.file key.now.number) rows.old.files.versions;
+    } }
+    ensures tracked { IsTracked rows.new }
+    ensures read { rows.new.meter ≡ 1 }
+{
+    let before = blocks(&rows.files);
+    let Some(bytes) = rows
+        .files
+        .remove_version(key.file, key.number, &mut rows.meter)
+    else {
+        unreachable!()
+    };
+    // No other key changes, so that a clean takes no memory and can't be stopped.
+    take(&mut rows.queue, key.file, key.number, Some(key.ripe));
+    take_version(&mut rows.book, &rows.files, key.file, bytes);
+    follow_blocks(&mut rows.book, &rows.files, key.file, before);
+}
