@@ -1,21 +1,6 @@
-pub mod Words
-pub mod Following
-pub mod Governed
-pub mod Bounded
-pub mod Booked
-pub mod Asked
-pub mod Appended
-pub mod NewNames
-pub mod Marked
-pub mod Made
-pub mod Kept
-pub mod Fresh
-pub mod Removed
-pub mod ClosedSteps
-pub mod ClosedSums
-pub mod DroppedFiles
-pub mod Revived
-pub mod Unlinked
-pub mod OpenedKeys
-pub mod ToldVersions
-pub mod Reverted
+-- the version that a question or a revert means
+pub mod Meant
+-- a handle that begins a draft
+pub mod Opened
+-- where a pass ends
+pub mod Passes

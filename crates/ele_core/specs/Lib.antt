@@ -1,8 +1,4 @@
-pub mod State
+pub mod Does
 pub mod Reads
 pub mod Stopped
-pub mod Queued
-pub mod Tracked
-pub mod Inside
-pub mod Faults
-pub mod Told
+pub mod Place

@@ -1,34 +1,34 @@
 //! The events of the clock.
 ghost use Rattle.std.specs.Prelude.{◌≡◌, ◌≤◌};
+ghost use Rattle.ele_core.specs.Does.{DoesAtOnce};
 ghost use Rattle.ele_moment.specs.Last.{last_moment};
-ghost use Rattle.ele_world.specs.Step.{step};
 ghost use Rattle.ele_world.specs.declared.event.Event.TheVariants as event;
-ghost use Rattle.ele_core.specs.Inside.{world_of, IsTracked};
+ghost use Rattle.ele_world.specs.declared.reply.Reply.TheVariants.{Now};
 
-use crate::rows::Rows;
-use ele_world::{Moment, Refusal, Reply};
+use crate::Core;
+use crate::halt::{passed, unless};
+use ele_world::{Moment, Refusal};
 
-/// The clock goes to the moment.
-pub fn clock(rows: &mut Rows, to: Moment) -> Reply
-    ensures step { (result, world_of rows.new) ≡ step (world_of rows.old) (event.Clock to) }
-    ensures valid { to ≤ last_moment }
-    ensures tracked { IsTracked rows.old → IsTracked rows.new }
-{
-    if to.seconds() < rows.moment.seconds() {
-        return Reply::Refused(Refusal::ClockBack);
+impl Core {
+    /// The clock goes to the moment. Refused: `ClockBack`.
+    pub fn clock(&mut self, to: Moment) -> Result<Moment, Refusal>
+        ensures does { DoesAtOnce Now self.old.world (event.Clock to) result self.new.world }
+        ensures valid { to ≤ last_moment }
+    {
+        let is_back = to.seconds() < self.state.now().seconds();
+        passed!(unless(is_back, Refusal::ClockBack));
+        self.state.set_time(to);
+        Ok(to)
     }
-    rows.moment = to;
-    Reply::Now(to)
-}
 
-/// The clock goes on by so many seconds.
-pub fn tick(rows: &mut Rows, seconds: u64) -> Reply
-    ensures step { (result, world_of rows.new) ≡ step (world_of rows.old) (event.Tick seconds) }
-    ensures tracked { IsTracked rows.old → IsTracked rows.new }
-{
-    let Some(to) = rows.moment.plus(seconds) else {
-        return Reply::Refused(Refusal::ClockEnd);
-    };
-    rows.moment = to;
-    Reply::Now(to)
+    /// The clock goes on by so many seconds. Refused: `ClockEnd`.
+    pub fn tick(&mut self, seconds: u64) -> Result<Moment, Refusal>
+        ensures { DoesAtOnce Now self.old.world (event.Tick seconds) result self.new.world }
+    {
+        let Some(to) = self.state.now().plus(seconds) else {
+            return Err(Refusal::ClockEnd);
+        };
+        self.state.set_time(to);
+        Ok(to)
+    }
 }

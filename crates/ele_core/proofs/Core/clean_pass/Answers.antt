@@ -1,9 +1,18 @@
-use Rattle.ele_core.proofs.Words.{world_of}
-use Rattle.ele_core.proofs.Kept.{pass_settles}
+use Rattle.ele_core.proofs.Passes.{finished}
+use Rattle.ele_world.proofs.Basics.{arith, nat_tests, refl, subst}
+use Rattle.ele_world.proofs.Formed.{in_parts}
+use Rattle.ele_world.proofs.PassEnds.{budget_ends}
+use Rattle.ele_world.proofs.Words.{HasParts, IsCleaned}
 use Rattle.ele_core.proofs.Core.clean_pass.Goals as goal
 
-pub invariant_of-self : goal.invariant_of-self
-invariant_of-self c = record {
-  sound = c.pass.ensures.sound;
-  none_idle = pass_settles (world_of c.self.inside.rows) c.args.budget c.pass.result (world_of c.pass.new.rows) c.pass.ensures.end c.self.invariant.sound.formed c.self.invariant.none_idle;
-}
+pub returns-then-is_none-clause-end : goal.returns-then-is_none-clause-end
+returns-then-is_none-clause-end c =
+    let w = c.args.self.now.world in
+    let formed : HasParts w = in_parts c.policies_are_lawful.ensures w c.formed.ensures in
+    finished w c.loop-removed.self.world c.clean_one.new.self.world c.loop-removed.removed c.args.budget c.clean_one.result formed c.loop-removed.invariant (grind (arith, nat_tests)) c.clean_one.ensures.step c.loop-removed-test.true
+
+pub returns-clause-end : goal.returns-clause-end
+returns-clause-end c =
+    let w = c.args.self.now.world in
+    let formed : HasParts w = in_parts c.policies_are_lawful.ensures w c.formed.ensures in
+    (refl, budget_ends w c.args.budget c.loop-removed.self.world formed (subst (λ n. IsCleaned w n c.loop-removed.self.world) (omega (arith, c.loop-removed-test.false, c.loop-removed.auto.removed-end)) c.loop-removed.invariant))

@@ -1,0 +1,5 @@
+use Rattle.ele_world.proofs.Words.{IsCleaned}
+use Rattle.ele_core.proofs.Core.clean_pass.Given as goal
+
+abbrev pub invariant-loop-removed : goal.invariant-loop-removed
+invariant-loop-removed l = IsCleaned l.fn.self.world l.removed l.self.world

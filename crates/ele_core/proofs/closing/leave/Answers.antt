@@ -1,5 +1,0 @@
-use Rattle.ele_core.proofs.ClosedSums.{left_sound}
-use Rattle.ele_core.proofs.closing.leave.Goals as goal
-
-pub drop_idle-requires : goal.drop_idle-requires
-drop_idle-requires c = rw c.leave.ensures (left_sound c.args.rows.now c.args.handle c.args.file c.requires.sound c.requires.reads c.follow_blocks.new.book (rw c.leave.ensures at c.follow_blocks.ensures))

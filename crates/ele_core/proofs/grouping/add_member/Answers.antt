@@ -1,6 +1,0 @@
-use Rattle.ele_core.proofs.Words.{arith, nat_tests}
-use Rattle.ele_core.proofs.Marked.{member_queue}
-use Rattle.ele_core.proofs.grouping.add_member.Goals as goal
-
-pub returns-clause-tracked : goal.returns-clause-tracked
-returns-clause-tracked c = grind (arith, nat_tests, member_queue)

@@ -1,5 +1,0 @@
-use Rattle.ele_core.proofs.Words.{◌≡◌, take, keys_at}
-use Rattle.ele_core.proofs.marking.keys_at.Given as goal
-
-abbrev pub invariant-loop-file : goal.invariant-loop-file
-invariant-loop-file l = l.keys.items ≡ keys_at l.left l.rows.groups l.rows.files (take l.file-index l.files) l.marks

@@ -1,8 +1,0 @@
--- A core as contracts see it.
-use Rattle.std.specs.Prelude.{ℕ}
-use Rattle.ele_world.specs.World.{World}
-
--- its world, and how many version rows its last event read
-pub record State : Type 0 where
-  pub world : World
-  pub rows_read : ℕ

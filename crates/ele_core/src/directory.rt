@@ -1,0 +1,47 @@
+//! The events of directories.
+ghost use Rattle.ele_core.specs.Does.{Does, DoesAtOnce, done};
+ghost use Rattle.ele_policy.specs.Policy.{IsPolicy};
+ghost use Rattle.ele_world.specs.declared.event.Event.TheVariants as event;
+ghost use Rattle.ele_world.specs.declared.reply.Reply.TheVariants.{Directory};
+
+use crate::Core;
+use crate::halt::{Halt, passed, unless};
+use ele_world::{DirId, Path, Policy, Refusal, Target, Which};
+
+impl Core {
+    /// A directory is made at the path, with the policy of the one that it stands in. Refused: `IsRoot`, `NoEntry`,
+    /// `NotDirectory`, `Exists`, `Full`.
+    pub fn make_dir(&mut self, path: &Path) -> Result<DirId, Halt>
+        ensures { Does Directory self.old.world (event.MakeDir path.now) result self.new.world }
+    {
+        let (directory, name) = passed!(self.free_place(path));
+        passed!(self.room_for(Which::Directories));
+        passed!(self.room_for(Which::Names));
+        Ok(self.state.make_directory(directory, name)?)
+    }
+
+    /// The name of the directory at the path dies. Refused: `IsRoot`, `NoEntry`, `NotDirectory`, `NotEmpty`.
+    pub fn remove_dir(&mut self, path: &Path) -> Result<(), Refusal>
+        ensures { DoesAtOnce done self.old.world (event.RemoveDir path.now) result self.new.world }
+    {
+        let (home, name, target) = passed!(self.state.placed_now(path));
+        let Target::Directory(directory) = target else {
+            return Err(Refusal::NotDirectory);
+        };
+        passed!(unless(!self.state.is_empty(directory), Refusal::NotEmpty));
+        self.state.end_name(home, &name);
+        Ok(())
+    }
+
+    /// Files that are made in the directory at the path from now on get the policy. Refused: `NoEntry`, `NotDirectory`.
+    pub fn set_default(&mut self, path: &Path, policy: Policy) -> Result<(), Refusal>
+        ensures does { DoesAtOnce done
+            self.old.world (event.SetDefault path.now policy) result self.new.world }
+        ensures valid { IsPolicy policy }
+    {
+        policy.is_given();
+        let directory = passed!(self.state.directory_now(path));
+        self.state.govern(directory, policy);
+        Ok(())
+    }
+}

@@ -1,0 +1,57 @@
+//! Why an event isn't done.
+//! A contract sees the variants.
+ghost use Rattle.std.specs.Prelude.{◌≡◌, OnOk, IfErr, OnErr, true, false};
+
+use ele_world::{NoMemory, Refusal};
+
+/// Why an event isn't done. The world is as it was.
+#[derive(Clone, Copy, Debug, PartialEq, Eq)]
+pub enum Halt {
+    /// The world refuses it.
+    Refused(Refusal),
+    /// Memory was refused, and the world doesn't refuse the event.
+    NoMemory,
+}
+
+impl From<Refusal> for Halt {
+    ghost use Rattle.std.specs.Prelude.{◌≡◌};
+    ghost use Rattle.ele_core.specs.declared.halt.Halt.TheVariants as halt;
+
+    ghost from_gives = { λ refusal made. made ≡ halt.Refused refusal };
+
+    fn from(refusal: Refusal) -> Halt {
+        Halt::Refused(refusal)
+    }
+}
+
+impl From<NoMemory> for Halt {
+    ghost use Rattle.std.specs.Prelude.{◌≡◌};
+    ghost use Rattle.ele_core.specs.declared.halt.Halt.TheVariants as halt;
+
+    ghost from_gives = { λ _ made. made ≡ halt.NoMemory };
+
+    fn from(_refused: NoMemory) -> Halt {
+        Halt::NoMemory
+    }
+}
+
+// Refused where the test holds.
+pub fn unless(test: bool, refusal: Refusal) -> Result<(), Refusal>
+    ensures passes { OnOk result (test ≡ false) }
+    ensures refused { IfErr result (λ why. why ≡ refusal) }
+    ensures holds { OnErr result (test ≡ true) }
+{
+    if test { Err(refusal) } else { Ok(()) }
+}
+
+/// What was found, or the refusal is handed on: what `?` is, which isn't proved of an error that may hold a number.
+macro_rules! passed {
+    ($check:expr) => {
+        match $check {
+            Ok(found) => found,
+            Err(refusal) => return Err(refusal.into()),
+        }
+    };
+}
+
+pub(crate) use passed;

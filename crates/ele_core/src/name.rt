@@ -1,0 +1,80 @@
+//! The events of files' names.
+ghost use Rattle.ele_core.specs.Does.{Does, done, revived};
+ghost use Rattle.ele_world.specs.declared.event.Event.TheVariants as event;
+ghost use Rattle.ele_world.specs.declared.reply.Reply.TheVariants.{File};
+
+use crate::Core;
+use crate::halt::{Halt, passed, unless};
+use ele_state::Meter;
+use ele_world::{FileId, Path, Refusal, Target, VersionNo, Which};
+
+impl Core {
+    /// A file is made at the path, with an empty first version. Refused: `IsRoot`, `NoEntry`, `NotDirectory`, `Exists`, `Full`.
+    pub fn create(&mut self, path: &Path) -> Result<FileId, Halt>
+        ensures { Does File self.old.world (event.Create path.now) result self.new.world }
+    {
+        let (directory, name) = passed!(self.free_place(path));
+        passed!(self.room_for(Which::Files));
+        passed!(self.room_for(Which::Names));
+        passed!(self.room_for(Which::Versions));
+        Ok(self.state.make_file(directory, name)?)
+    }
+
+    /// The file at the first path gets the second path as another name. Refused: as `open_write` of the first, and as `create`.
+    pub fn link(&mut self, from: &Path, to: &Path) -> Result<(), Halt>
+        ensures { Does done self.old.world (event.Link from.now to.now) result self.new.world }
+    {
+        let file = passed!(self.state.file_now(from));
+        let (directory, name) = passed!(self.free_place(to));
+        passed!(self.room_for(Which::Names));
+        Ok(self.state.add_name(directory, name, Target::File(file))?)
+    }
+
+    /// The name of the file at the path dies; with the last one its current version ends. Refused: `IsRoot`, `NoEntry`,
+    /// `NotDirectory`, `IsDirectory`.
+    pub fn unlink(&mut self, path: &Path) -> Result<(), Halt>
+        ensures { Does done self.old.world (event.Unlink path.now) result self.new.world }
+    {
+        let (directory, name, target) = passed!(self.state.placed_now(path));
+        let Target::File(file) = target else {
+            return Err(Halt::Refused(Refusal::IsDirectory));
+        };
+        self.state.count_from(Meter::new());
+        Ok(self.state.end_file_name(directory, &name, file)?)
+    }
+
+    /// What stands at the first path has the second path as its name from now on. Refused: `IsRoot`, `NoEntry`, `NotDirectory`,
+    /// `IntoItself`, `Exists`, `Full`.
+    pub fn rename(&mut self, from: &Path, to: &Path) -> Result<(), Halt>
+        ensures { Does done self.old.world (event.Rename from.now to.now) result self.new.world }
+    {
+        let (directory, name, moved) = passed!(self.state.placed_now(from));
+        let new = passed!(self.state.parent_now(to));
+        passed!(unless(self.state.stands_in(moved, to), Refusal::IntoItself));
+        passed!(unless(self.state.is_taken(new.0, &new.1), Refusal::Exists));
+        passed!(self.room_for(Which::Names));
+        Ok(self.state.move_name(&(directory, name), &new, moved)?)
+    }
+
+    /// The dead name at the path stands again for what it last stood for; a file that had no live name gets a version with the
+    /// content of its last one, and the answer is its number. Refused: as `create`, `NotRestorable`, `Drafting`.
+    pub fn undelete(&mut self, path: &Path) -> Result<Option<VersionNo>, Halt>
+        ensures { Does revived self.old.world (event.Undelete path.now) result self.new.world }
+    {
+        let (directory, name) = passed!(self.free_place(path));
+        let Some(lost) = self.state.last_dead(directory, &name) else {
+            return Err(Halt::Refused(Refusal::NoEntry));
+        };
+        passed!(unless(!self.state.may_return(&lost), Refusal::NotRestorable));
+        let Some(file) = self.state.nameless(&lost) else {
+            passed!(self.room_for(Which::Names));
+            self.state.add_name(directory, name, lost)?;
+            return Ok(None);
+        };
+        passed!(unless(self.state.has_draft(file), Refusal::Drafting));
+        passed!(self.room_for(Which::Names));
+        passed!(self.room_for(Which::Versions));
+        self.state.count_from(Meter::new());
+        Ok(Some(self.state.revive(directory, name, file)?))
+    }
+}

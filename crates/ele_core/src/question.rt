@@ -1,0 +1,175 @@
+//! The events that ask, and what else is asked. None changes anything.
+ghost use Rattle.std.specs.Prelude.{◌≡◌, ◌<◌, Ok, Err, IfOk, IfErr};
+ghost use Rattle.ele_core.specs.Does.{Does, DoesAtOnce, stat_told};
+ghost use Rattle.ele_world.specs.Due.{is_due};
+ghost use Rattle.ele_world.specs.Restorable.{restorable};
+ghost use Rattle.ele_world.specs.Scan.{scan, first_due};
+ghost use Rattle.ele_world.specs.Usage.{usages};
+ghost use Rattle.ele_world.specs.declared.event.Event.TheVariants as event;
+ghost use Rattle.ele_world.specs.declared.event.Source.TheVariants as source;
+ghost use Rattle.ele_world.specs.declared.reply.Reply.TheVariants.{Bytes, NameList, Rows};
+ghost use Rattle.ele_world.specs.declared.rows.Target.TheVariants.{File, Directory};
+ghost use Rattle.ele_world.specs.Told.{stat_of};
+ghost use Rattle.ele_world.specs.World.{next_of};
+
+use crate::Core;
+use crate::halt::{Halt, passed};
+use ele_state::{Meter, directory_in, file_in};
+use ele_world::{
+    ByteList, DeadNameList, DirId, DirectoryRow, FileId, FileStat, GroupList, Handle, Key, KeyList,
+    NameList, NoMemory, PathAt, Reads, Refusal, Source, StampsList, Tag, TaggedPath, Target, Usage,
+    VersionNo,
+};
+
+/// What a path and its tag mean.
+#[derive(Clone, Copy, Debug, PartialEq, Eq)]
+pub enum Stat {
+    /// A version, and the policy that governs its file.
+    File(FileStat),
+    /// A directory, and the policy that it gives.
+    Directory(DirectoryRow),
+}
+
+impl Core {
+    // The bytes of what the handle reads.
+    fn read_handle(&self, handle: Handle) -> Result<ByteList, Halt>
+        ensures { Does Bytes
+            self.now.world (event.Read (source.Of handle)) result self.now.world }
+    {
+        let reads = passed!(self.state.reads_by(handle));
+        Ok(self.state.bytes_of(reads, &mut Meter::new())?)
+    }
+
+    // The bytes of the version that the path and its tag mean.
+    fn read_version(&self, tagged: &TaggedPath) -> Result<ByteList, Halt>
+        ensures { Does Bytes
+            self.now.world (event.Read (source.Tagged tagged.now)) result self.now.world }
+    {
+        self.formed();
+        let (file, stamps) = passed!(self.state.version_at(tagged, &mut Meter::new()));
+        let reads = Reads::Version(file, stamps.number);
+        Ok(self.state.bytes_of(reads, &mut Meter::new())?)
+    }
+
+    /// The bytes of the version that the path and its tag mean, or of what the handle reads. Refused: `Future`, `NoEntry`,
+    /// `NotDirectory`, `IsDirectory`, `NoVersion`, `Forgotten`; `NoHandle`.
+    pub fn read(&self, source: &Source) -> Result<ByteList, Halt>
+        ensures { Does Bytes self.now.world (event.Read source.now) result self.now.world }
+    {
+        match source {
+            Source::Of(handle) => self.read_handle(*handle),
+            Source::Tagged(tagged) => self.read_version(tagged),
+        }
+    }
+
+    // What is told of the file's version that the tag means.
+    fn stat_file(&self, file: FileId, tag: Tag) -> Result<Stat, Refusal>
+        requires { 0 < next_of self.now.world.files file }
+        ensures ok { IfOk result
+            (λ stat. stat_of self.now.world (File file) tag ≡ Ok (stat_told stat)) }
+        ensures refused { IfErr result
+            (λ refusal. stat_of self.now.world (File file) tag ≡ Err refusal) }
+    {
+        let stamps = passed!(self.state.version_meant(file, tag, &mut Meter::new()));
+        let policy = self.state.policy_for(file);
+        Ok(Stat::File(FileStat {
+            file,
+            stamps,
+            policy,
+        }))
+    }
+
+    // What is told of the directory, which has no numbered versions.
+    fn stat_directory(&self, id: DirId, tag: Tag) -> Result<Stat, Refusal>
+        ensures ok { IfOk result
+            (λ stat. stat_of self.now.world (Directory id) tag ≡ Ok (stat_told stat)) }
+        ensures refused { IfErr result
+            (λ refusal. stat_of self.now.world (Directory id) tag ≡ Err refusal) }
+    {
+        if let Tag::Number(_) = tag {
+            return Err(Refusal::IsDirectory);
+        }
+        let default = self.state.default_of(id);
+        Ok(Stat::Directory(DirectoryRow { id, default }))
+    }
+
+    /// What the path and its tag mean, when it was made, how long it is, and its policy. Refused: `Future`, `NoEntry`,
+    /// `NotDirectory`, `NoVersion`, `Forgotten`, and `IsDirectory` for a number.
+    pub fn stat(&self, tagged: &TaggedPath) -> Result<Stat, Refusal>
+        ensures { DoesAtOnce stat_told self.now.world (event.Stat tagged.now) result self.now.world }
+    {
+        match passed!(self.state.walk_meant(tagged.path(), tagged.tag())) {
+            Target::File(file) => self.stat_file(file, tagged.tag()),
+            Target::Directory(id) => self.stat_directory(id, tagged.tag()),
+        }
+    }
+
+    /// The versions that are held of the file that the path names, or named at its moment. Refused: `Future`, `NoEntry`,
+    /// `NotDirectory`, `IsDirectory`.
+    pub fn versions(&self, at: &PathAt) -> Result<StampsList, Halt>
+        ensures { Does Rows self.now.world (event.Versions at.now) result self.now.world }
+    {
+        let target = passed!(self.state.walk_then(at));
+        let file = passed!(file_in(target));
+        Ok(self.state.versions(file)?)
+    }
+
+    /// The names that stand in the directory that the path names, or stood there at its moment. Refused: `Future`, `NoEntry`,
+    /// `NotDirectory`.
+    pub fn list(&self, at: &PathAt) -> Result<NameList, Halt>
+        ensures { Does NameList self.now.world (event.List at.now) result self.now.world }
+    {
+        let target = passed!(self.state.walk_then(at));
+        let directory = passed!(directory_in(target));
+        let moment = at.moment.unwrap_or(self.state.now());
+        Ok(self.state.names_in(directory, moment)?)
+    }
+
+    /// All groups with their files and marks, in order of making.
+    ///
+    /// `NoMemory` where memory is refused.
+    pub fn groups(&self) -> Result<GroupList, NoMemory>
+        ensures { IfOk result (λ groups. groups ≡ self.now.world.groups) }
+    {
+        self.state.groups()
+    }
+
+    /// What the files of each kind of policy use, in the order of `Kind`.
+    pub fn usage(&self) -> [Usage; 4]
+        ensures { result ≡ usages self.now.world }
+    {
+        self.state.usage()
+    }
+
+    /// The names that may come back, by directory and then by the bytes of the name.
+    ///
+    /// `NoMemory` where memory is refused.
+    pub fn restorable(&self) -> Result<DeadNameList, NoMemory>
+        ensures { IfOk result (λ names. names ≡ restorable self.now.world) }
+    {
+        self.state.restorable()
+    }
+
+    /// Whether the version is held and due now.
+    pub fn is_due(&self, file: FileId, number: VersionNo) -> bool
+        ensures { result ≡ is_due self.now.world file number }
+    {
+        self.state.is_due(file, number)
+    }
+
+    /// The keys of the versions that are due now, in the order in which they are removed.
+    ///
+    /// `NoMemory` where memory is refused.
+    pub fn due(&self) -> Result<KeyList, NoMemory>
+        ensures { IfOk result (λ keys. keys ≡ scan self.now.world) }
+    {
+        self.state.due()
+    }
+
+    /// The key of the version that is removed next, if one is due now.
+    pub fn due_first(&self) -> Option<Key>
+        ensures { result ≡ first_due self.now.world }
+    {
+        self.state.due_first()
+    }
+}

@@ -1,0 +1,81 @@
+//! The events of handles and drafts.
+ghost use Rattle.std.specs.Prelude.{◌≡◌, ◌+◌, nat_lt};
+ghost use Rattle.ele_content.specs.Content.{longest_content};
+ghost use Rattle.ele_core.specs.Does.{Does, done};
+ghost use Rattle.ele_world.specs.declared.event.Event.TheVariants as event;
+ghost use Rattle.ele_world.specs.declared.reply.Reply.TheVariants as reply;
+
+use crate::Core;
+use crate::halt::{Halt, passed, unless};
+use ele_state::Meter;
+use ele_world::{ByteList, Handle, Path, Refusal, TaggedPath, VersionNo, Which};
+
+/// How many bytes a content may have.
+const LONGEST_CONTENT: u64 = 1_048_576;
+
+// Whether a content that goes on for so many bytes behind the offset would be too long.
+fn is_too_long(offset: u64, length: u64) -> bool
+    ensures { result ≡ nat_lt longest_content (offset + length) }
+{
+    offset > LONGEST_CONTENT || length > LONGEST_CONTENT - offset
+}
+
+impl Core {
+    /// A handle is opened by which the file at the path is written. Refused: `NoEntry`, `NotDirectory`, `IsDirectory`, `Full`.
+    pub fn open_write(&mut self, path: &Path) -> Result<Handle, Halt>
+        ensures { Does reply.Handle self.old.world (event.OpenWrite path.now) result self.new.world }
+    {
+        let file = passed!(self.state.file_now(path));
+        passed!(self.room_for(Which::Handles));
+        self.state.count_from(Meter::new());
+        if self.state.has_draft(file) {
+            return Ok(self.state.open_write(file)?);
+        }
+        passed!(self.room_for(Which::Versions));
+        Ok(self.state.open_write(file)?)
+    }
+
+    /// A handle is opened by which the version is read that the path and its tag mean. Refused: as `stat`, and `Full`.
+    pub fn open_read(&mut self, tagged: &TaggedPath) -> Result<Handle, Halt>
+        ensures { Does reply.Handle self.old.world (event.OpenRead tagged.now) result self.new.world }
+    {
+        let mut meter = Meter::new();
+        let (file, stamps) = passed!(self.state.version_at(tagged, &mut meter));
+        passed!(self.room_for(Which::Handles));
+        self.state.count_from(meter);
+        Ok(self.state.open_read(file, stamps.number)?)
+    }
+
+    /// The bytes are written through the handle, from that offset on. Refused: `NoHandle`, `NotWriter`, `TooBig`.
+    pub fn write(&mut self, handle: Handle, offset: u64, bytes: &ByteList) -> Result<(), Halt>
+        ensures { Does done
+            self.old.world (event.Write handle offset bytes.now) result self.new.world }
+    {
+        let file = passed!(self.state.file_by(handle));
+        let bytes = bytes.as_slice();
+        if bytes.is_empty() {
+            return Ok(());
+        }
+        passed!(unless(is_too_long(offset, bytes.len() as u64), Refusal::TooBig));
+        Ok(self.state.write(handle, file, offset, bytes)?)
+    }
+
+    /// The draft under the handle gets so many bytes. Refused: `NoHandle`, `NotWriter`, `TooBig`.
+    pub fn truncate(&mut self, handle: Handle, size: u64) -> Result<(), Halt>
+        ensures { Does done self.old.world (event.Truncate handle size) result self.new.world }
+    {
+        let file = passed!(self.state.file_by(handle));
+        passed!(unless(is_too_long(0, size), Refusal::TooBig));
+        Ok(self.state.truncate(handle, file, size)?)
+    }
+
+    /// Closes the handle; the last one of a changed draft makes it the file's next version, and the answer is its number.
+    /// Refused: `NoHandle`.
+    pub fn close(&mut self, handle: Handle) -> Result<Option<VersionNo>, Halt>
+        ensures { Does reply.Closed self.old.world (event.Close handle) result self.new.world }
+    {
+        let reads = passed!(self.state.reads_by(handle));
+        self.state.count_from(Meter::new());
+        Ok(self.state.close(handle, reads)?)
+    }
+}

@@ -1,0 +1,40 @@
+//! The events of versions, and of the policy that governs them.
+ghost use Rattle.ele_core.specs.Does.{Does, done};
+ghost use Rattle.ele_policy.specs.Policy.{IsPolicy};
+ghost use Rattle.ele_world.specs.declared.event.Event.TheVariants as event;
+ghost use Rattle.ele_world.specs.declared.reply.Reply.TheVariants.{Version};
+
+use crate::Core;
+use crate::halt::{Halt, passed, unless};
+use ele_state::Meter;
+use ele_world::{Path, Policy, Refusal, Tag, VersionNo, Which};
+
+impl Core {
+    /// The file at the path gets a version more, with the content of the one with that number; the answer is the new one's
+    /// number. Refused: as `open_write`, `NoVersion`, `Forgotten`, `Drafting`.
+    pub fn revert(&mut self, path: &Path, number: VersionNo) -> Result<VersionNo, Halt>
+        ensures { Does Version self.old.world (event.Revert path.now number) result self.new.world }
+    {
+        let file = passed!(self.state.file_now(path));
+        let mut meter = Meter::new();
+        let stamps = passed!(
+            self.state
+                .version_meant(file, Tag::Number(number), &mut meter)
+        );
+        passed!(unless(self.state.has_draft(file), Refusal::Drafting));
+        passed!(self.room_for(Which::Versions));
+        self.state.count_from(meter);
+        Ok(self.state.bring_back(file, &stamps)?)
+    }
+
+    /// The file at the path has the policy from now on, with all its versions. Refused: `NoEntry`, `NotDirectory`, `IsDirectory`.
+    pub fn set_policy(&mut self, path: &Path, policy: Policy) -> Result<(), Halt>
+        ensures does { Does done
+            self.old.world (event.SetPolicy path.now policy) result self.new.world }
+        ensures valid { IsPolicy policy }
+    {
+        policy.is_given();
+        let file = passed!(self.state.file_now(path));
+        Ok(self.state.put_under(file, policy)?)
+    }
+}
