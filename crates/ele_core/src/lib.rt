@@ -40,9 +40,14 @@ use std::marker::Model;
 
 /// One world, which is well formed. Each event is a call: one that changes takes `&mut self`, one that asks `&self`, and each
 /// tells by its type what it answers; `apply` takes any of them as a value.
-#[derive(Drop)]
 pub struct Core {
     state: State,
+}
+
+impl Drop for Core {
+    fn drop(self) {
+        let Core { state: _state } = self;
+    }
 }
 
 impl Model for Core {
