@@ -7,15 +7,18 @@ ghost use Rattle.ele_words.specs.Status.{fault_status, status_of};
 ghost use Rattle.ele_words.specs.Ends.{HasRun, HasHelped, Tells, EndsWith};
 
 use crate::asked::Asked;
+use crate::storming::run_storm;
 use ele_runs::{ShellFault, run_over};
 use ele_script::{put, write_named};
-use ele_world::{Limits, Stepping};
+use ele_world::{Auditable, Limits, Stepping};
 use std::alloc::Global;
 use std::io;
 use std::io::{Read, Write};
+use std::sync::Wait;
+use std::thread::Threads;
 
-// How it ended if its writer was flushed behind it.
-fn after_flush<T: Drop>(
+/// How it ended if its writer was flushed behind it.
+pub(crate) fn after_flush<T: Drop>(
     ended: Result<T, ShellFault>,
     flushed: &io::Result<()>,
 ) -> Result<T, ShellFault>
@@ -65,8 +68,8 @@ fn status(fault: ShellFault) -> u8
     }
 }
 
-// Tells the fault as its number and its name, if there is one, and the status to end with.
-fn tell<E: Write>(fault: Option<ShellFault>, errors: &mut E) -> u8
+/// Tells the fault as its number and its name, if there is one, and the status to end with.
+pub(crate) fn tell<E: Write>(fault: Option<ShellFault>, errors: &mut E) -> u8
     ensures status { result ≡ status_of fault }
     ensures told { Tells fault (E.contents errors.old) (E.contents errors.new) }
 {
@@ -80,7 +83,8 @@ fn tell<E: Write>(fault: Option<ShellFault>, errors: &mut E) -> u8
 
 /// Does what was asked for: answers at the writer, and tells faults and words that weren't
 /// understood at the other. The result is the status that the program ends with.
-pub fn answer<C: Stepping, R: Read, W: Write, E: Write>(
+pub fn answer<C: Auditable + Send, T: Threads + Wait + Sync, R: Read, W: Write, E: Write>(
+    rt: &T,
     alloc: Global,
     asked: &Asked,
     reader: &mut R,
@@ -96,6 +100,7 @@ pub fn answer<C: Stepping, R: Read, W: Write, E: Write>(
             let ran = run_script::<C, R, W>(alloc, *limits, reader, writer);
             tell(ran.err(), errors)
         }
+        Asked::Storm(plan) => run_storm::<C, T, W, E>(rt, alloc, plan, writer, errors),
         Asked::Help(text) => tell(write_help(text.as_str(), writer).err(), errors),
         Asked::NotUnderstood(text) => {
             let _ = put(errors, text.as_bytes());
