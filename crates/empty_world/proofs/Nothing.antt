@@ -56,6 +56,7 @@ unfolding scan
 nothing_due w is = rw is.3 refl
 
 pub nothing_returns : (w : World) → IsEmpty w → [] ≡ restorable w
+unfolding restorable
 nothing_returns w is = rw is.3 refl
 
 pub nothing_used : (w : World) → IsEmpty w → no_use ∷ no_use ∷ no_use ∷ no_use ∷ [] ≡ usages w
