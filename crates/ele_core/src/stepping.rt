@@ -1,4 +1,4 @@
-//! A core steps, and can be audited. A contract of what is generic over `Stepping` sees it as its flat world.
+//! A core steps, and can be audited. A contract of what is generic over both sees it as its flat world.
 use crate::Core;
 use ele_world::{
     Auditable, DeadNameList, Event, Flat, KeyList, Limits, Moment, NoMemory, Reply, Stepping, Usage,

@@ -4,7 +4,7 @@ ghost use Rattle.std.specs.Prelude.{◌≡◌, Err, is_ok, if◌then◌else◌};
 ghost use Rattle.std.specs.Result.{result_err};
 ghost use Rattle.ele_history.specs.Past.{fresh};
 ghost use Rattle.ele_words.specs.Status.{fault_status, status_of};
-ghost use Rattle.ele_words.specs.Ends.{HasRun, HasHelped, Tells, EndsWith};
+ghost use Rattle.ele_words.specs.Ends.{HasRun, HasWritten, Tells, EndsWith};
 
 use crate::asked::Asked;
 use crate::storming::run_storm;
@@ -47,9 +47,9 @@ fn run_script<C: Stepping, R: Read, W: Write>(
     after_flush(ran, &flushed)
 }
 
-// Writes help, and flushes it.
-fn write_help<W: Write>(text: &str, writer: &mut W) -> Result<(), ShellFault>
-    ensures { HasHelped text.now (W.contents writer.old) (W.contents writer.new)
+/// Writes a text, and flushes it.
+pub(crate) fn write_text<W: Write>(text: &str, writer: &mut W) -> Result<(), ShellFault>
+    ensures { HasWritten text.now (W.contents writer.old) (W.contents writer.new)
         (result_err result) }
 {
     let written = put(writer, text.as_bytes());
@@ -101,7 +101,7 @@ pub fn answer<C: Auditable + Send, T: Threads + Wait + Sync, R: Read, W: Write, 
             tell(ran.err(), errors)
         }
         Asked::Storm(plan) => run_storm::<C, T, W, E>(rt, alloc, plan, writer, errors),
-        Asked::Help(text) => tell(write_help(text.as_str(), writer).err(), errors),
+        Asked::Help(text) => tell(write_text(text.as_str(), writer).err(), errors),
         Asked::NotUnderstood(text) => {
             let _ = put(errors, text.as_bytes());
             let _ = errors.flush();

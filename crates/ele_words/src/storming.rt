@@ -5,9 +5,9 @@ ghost use Rattle.std.specs.Result.{result_err};
 ghost use Rattle.ele_printer.specs.Front.{AppendsFront};
 ghost use Rattle.ele_words.specs.Storms.{HasStormed, HasTold, StormEnds, TellsStorm, audit_word, storm_fault_line, storm_line, storm_status};
 
-use crate::ends::{after_flush, tell};
+use crate::ends::{tell, write_text};
 use ele_runs::ShellFault;
-use ele_script::{put, write_named};
+use ele_script::write_named;
 use ele_storm::{AuditFault, Flags, StormFault, StormPlan, storm_and_audit};
 use ele_world::{Auditable, Limits};
 use std::alloc::Global;
@@ -69,10 +69,7 @@ fn write_line<W: Write>(
     let Ok(line) = format!(in alloc; "storm events {events} audit {word}\n") else {
         return Err(ShellFault::NoMemory);
     };
-    let written = put(writer, line.as_bytes());
-    let flushed = writer.flush();
-    written?;
-    after_flush(Ok(()), &flushed)
+    write_text(line.as_str(), writer)
 }
 
 // Tells a storm that was audited, and answers the status to end with.

@@ -1,4 +1,6 @@
 //! What the words of a storm ask for.
+ghost use Rattle.ele_words.specs.Asked.{IsAsked};
+
 use crate::asked::{Asked, not_understood};
 use clap::{Arg, ArgMatches, Command};
 use ele_moment::read_number;
@@ -48,7 +50,9 @@ fn plan_in(storm: &ArgMatches) -> Option<StormPlan> {
 }
 
 /// What the words of a storm ask for, once they were understood.
-pub(crate) fn asked_storm(alloc: Global, storm: &ArgMatches) -> Asked {
+pub(crate) fn asked_storm(alloc: Global, storm: &ArgMatches) -> Asked
+    ensures { IsAsked result }
+{
     match plan_in(storm) {
         Some(plan) => Asked::Storm(plan),
         None => not_understood(alloc, BAD_PLAN),
