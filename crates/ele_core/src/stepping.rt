@@ -1,6 +1,8 @@
-//! A core steps. A contract of what is generic over `Stepping` sees it as its flat world.
+//! A core steps, and can be audited. A contract of what is generic over both sees it as its flat world.
 use crate::Core;
-use ele_world::{Event, Flat, Limits, Moment, NoMemory, Reply, Stepping};
+use ele_world::{
+    Auditable, DeadNameList, Event, Flat, KeyList, Limits, Moment, NoMemory, Reply, Stepping, Usage,
+};
 use std::alloc::Global;
 
 impl Stepping for Core {
@@ -20,5 +22,19 @@ impl Stepping for Core {
 
     fn now(&self) -> Moment {
         Core::now(self)
+    }
+}
+
+impl Auditable for Core {
+    fn due(&self) -> Result<KeyList, NoMemory> {
+        Core::due(self)
+    }
+
+    fn restorable(&self) -> Result<DeadNameList, NoMemory> {
+        Core::restorable(self)
+    }
+
+    fn usage(&self) -> [Usage; 4] {
+        Core::usage(self)
     }
 }

@@ -13,7 +13,7 @@ use Rattle.ele_history.specs.Past.{Past}
 use Rattle.ele_runs.specs.Running.{RanToTheEnd, RanToAReadFault, RanPastABound, RanToAWriteFault}
 use Rattle.ele_runs.specs.declared.fault.ShellFault.{ShellFault}
 use Rattle.ele_runs.specs.declared.fault.ShellFault.TheVariants.{ReadFault, WriteFault, TooManyLines, NoMemory}
-use Rattle.ele_words.specs.Ends.{HasRun, HasHelped, fault_line}
+use Rattle.ele_words.specs.Ends.{HasRun, HasWritten, fault_line}
 
 -- what a run says of each of its ends
 pub has_run : (start : Past) (input rest old new : Option (List ℕ)) (r : Result ℕ ShellFault) → IfOk r (λ n. RanToTheEnd start n input rest old new) → (IsErrOf r ReadFault → RanToAReadFault start input rest old new)
@@ -183,8 +183,8 @@ run_flushed start input rest old mid new ran true ended has same is = rw is (kep
 run_flushed start input rest old mid new ran false ended has same is =
     rw is (kept start input rest old mid new (Some WriteFault) (as_write_fault start input rest old mid (result_err ran) has) same)
 
--- all help was written
-pub help_flushed : {A : Type 0} (text : List ℕ) (old mid new : Option (List ℕ)) (x : A) (is_flushed : Bool) (ended : Result A ShellFault) → Appends old mid text → Keeps mid new → ended ≡ (if is_flushed then Ok x else Err WriteFault)
-    → HasHelped text old new (result_err ended)
-help_flushed text old mid new x true ended all same is = rw is (Appends-kept old mid new text all same)
-help_flushed text old mid new x false ended all same is = rw is (front_kept old mid new text (whole_front old mid text all) same)
+-- all of a text was written
+pub text_flushed : {A : Type 0} (text : List ℕ) (old mid new : Option (List ℕ)) (x : A) (is_flushed : Bool) (ended : Result A ShellFault) → Appends old mid text → Keeps mid new → ended ≡ (if is_flushed then Ok x else Err WriteFault)
+    → HasWritten text old new (result_err ended)
+text_flushed text old mid new x true ended all same is = rw is (Appends-kept old mid new text all same)
+text_flushed text old mid new x false ended all same is = rw is (front_kept old mid new text (whole_front old mid text all) same)

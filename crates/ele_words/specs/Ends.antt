@@ -8,7 +8,9 @@ use Rattle.ele_history.specs.Past.{Past, fresh}
 use Rattle.ele_runs.specs.Running.{RanToTheEnd, RanToAReadFault, RanPastABound, RanToAWriteFault}
 use Rattle.ele_runs.specs.declared.fault.ShellFault.{ShellFault}
 use Rattle.ele_runs.specs.declared.fault.ShellFault.TheVariants.{ReadFault, WriteFault, TooManyLines, NoMemory}
+pub use Rattle.ele_words.specs.Status.{fault_line, Tells}
 use Rattle.ele_words.specs.Status.{status_of}
+use Rattle.ele_words.specs.Storms.{StormEnds}
 use Rattle.ele_words.specs.declared.asked.Asked.{Asked}
 use Rattle.ele_words.specs.declared.asked.Asked.TheVariants as asked
 
@@ -21,21 +23,12 @@ HasRun start input rest old new (Some WriteFault) = RanToAWriteFault start input
 HasRun start input rest old new (Some NoMemory) = Keeps input rest × Keeps old new
 
 -- help, by the fault that ended it: all of it was written, or a front
-abbrev pub HasHelped : List ℕ → Option (List ℕ) → Option (List ℕ) → Option ShellFault → Type 0
-HasHelped text old new None = Appends old new text
-HasHelped text old new (Some WriteFault) = AppendsFront old new text
-HasHelped text old new (Some ReadFault) = ⊥
-HasHelped text old new (Some TooManyLines) = ⊥
-HasHelped text old new (Some NoMemory) = ⊥
-
--- the line that tells a fault
-abbrev pub fault_line : ShellFault → List ℕ
-fault_line fault = line_text (codes "elephant:" ∷ decimal (number_of fault) ∷ name_of fault ∷ [])
-
--- the line of the fault was written, or a front of it; nothing where there is none
-abbrev pub Tells : Option ShellFault → Option (List ℕ) → Option (List ℕ) → Type 0
-Tells None before after = Keeps before after
-Tells (Some fault) before after = AppendsFront before after (fault_line fault)
+abbrev pub HasWritten : List ℕ → Option (List ℕ) → Option (List ℕ) → Option ShellFault → Type 0
+HasWritten text old new None = Appends old new text
+HasWritten text old new (Some WriteFault) = AppendsFront old new text
+HasWritten text old new (Some ReadFault) = ⊥
+HasWritten text old new (Some TooManyLines) = ⊥
+HasWritten text old new (Some NoMemory) = ⊥
 
 -- something was done up to a fault, or to its end; the status is that of the fault, which was told
 pub record Ends (Done : Option ShellFault → Type 0) (before after : Option (List ℕ)) (status : ℕ) : Type 0 where
@@ -48,8 +41,9 @@ pub record Ends (Done : Option ShellFault → Type 0) (before after : Option (Li
 abbrev pub EndsWith : Asked → Option (List ℕ) → Option (List ℕ) → Option (List ℕ) → Option (List ℕ) → Option (List ℕ) → Option (List ℕ) → ℕ → Type 0
 EndsWith (asked.Run limits) input rest old new before after status =
     Ends (HasRun (fresh limits) input rest old new) before after status
+EndsWith (asked.Storm plan) input rest old new before after status = Keeps input rest × StormEnds plan old new before after status
 EndsWith (asked.Help text) input rest old new before after status =
-    Keeps input rest × Ends (HasHelped (string_bytes text) old new) before after status
+    Keeps input rest × Ends (HasWritten (string_bytes text) old new) before after status
 EndsWith (asked.NotUnderstood text) input rest old new before after status =
     Keeps input rest × Keeps old new × AppendsFront before after (string_bytes text) × (status ≡ 2)
 EndsWith asked.NoMemory input rest old new before after status =

@@ -1,3 +1,4 @@
 pub mod Asked
 pub mod Ends
 pub mod Status
+pub mod Storms

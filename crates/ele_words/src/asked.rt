@@ -4,12 +4,16 @@ ghost use Rattle.std.specs.Prelude.{◌≡◌};
 ghost use Rattle.ele_world.specs.Bounds.{largest_bounds};
 ghost use Rattle.ele_words.specs.Asked.{IsEvents, IsAsked, IsRefusal};
 
+mod storm;
+
 use clap::error::ErrorKind;
 use clap::{Arg, ArgMatches, Command, Error};
 use ele_moment::read_number;
+use ele_storm::StormPlan;
 use ele_world::Limits;
 use std::alloc::{AllocError, Global};
 use std::{io, mem};
+use storm::{asked_storm, storm};
 
 /// What the words ask for.
 #[derive(Debug, Drop)]
@@ -17,6 +21,8 @@ pub enum Asked {
     /// A run of the script on standard input, under these limits: from 1 to 1,000,000,000 events,
     /// and else the largest.
     Run(Limits),
+    /// A storm over a fresh core of the largest limits, with an audit behind it.
+    Storm(StormPlan),
     /// The help or the version, which end with status 0.
     Help(String),
     /// The words weren't understood, which ends with status 2.
@@ -56,7 +62,8 @@ fn command<'a>(alloc: Global) -> Result<Command<'a>, AllocError> {
         .after_help(EXAMPLE)
         .subcommand_required(true)
         .arg_required_else_help(true)
-        .subcommand(run)
+        .subcommand(run)?
+        .subcommand(storm(alloc)?)
 }
 
 // A refusal of words in these.
@@ -91,6 +98,9 @@ fn events_in(run: &ArgMatches) -> Option<u64> {
 fn understood(alloc: Global, matches: &ArgMatches) -> Asked
     ensures { IsAsked result }
 {
+    if let Some(storm) = matches.subcommand_matches("storm") {
+        return asked_storm(alloc, storm);
+    }
     let Some(run) = matches.subcommand_matches("run") else {
         return not_understood(alloc, NO_COMMAND);
     };

@@ -4,18 +4,21 @@ ghost use Rattle.std.specs.Prelude.{◌≡◌, Err, is_ok, if◌then◌else◌};
 ghost use Rattle.std.specs.Result.{result_err};
 ghost use Rattle.ele_history.specs.Past.{fresh};
 ghost use Rattle.ele_words.specs.Status.{fault_status, status_of};
-ghost use Rattle.ele_words.specs.Ends.{HasRun, HasHelped, Tells, EndsWith};
+ghost use Rattle.ele_words.specs.Ends.{HasRun, HasWritten, Tells, EndsWith};
 
 use crate::asked::Asked;
+use crate::storming::run_storm;
 use ele_runs::{ShellFault, run_over};
 use ele_script::{put, write_named};
-use ele_world::{Limits, Stepping};
+use ele_world::{Auditable, Limits, Stepping};
 use std::alloc::Global;
 use std::io;
 use std::io::{Read, Write};
+use std::sync::Wait;
+use std::thread::Threads;
 
-// How it ended if its writer was flushed behind it.
-fn after_flush<T: Drop>(
+/// How it ended if its writer was flushed behind it.
+pub(crate) fn after_flush<T: Drop>(
     ended: Result<T, ShellFault>,
     flushed: &io::Result<()>,
 ) -> Result<T, ShellFault>
@@ -44,9 +47,9 @@ fn run_script<C: Stepping, R: Read, W: Write>(
     after_flush(ran, &flushed)
 }
 
-// Writes help, and flushes it.
-fn write_help<W: Write>(text: &str, writer: &mut W) -> Result<(), ShellFault>
-    ensures { HasHelped text.now (W.contents writer.old) (W.contents writer.new)
+/// Writes a text, and flushes it.
+pub(crate) fn write_text<W: Write>(text: &str, writer: &mut W) -> Result<(), ShellFault>
+    ensures { HasWritten text.now (W.contents writer.old) (W.contents writer.new)
         (result_err result) }
 {
     let written = put(writer, text.as_bytes());
@@ -65,8 +68,8 @@ fn status(fault: ShellFault) -> u8
     }
 }
 
-// Tells the fault as its number and its name, if there is one, and the status to end with.
-fn tell<E: Write>(fault: Option<ShellFault>, errors: &mut E) -> u8
+/// Tells the fault as its number and its name, if there is one, and the status to end with.
+pub(crate) fn tell<E: Write>(fault: Option<ShellFault>, errors: &mut E) -> u8
     ensures status { result ≡ status_of fault }
     ensures told { Tells fault (E.contents errors.old) (E.contents errors.new) }
 {
@@ -80,7 +83,8 @@ fn tell<E: Write>(fault: Option<ShellFault>, errors: &mut E) -> u8
 
 /// Does what was asked for: answers at the writer, and tells faults and words that weren't
 /// understood at the other. The result is the status that the program ends with.
-pub fn answer<C: Stepping, R: Read, W: Write, E: Write>(
+pub fn answer<C: Auditable + Send, T: Threads + Wait + Sync, R: Read, W: Write, E: Write>(
+    rt: &T,
     alloc: Global,
     asked: &Asked,
     reader: &mut R,
@@ -96,7 +100,8 @@ pub fn answer<C: Stepping, R: Read, W: Write, E: Write>(
             let ran = run_script::<C, R, W>(alloc, *limits, reader, writer);
             tell(ran.err(), errors)
         }
-        Asked::Help(text) => tell(write_help(text.as_str(), writer).err(), errors),
+        Asked::Storm(plan) => run_storm::<C, T, W, E>(rt, alloc, plan, writer, errors),
+        Asked::Help(text) => tell(write_text(text.as_str(), writer).err(), errors),
         Asked::NotUnderstood(text) => {
             let _ = put(errors, text.as_bytes());
             let _ = errors.flush();

@@ -4,6 +4,7 @@
 
 mod asked;
 mod ends;
+mod storming;
 
 pub use asked::{Asked, no_words, words};
 pub use ends::answer;

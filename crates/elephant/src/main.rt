@@ -1,5 +1,5 @@
 //! The program `elephant`: `elephant run` reads a script from standard input and writes its answers
-//! to standard output.
+//! to standard output; `elephant storm` lets many threads call one core, and audits it.
 #![tactic(auto)]
 
 ghost use Rattle.ele_words.specs.Asked.{IsAsked};
@@ -26,6 +26,13 @@ fn main(rt: HostRuntime) -> ExitCode {
     let mut input = rt.stdin();
     let mut output = rt.stdout();
     let mut errors = rt.stderr();
-    let status = answer::<Core, _, _, _>(rt.alloc(), &asked, &mut input, &mut output, &mut errors);
+    let status = answer::<Core, _, _, _, _>(
+        &rt,
+        rt.alloc(),
+        &asked,
+        &mut input,
+        &mut output,
+        &mut errors,
+    );
     ExitCode::from(status)
 }

@@ -12,7 +12,8 @@ use Rattle.ele_world.specs.Bounds.{Bounds, AreBounds}
 use Rattle.ele_world.specs.Scan.{scan}
 use Rattle.ele_world.specs.AlwaysWellFormed.{FreshIsWellFormed, StepKeepsWellFormed}
 use Rattle.ele_world.specs.Step.{step}
-use Rattle.ele_world.specs.Usage.{usage_of}
+use Rattle.ele_world.specs.Restorable.{restorable}
+use Rattle.ele_world.specs.Usage.{usage_of, usages}
 use Rattle.ele_world.specs.Walk.{parent_now, directory_now, walk_now}
 use Rattle.ele_world.specs.WalkAt.{walk_covering}
 use Rattle.ele_world.specs.declared.event.Event.TheVariants as event
@@ -49,6 +50,18 @@ clean_none w is = rw is.3 refl
 pub usage_none : (w : World) → IsEmpty w → (UsageList (no_use ∷ no_use ∷ no_use ∷ no_use ∷ []), w) ≡ step w event.UsageAll
 unfolding usage_of
 usage_none w is = rw is.3 refl
+
+pub nothing_due : (w : World) → IsEmpty w → [] ≡ scan w
+unfolding scan
+nothing_due w is = rw is.3 refl
+
+pub nothing_returns : (w : World) → IsEmpty w → [] ≡ restorable w
+unfolding restorable
+nothing_returns w is = rw is.3 refl
+
+pub nothing_used : (w : World) → IsEmpty w → no_use ∷ no_use ∷ no_use ∷ no_use ∷ [] ≡ usages w
+unfolding usage_of
+nothing_used w is = rw is.3 refl
 
 -- the moment and the policy come by events, and so it is well formed
 pub formed : (now : ℕ) (default : Policy) (limits : Bounds) → FreshIsWellFormed → StepKeepsWellFormed → now ≤ last_moment → IsPolicy default → AreBounds limits → IsWellFormed (empty now default limits)

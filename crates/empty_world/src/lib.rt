@@ -15,7 +15,8 @@ use ele_time_path::{Path, Tag, TaggedPath};
 use ele_usage::Usage;
 use ele_world::laws::{fresh_is_well_formed, step_keeps_well_formed};
 use ele_world::{
-    Counts, DirId, DirectoryRow, Event, Flat, Limits, ListOf, NoMemory, Refusal, Reply, Stepping,
+    Auditable, Counts, DeadNameList, DirId, DirectoryRow, Event, Flat, KeyList, Limits, ListOf,
+    NoMemory, Refusal, Reply, Stepping,
 };
 use std::alloc::Global;
 use std::marker::Model;
@@ -204,5 +205,31 @@ impl Stepping for EmptyWorld {
         self.default.is_given();
         let _within = self.now.seconds();
         self.now
+    }
+}
+
+impl Auditable for EmptyWorld {
+    #[tactic(auto, using(crate::proofs::Nothing::nothing_due))]
+    fn due(&self) -> Result<KeyList, NoMemory> {
+        self.is_empty();
+        Ok(ListOf::new(self.alloc))
+    }
+
+    #[tactic(auto, using(crate::proofs::Nothing::nothing_returns))]
+    fn restorable(&self) -> Result<DeadNameList, NoMemory> {
+        self.is_empty();
+        Ok(ListOf::new(self.alloc))
+    }
+
+    #[tactic(auto, using(crate::proofs::Nothing::nothing_used))]
+    fn usage(&self) -> [Usage; 4] {
+        self.is_empty();
+        let nothing = Usage {
+            files: 0,
+            versions: 0,
+            bytes: 0,
+            blocks: 0,
+        };
+        [nothing, nothing, nothing, nothing]
     }
 }

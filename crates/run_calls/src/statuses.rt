@@ -1,11 +1,14 @@
 //! What the program writes, and how it ends.
+use ele_storm::StormPlan;
 use ele_words::{Asked, answer};
 use ele_world::Limits;
 use empty_world::EmptyWorld;
 use std::alloc::Global;
 use std::io;
 use std::io::{Error, ErrorKind, Read, Write};
+use std::sync::Wait;
 use std::test::Fail;
+use std::thread::Threads;
 
 /// A reader that fails behind its bytes.
 #[derive(Drop)]
@@ -44,14 +47,15 @@ impl Write for Late {
 }
 
 // What the program does, over a world that stays empty.
-fn do_over_empty<R: Read, W: Write, E: Write>(
+fn do_over_empty<T: Threads + Wait + Sync, R: Read, W: Write, E: Write>(
+    rt: &T,
     alloc: Global,
     asked: &Asked,
     reader: &mut R,
     writer: &mut W,
     errors: &mut E,
 ) -> u8 {
-    answer::<EmptyWorld, R, W, E>(alloc, asked, reader, writer, errors)
+    answer::<EmptyWorld, T, R, W, E>(rt, alloc, asked, reader, writer, errors)
 }
 
 fn make_late(alloc: Global, fails: bool) -> Late {
@@ -68,7 +72,14 @@ fn an_empty_script_ends_well(rt: HostRuntime) {
     let mut errors = Vec::<u8>::new(rt.alloc());
     let asked = Asked::Run(Limits::largest());
     let mut reader = b"".as_slice();
-    let status = do_over_empty(rt.alloc(), &asked, &mut reader, &mut writer, &mut errors);
+    let status = do_over_empty(
+        &rt,
+        rt.alloc(),
+        &asked,
+        &mut reader,
+        &mut writer,
+        &mut errors,
+    );
     assert_eq!(rt; status, 0);
     assert!(rt; errors.is_empty());
     assert!(rt; writer.taken.is_empty());
@@ -80,7 +91,14 @@ fn a_run_that_ends_early_is_flushed_and_told(rt: HostRuntime) -> Result<(), Fail
     let mut errors = Vec::<u8>::new(rt.alloc());
     let asked = Asked::Run(Limits::largest());
     let mut reader = Broken(b"tick 5\n");
-    let status = do_over_empty(rt.alloc(), &asked, &mut reader, &mut writer, &mut errors);
+    let status = do_over_empty(
+        &rt,
+        rt.alloc(),
+        &asked,
+        &mut reader,
+        &mut writer,
+        &mut errors,
+    );
     assert_eq!(rt; status, 1);
     assert_eq!(rt; errors.as_slice(), b"elephant: 34 ReadFault\n".as_slice());
     assert_eq!(rt; writer.flushed, 30);
@@ -93,7 +111,14 @@ fn a_flush_that_fails_is_told(rt: HostRuntime) -> Result<(), Fail> {
     let mut errors = Vec::<u8>::new(rt.alloc());
     let asked = Asked::Run(Limits::largest());
     let mut reader = b"tick 5\n".as_slice();
-    let status = do_over_empty(rt.alloc(), &asked, &mut reader, &mut writer, &mut errors);
+    let status = do_over_empty(
+        &rt,
+        rt.alloc(),
+        &asked,
+        &mut reader,
+        &mut writer,
+        &mut errors,
+    );
     assert_eq!(rt; status, 1);
     assert_eq!(rt; errors.as_slice(), b"elephant: 35 WriteFault\n".as_slice());
     assert_eq!(rt;
@@ -109,7 +134,14 @@ fn help_is_written_and_flushed(rt: HostRuntime) -> Result<(), Fail> {
     let mut errors = Vec::<u8>::new(rt.alloc());
     let asked = Asked::Help(String::from_str(rt.alloc(), "so")?);
     let mut reader = b"".as_slice();
-    let status = do_over_empty(rt.alloc(), &asked, &mut reader, &mut writer, &mut errors);
+    let status = do_over_empty(
+        &rt,
+        rt.alloc(),
+        &asked,
+        &mut reader,
+        &mut writer,
+        &mut errors,
+    );
     assert_eq!(rt; status, 0);
     assert_eq!(rt; writer.taken.as_slice(), b"so".as_slice());
     assert_eq!(rt; writer.flushed, 2);
@@ -123,9 +155,17 @@ fn want_of_memory_and_words_are_told_at_the_other_end(rt: HostRuntime) -> Result
     let mut errors = Vec::<u8>::new(rt.alloc());
     let mut reader = b"".as_slice();
     let wrong = Asked::NotUnderstood(String::from_str(rt.alloc(), "what?")?);
-    let status = do_over_empty(rt.alloc(), &wrong, &mut reader, &mut writer, &mut errors);
+    let status = do_over_empty(
+        &rt,
+        rt.alloc(),
+        &wrong,
+        &mut reader,
+        &mut writer,
+        &mut errors,
+    );
     assert_eq!(rt; status, 2);
     let none = do_over_empty(
+        &rt,
         rt.alloc(),
         &Asked::NoMemory,
         &mut reader,
@@ -137,6 +177,28 @@ fn want_of_memory_and_words_are_told_at_the_other_end(rt: HostRuntime) -> Result
         errors.as_slice(),
         b"what?elephant: 1 NoMemory\n".as_slice()
     );
+    assert!(rt; writer.is_empty());
+    Ok(())
+}
+
+// A world that has no memory for files ends a storm as it makes the first.
+#[test]
+fn a_storm_without_memory_is_told(rt: HostRuntime) -> Result<(), Fail> {
+    let mut writer = Vec::<u8>::new(rt.alloc());
+    let mut errors = Vec::<u8>::new(rt.alloc());
+    let mut reader = b"".as_slice();
+    let plan = StormPlan::new(2, 1, 10).ok_or("there is such a plan")?;
+    let asked = Asked::Storm(plan);
+    let status = do_over_empty(
+        &rt,
+        rt.alloc(),
+        &asked,
+        &mut reader,
+        &mut writer,
+        &mut errors,
+    );
+    assert_eq!(rt; status, 3);
+    assert_eq!(rt; errors.as_slice(), b"elephant: 1 NoMemory\n".as_slice());
     assert!(rt; writer.is_empty());
     Ok(())
 }

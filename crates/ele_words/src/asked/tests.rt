@@ -37,11 +37,44 @@ fn a_run_has_a_limit_of_events(rt: HostRuntime) -> Result<(), Fail> {
     Ok(())
 }
 
+// The plan of a storm that the words ask for.
+fn plan_of(alloc: Global, texts: &[&str]) -> Result<Option<[u32; 3]>, Fail> {
+    match asked_by(alloc, texts)? {
+        Asked::Storm(plan) => Ok(Some([plan.writers, plan.historians, plan.rounds])),
+        _ => Ok(None),
+    }
+}
+
+#[test]
+fn a_storm_has_a_plan(rt: HostRuntime) -> Result<(), Fail> {
+    let alloc = rt.alloc();
+    assert_eq!(rt; plan_of(alloc, &["elephant", "storm"])?, Some([2, 1, 10]));
+    assert_eq!(rt;
+        plan_of(
+            alloc,
+            &["elephant", "storm", "--writers", "16", "--rounds=1000"]
+        )?,
+        Some([16, 1, 1_000])
+    );
+    assert_eq!(rt;
+        plan_of(alloc, &["elephant", "storm", "--historians", "16"])?,
+        Some([2, 16, 10])
+    );
+    Ok(())
+}
+
 #[test]
 fn other_words_are_not_understood(rt: HostRuntime) -> Result<(), Fail> {
-    let wrong: [&[&str]; 10] = [
+    let wrong: [&[&str]; 17] = [
         &["elephant"],
-        &["elephant", "storm"],
+        &["elephant", "storm", "now"],
+        &["elephant", "storm", "--events", "5"],
+        &["elephant", "storm", "--writers", "0"],
+        &["elephant", "storm", "--writers", "17"],
+        &["elephant", "storm", "--writers", "007"],
+        &["elephant", "storm", "--historians", "17"],
+        &["elephant", "storm", "--rounds", "1001"],
+        &["elephant", "storm", "--rounds="],
         &["elephant", "run", "script"],
         &["elephant", "run", "--events"],
         &["elephant", "run", "--events", "0"],

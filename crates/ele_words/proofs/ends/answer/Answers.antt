@@ -18,7 +18,7 @@ returns-in-Help g c =
       Keeps-refl _,
       record {
         fault = c.err-in-Help.result;
-        done = rw c.err-in-Help.ensures.value (rw c.as_str.ensures.value at c.write_help.ensures);
+        done = rw c.err-in-Help.ensures.value (rw c.as_str.ensures.value at c.write_text.ensures);
         status_is = c.tell-in-Help.ensures.status;
         told = c.tell-in-Help.ensures.told;
       },

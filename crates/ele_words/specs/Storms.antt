@@ -1,0 +1,70 @@
+-- How the program ends after a storm: what its two writers hold then, and with which status.
+use Rattle.std.specs.Prelude.{◌≡◌, ℕ, Bool, true, false, if◌then◌else◌, List, [], ◌∷◌, codes, decimal, Option, Some, None, Result, Ok, Err}
+use Rattle.std.specs.Io.KnownBytes.{Appends, Keeps}
+use Rattle.ele_printer.specs.Front.{AppendsFront}
+use Rattle.ele_printer.specs.Printed.{line_text}
+use Rattle.ele_runs.specs.declared.fault.ShellFault.{ShellFault}
+use Rattle.ele_runs.specs.declared.fault.ShellFault.TheVariants as shell
+use Rattle.ele_storm.specs.Audited.{IsAudited}
+use Rattle.ele_storm.specs.Fault.{name_of, number_of}
+use Rattle.ele_storm.specs.declared.fault.AuditFault.{AuditFault}
+use Rattle.ele_storm.specs.declared.fault.AuditFault.TheVariants.{Storm, TurnHeld}
+use Rattle.ele_storm.specs.declared.fault.StormFault.TheVariants.{NoMemory, HistoryFull, NoThread, Alone}
+use Rattle.ele_storm.specs.declared.plan.StormPlan.{StormPlan}
+use Rattle.ele_world.specs.Bounds.{largest_bounds}
+use Rattle.ele_words.specs.Status.{fault_status, Tells}
+
+abbrev pub storm_status : AuditFault → ℕ
+storm_status (Storm NoThread) = 1
+storm_status (Storm NoMemory) = 3
+storm_status (Storm HistoryFull) = 4
+storm_status (Storm Alone) = 4
+storm_status TurnHeld = 4
+
+-- the line that tells a fault of a storm
+abbrev pub storm_fault_line : AuditFault → List ℕ
+storm_fault_line fault = line_text (codes "elephant:" ∷ decimal (number_of fault) ∷ name_of fault ∷ [])
+
+abbrev pub audit_word : Bool → List ℕ
+audit_word true = codes "equal"
+audit_word false = codes "unequal"
+
+-- the line that tells how many events a storm ran, and what the audit behind it found
+abbrev pub storm_line : ℕ → Bool → List ℕ
+storm_line events equal = line_text (codes "storm" ∷ codes "events" ∷ decimal events ∷ codes "audit" ∷ audit_word equal ∷ [])
+
+-- a storm of the plan, under the largest limits, was audited, or ended by a fault
+abbrev pub HasStormed : StormPlan → Result (ℕ × Bool) AuditFault → Type 0
+HasStormed plan (Ok told) = IsAudited largest_bounds plan told.0 told.1
+HasStormed plan (Err fault) = Unit {0}
+
+-- a line, by the fault that ended it: all of it was written, a front, or nothing without memory
+abbrev pub HasTold : List ℕ → Option (List ℕ) → Option (List ℕ) → Option ShellFault → Type 0
+HasTold line old new None = Appends old new line
+HasTold line old new (Some shell.WriteFault) = AppendsFront old new line
+HasTold line old new (Some shell.NoMemory) = Keeps old new
+HasTold line old new (Some shell.ReadFault) = ⊥
+HasTold line old new (Some shell.TooManyLines) = ⊥
+
+-- the status after a line, 0 only where all was equal
+abbrev pub told_status : Bool → Option ShellFault → ℕ
+told_status equal None = if equal then 0 else 4
+told_status equal (Some fault) = fault_status fault
+
+-- a storm that was audited is told
+pub record TellsStorm (events : ℕ) (equal : Bool) (old new before after : Option (List ℕ)) (status : ℕ) : Type 0 where
+  pub fault : Option ShellFault
+  pub line : HasTold (storm_line events equal) old new fault
+  pub told : Tells fault before after
+  pub status_is : status ≡ told_status equal fault
+
+abbrev pub TellsEnd : Result (ℕ × Bool) AuditFault → Option (List ℕ) → Option (List ℕ) → Option (List ℕ) → Option (List ℕ) → ℕ → Type 0
+TellsEnd (Ok told) old new before after status = TellsStorm told.0 told.1 old new before after status
+TellsEnd (Err fault) old new before after status =
+    Keeps old new × AppendsFront before after (storm_fault_line fault) × (status ≡ storm_status fault)
+
+-- a storm was run, and what it came to is told: status 0 only where it was audited and all was equal
+pub record StormEnds (plan : StormPlan) (old new before after : Option (List ℕ)) (status : ℕ) : Type 0 where
+  pub ended : Result (ℕ × Bool) AuditFault
+  pub has_stormed : HasStormed plan ended
+  pub told : TellsEnd ended old new before after status

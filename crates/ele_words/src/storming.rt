@@ -1,0 +1,115 @@
+//! A storm as the program runs it: one line at a writer, and a fault at another.
+//! A contract sees what both hold then, and the status.
+ghost use Rattle.std.specs.Prelude.{◌≡◌};
+ghost use Rattle.std.specs.Result.{result_err};
+ghost use Rattle.ele_printer.specs.Front.{AppendsFront};
+ghost use Rattle.ele_words.specs.Storms.{HasStormed, HasTold, StormEnds, TellsStorm, audit_word, storm_fault_line, storm_line, storm_status};
+
+use crate::ends::{tell, write_text};
+use ele_runs::ShellFault;
+use ele_script::write_named;
+use ele_storm::{AuditFault, Flags, StormFault, StormPlan, storm_and_audit};
+use ele_world::{Auditable, Limits};
+use std::alloc::Global;
+use std::io::Write;
+use std::sync::Wait;
+use std::thread::Threads;
+
+/// How often a worker looks for another one's flag, at most.
+const MOST_LOOKS: u64 = 10_000_000;
+
+/// Runs the storm over a fresh core of the largest limits, audits it, and tells how many events it
+/// ran and whether the audit found all equal. The result is the status that the program ends with.
+pub(crate) fn run_storm<C: Auditable + Send, T: Threads + Wait + Sync, W: Write, E: Write>(
+    rt: &T,
+    alloc: Global,
+    plan: &StormPlan,
+    writer: &mut W,
+    errors: &mut E,
+) -> u8
+    ensures { StormEnds plan.now (W.contents writer.old) (W.contents writer.new)
+        (E.contents errors.old) (E.contents errors.new) result }
+{
+    match storm_and_look::<C, T>(rt, alloc, plan) {
+        Ok((events, equal)) => tell_storm(alloc, events, equal, writer, errors),
+        Err(fault) => tell_fault(fault, errors),
+    }
+}
+
+// Runs the storm, and audits what its core tells.
+fn storm_and_look<C: Auditable + Send, T: Threads + Wait + Sync>(
+    rt: &T,
+    alloc: Global,
+    plan: &StormPlan,
+) -> Result<(u64, bool), AuditFault>
+    ensures { HasStormed plan.now result }
+{
+    let flags = Flags::new(alloc, plan.workers(), MOST_LOOKS)?;
+    storm_and_audit::<C, T, Flags>(rt, alloc, Limits::largest(), plan, &flags)
+}
+
+// The word for what an audit found.
+fn audit_word(equal: bool) -> &'static str
+    ensures { result.now ≡ audit_word equal }
+{
+    if equal { "equal" } else { "unequal" }
+}
+
+// Writes the line of a storm that was audited, and flushes it.
+fn write_line<W: Write>(
+    alloc: Global,
+    events: u64,
+    equal: bool,
+    writer: &mut W,
+) -> Result<(), ShellFault>
+    ensures { HasTold (storm_line events equal) (W.contents writer.old) (W.contents writer.new)
+        (result_err result) }
+{
+    let word = audit_word(equal);
+    let Ok(line) = format!(in alloc; "storm events {events} audit {word}\n") else {
+        return Err(ShellFault::NoMemory);
+    };
+    write_text(line.as_str(), writer)
+}
+
+// Tells a storm that was audited, and answers the status to end with.
+fn tell_storm<W: Write, E: Write>(
+    alloc: Global,
+    events: u64,
+    equal: bool,
+    writer: &mut W,
+    errors: &mut E,
+) -> u8
+    ensures { TellsStorm events equal (W.contents writer.old) (W.contents writer.new)
+        (E.contents errors.old) (E.contents errors.new) result }
+{
+    match write_line(alloc, events, equal, writer) {
+        Ok(()) if equal => 0,
+        Ok(()) => 4,
+        Err(fault) => tell(Some(fault), errors),
+    }
+}
+
+// Tells the fault of a storm as its number and its name, and answers the status to end with.
+fn tell_fault<E: Write>(fault: AuditFault, errors: &mut E) -> u8
+    ensures status { result ≡ storm_status fault }
+    ensures told { AppendsFront (E.contents errors.old) (E.contents errors.new)
+        (storm_fault_line fault) }
+{
+    let _ = write_named(b"elephant:", fault.number(), fault.name(), errors);
+    let _ = errors.flush();
+    status(fault)
+}
+
+// The status that the program ends with after a fault of a storm.
+fn status(fault: AuditFault) -> u8
+    ensures { result ≡ storm_status fault }
+{
+    match fault {
+        AuditFault::Storm(StormFault::NoThread) => 1,
+        AuditFault::Storm(StormFault::NoMemory) => 3,
+        AuditFault::Storm(StormFault::HistoryFull) => 4,
+        AuditFault::Storm(StormFault::Alone) => 4,
+        AuditFault::TurnHeld => 4,
+    }
+}
