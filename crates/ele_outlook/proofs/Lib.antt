@@ -1,0 +1,2 @@
+-- words that spell closings, and the lines that they are
+mod Lines
