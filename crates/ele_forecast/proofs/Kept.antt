@@ -1,8 +1,7 @@
 -- The versions that stay at a moment, by their closings alone.
-use Rattle.ele_forecast.proofs.Words.{◌≡◌, ℕ, zero, suc, ◌+◌, ◌<◌, ◌≤◌, ◌==◌, ◌&&◌, nat_le, Bool, true, false, not, cond, List, [], ◌∷◌, ◌++◌, Option, Some, None, refl, ap, sym, subst, ◌∙◌, arith, nat_tests, append_assoc, filter, map, slice_get, AllByRecursion, AllLater, length, drop, append-nil}
+use Rattle.ele_forecast.proofs.Words.{◌≡◌, ℕ, zero, suc, ◌+◌, ◌<◌, ◌≤◌, nat_le, Bool, true, false, not, cond, List, [], ◌∷◌, ◌++◌, Option, Some, None, refl, ap, sym, subst, ◌∙◌, arith, nat_tests, append_assoc, filter, map, slice_get, AllByRecursion, AllLater, length, drop, append-nil}
 use Rattle.std.proofs.lemmas.List.{drop_all}
-use Rattle.ele_forecast.proofs.Words.{all-weaker, filter-passes, filter-same_all, filter-swap, later-filter, last_moment, IsLawful, Policy, IsNearest, alone, is_due_by, World, VersionRow, FileView, beside, closings, due_in, file_view, is_newer, is_version_of, kept_rows, option_map_or, IsFileOf, Life, life_of, lives_from, AreKept, come_by, numbers_of, goes, kept_from, stays}
-use Rattle.ele_policy.specs.Ripe.{ripe_by}
+use Rattle.ele_forecast.proofs.Words.{all-weaker, filter-passes, filter-same_all, filter-swap, later-filter, last_moment, IsLawful, Policy, IsNearest, alone, VersionRow, FileView, beside, closings, due_in, file_view, is_newer, is_version_of, option_map_or, IsFileOf, Life, life_of, lives_from, AreKept, come_by, goes, kept_from, stays}
 use Rattle.ele_world.specs.Due.{is_due_at}
 use Rattle.ele_world.proofs.Views.{Precedes, newer_is}
 use Rattle.ele_forecast.proofs.Followed.{due_is}

@@ -1,5 +1,5 @@
 -- Closings that never fall.
-use Rattle.ele_forecast.proofs.Words.{◌≡◌, ℕ, suc, ◌-◌, ◌≤◌, Bool, true, false, cond, List, [], ◌∷◌, ◌++◌, Some, ap, ◌∙◌, arith, nat_tests, length, slice_get, AllByRecursion, AllLater, later-push}
+use Rattle.ele_forecast.proofs.Words.{◌≡◌, ℕ, suc, ◌-◌, ◌≤◌, Bool, true, false, cond, List, [], ◌∷◌, ◌++◌, Some, ap, ◌∙◌, arith, length, slice_get, AllByRecursion, AllLater, later-push}
 
 below_end : (c : ℕ) (cs : List ℕ) (last m : ℕ) → AllLater ◌≤◌ (c ∷ cs) → slice_get (c ∷ cs) (length cs) ≡ Some last → last ≤ m → AllByRecursion (λ x. x ≤ m) (c ∷ cs)
 below_end c [] last m rising e below = let same : c ≡ last = cc in (omega arith, tt)

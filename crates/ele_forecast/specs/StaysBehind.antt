@@ -1,5 +1,5 @@
 -- Whether a version stays, by its own closing and the next. No public clause cites this module.
-use Rattle.std.specs.Prelude.{◌≡◌, ℕ, ◌+◌, nat_le, Bool, false, not, ◌&&◌, List, [], ◌∷◌, Option, Some, None, slice_get, if◌then◌else◌}
+use Rattle.std.specs.Prelude.{ℕ, ◌+◌, nat_le, Bool, false, not, ◌&&◌, List, [], ◌∷◌, Option, Some, None, slice_get, if◌then◌else◌}
 use Rattle.ele_policy.specs.declared.policy.Policy.{Policy}
 use Rattle.ele_policy.specs.Ripe.{alone, is_due_by}
 

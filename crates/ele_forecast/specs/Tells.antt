@@ -2,7 +2,6 @@
 use Rattle.std.specs.Prelude.{◌≡◌, ℕ, ◌-◌, List, Option, Some, None, IsSome, ◌&&◌, find}
 use Rattle.std.specs.Option.{option_map}
 use Rattle.ele_policy.specs.Ladder.{Rung, level_of, rung_at, shares}
-use Rattle.ele_policy.specs.declared.policy.Policy.{Policy}
 use Rattle.ele_policy.specs.declared.policy.Policy.TheVariants.{One, Safe, Landmarks}
 use Rattle.ele_world.specs.declared.rows.VersionRow.{VersionRow}
 use Rattle.ele_world.specs.FileView.{FileView, is_newer, is_numbered, ripe_in}
