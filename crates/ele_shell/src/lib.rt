@@ -1,4 +1,4 @@
-//! Running of scripts over a core: bytes in, text out.
+//! Running of scripts over a core: bytes in, text out; and what many threads call, by its names over a core.
 //! A contract sees the bytes that the reader gives and those that the writer takes, where these are
 //! known.
 #![tactic(auto)]
@@ -10,9 +10,17 @@ ghost use Rattle.ele_runs.specs.Running.{RanToTheEnd, RanToAReadFault, RanPastAB
 use ele_core::Core;
 pub use ele_runs::ShellFault;
 use ele_runs::run_over;
+pub use ele_storm::{Flags, Meet, MeetEnd, StormFault, StormPlan, storm, work};
 use ele_world::Limits;
+pub use ele_world::audit;
 use std::alloc::Global;
 use std::io::{Read, Write};
+
+/// A core's history for many threads, each of which calls it through a seat of its own.
+pub type Elephant = ele_shared::Shared<Core>;
+
+/// A seat of such a history.
+pub type Seat = ele_shared::Seat<Core>;
 
 /// Runs the script that the reader gives: answers each whole line at the writer, and answers how
 /// many lines there were, a last one without its line feed counted. An empty line gets no reply, a
