@@ -1,2 +1,0 @@
--- words that spell closings, and the lines that they are
-mod Lines
