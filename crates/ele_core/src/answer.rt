@@ -82,7 +82,7 @@ impl Core {
             Event::GroupDrop(name) => Ok(done(self.drop_group(name)?)),
             Event::GroupAdd(name, path) => Ok(done(self.add_to_group(name, path)?)),
             Event::GroupRemove(name, path) => Ok(done(self.remove_from_group(name, path)?)),
-            Event::Mark(name, moment) => Ok(done(self.mark(name, *moment)?)),
+            Event::Mark(name, moment, until) => Ok(done(self.mark(name, *moment, until)?)),
             Event::Unmark(name, moment) => Ok(done(self.unmark(name, *moment)?)),
             Event::CleanOne => Ok(removed(self.clean_one())),
             Event::Read(source) => Ok(Reply::Bytes(self.read(source)?)),

@@ -1,10 +1,22 @@
 //! The events of groups: their files and their marks.
+ghost use Rattle.std.specs.Prelude.{◌≡◌, nat_le, false};
+ghost use Rattle.std.specs.Option.{option_map_or};
 ghost use Rattle.ele_core.specs.Does.{Does, done};
 ghost use Rattle.ele_world.specs.declared.event.Event.TheVariants as event;
 
 use crate::Core;
 use crate::halt::{Halt, passed, unless};
-use ele_world::{Moment, Name, Path, Refusal, Which};
+use ele_world::{MarkRow, Moment, Name, Path, Refusal, Which};
+
+// Whether the end, if there is one, has come by then.
+fn has_ended(until: &Option<Moment>, now: Moment) -> bool
+    ensures { result ≡ option_map_or (λ end. nat_le end now) until.now false }
+{
+    match until {
+        Some(end) => *end <= now,
+        None => false,
+    }
+}
 
 impl Core {
     /// A group of that name is made, without files and marks. Refused: `GroupExists`, `Full`.
@@ -47,16 +59,23 @@ impl Core {
         Ok(self.state.remove_member(name, file)?)
     }
 
-    /// The group is marked at the moment, which has passed. Refused: `NoGroup`, `NotPast`, `MarkExists`, `Full`.
-    pub fn mark(&mut self, name: &Name, moment: Moment) -> Result<(), Halt>
-        ensures { Does done self.old.world (event.Mark name.now moment) result self.new.world }
+    /// The group is marked at the moment, which has passed, until the mark's end, which is to come, if one is named. Refused:
+    /// `NoGroup`, `NotPast`, `NotAhead`, `MarkExists`, `Full`.
+    pub fn mark(&mut self, name: &Name, moment: Moment, until: &Option<Moment>) -> Result<(), Halt>
+        ensures { Does done
+            self.old.world (event.Mark name.now moment until.now) result self.new.world }
     {
         passed!(unless(!self.state.has_group(name), Refusal::NoGroup));
         let is_past = moment.seconds() < self.state.now().seconds();
         passed!(unless(!is_past, Refusal::NotPast));
+        passed!(unless(has_ended(until, self.state.now()), Refusal::NotAhead));
         passed!(unless(self.state.has_mark(name, moment), Refusal::MarkExists));
         passed!(self.room_for(Which::Marks));
-        Ok(self.state.add_mark(name, moment)?)
+        let mark = MarkRow {
+            at: moment,
+            until: *until,
+        };
+        Ok(self.state.add_mark(name, &mark)?)
     }
 
     /// The group loses the mark. Refused: `NoGroup`, `NoMark`.

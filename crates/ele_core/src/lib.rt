@@ -16,6 +16,7 @@ mod answer;
 mod clean;
 mod clock;
 mod directory;
+mod fate;
 mod group;
 mod halt;
 mod name;
@@ -29,11 +30,11 @@ pub use crate::halt::Halt;
 pub use crate::question::Stat;
 use ele_state::{Meter, State};
 pub use ele_world::{
-    ByteList, Cell, Counts, DeadName, DeadNameList, DirId, DirectoryRow, DraftRow, Event, FileId,
-    FileRow, FileStat, Flat, GroupList, GroupRow, Handle, HandleRow, Key, KeyList, Kind, Ladder,
-    Limits, ListOf, Moment, Name, NameList, NameRow, NoMemory, PassEnd, Path, PathAt, Policy,
-    Reads, Refusal, Reply, Source, Stamps, StampsList, Stop, Tag, TaggedPath, Target, Usage,
-    VersionNo, VersionRow, Which,
+    ByteList, Cause, Cell, Counts, DeadName, DeadNameList, DirId, DirectoryRow, DraftRow, Event,
+    Fate, FileId, FileRow, FileStat, Flat, GroupList, GroupRow, Handle, HandleRow, Key, KeyList,
+    Kind, Ladder, Limits, ListOf, MarkRow, Moment, Name, NameList, NameRow, NoMemory, PassEnd,
+    Path, PathAt, Policy, Reads, Refusal, Reply, Source, Stamps, StampsList, Stop, Tag, TaggedPath,
+    Target, Usage, VersionNo, VersionRow, Which,
 };
 use std::alloc::Global;
 use std::marker::Model;

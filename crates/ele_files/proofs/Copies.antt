@@ -5,7 +5,6 @@ use Rattle.ele_files.proofs.Stock.{logs_live}
 use Rattle.ele_files.proofs.Tagged.{own_rows}
 use Rattle.ele_world.specs.World.{is_draft}
 use Rattle.ele_sessions.specs.Sessions as sessions
-use Rattle.ele_world.specs.declared.rows.VersionRow as world
 
 module _ {X Y : Type 0} (g : X → Y) where
   -- one element more

@@ -11,3 +11,4 @@ pub mod Tagged
 pub mod Copies
 pub mod Closes
 pub mod Lemmas
+pub mod Newer

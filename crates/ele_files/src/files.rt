@@ -21,6 +21,7 @@ mod copies;
 mod dropping;
 mod governing;
 pub mod neighbours;
+mod newer;
 mod restoring;
 mod usage;
 mod versions;

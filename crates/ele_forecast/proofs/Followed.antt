@@ -1,27 +1,27 @@
 -- A version with a next one behind it: when it ripens, and what displaces it.
-use Rattle.ele_forecast.proofs.Words.{◌≡◌, ℕ, ◌-◌, ◌&&◌, ◌||◌, Bool, true, false, not, List, [], ◌∷◌, Option, Some, None, refl, ap, sym, subst, ◌∙◌, IsSome, arith, nat_tests, nat_le, ◌==◌, find, option_map, option_map_or, option_and_then, list_any}
-use Rattle.ele_forecast.proofs.Words.{find-filter_both, Policy, Landmarks, Rung, level_of, rung_at, shares, IsRipe, alone, candidates, earliest_of, is_due_by, VersionRow, FileView, beside, covers_moment, due_in, is_newer, ripe_in, IsFollowed, IsDisplaced, IsWhy, TellsOf, Forecast, Why, displacing}
+use Rattle.ele_forecast.proofs.Words.{◌≡◌, ℕ, ◌-◌, ◌&&◌, ◌||◌, Bool, true, false, not, List, [], ◌∷◌, ◌++◌, append-nil, Option, Some, None, refl, ap, sym, subst, ◌∙◌, IsSome, arith, nat_tests, nat_le, ◌==◌, find, option_map, option_map_or, option_and_then, list_any}
+use Rattle.ele_forecast.proofs.Words.{find-filter_both, Policy, Landmarks, Rung, level_of, rung_at, shares, IsRipe, alone, candidates, earliest_of, is_due_by, VersionRow, FileView, beside, MarkRow, ends_over, keeps_at, due_in, is_newer, ripe_in, IsFollowed, IsDisplaced, IsWhy, TellsOf, Forecast, Why, displacing}
 use Rattle.ele_policy.specs.Ripe.{ripe_by}
 
 -- ---- of a file that is unread and unmarked
 
 module _ (v : FileView) (row : VersionRow) where
   -- with these in the places of the file's
-  abbrev due_with : List ℕ → List ℕ → Option Policy → Option ℕ → ℕ → Bool
+  abbrev due_with : List ℕ → List MarkRow → Option Policy → Option ℕ → ℕ → Bool
   due_with pinned marks policy ended at =
-      not (list_any (λ number. number == row.number) pinned || list_any (covers_moment row.closed row.ended) marks)
+      not (list_any (λ number. number == row.number) pinned || list_any (keeps_at row.closed row.ended at) marks)
       && option_map_or (λ p. option_map_or (λ e. is_due_by p row.closed (beside v row) e at) ended false) policy false
 
-  abbrev ripe_with : List ℕ → List ℕ → Option Policy → Option ℕ → Option ℕ
+  abbrev ripe_with : List ℕ → List MarkRow → Option Policy → Option ℕ → Option ℕ
   ripe_with pinned marks policy ended =
-      option_and_then (λ p. option_and_then (λ e. earliest_of (due_with pinned marks policy ended) (candidates p e)) ended) policy
+      option_and_then (λ p. option_and_then (λ e. earliest_of (due_with pinned marks policy ended) (candidates p e ++ ends_over row.closed row.ended marks)) ended) policy
 
   module _ (policy : Policy) (ended : ℕ) (policy_is : v.policy ≡ Some policy) (unread : v.pinned ≡ []) (unmarked : v.marks ≡ []) (ends : row.ended ≡ Some ended) where
     -- its policy alone says when it is due
     pub due_is : (at : ℕ) → due_in v row at ≡ is_due_by policy row.closed (beside v row) ended at
     due_is at =
         ap (λ (x : List ℕ). due_with x v.marks v.policy row.ended at) unread
-        ∙ ap (λ (x : List ℕ). due_with [] x v.policy row.ended at) unmarked
+        ∙ ap (λ (x : List MarkRow). due_with [] x v.policy row.ended at) unmarked
         ∙ ap (λ (x : Option Policy). due_with [] [] x row.ended at) policy_is
         ∙ ap (λ (x : Option ℕ). due_with [] [] (Some policy) x at) ends
 
@@ -29,9 +29,10 @@ module _ (v : FileView) (row : VersionRow) where
     unfolding ripe_by
     ripe_is =
         ap (λ (x : List ℕ). ripe_with x v.marks v.policy row.ended) unread
-        ∙ ap (λ (x : List ℕ). ripe_with [] x v.policy row.ended) unmarked
+        ∙ ap (λ (x : List MarkRow). ripe_with [] x v.policy row.ended) unmarked
         ∙ ap (λ (x : Option Policy). ripe_with [] [] x row.ended) policy_is
         ∙ ap (λ (x : Option ℕ). ripe_with [] [] (Some policy) x) ends
+        ∙ ap (earliest_of (is_due_by policy row.closed (beside v row) ended)) (append-nil (candidates policy ended))
 
 -- ---- what displaces it
 

@@ -10,3 +10,5 @@ mod Rising
 mod Kept
 -- what a finished pass leaves
 mod Whenever
+-- what is told of one version after another
+mod Told

@@ -12,7 +12,9 @@ pub use Rattle.ele_forecast.specs.Followed.{IsFollowed}
 pub use Rattle.ele_forecast.specs.FileOf.{IsFileOf, Life, life_of, lives_from}
 pub use Rattle.ele_forecast.specs.Tells.{IsDisplaced, IsWhy, Tells, TellsOf, displacing}
 pub use Rattle.ele_forecast.specs.declared.forecast.Forecast.{Forecast}
-pub use Rattle.ele_world.specs.GroupRows.{covers_moment}
+pub use Rattle.ele_world.specs.FileView.{ends_over}
+pub use Rattle.ele_world.specs.GroupRows.{keeps_at}
+pub use Rattle.ele_world.specs.declared.rows.MarkRow.{MarkRow}
 pub use Rattle.std.proofs.Common.{drop, append-nil}
 pub use Rattle.ele_moment.specs.Last.{last_moment}
 pub use Rattle.ele_policy.specs.Lawful.{IsLawful}

@@ -1,10 +1,13 @@
 -- What a forecast tells of a version.
-use Rattle.std.specs.Prelude.{◌≡◌, ℕ, ◌-◌, List, Option, Some, None, IsSome, ◌&&◌, find}
+use Rattle.std.specs.Prelude.{◌≡◌, ℕ, ◌-◌, List, Option, Some, None, IsSome, ◌&&◌, find, map}
+use Rattle.std.specs.List.{AllByRecursion}
 use Rattle.std.specs.Option.{option_map}
 use Rattle.ele_policy.specs.Ladder.{Rung, level_of, rung_at, shares}
+use Rattle.ele_policy.specs.declared.policy.Policy.{Policy}
 use Rattle.ele_policy.specs.declared.policy.Policy.TheVariants.{One, Safe, Landmarks}
 use Rattle.ele_world.specs.declared.rows.VersionRow.{VersionRow}
 use Rattle.ele_world.specs.FileView.{FileView, is_newer, is_numbered, ripe_in}
+use Rattle.ele_forecast.specs.FileOf.{IsFileOf, Life, lives_from}
 use Rattle.ele_forecast.specs.declared.forecast.Forecast.{Forecast}
 use Rattle.ele_forecast.specs.declared.forecast.Why.{Why}
 use Rattle.ele_forecast.specs.declared.forecast.Why.TheVariants.{Current, Never, AtOnce, Age, Displaced}
@@ -46,3 +49,11 @@ pub record Tells (v : FileView) (forecast : Forecast) : Type 0 where
   pub row : VersionRow
   pub held : find (is_numbered forecast.number) v.rows ≡ Some row
   pub told : TellsOf v row forecast
+
+abbrev pub told_life : Forecast → Life
+told_life forecast = (forecast.number, forecast.closed, forecast.ended)
+
+-- one for each of the closings, in their order, each with the number, the closing and the end of the version that it tells of
+pub record AreForecasts (policy : Policy) (closings : List ℕ) (forecasts : List Forecast) : Type 0 where
+  pub lives : map told_life forecasts ≡ lives_from 1 closings
+  pub tell : (v : FileView) → IsFileOf policy closings v → AllByRecursion (Tells v) forecasts

@@ -1,13 +1,13 @@
 //! The moments at which a file closed. A contract sees them as their list, which never falls.
-ghost use Rattle.std.specs.Prelude.{◌≡◌, ◌≤◌, ◌<◌, ◌+◌, ◌-◌, ◌++◌, ◌∷◌, ◌^◌, ◌↔◌, [], ℕ, false, IsTrue, OnOk, OnErr, IfOk, IfErr, IfSome, IsSome, Some, None, length, slice_get};
+ghost use Rattle.std.specs.Prelude.{◌≡◌, ◌≤◌, ◌<◌, ◌+◌, ◌-◌, ◌++◌, ◌∷◌, ◌^◌, ◌↔◌, [], ℕ, false, IsTrue, ◌≢◌, OnOk, OnErr, IfOk, IfErr, IfSome, IsSome, Some, None, length, slice_get};
 ghost use Rattle.std.specs.List.{AllByRecursion};
 ghost use Rattle.ele_lists.specs.Lists.{AllLater};
 ghost use Rattle.ele_world.specs.FileView.{FileView};
 ghost use Rattle.ele_forecast.specs.FileOf.{IsFileOf};
 ghost use Rattle.ele_forecast.specs.Stays.{AreKept};
-ghost use Rattle.ele_forecast.specs.Tells.{Tells};
+ghost use Rattle.ele_forecast.specs.Tells.{AreForecasts, Tells};
 
-use crate::forecast::{Forecast, current, followed, stays};
+use crate::forecast::{Forecast, add, current, followed, stays};
 use ele_moment::{Moment, NoMemory, VersionNo};
 use ele_policy::Policy;
 use std::alloc::Global;
@@ -108,11 +108,25 @@ impl Closings {
         }
     }
 
+    /// What is told of each version, in order. Without closings this takes no memory.
+    pub fn forecasts(&self, policy: &Policy) -> Result<Vec<Forecast>, NoMemory>
+        ensures ok { IfOk result
+            (λ forecasts. AreForecasts policy.now self.now forecasts.items) }
+        ensures err { OnErr result (self.now ≢ []) }
+    {
+        let mut forecasts = Vec::new(*self.moments.allocator());
+        forecasts.reserve_exact(self.len())?;
+        for place in 0..self.len() {
+            add(&mut forecasts, self.forecast(policy, place))?;
+        }
+        Ok(forecasts)
+    }
+
     /// Says that no closing comes before the one ahead of it, and that there are not too many to be
-    /// numbered.
+    /// numbered, and one more.
     pub fn rise(&self)
         ensures rises { AllLater ◌≤◌ self.now }
-        ensures few { length self.now < 2 ^ 64 }
+        ensures few { length self.now + 1 < 2 ^ 64 }
     {
         self.moments.len();
     }

@@ -1,6 +1,6 @@
 //! What is told of one version. A contract sees it as plain data, beside the version's row and the
 //! file that holds it.
-ghost use Rattle.std.specs.Prelude.{◌≡◌, ◌≤◌, ◌<◌, ◌+◌, ◌^◌, Some, None, IfSome, true};
+ghost use Rattle.std.specs.Prelude.{◌≡◌, ◌≤◌, ◌<◌, ◌+◌, ◌^◌, ◌++◌, ◌∷◌, [], Some, None, IfSome, OnOk, true};
 ghost use Rattle.ele_policy.specs.Ripe.{alone, is_due_by};
 ghost use Rattle.ele_world.specs.FileView.{FileView, ripe_in};
 ghost use Rattle.ele_world.specs.declared.rows.VersionRow.{VersionRow};
@@ -8,7 +8,7 @@ ghost use Rattle.ele_forecast.specs.Followed.{IsFollowed};
 ghost use Rattle.ele_forecast.specs.StaysBehind.{stays};
 ghost use Rattle.ele_forecast.specs.Tells.{IsWhy, TellsOf};
 
-use ele_moment::{Moment, VersionNo};
+use ele_moment::{Moment, NoMemory, VersionNo};
 use ele_policy::{Interval, Policy, ripe};
 
 /// Why a version may be forgotten from a moment on, or why from none.
@@ -80,6 +80,21 @@ fn told(
         ripe,
         why,
     }
+}
+
+/// Adds a forecast to others.
+pub(crate) fn add(forecasts: &mut Vec<Forecast>, forecast: Forecast) -> Result<(), NoMemory>
+    ensures { OnOk result (forecasts.new.items ≡ forecasts.old.items ++ forecast ∷ []) }
+{
+    let Forecast {
+        number,
+        closed,
+        ended,
+        ripe,
+        why,
+    } = forecast;
+    forecasts.push(told(number, closed, ended, ripe, why))?;
+    Ok(())
 }
 
 /// What is told of a version without an end.

@@ -1,20 +1,23 @@
 -- Marks that a question leaves out.
-use Rattle.std.specs.Prelude.{ℕ, ◌&&◌, Bool, List, Option, Some, None}
-use Rattle.std.specs.List.{list_any}
+use Rattle.std.specs.Prelude.{ℕ, List, Option, Some, None, filter}
+use Rattle.std.specs.List.{flat_map}
+use Rattle.ele_world.specs.declared.cover.Cover.{Cover}
 use Rattle.ele_world.specs.declared.rows.GroupRow.{GroupRow}
-use Rattle.ele_world.specs.GroupRows.{is_member, has_covering}
-use Rattle.ele_world.specs.GroupsAsked.{has_covering_without}
+use Rattle.ele_world.specs.declared.rows.MarkRow.{MarkRow}
+use Rattle.ele_world.specs.Cover.{cover_by}
+use Rattle.ele_world.specs.GroupRows.{is_member}
+use Rattle.ele_world.specs.GroupsAsked.{marks_left}
 use Rattle.ele_groups.specs.declared.span.Except.{Except}
 
--- some mark of the group covers, those aside that are left out, if any are
-abbrev pub has_covering_but : Option Except → ℕ → Option ℕ → GroupRow → Bool
-has_covering_but None closed ended row = has_covering closed ended row
-has_covering_but (Some except) closed ended row = has_covering_without except.name except.mark closed ended row
+-- the group's marks, those aside that are left out, if any are
+abbrev pub marks_but : Option Except → GroupRow → List MarkRow
+marks_but None row = row.marks
+marks_but (Some except) row = marks_left except.name except.mark row
 
--- the group has the file and such a mark
-abbrev pub is_marked_row : Option Except → ℕ → ℕ → Option ℕ → GroupRow → Bool
-is_marked_row except file closed ended row = is_member file row && has_covering_but except closed ended row
+-- for how long they keep
+abbrev pub row_cover : Option Except → ℕ → Option ℕ → GroupRow → Cover
+row_cover except closed ended row = cover_by closed ended (marks_but except row)
 
--- some group does
-abbrev pub is_marked_but : Option Except → List GroupRow → ℕ → ℕ → Option ℕ → Bool
-is_marked_but except rows file closed ended = list_any (is_marked_row except file closed ended) rows
+-- and those of all groups that have the file
+abbrev pub cover_but : Option Except → List GroupRow → ℕ → ℕ → Option ℕ → Cover
+cover_but except rows file closed ended = cover_by closed ended (flat_map (marks_but except) (filter (is_member file) rows))

@@ -1,45 +1,46 @@
-//! Whether a group that has a file was marked within a span.
+//! For how long marks of groups that have a file keep what was current in a span.
 //! A contract sees the groups as their rows, each under its name.
-ghost use Rattle.std.specs.Prelude.{◌≡◌, false};
+ghost use Rattle.std.specs.Prelude.{◌≡◌};
 ghost use Rattle.std.specs.Map.{values_of};
 ghost use Rattle.std.specs.Option.{option_map_or};
-ghost use Rattle.ele_groups.specs.Except.{has_covering_but, is_marked_but};
+ghost use Rattle.ele_world.specs.declared.cover.Cover.TheVariants.{Free};
+ghost use Rattle.ele_groups.specs.Except.{cover_but, row_cover};
 ghost use Rattle.ele_groups.specs.Kept.{AreKept, row_at};
 
 use crate::group::Group;
 use crate::memberships::Memberships;
 use crate::span::Span;
 use ele_moment::{FileId, Name};
+use ele_world::Cover;
 use indexmap::IndexMap;
 
-/// Whether a group that has the file has a mark within the span that isn't left out. It looks at the
-/// file's groups alone.
-pub fn covers(
+/// For how long marks of groups that have the file keep, those aside that are left out. It looks at
+/// the file's groups alone.
+pub fn cover(
     rows: &IndexMap<Name, Group>,
     memberships: &Memberships,
     file: FileId,
     span: &Span,
-) -> bool
+) -> Cover
     requires { AreKept rows.now.entries memberships.now }
-    ensures { result ≡ is_marked_but span.now.except (values_of rows.now.entries) file
+    ensures { result ≡ cover_but span.now.except (values_of rows.now.entries) file
         span.now.closed span.now.ended }
 {
+    let mut cover = Cover::Free;
     for name in memberships.of(file) {
-        if covers_at(rows, name, span) {
-            return true;
-        }
+        cover = cover.longer(cover_at(rows, name, span));
     }
-    false
+    cover
 }
 
-// Whether the group of that name has a mark within the span that isn't left out.
-fn covers_at(rows: &IndexMap<Name, Group>, name: &Name, span: &Span) -> bool
+/// For how long marks of the group of that name keep, those aside that are left out.
+pub fn cover_at(rows: &IndexMap<Name, Group>, name: &Name, span: &Span) -> Cover
     ensures { result
-        ≡ option_map_or (has_covering_but span.now.except span.now.closed span.now.ended)
-        (row_at rows.now.entries name.now) false }
+        ≡ option_map_or (row_cover span.now.except span.now.closed span.now.ended)
+        (row_at rows.now.entries name.now) Free }
 {
     match rows.get(name) {
-        Some(group) => group.covers(span),
-        None => false,
+        Some(group) => group.cover(span),
+        None => Cover::Free,
     }
 }

@@ -1,15 +1,15 @@
 //! One group: its name, its files in order of adding, and its marks.
 //! A contract sees it as its row.
-ghost use Rattle.std.specs.Prelude.{◌≡◌, ◌==◌, ◌&&◌, not, ℕ, false, OnOk, OnErr, IfOk};
+ghost use Rattle.std.specs.Prelude.{◌≡◌, map, ◌==◌, ◌&&◌, not, ℕ, false, OnOk, OnErr, IfOk};
 ghost use Rattle.ele_world.specs.GroupRows.{new_group, is_member, has_mark, adds, removes, forgets, marks, unmarks};
-ghost use Rattle.ele_groups.specs.Except.{has_covering_but};
+ghost use Rattle.ele_groups.specs.Except.{row_cover};
 
 use crate::marks::Marks;
 use crate::span::Span;
 use crate::taken::take_out;
 use ele_lists::ListOf;
 use ele_moment::{FileId, Moment, Name, NoMemory};
-use ele_world::GroupRow;
+use ele_world::{Cover, GroupRow, MarkRow};
 use std::alloc::Global;
 use std::marker::Model;
 
@@ -59,10 +59,23 @@ impl Group {
     }
 
     /// Its marks in order of making.
-    pub fn marks(&self) -> &[Moment]
+    pub fn marks(&self) -> &[MarkRow]
         ensures { result.now ≡ self.now.marks }
     {
         self.marks.as_slice()
+    }
+
+    /// The moments at which it was marked, in order of making.
+    pub fn moments(&self, alloc: Global) -> Result<Vec<Moment>, NoMemory>
+        ensures { IfOk result (λ moments. moments.items ≡ map (λ mark. mark.at) self.now.marks) }
+    {
+        Ok(
+            self.marks
+                .as_slice()
+                .iter()
+                .map(|mark| mark.at)
+                .collect(alloc)?,
+        )
     }
 
     /// A copy of its row.
@@ -98,39 +111,39 @@ impl Group {
     }
 
     /// Whether it was marked at the moment.
-    pub fn has_mark(&self, mark: Moment) -> bool
-        ensures { result ≡ has_mark mark self.now }
+    pub fn has_mark(&self, moment: Moment) -> bool
+        ensures { result ≡ has_mark moment self.now }
     {
-        self.marks.has(mark)
+        self.marks.has(moment)
     }
 
     /// Adds a mark behind the others.
-    pub fn mark(&mut self, mark: Moment) -> Result<(), NoMemory>
-        requires { has_mark mark self.old ≡ false }
-        ensures ok { OnOk result (self.new ≡ marks mark self.old) }
+    pub fn mark(&mut self, mark: &MarkRow) -> Result<(), NoMemory>
+        requires { has_mark mark.now.at self.old ≡ false }
+        ensures ok { OnOk result (self.new ≡ marks mark.now self.old) }
         ensures err { OnErr result (self.new ≡ self.old) }
     {
         self.marks.add(mark)
     }
 
-    /// Takes out the mark. It takes no memory.
-    pub fn unmark(&mut self, mark: Moment)
-        ensures { self.new ≡ unmarks mark self.old }
+    /// Takes out the mark at the moment. It takes no memory.
+    pub fn unmark(&mut self, moment: Moment)
+        ensures { self.new ≡ unmarks moment self.old }
     {
-        self.marks.remove(mark);
+        self.marks.remove(moment);
     }
 
-    /// Whether a mark that isn't left out lies within the span.
-    #[tactic(auto, using(crate::proofs::Covered::left_out))]
-    pub fn covers(&self, span: &Span) -> bool
-        ensures { result ≡ has_covering_but span.now.except span.now.closed span.now.ended self.now }
+    /// For how long its marks keep what was current in the span, those aside that are left out.
+    #[tactic(auto, using(crate::proofs::Covered::left_out, crate::proofs::Covered::none_out, crate::proofs::Covered::one_out))]
+    pub fn cover(&self, span: &Span) -> Cover
+        ensures { result ≡ row_cover span.now.except span.now.closed span.now.ended self.now }
     {
         match &span.except {
             Some(except) if self.name == except.name => match except.mark {
-                Some(mark) => self.marks.covers_without(mark, span.closed, span.ended),
-                None => false,
+                Some(mark) => self.marks.cover_without(mark, span.closed, &span.ended),
+                None => Cover::Free,
             },
-            _ => self.marks.covers(span.closed, span.ended),
+            _ => self.marks.cover(span.closed, &span.ended),
         }
     }
 }

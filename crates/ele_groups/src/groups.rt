@@ -3,12 +3,13 @@
 ghost use Rattle.std.specs.Prelude.{◌≡◌, ◌<◌, [], Some, None, false, length, filter, slice_get, IsTrue, IfSome, IfNone, IfOk, IfErr, OnOk, OnErr};
 ghost use Rattle.std.specs.Map.{values_of};
 ghost use Rattle.std.specs.Option.{option_copied};
-ghost use Rattle.ele_world.specs.GroupRows.{group_named, has_group, has_member, is_marked_at, is_member, with_group, without_group, with_member, without_member, with_mark, without_mark, forgotten, is_marked};
-ghost use Rattle.ele_world.specs.GroupsAsked.{members_of, marks_of, is_marked_without};
+ghost use Rattle.ele_world.specs.GroupRows.{group_named, has_group, has_member, is_marked_at, is_member, with_group, without_group, with_member, without_member, with_mark, without_mark, forgotten};
+ghost use Rattle.ele_world.specs.Cover.{cover_of};
+ghost use Rattle.ele_world.specs.GroupsAsked.{members_of, marks_of, cover_with, cover_without};
 ghost use Rattle.ele_groups.specs.Faults.{make_fault, drop_fault, add_fault, remove_fault, mark_fault, unmark_fault, Fails, answer_of};
 ghost use Rattle.ele_groups.specs.Rows.{row_of};
 
-use crate::covering::covers;
+use crate::covering::{cover, cover_at};
 use crate::fault::GroupFault;
 use crate::group::Group;
 use crate::memberships::Memberships;
@@ -16,7 +17,7 @@ use crate::rows::{add_to, mark_at, remove_from, unmark_at};
 use crate::span::{Except, Span};
 use ele_lists::ListOf;
 use ele_moment::{FileId, Moment, Name, NoMemory};
-use ele_world::GroupRow;
+use ele_world::{Cover, GroupRow, MarkRow};
 use indexmap::IndexMap;
 use std::alloc::Global;
 use std::marker::Model;
@@ -118,10 +119,16 @@ impl Groups {
         Ok(())
     }
 
-    /// Marks a group at a moment, behind the marks that it has.
-    pub fn mark(&mut self, name: &Name, moment: Moment) -> Result<(), GroupFault>
+    /// Marks a group at a moment, behind the marks that it has, until the mark's end, if one is named.
+    pub fn mark(
+        &mut self,
+        name: &Name,
+        moment: Moment,
+        until: Option<Moment>,
+    ) -> Result<(), GroupFault>
         ensures allowed { OnOk result (mark_fault self.old name.now moment ≡ None) }
-        ensures marked { OnOk result (self.new ≡ with_mark name.now moment self.old) }
+        ensures marked { OnOk result
+            (self.new ≡ with_mark name.now (record { at = moment; until = until }) self.old) }
         ensures fault { IfErr result (Fails (mark_fault self.old name.now moment)) }
         ensures unchanged { OnErr result (self.new ≡ self.old) }
     {
@@ -131,7 +138,8 @@ impl Groups {
         if self.has_mark(name, moment) {
             return Err(GroupFault::MarkExists);
         }
-        match self.add_mark(name, moment) {
+        let mark = MarkRow { at: moment, until };
+        match self.add_mark(name, &mark) {
             Ok(()) => Ok(()),
             Err(NoMemory) => Err(GroupFault::NoMemory),
         }
@@ -160,10 +168,11 @@ impl Groups {
         while self.forget_one(file) {}
     }
 
-    /// Whether a group that has the file has a mark within the moments: not before `closed`, and
-    /// before `ended`, if there is an end.
-    pub fn covering(&self, file: FileId, closed: Moment, ended: Option<Moment>) -> bool
-        ensures { result ≡ is_marked self.now file closed ended }
+    /// For how long the marks of groups that have the file keep what was current from `closed` until
+    /// `ended`, or still is: `Until` has the latest of their ends, which may have passed. It takes no
+    /// memory.
+    pub fn cover(&self, file: FileId, closed: Moment, ended: Option<Moment>) -> Cover
+        ensures { result ≡ cover_of self.now file closed ended }
     {
         let except = None;
         let span = Span {
@@ -171,19 +180,39 @@ impl Groups {
             ended,
             except,
         };
-        covers(&self.rows, &self.memberships, file, &span)
+        cover(&self.rows, &self.memberships, file, &span)
     }
 
-    /// Whether one has, that mark of that group left out, or the whole group where no mark is named.
-    pub fn covering_without(
+    /// For how long they would, with the file in that group too. It takes no memory.
+    pub fn cover_with(
+        &self,
+        name: &Name,
+        file: FileId,
+        closed: Moment,
+        ended: Option<Moment>,
+    ) -> Cover
+        ensures { result ≡ cover_with self.now name.now file closed ended }
+    {
+        let span = Span {
+            closed,
+            ended,
+            except: None,
+        };
+        let of_group = cover_at(&self.rows, name, &span);
+        of_group.longer(cover(&self.rows, &self.memberships, file, &span))
+    }
+
+    /// For how long they do, that mark of that group left out, or the whole group where no mark is
+    /// named. It takes no memory.
+    pub fn cover_without(
         &self,
         name: &Name,
         mark: Option<Moment>,
         file: FileId,
         closed: Moment,
         ended: Option<Moment>,
-    ) -> bool
-        ensures { result ≡ is_marked_without self.now name.now mark file closed ended }
+    ) -> Cover
+        ensures { result ≡ cover_without self.now name.now mark file closed ended }
     {
         let except = Some(Except { name: *name, mark });
         let span = Span {
@@ -191,7 +220,7 @@ impl Groups {
             ended,
             except,
         };
-        covers(&self.rows, &self.memberships, file, &span)
+        cover(&self.rows, &self.memberships, file, &span)
     }
 
     /// Whether there is a group of that name.
@@ -226,7 +255,7 @@ impl Groups {
     }
 
     /// The name, the files and the marks of the group at that place in order of making.
-    pub fn group(&self, place: usize) -> Option<(&Name, &[FileId], &[Moment])>
+    pub fn group(&self, place: usize) -> Option<(&Name, &[FileId], &[MarkRow])>
         ensures some { IfSome result (λ group. slice_get self.now place
             ≡ Some (row_of group.0.now group.1.now group.2.now)) }
         ensures none { IfNone result (slice_get self.now place ≡ None) }
@@ -256,12 +285,12 @@ impl Groups {
         }
     }
 
-    /// A copy of the group's marks, in order of making; none where there is no such group.
+    /// The moments at which the group was marked, in order of making; none where there is no such group.
     pub fn marks(&self, name: &Name) -> Result<Vec<Moment>, NoMemory>
         ensures { IfOk result (λ marks. marks.items ≡ marks_of self.now name.now) }
     {
         match self.named(name) {
-            Some(group) => Ok(Vec::from_slice(self.alloc, group.marks())?),
+            Some(group) => group.moments(self.alloc),
             None => Ok(Vec::new(self.alloc)),
         }
     }
@@ -319,15 +348,15 @@ impl Groups {
     }
 
     /// Marks the group of that name, if there is one, behind the marks that it has.
-    pub fn add_mark(&mut self, name: &Name, moment: Moment) -> Result<(), NoMemory>
-        requires { is_marked_at self.old name.now moment ≡ false }
-        ensures ok { OnOk result (self.new ≡ with_mark name.now moment self.old) }
+    pub fn add_mark(&mut self, name: &Name, mark: &MarkRow) -> Result<(), NoMemory>
+        requires { is_marked_at self.old name.now mark.now.at ≡ false }
+        ensures ok { OnOk result (self.new ≡ with_mark name.now mark.now self.old) }
         ensures err { OnErr result (self.new ≡ self.old) }
     {
-        mark_at(&mut self.rows, name, moment)
+        mark_at(&mut self.rows, name, mark)
     }
 
-    /// Takes the mark out of the group of that name, if it is there. It takes no memory.
+    /// Takes the mark at the moment out of the group of that name, if it is there. It takes no memory.
     pub fn take_mark(&mut self, name: &Name, moment: Moment)
         ensures { self.new ≡ without_mark name.now moment self.old }
     {

@@ -1,28 +1,34 @@
-//! The marks of one group, and whether any of them lies between two moments.
-//! A contract sees them as the list of their moments in order of making.
-ghost use Rattle.std.specs.Prelude.{◌≡◌, ◌==◌, ◌∷◌, ◌++◌, ◌&&◌, [], Some, None, not, false, OnOk, OnErr};
+//! The marks of one group, and for how long those between two moments keep.
+//! A contract sees them as their list in order of making.
+ghost use Rattle.std.specs.Prelude.{◌≡◌, vec_capacity, vec_len, ◌<◌, ◌≤◌, ◌==◌, ◌∷◌, ◌++◌, ℕ, [], not, false, filter, position, Some, if◌then◌else◌, IfSome, IfNone, OnOk, OnErr};
+ghost use Rattle.std.specs.BTreeMap.{get};
 ghost use Rattle.std.specs.List.{list_any};
+ghost use Rattle.std.specs.Ordering.{nat_cmp};
+ghost use Rattle.std.specs.Option.{option_copied};
 ghost use Rattle.ele_lists.specs.Lists.{remove_first};
-ghost use Rattle.ele_world.specs.GroupRows.{covers_moment};
+ghost use Rattle.ele_world.specs.Cover.{cover_by};
+ghost use Rattle.ele_world.specs.GroupRows.{is_mark};
+ghost use Rattle.ele_groups.specs.Timed.{AreMarksApart, IsFirst};
 
-use crate::taken::take_out;
 use ele_moment::{Moment, NoMemory};
+use ele_world::{Cover, MarkRow};
 use std::alloc::Global;
-use std::collections::BTreeSet;
+use std::collections::BTreeMap;
 use std::marker::Model;
 
-/// The marks in order of making, and beside them their seconds in order of time.
+/// The marks in order of making, and beside them each under its seconds, in order of time.
 #[derive(Drop)]
 pub struct Marks {
-    made: Vec<Moment>,
-    times: BTreeSet<u64>,
+    made: Vec<MarkRow>,
+    times: BTreeMap<u64, MarkRow>,
 }
 
 impl Model for Marks {
-    ghost use Rattle.std.specs.Prelude.{List, ℕ};
+    ghost use Rattle.std.specs.Prelude.{List};
+    ghost use Rattle.ele_world.specs.declared.rows.MarkRow.{MarkRow};
     ghost use Rattle.ele_groups.specs.Timed.{AreTimed};
 
-    ghost Value = { List ℕ };
+    ghost Value = { List MarkRow };
 
     ghost view = { λ marks. marks.made.items };
 
@@ -36,86 +42,163 @@ impl Marks {
     {
         Marks {
             made: Vec::new(alloc),
-            times: BTreeSet::new(alloc),
+            times: BTreeMap::new(alloc),
         }
     }
 
     /// The marks in order of making.
-    pub fn as_slice(&self) -> &[Moment]
+    pub fn as_slice(&self) -> &[MarkRow]
         ensures { result.now ≡ self.now }
     {
         &self.made
     }
 
     /// Whether there is a mark at the moment.
-    pub fn has(&self, mark: Moment) -> bool
-        ensures { result ≡ list_any (λ made. made == mark) self.now }
+    #[tactic(auto, using(crate::proofs::Times::any_is_found))]
+    pub fn has(&self, moment: Moment) -> bool
+        ensures { result ≡ list_any (is_mark moment) self.now }
     {
-        self.times.contains(&mark.seconds())
+        self.times.contains_key(&moment.seconds())
     }
 
     /// Adds a mark behind the others. Where memory is refused, the marks stay.
-    pub fn add(&mut self, mark: Moment) -> Result<(), NoMemory>
-        requires { list_any (λ made. made == mark) self.old ≡ false }
-        ensures ok { OnOk result (self.new ≡ self.old ++ mark ∷ []) }
+    pub fn add(&mut self, mark: &MarkRow) -> Result<(), NoMemory>
+        requires { list_any (is_mark mark.now.at) self.old ≡ false }
+        ensures ok { OnOk result (self.new ≡ self.old ++ mark.now ∷ []) }
         ensures err { OnErr result (self.new ≡ self.old) }
     {
         self.made.reserve(1)?;
-        let _new = self.times.insert(mark.seconds())?;
-        self.made.push_reserved(mark);
+        put_at(&mut self.times, mark)?;
+        push_copy(&mut self.made, mark);
         Ok(())
     }
 
     /// Takes out the mark at the moment, if there is one. It takes no memory.
-    pub fn remove(&mut self, mark: Moment)
-        ensures { self.new ≡ remove_first (λ made. made == mark) self.old }
+    pub fn remove(&mut self, moment: Moment)
+        ensures { self.new ≡ remove_first (is_mark moment) self.old }
     {
-        take_out(&mut self.made, &mark);
-        let _was = self.times.remove(&mark.seconds());
+        take_at(&mut self.made, moment);
+        let _was = self.times.remove(&moment.seconds());
     }
 
-    /// Whether a mark lies within the moments: not before `closed`, and before `ended`.
-    pub fn covers(&self, closed: Moment, ended: Option<Moment>) -> bool
-        ensures { result ≡ list_any (covers_moment closed ended) self.now }
+    /// For how long the marks keep what was current from `closed` until `ended`, or still is. It looks
+    /// at marks of that time alone.
+    pub fn cover(&self, closed: Moment, ended: &Option<Moment>) -> Cover
+        ensures { result ≡ cover_by closed ended.now self.now }
     {
         match ended {
-            Some(ended) => self.lies_between(closed.seconds(), ended.seconds()),
-            None => self.lies_from(closed.seconds()),
+            Some(ended) => self.cover_between(closed.seconds(), ended.seconds()),
+            None => self.cover_from(closed.seconds()),
         }
     }
 
-    /// Whether one does, the mark at `left` aside.
-    pub fn covers_without(&self, left: Moment, closed: Moment, ended: Option<Moment>) -> bool
-        ensures { result ≡ list_any
-            (λ mark. covers_moment closed ended mark && not (mark == left)) self.now }
+    /// The same, the mark at `left` aside.
+    #[tactic(auto, using(crate::proofs::Times::until_without, crate::proofs::Times::from_without))]
+    pub fn cover_without(&self, left: Moment, closed: Moment, ended: &Option<Moment>) -> Cover
+        ensures { result
+            ≡ cover_by closed ended.now (filter (λ mark. not (mark.at == left)) self.now) }
     {
         let left = left.seconds();
         let closed = closed.seconds();
         match ended {
             Some(ended) => {
                 let ended = ended.seconds();
-                self.lies_between(closed, left.min(ended))
-                    || self.lies_between(closed.max(left + 1), ended)
+                let before = self.cover_between(closed, left.min(ended));
+                before.longer(self.cover_between(closed.max(left + 1), ended))
             }
-            None => self.lies_between(closed, left) || self.lies_from(closed.max(left + 1)),
+            None => {
+                let before = self.cover_between(closed, left);
+                before.longer(self.cover_from(closed.max(left + 1)))
+            }
         }
     }
 
-    // Whether a mark lies within the seconds, the last not among them.
-    #[tactic(auto, using(crate::proofs::Basics::nat_tests, crate::proofs::Times::told_by_first))]
-    fn lies_between(&self, from: u64, until: u64) -> bool
-        ensures { result ≡ list_any (covers_moment from (Some until)) self.now }
+    // For how long those keep that lie within the seconds, the last not among them.
+    #[tactic(auto, using(crate::proofs::Basics::nat_tests, crate::proofs::Times::between_more, crate::proofs::Times::between_done, crate::proofs::Times::none_before, crate::proofs::Times::always))]
+    fn cover_between(&self, from: u64, until: u64) -> Cover
+        ensures { result ≡ cover_by from (Some until) self.now }
+    {
+        let mut cover = Cover::Free;
+        let mut next = from;
+        while let Some(mark) = self.first_from(next) {
+            let at = mark.at.seconds();
+            if at >= until {
+                return cover;
+            }
+            let Some(end) = mark.until else {
+                return Cover::Always;
+            };
+            cover = cover.longer(Cover::Until(end));
+            next = at + 1;
+        }
+        cover
+    }
+
+    // For how long those keep that lie at these seconds or later.
+    #[tactic(auto, using(crate::proofs::Basics::nat_tests, crate::proofs::Times::between_more, crate::proofs::Times::from_done, crate::proofs::Times::none_before, crate::proofs::Times::always))]
+    fn cover_from(&self, from: u64) -> Cover
+        ensures { result ≡ cover_by from None self.now }
+    {
+        let mut cover = Cover::Free;
+        let mut next = from;
+        while let Some(mark) = self.first_from(next) {
+            let at = mark.at.seconds();
+            let Some(end) = mark.until else {
+                return Cover::Always;
+            };
+            cover = cover.longer(Cover::Until(end));
+            next = at + 1;
+        }
+        cover
+    }
+
+    // The first mark at these seconds or later.
+    #[tactic(auto, using(crate::proofs::Basics::nat_tests, crate::proofs::Times::first_told))]
+    fn first_from(&self, from: u64) -> Option<MarkRow>
+        ensures apart { AreMarksApart self.now }
+        ensures some { IfSome result (IsFirst self.now from) }
+        ensures none { IfNone result ((time : ℕ) → from ≤ time
+            → list_any (is_mark time) self.now ≡ false) }
     {
         match self.times.range(from..).next() {
-            Some(time) => *time < until,
-            None => false,
+            Some((_, mark)) => Some(*mark),
+            None => None,
         }
     }
+}
 
-    // Whether a mark lies at these seconds or later.
-    fn lies_from(&self, from: u64) -> bool
-        ensures { result ≡ list_any (covers_moment from None) self.now }
-    {
-        self.times.range(from..).next().is_some()
+// Adds the item, for which there is room.
+fn push_copy<T: Copy>(items: &mut Vec<T>, item: &T)
+    requires { vec_len items.old < vec_capacity items.old }
+    ensures { items.new.items ≡ items.old.items ++ item.now ∷ [] }
+{
+    items.push_reserved(*item);
+}
+
+// Puts the mark under its seconds.
+fn put_at(times: &mut BTreeMap<u64, MarkRow>, mark: &MarkRow) -> Result<(), NoMemory>
+    ensures ok { OnOk result ((time : ℕ) → get nat_cmp times.new time
+        ≡ (if mark.now.at == time then Some mark.now else get nat_cmp times.old time)) }
+    ensures err { OnErr result ((time : ℕ) → get nat_cmp times.new time ≡ get nat_cmp times.old time) }
+{
+    let time = mark.at.seconds();
+    let _new = times.insert(time, *mark)?;
+    Ok(())
+}
+
+// Takes out the mark at the moment, if there is one. The others keep their order.
+#[tactic(auto, using(ele_lists::proofs::Places::first_places))]
+fn take_at(marks: &mut Vec<MarkRow>, moment: Moment)
+    ensures { marks.new.items ≡ remove_first (is_mark moment) marks.old.items }
+{
+    if let Some(place) = place_at(marks, moment) {
+        let _mark = marks.remove(place);
     }
+}
+
+// The place of the first mark at the moment.
+fn place_at(marks: &[MarkRow], moment: Moment) -> Option<usize>
+    ensures { result ≡ position (is_mark moment) marks.now }
+{
+    marks.iter().position(|mark| mark.at == moment)
 }

@@ -10,6 +10,7 @@ ghost use Rattle.ele_groups.specs.Kept.{changed_at, has_file, row_at};
 
 use crate::group::Group;
 use ele_moment::{FileId, Moment, Name, NoMemory};
+use ele_world::MarkRow;
 use indexmap::IndexMap;
 
 /// Adds the file to the group.
@@ -40,10 +41,15 @@ pub fn remove_from(rows: &mut IndexMap<Name, Group>, name: &Name, file: FileId)
 
 /// Adds the mark to the group.
 #[tactic(auto, using(crate::proofs::Basics::nat_tests, crate::proofs::Basics::set_value_same))]
-pub fn mark_at(rows: &mut IndexMap<Name, Group>, name: &Name, mark: Moment) -> Result<(), NoMemory>
-    requires { option_map_or (has_mark mark) (row_at rows.old.entries name.now) false ≡ false }
+pub fn mark_at(
+    rows: &mut IndexMap<Name, Group>,
+    name: &Name,
+    mark: &MarkRow,
+) -> Result<(), NoMemory>
+    requires { option_map_or (has_mark mark.now.at) (row_at rows.old.entries name.now) false
+        ≡ false }
     ensures ok { OnOk result
-        (rows.new.entries ≡ changed_at name.now (marks mark) rows.old.entries) }
+        (rows.new.entries ≡ changed_at name.now (marks mark.now) rows.old.entries) }
     ensures err { OnErr result (rows.new.entries ≡ rows.old.entries) }
 {
     match rows.get_mut(name) {
@@ -52,11 +58,11 @@ pub fn mark_at(rows: &mut IndexMap<Name, Group>, name: &Name, mark: Moment) -> R
     }
 }
 
-/// Takes the mark out of the group. It takes no memory.
-pub fn unmark_at(rows: &mut IndexMap<Name, Group>, name: &Name, mark: Moment)
-    ensures { rows.new.entries ≡ changed_at name.now (unmarks mark) rows.old.entries }
+/// Takes the mark at the moment out of the group. It takes no memory.
+pub fn unmark_at(rows: &mut IndexMap<Name, Group>, name: &Name, moment: Moment)
+    ensures { rows.new.entries ≡ changed_at name.now (unmarks moment) rows.old.entries }
 {
     if let Some(group) = rows.get_mut(name) {
-        group.unmark(mark);
+        group.unmark(moment);
     }
 }

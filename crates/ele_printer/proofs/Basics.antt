@@ -9,3 +9,4 @@ pub use Rattle.std.specs.Fmt.{decimal}
 pub use Rattle.std.specs.Io.KnownBytes.{Appends}
 pub use Rattle.std.specs.List.{IsFirstAndRest, flat_map, join_with_byte}
 pub use Rattle.std.specs.Prelude.{IsErr, OnErr, OnOk, codes}
+pub use Rattle.std.specs.Option.{option_map_or}

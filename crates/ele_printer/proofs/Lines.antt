@@ -1,8 +1,9 @@
 -- The bytes of a line, word after word.
 use Rattle.ele_printer.proofs.Basics.{nat_tests, arith, ◌==◌, true, ◌≡◌, ℕ, ◌+◌, ◌<◌, List, [], ◌∷◌, ◌++◌, length, map, take, drop, get_or, ◌/◌, ◌%◌, refl, sym, ap, ◌∙◌, append_assoc, codes, decimal, decimal_digit, drop_more, append-nil, take-append-drop, join_with_byte, flat_map, IsFirstAndRest, encode_lower, lower_digits}
-use Rattle.ele_printer.proofs.Prelude.{Rung, line_text, pair_word, bytes_text, kind_words, usage_line, usage_lines, numbers_word, group_line}
+use Rattle.ele_printer.proofs.Prelude.{Rung, line_text, ladder_word, pair_word, bytes_text, kind_words, usage_line, usage_lines, numbers_word, mark_word, marks_word, group_line}
 use Rattle.ele_usage.specs.declared.usage.Usage.{Usage}
 use Rattle.ele_world.specs.declared.rows.GroupRow.{GroupRow}
+use Rattle.ele_world.specs.declared.rows.MarkRow.{MarkRow}
 use Rattle.hex.specs.Hex.{encode_with}
 
 -- what follows a word of a line
@@ -20,16 +21,20 @@ joined_are {A} byte v first [] = sym (append-nil first)
 joined_are {A} byte v first (x ∷ xs) = ap (λ (rest : List ℕ). first ++ byte ∷ rest) (joined_are byte v (v x) xs)
 
 -- the words of pairs are that of the first, and a comma and a word for each other
-pub pairs_are : (pairs : List Rung) (first : Rung) (rest : List Rung) → IsFirstAndRest pairs first rest → join_with_byte 44 (map pair_word pairs) ≡ pair_word first ++ flat_map (λ (pair : Rung). 44 ∷ pair_word pair) rest
+pub pairs_are : (pairs : List Rung) (first : Rung) (rest : List Rung) → IsFirstAndRest pairs first rest → ladder_word pairs ≡ pair_word first ++ flat_map (λ (pair : Rung). 44 ∷ pair_word pair) rest
 pairs_are pairs first rest is = rw is.0 (joined_are 44 pair_word (pair_word first) rest)
 
 -- the word of numbers is the first, and a comma and a number for each other
 pub numbers_are : (numbers : List ℕ) (first : ℕ) (rest : List ℕ) → IsFirstAndRest numbers first rest → 32 ∷ numbers_word numbers ≡ (32 ∷ decimal first) ++ flat_map (λ (number : ℕ). 44 ∷ decimal number) rest
 numbers_are numbers first rest is = rw is.0 (ap (λ (word : List ℕ). 32 ∷ word) (joined_are 44 decimal (decimal first) rest))
 
+-- and so the word of marks
+pub marks_are : (marks : List MarkRow) (first : MarkRow) (rest : List MarkRow) → IsFirstAndRest marks first rest → 32 ∷ marks_word marks ≡ (32 ∷ mark_word first) ++ flat_map (λ (mark : MarkRow). 44 ∷ mark_word mark) rest
+marks_are marks first rest is = rw is.0 (ap (λ (word : List ℕ). 32 ∷ word) (joined_are 44 mark_word (mark_word first) rest))
+
 -- the line of a group in its parts
 pub group_parts : (row : GroupRow) → group_line row
-    ≡ join_with_byte 32 (codes "-" ∷ row.name ∷ codes "members" ∷ []) ++ ((32 ∷ numbers_word row.members) ++ (codes " marks" ++ ((32 ∷ numbers_word row.marks) ++ 10 ∷ [])))
+    ≡ join_with_byte 32 (codes "-" ∷ row.name ∷ codes "members" ∷ []) ++ ((32 ∷ numbers_word row.members) ++ (codes " marks" ++ ((32 ∷ marks_word row.marks) ++ 10 ∷ [])))
 group_parts row = grind (arith, nat_tests, line_is, append_assoc)
 
 -- a line is its words but the last, and then the last

@@ -1,5 +1,7 @@
 -- The words of this crate and of those below that proofs here use, in one place.
 pub use Rattle.ele_policy.specs.Ladder.{Rung}
+pub use Rattle.ele_policy.specs.PolicyText.{ladder_word, pair_word}
 pub use Rattle.ele_printer.specs.Outlet.{HandsOver, Outlet, Puts, Takes, TakesFront}
-pub use Rattle.ele_printer.specs.Printed.{bytes_text, group_line, kind_words, line_text, numbers_word, pair_word, usage_line, usage_lines}
+pub use Rattle.ele_printer.specs.Printed.{bytes_text, group_line, kind_words, line_text, mark_word, marks_word, numbers_word, usage_line, usage_lines}
 pub use Rattle.ele_printer.specs.Prints.{Prints, outlet}
+pub use Rattle.ele_world.specs.declared.rows.MarkRow.{MarkRow}

@@ -2,7 +2,8 @@
 use Rattle.ele_printer.proofs.Basics.{nat_tests, arith, rules, true, false, ◌==◌, ◌≡◌, ℕ, ◌<◌, List, [], ◌∷◌, ◌++◌, length, map, refl, sym, ap, ◌∙◌, append_assoc, append-nil, map-append, length-append, codes, join_with_byte, flat_map, encode_lower}
 use Rattle.ele_printer.proofs.Prelude.{line_text}
 use Rattle.ele_printer.specs.Command.{command_words, name_of}
-use Rattle.ele_printer.specs.EventText.{event_words, path_word, value_word}
+use Rattle.ele_printer.specs.EventText.{event_words, value_word}
+use Rattle.ele_time_path.specs.PathText.{path_word}
 use Rattle.ele_printer.specs.HistoryText.{entry_line}
 use Rattle.ele_printer.specs.Parts.{parts_of}
 use Rattle.ele_printer.specs.Printed.{bytes_word}

@@ -1,12 +1,14 @@
 -- Events in text.
-use Rattle.std.specs.Prelude.{ℕ, ◌<◌, ◌≤◌, ◌^◌, List, [], ◌∷◌, ◌++◌, map, codes, All}
+use Rattle.std.specs.Prelude.{ℕ, ◌<◌, ◌≤◌, ◌^◌, List, ◌++◌, map, All}
 use Rattle.std.specs.Fmt.{decimal}
 use Rattle.std.specs.List.{join_with_byte}
 use Rattle.ele_moment.specs.Last.{last_moment}
 use Rattle.ele_moment.specs.Name.{IsName}
 use Rattle.ele_policy.specs.Policy.{IsPolicy}
-use Rattle.ele_time_path.specs.Path.{IsPath, path_text}
+use Rattle.ele_policy.specs.PolicyText.{policy_word}
+use Rattle.ele_time_path.specs.Path.{IsPath}
 use Rattle.ele_time_path.specs.PathAt.{tag_at}
+use Rattle.ele_time_path.specs.PathText.{path_word, tagged_word}
 use Rattle.ele_time_path.specs.declared.tagged.Tag.{Tag}
 use Rattle.ele_time_path.specs.declared.tagged.Tag.TheVariants.{Now, At, Number as Numbered}
 use Rattle.ele_world.specs.declared.event.Event.{Event}
@@ -14,24 +16,8 @@ use Rattle.ele_world.specs.declared.event.Source.{Source as AnySource}
 use Rattle.ele_world.specs.declared.event.Source.TheVariants as source
 use Rattle.ele_printer.specs.Command.{command_words}
 use Rattle.ele_printer.specs.Parts.{parts_of}
-use Rattle.ele_printer.specs.Printed.{bytes_word, policy_word}
+use Rattle.ele_printer.specs.Printed.{bytes_word}
 use Rattle.ele_printer.specs.Value.{Value, Number, Moment, Name, Path, Tagged, Timed, Source, Bytes, Policy}
-
--- the word of a path: a slash for the root, or the names, each with a slash in front
-abbrev pub path_word : List (List ℕ) → List ℕ
-path_word [] = codes "/"
-path_word (name ∷ names) = path_text (name ∷ names)
-
--- what stands behind a path for a tag: nothing for now, `@` (64) and the seconds of a moment, or `#` (35) and the number of a
--- version
-abbrev pub tag_text : Tag → List ℕ
-tag_text Now = []
-tag_text (At moment) = 64 ∷ decimal moment
-tag_text (Numbered number) = 35 ∷ decimal number
-
--- the word of a path with a tag
-abbrev pub tagged_word : List (List ℕ) → Tag → List ℕ
-tagged_word names tag = path_word names ++ tag_text tag
 
 -- the word of what is read
 abbrev pub source_word : AnySource → List ℕ

@@ -4,7 +4,7 @@ use Rattle.ele_world.specs.declared.event.Event.{Event}
 use Rattle.ele_world.specs.declared.event.Event.TheVariants as event
 use Rattle.ele_printer.specs.declared.command.Command.{Command}
 use Rattle.ele_printer.specs.declared.command.Command.TheVariants.{Clock, Tick, MakeDir, RemoveDir, Create, Link, Unlink, Rename, Undelete, OpenWrite, OpenRead, Write, Truncate, Close, Revert, SetPolicy, Default, GroupMake, GroupDrop, GroupAdd, GroupRemove, Mark, Unmark, Clean, Read, Stat, Versions, ListNames, Restorable, Due, Usage, Groups}
-use Rattle.ele_printer.specs.Value.{Value, Number, Moment, Name, Path, Tagged, Timed, Source, Bytes, Policy}
+use Rattle.ele_printer.specs.Value.{Value, end_values, Number, Moment, Name, Path, Tagged, Timed, Source, Bytes, Policy}
 
 -- the command of an event, and the values of the words behind it
 abbrev pub parts_of : Event → Command × List Value
@@ -29,7 +29,7 @@ parts_of (event.GroupMake name) = (GroupMake, Name name ∷ [])
 parts_of (event.GroupDrop name) = (GroupDrop, Name name ∷ [])
 parts_of (event.GroupAdd name path) = (GroupAdd, Name name ∷ Path path ∷ [])
 parts_of (event.GroupRemove name path) = (GroupRemove, Name name ∷ Path path ∷ [])
-parts_of (event.Mark name moment) = (Mark, Name name ∷ Moment moment ∷ [])
+parts_of (event.Mark name moment until) = (Mark, Name name ∷ Moment moment ∷ end_values until)
 parts_of (event.Unmark name moment) = (Unmark, Name name ∷ Moment moment ∷ [])
 parts_of event.CleanOne = (Clean, [])
 parts_of (event.Read source) = (Read, Source source ∷ [])

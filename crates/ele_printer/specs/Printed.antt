@@ -3,6 +3,7 @@ use Rattle.std.specs.Prelude.{◌≡◌, ℕ, List, [], ◌∷◌, ◌++◌, len
 use Rattle.std.specs.Fmt.{decimal}
 use Rattle.std.specs.List.{flat_map, join_with_byte}
 use Rattle.std.specs.Io.KnownBytes.{Appends}
+use Rattle.std.specs.Option.{option_map_or}
 use Rattle.ele_moment.specs.Spelled.{SpellsTimestamp}
 use Rattle.ele_world.specs.Answers.{refusal_number, refusal_name, stop_number, stop_name, which_word}
 use Rattle.ele_due.specs.declared.key.Key.{Key}
@@ -11,13 +12,13 @@ use Rattle.ele_world.specs.declared.refusal.Refusal.TheVariants as refusal
 use Rattle.ele_world.specs.declared.refusal.Stop.{Stop}
 use Rattle.ele_world.specs.declared.reply.Reply.{Reply}
 use Rattle.ele_world.specs.declared.reply.Reply.TheVariants.{Done, Nothing, Now, Directory, File, Handle, Version, Closed, Removed, Bytes, FileStat, DirStat, Rows, NameList, RestoreList, DueList, UsageList, GroupList, Refused}
-use Rattle.ele_policy.specs.Ladder.{Rung}
-use Rattle.ele_policy.specs.declared.policy.Policy.{Policy}
-use Rattle.ele_policy.specs.declared.policy.Policy.TheVariants as policy
+use Rattle.ele_policy.specs.PolicyText.{kind_word, policy_word}
+use Rattle.ele_policy.specs.declared.policy.Kind.TheVariants as kind
 use Rattle.ele_world.specs.declared.rows.DeadName.{DeadName}
 use Rattle.ele_world.specs.declared.rows.DirectoryRow.{DirectoryRow}
 use Rattle.ele_world.specs.declared.rows.FileStat.{FileStat as AnyFileStat}
 use Rattle.ele_world.specs.declared.rows.GroupRow.{GroupRow}
+use Rattle.ele_world.specs.declared.rows.MarkRow.{MarkRow}
 use Rattle.ele_world.specs.declared.rows.Stamps.{Stamps}
 use Rattle.ele_world.specs.declared.rows.Target.{Target}
 use Rattle.ele_world.specs.declared.rows.Target.TheVariants as target
@@ -81,17 +82,6 @@ abbrev pub end_word : Option ℕ → List ℕ
 end_word None = codes "-"
 end_word (Some moment) = decimal moment
 
--- the word of an age and a width, with a slash (47) between them
-abbrev pub pair_word : Rung → List ℕ
-pair_word pair = decimal pair.0 ++ 47 ∷ decimal pair.1
-
--- the word of a policy; the pairs of a ladder have a comma (44) between each two
-abbrev pub policy_word : Policy → List ℕ
-policy_word policy.One = codes "one"
-policy_word policy.All = codes "all"
-policy_word (policy.Safe seconds) = codes "safe:" ++ decimal seconds
-policy_word (policy.Landmarks rungs) = codes "landmarks:" ++ join_with_byte 44 (map pair_word rungs)
-
 -- the text of a file's version, with the policy of the file
 abbrev pub file_text : AnyFileStat → List ℕ
 file_text stat =
@@ -142,7 +132,7 @@ usage_lines kinds usages = []
 
 -- the words of the four kinds, in their order
 abbrev pub kind_words : List (List ℕ)
-kind_words = codes "one" ∷ codes "all" ∷ codes "safe" ∷ codes "landmarks" ∷ []
+kind_words = map kind_word (kind.One ∷ kind.All ∷ kind.Safe ∷ kind.Landmarks ∷ [])
 
 -- the text of what is used: that four lines follow, and these
 abbrev pub usage_text : List Usage → List ℕ
@@ -153,10 +143,19 @@ abbrev pub numbers_word : List ℕ → List ℕ
 numbers_word [] = codes "-"
 numbers_word (number ∷ numbers) = join_with_byte 44 (map decimal (number ∷ numbers))
 
+-- the word of a mark: its moment, and behind a slash (47) its end, if it has one
+abbrev pub mark_word : MarkRow → List ℕ
+mark_word mark = decimal mark.at ++ option_map_or (λ end. 47 ∷ decimal end) mark.until []
+
+-- the word of marks: these with a comma (44) between each two, or `-` for none
+abbrev pub marks_word : List MarkRow → List ℕ
+marks_word [] = codes "-"
+marks_word (mark ∷ marks) = join_with_byte 44 (map mark_word (mark ∷ marks))
+
 -- the line of a group: its name, its files and its marks
 abbrev pub group_line : GroupRow → List ℕ
 group_line row =
-    line_text (codes "-" ∷ row.name ∷ codes "members" ∷ numbers_word row.members ∷ codes "marks" ∷ numbers_word row.marks ∷ [])
+    line_text (codes "-" ∷ row.name ∷ codes "members" ∷ numbers_word row.members ∷ codes "marks" ∷ marks_word row.marks ∷ [])
 
 -- the text of groups: how many, and a line for each
 abbrev pub groups_text : List GroupRow → List ℕ

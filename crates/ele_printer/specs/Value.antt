@@ -1,5 +1,5 @@
 -- What a word behind a command stands for.
-use Rattle.std.specs.Prelude.{ℕ, List}
+use Rattle.std.specs.Prelude.{ℕ, List, [], ◌∷◌, Option, Some, None}
 use Rattle.ele_policy.specs.declared.policy.Policy.{Policy as AnyPolicy}
 use Rattle.ele_time_path.specs.declared.path_at.PathAt.{PathAt}
 use Rattle.ele_time_path.specs.declared.tagged.TaggedPath.{TaggedPath}
@@ -15,3 +15,8 @@ pub data Value : Type 0 where
   Source : AnySource → Value
   Bytes : List ℕ → Value
   Policy : AnyPolicy → Value
+
+-- what a word for an end stands for, where there is one
+abbrev pub end_values : Option ℕ → List Value
+end_values None = []
+end_values (Some end) = Moment end ∷ []

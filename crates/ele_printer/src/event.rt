@@ -8,14 +8,15 @@ ghost use Rattle.ele_printer.specs.Parts.{parts_of};
 ghost use Rattle.ele_printer.specs.Printed.{bytes_word, line_text};
 ghost use Rattle.ele_printer.specs.Prints.{Prints};
 ghost use Rattle.ele_printer.specs.PutsParts.{PutsParts};
-ghost use Rattle.ele_printer.specs.Value.{Number, Bytes};
+ghost use Rattle.ele_printer.specs.Value as value;
+ghost use Rattle.ele_printer.specs.Value.{end_values, Number, Bytes};
 
 use crate::command::Command;
 use crate::fault::WriteFault;
 use crate::printer::{Printer, put_words};
 use crate::reply::put_hexadecimal;
 use crate::word::Word;
-use ele_moment::Handle;
+use ele_moment::{Handle, Moment, Name};
 use ele_world::Event;
 use std::io::Write;
 
@@ -60,7 +61,7 @@ pub fn put_event<W: Write>(event: &Event, printer: &mut Printer<'_, W>) -> Resul
         Event::GroupDrop(name) => put_one(Command::GroupDrop, name, printer),
         Event::GroupAdd(name, path) => put_two(Command::GroupAdd, name, path, printer),
         Event::GroupRemove(name, path) => put_two(Command::GroupRemove, name, path, printer),
-        Event::Mark(name, moment) => put_two(Command::Mark, name, moment, printer),
+        Event::Mark(name, moment, until) => put_mark(name, moment, until, printer),
         Event::Unmark(name, moment) => put_two(Command::Unmark, name, moment, printer),
         Event::CleanOne => put_alone(Command::Clean, printer),
         Event::Read(source) => put_one(Command::Read, source, printer),
@@ -135,6 +136,38 @@ fn put_write<W: Write>(
     are_bytes(bytes);
     put_two(Command::Write, handle, offset, printer)?;
     put_byte_word(bytes, printer)
+}
+
+// Puts the command that marks a group, with the mark's end, if it has one.
+fn put_mark<W: Write>(
+    name: &Name,
+    moment: &Moment,
+    until: &Option<Moment>,
+    printer: &mut Printer<'_, W>,
+) -> Result<(), WriteFault>
+    ensures { PutsParts W.contents printer.old printer.new
+        (Command.Mark, value.Name name.now ∷ value.Moment moment.now ∷ end_values until.now) result }
+{
+    match until {
+        Some(end) => put_ended(name, moment, end, printer),
+        None => put_two(Command::Mark, name, moment, printer),
+    }
+}
+
+// And one that ends.
+fn put_ended<W: Write>(
+    name: &Name,
+    moment: &Moment,
+    end: &Moment,
+    printer: &mut Printer<'_, W>,
+) -> Result<(), WriteFault>
+    ensures { PutsParts W.contents printer.old printer.new
+        (Command.Mark, value.Name name.now ∷ value.Moment moment.now ∷ value.Moment end.now ∷ [])
+        result }
+{
+    end.is_value();
+    put_two(Command::Mark, name, moment, printer)?;
+    end.put_value(printer)
 }
 
 // Says of bytes that each is one.

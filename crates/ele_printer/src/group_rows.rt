@@ -1,15 +1,17 @@
 //! Putting what is told of groups. A contract sees a group as itself, and a printer as its
 //! outlet.
-ghost use Rattle.std.specs.Prelude.{◌∷◌};
+ghost use Rattle.std.specs.Prelude.{◌∷◌, ◌++◌, []};
+ghost use Rattle.std.specs.Fmt.{decimal};
+ghost use Rattle.std.specs.Option.{option_map_or};
 ghost use Rattle.ele_printer.specs.Prints.{Prints};
-ghost use Rattle.ele_printer.specs.Printed.{numbers_word, group_line, groups_text};
+ghost use Rattle.ele_printer.specs.Printed.{numbers_word, mark_word, marks_word, group_line, groups_text};
 
 use crate::fault::WriteFault;
 use crate::printer::{Printer, put_words};
 use crate::row::{Row, put_rows};
 use crate::rows::put_listed;
 use ele_moment::{FileId, Moment};
-use ele_world::GroupRow;
+use ele_world::{GroupRow, MarkRow};
 use std::io::Write;
 
 /// Puts how many groups there are, and the line of each.
@@ -48,16 +50,39 @@ fn put_members<W: Write>(members: &[FileId], printer: &mut Printer<'_, W>) -> Re
     Ok(())
 }
 
-// Puts a space and moments, with a comma between each two, or `-` for none.
-fn put_marks<W: Write>(marks: &[Moment], printer: &mut Printer<'_, W>) -> Result<(), WriteFault>
-    ensures { Prints W.contents printer.old printer.new (32 ∷ numbers_word marks.now) result }
+// Puts a space and marks, with a comma between each two, or `-` for none.
+fn put_marks<W: Write>(marks: &[MarkRow], printer: &mut Printer<'_, W>) -> Result<(), WriteFault>
+    ensures { Prints W.contents printer.old printer.new (32 ∷ marks_word marks.now) result }
 {
     let Some((first, rest)) = marks.split_first() else {
         return printer.put(b" -");
     };
-    put_listed(b" ", first.seconds(), printer)?;
+    put_mark(b" ", first, printer)?;
     for mark in rest {
-        put_listed(b",", mark.seconds(), printer)?;
+        put_mark(b",", mark, printer)?;
     }
     Ok(())
+}
+
+// Puts what stands before a mark, and its moment, and behind a slash its end, if it has one.
+fn put_mark<W: Write>(
+    before: &[u8],
+    mark: &MarkRow,
+    printer: &mut Printer<'_, W>,
+) -> Result<(), WriteFault>
+    ensures { Prints W.contents printer.old printer.new (before.now ++ mark_word mark.now) result }
+{
+    put_listed(before, mark.at.seconds(), printer)?;
+    put_end(&mark.until, printer)
+}
+
+// Puts a slash and the end, if there is one.
+fn put_end<W: Write>(until: &Option<Moment>, printer: &mut Printer<'_, W>) -> Result<(), WriteFault>
+    ensures { Prints W.contents printer.old printer.new
+        (option_map_or (λ end. 47 ∷ decimal end) until.now []) result }
+{
+    match until {
+        Some(end) => put_listed(b"/", end.seconds(), printer),
+        None => printer.put(b""),
+    }
 }

@@ -1,9 +1,10 @@
 //! Putting paths and their tags. A contract sees a path as the list of its names, and a printer as
 //! its outlet.
 ghost use Rattle.std.specs.Prelude.{◌≡◌, ◌∷◌, ◌++◌};
-ghost use Rattle.ele_printer.specs.EventText.{IsTag, path_word, tag_text};
+ghost use Rattle.ele_printer.specs.EventText.{IsTag};
 ghost use Rattle.ele_printer.specs.Prints.{Prints};
 ghost use Rattle.ele_time_path.specs.PathAt.{tag_at};
+ghost use Rattle.ele_time_path.specs.PathText.{path_word, tag_text};
 
 use crate::fault::WriteFault;
 use crate::printer::Printer;

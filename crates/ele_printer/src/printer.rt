@@ -47,7 +47,7 @@ impl<'w, W: Write> Printer<'w, W> {
     }
 
     /// Puts bytes behind the others. At a fault the writer took a front of all.
-    pub(crate) fn put(&mut self, bytes: &[u8]) -> Result<(), WriteFault>
+    pub fn put(&mut self, bytes: &[u8]) -> Result<(), WriteFault>
         ensures { Prints W.contents self.old self.new bytes.now result }
     {
         if self.held.try_extend_from_slice(bytes).is_ok() {
@@ -92,8 +92,9 @@ pub fn put<W: Write>(writer: &mut W, bytes: &[u8]) -> Result<(), WriteFault>
     Err(WriteFault)
 }
 
-/// Puts words with a space between each two, and a line feed.
-pub(crate) fn put_line<W: Write>(
+/// Puts words with a space between each two, and a line feed. At a fault the writer took a front
+/// of all that was put.
+pub fn put_line<W: Write>(
     first: &[u8],
     words: &[&[u8]],
     printer: &mut Printer<'_, W>,
@@ -105,8 +106,9 @@ pub(crate) fn put_line<W: Write>(
     printer.put(b"\n")
 }
 
-/// Puts words with a space between each two.
-pub(crate) fn put_words<W: Write>(
+/// Puts words with a space between each two. At a fault the writer took a front of all that was
+/// put.
+pub fn put_words<W: Write>(
     first: &[u8],
     words: &[&[u8]],
     printer: &mut Printer<'_, W>,
@@ -121,11 +123,8 @@ pub(crate) fn put_words<W: Write>(
     Ok(())
 }
 
-/// Puts a space and a word.
-pub(crate) fn put_word<W: Write>(
-    word: &[u8],
-    printer: &mut Printer<'_, W>,
-) -> Result<(), WriteFault>
+/// Puts a space and a word. At a fault the writer took a front of all that was put.
+pub fn put_word<W: Write>(word: &[u8], printer: &mut Printer<'_, W>) -> Result<(), WriteFault>
     ensures { Prints W.contents printer.old printer.new (32 ∷ word.now) result }
 {
     printer.put(b" ")?;

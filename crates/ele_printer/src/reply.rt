@@ -10,7 +10,7 @@ use crate::group_rows::put_groups;
 use crate::printer::{Printer, put_line};
 use crate::refusal::put_refusal;
 use crate::row::{Row, put_rows};
-use crate::rows::{put_directory, put_file, put_names, put_versions};
+use crate::rows::{put_directory, put_file, put_names, put_number_word, put_versions};
 use ele_world::{DeadName, Key, PassEnd, Reply, Stop, Target, Usage, VersionNo};
 use itoa::Buffer;
 use std::io::Write;
@@ -119,6 +119,31 @@ pub(crate) fn put_number<W: Write>(
 {
     let mut digits = Buffer::new();
     put_line(first, &[digits.format(number).as_bytes()], printer)
+}
+
+/// Puts a line of a first word, a number and two words more.
+pub(crate) fn put_placed<W: Write>(
+    first: &[u8],
+    number: u64,
+    middle: &[u8],
+    last: &[u8],
+    printer: &mut Printer<'_, W>,
+) -> Result<(), WriteFault>
+    ensures { Prints W.contents printer.old printer.new
+        (line_text (first.now ∷ decimal number ∷ middle.now ∷ last.now ∷ [])) result }
+{
+    let mut digits = Buffer::new();
+    let digits = digits.format(number).as_bytes();
+    put_line(first, &[digits, middle, last], printer)
+}
+
+/// Puts a number and a space, which stand in front of a line. At a fault the writer took a front of
+/// all that was put.
+pub fn put_in_front<W: Write>(number: u64, printer: &mut Printer<'_, W>) -> Result<(), WriteFault>
+    ensures { Prints W.contents printer.old printer.new (decimal number ++ 32 ∷ []) result }
+{
+    put_number_word(number, printer)?;
+    printer.put(b" ")
 }
 
 // Puts a line of a first word and a key.

@@ -1,9 +1,9 @@
 //! Putting what is told of versions, directories and names, and the policies in it. A contract sees
 //! each as itself, and a printer as its outlet.
 ghost use Rattle.std.specs.Prelude.{◌≡◌, ◌∷◌, [], ◌++◌, map, decimal, codes};
+ghost use Rattle.ele_policy.specs.PolicyText.{ladder_word, pair_word, policy_word};
 ghost use Rattle.ele_printer.specs.Prints.{Prints};
-ghost use Rattle.std.specs.List.{join_with_byte};
-ghost use Rattle.ele_printer.specs.Printed.{line_text, end_word, pair_word, policy_word, file_text, directory_text, version_line, versions_text, name_line, names_text};
+ghost use Rattle.ele_printer.specs.Printed.{line_text, end_word, file_text, directory_text, version_line, versions_text, name_line, names_text};
 
 use crate::fault::WriteFault;
 use crate::printer::{Printer, put_line, put_words};
@@ -92,7 +92,7 @@ pub(crate) fn put_policy<W: Write>(
 // Puts a space, `landmarks:` and the pairs of a ladder.
 fn put_ladder<W: Write>(ladder: &Ladder, printer: &mut Printer<'_, W>) -> Result<(), WriteFault>
     ensures { Prints W.contents printer.old printer.new
-        (codes " landmarks:" ++ join_with_byte 44 (map pair_word ladder.now)) result }
+        (codes " landmarks:" ++ ladder_word ladder.now) result }
 {
     printer.put(b" landmarks:")?;
     put_pairs(ladder.pairs(), printer)
@@ -100,8 +100,7 @@ fn put_ladder<W: Write>(ladder: &Ladder, printer: &mut Printer<'_, W>) -> Result
 
 // Puts pairs with a comma between each two.
 fn put_pairs<W: Write>(pairs: &[(u64, u64)], printer: &mut Printer<'_, W>) -> Result<(), WriteFault>
-    ensures { Prints W.contents printer.old printer.new
-        (join_with_byte 44 (map pair_word pairs.now)) result }
+    ensures { Prints W.contents printer.old printer.new (ladder_word pairs.now) result }
 {
     let Some((first, rest)) = pairs.split_first() else {
         return Ok(());
@@ -127,8 +126,11 @@ fn put_pair<W: Write>(
     put_number_word(pair.1, printer)
 }
 
-// Puts a number.
-fn put_number_word<W: Write>(number: u64, printer: &mut Printer<'_, W>) -> Result<(), WriteFault>
+/// Puts a number.
+pub(crate) fn put_number_word<W: Write>(
+    number: u64,
+    printer: &mut Printer<'_, W>,
+) -> Result<(), WriteFault>
     ensures { Prints W.contents printer.old printer.new (decimal number) result }
 {
     let mut digits = Buffer::new();

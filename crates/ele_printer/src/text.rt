@@ -11,7 +11,7 @@ ghost use Rattle.ele_printer.specs.Printed.{line_text, pass_text, bad_text, Writ
 use crate::event::put_event_line;
 use crate::fault::{LineFault, WriteFault};
 use crate::printer::Printer;
-use crate::reply::{put_fault, put_named, put_pass, put_reply};
+use crate::reply::{put_fault, put_named, put_pass, put_placed, put_reply};
 use ele_world::{Event, PassEnd, Reply, Stop};
 use std::io::Write;
 
@@ -87,5 +87,25 @@ pub fn write_named<W: Write>(
 {
     let mut printer = Printer::new(writer);
     put_named(first, number, name, &mut printer)?;
+    printer.hand_over()
+}
+
+/// Writes a line of a first word, a number and two words more. At a fault of the writer it took a
+/// front of that line.
+#[tactic(auto, using(crate::proofs::Known::err_over))]
+pub fn write_placed<W: Write>(
+    first: &[u8],
+    number: u64,
+    middle: &[u8],
+    last: &[u8],
+    writer: &mut W,
+) -> Result<(), WriteFault>
+    ensures ok { OnOk result (Appends (W.contents writer.old) (W.contents writer.new)
+        (line_text (first.now ∷ decimal number ∷ middle.now ∷ last.now ∷ []))) }
+    ensures err { OnErr result (AppendsFront (W.contents writer.old) (W.contents writer.new)
+        (line_text (first.now ∷ decimal number ∷ middle.now ∷ last.now ∷ []))) }
+{
+    let mut printer = Printer::new(writer);
+    put_placed(first, number, middle, last, &mut printer)?;
     printer.hand_over()
 }

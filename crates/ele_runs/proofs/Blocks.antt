@@ -1,9 +1,12 @@
--- The answer to a line that is run, and its block.
-use Rattle.ele_runs.proofs.Basics.{◌≡◌, ◌≢◌, ℕ, ◌<◌, ◌≤◌, List, [], ◌∷◌, length, Option, Some, Result, Ok, Err, ◌⊎◌, inl, inr, refl, ap, arith, nat_tests, ◌++◌, ◌-◌, ◌∙◌, IsErr, length-append, slice_get}
-use Rattle.ele_runs.proofs.Words.{Reply, Stop, HistoryFull, AppendsFront, Outlet, Takes, Puts, MayRecord, MayReply, MayAnswer, as_entry, as_read, as_trim, cut_block, MayPass, Past, trimmed, PutsReply, PutsAnswer, PutsBlock, PutsTrim, reply_to}
+-- The answer to a line, and its block.
+use Rattle.ele_runs.proofs.Basics.{◌≡◌, ◌≢◌, ℕ, ◌<◌, ◌≤◌, ◌+◌, Bool, true, false, List, [], ◌∷◌, length, Option, Some, None, Result, Ok, Err, ◌⊎◌, inl, inr, refl, sym, ap, subst, append_assoc, arith, nat_tests, ◌++◌, ◌-◌, ◌==◌, ◌∙◌, IsErr, length-append, slice_get}
+use Rattle.std.specs.Prelude.{not, ◌&&◌, if◌then◌else◌}
+use Rattle.ele_runs.proofs.Words.{Reply, Stop, HistoryFull, AppendsFront, Course, Outlet, Takes, TakesFront, Puts, HasRoom, recorded, MayReply, MayAnswer, as_entry, as_read, as_trim, IsBlock, IsTold, cut_block, cut_told, front_of, gone_on, heard, is_well, MayPass, Past, trimmed, PutsBlock, reply_to, world_of}
 use Rattle.ele_world.specs.declared.entry.Entry.{Entry}
 use Rattle.ele_world.specs.declared.event.Event.{Event}
+use Rattle.ele_world.specs.declared.refusal.Refusal.{Refusal}
 use Rattle.ele_world.specs.declared.refusal.Stop.TheVariants.{NoMemory}
+use Rattle.ele_world.specs.declared.reply.Reply.TheVariants as reply
 use Rattle.ele_script.specs.Spells.{Asks, AsksEvent}
 use Rattle.ele_script.specs.FirstFault.{IsFirstFault}
 use Rattle.ele_script.specs.Memory.{TakesMemory}
@@ -16,9 +19,16 @@ use Rattle.ele_script.specs.declared.reading.Line.TheVariants as asks
 use Rattle.ele_runs.specs.Answer.{Answer}
 use Rattle.ele_runs.specs.Answer as answer
 use Rattle.ele_world.specs.declared.pass.PassEnd.{PassEnd}
+use Rattle.ele_world.specs.declared.pass.PassEnd.TheVariants as ends
 use Rattle.ele_runs.specs.Block.{IsText}
-use Rattle.ele_runs.specs.Written.{TrimsTo, WritesLast, trim_text}
-use Rattle.ele_runs.proofs.Joins.{front_behind, takes_nil}
+use Rattle.ele_runs.specs.Said.{Hears, HearsKept, HearsNext, HasText, IsSaidText, Means, Replies, Trims, is_silent, said_front}
+use Rattle.ele_runs.specs.declared.end.RunEnd.{RunEnd}
+use Rattle.ele_runs.specs.declared.manner.Manner.{Manner}
+use Rattle.ele_runs.specs.declared.said.Said.{Said}
+use Rattle.ele_runs.specs.declared.said.Said.TheVariants.{Nothing, Bad, Stopped, Replied, Passed, History, Trimmed}
+use Rattle.ele_runs.specs.Written.{WritesLast}
+use Rattle.ele_runs.proofs.InTime.{IsInTime, asked_in_time, some_text, told_in_time}
+use Rattle.ele_runs.proofs.Joins.{front_behind, front_then, takes_nil, takes_then}
 
 -- what an event may be answered, the line that spells it may be
 pub may_answer : (before after : Past) (line : List ℕ) (event : Event) (r : Result Reply Stop)
@@ -32,100 +42,253 @@ last_is : (entries : List Entry) (entry : Entry) → slice_get (entries ++ entry
 last_is [] entry = refl
 last_is (first ∷ entries) entry = grind (arith, nat_tests, last_is entries entry, length-append)
 
--- the event was answered, and its entry stands last
-pub last_recorded : {A : Type 0} (before after : Past) (event : Event) (done : A) → MayRecord before event (Ok done) after
-    → slice_get after.entries (length after.entries - 1) ≡ Some (record { event = event; reply = reply_to before event })
-last_recorded before after event done may = rw may.1 (last_is before.entries (record { event = event; reply = reply_to before event }))
+-- an event was answered: its entry stands last, and its reply is meant
+pub replied : (before after : Past) (event : Event) → HasRoom before × (after ≡ recorded before event) → Replies before event Replied after
+replied before after event done =
+    let entry : Entry = record { event = event; reply = reply_to before event } in
+    let last : slice_get after.entries (length after.entries - 1) ≡ Some entry = rw done.1 (last_is before.entries entry) in
+    record {
+      reply = Ok (reply_to before event);
+      may = (done.0, ap (λ (past : Past). (reply_to before event, past)) done.1);
+      means = (entry, sym last, refl);
+    }
 
--- its reply is that of the entry
-pub puts_last : {A B E : Type 0} (before after : Past) (event : Event) (done : B) (entry : Entry) (old new : Outlet) (r : Result A E) → MayRecord before event (Ok done) after
-    → Some entry ≡ slice_get after.entries (length after.entries - 1)
-    → (text : List ℕ) × IsReplyText entry.reply text × Puts old new text r → PutsReply before event after old new r
-puts_last before after event done entry old new r may last told =
-    let is : entry ≡ record { event = event; reply = reply_to before event } = cc (last, last_recorded before after event done may) in
-    let reply : entry.reply ≡ reply_to before event = ap (λ (e : Entry). e.reply) is in
-    record { said = Ok entry.reply; may = (may.0, cc (reply, may.1)); text = told.0; is = told.1; put = told.2 }
+-- or a stop in its place
+pub stopped : (before after : Past) (event : Event) (stop : Stop) → MayReply before event (Err stop) after → Replies before event (Stopped stop) after
+stopped before after event stop may = record { reply = Err stop; may = may; means = refl }
 
--- a stop in its place
-pub puts_stop : {A B E : Type 0} (before after : Past) (event : Event) (stop : Stop) (done : Result B Stop) (old new : Outlet) (r : Result A E) → MayRecord before event done after → done ≡ Err stop
-    → Puts old new (stop_text stop) r → PutsReply before event after old new r
-puts_stop before after event stop done old new r may is put =
-    record { said = Err stop; may = rw is at may; text = stop_text stop; is = refl; put = put }
+-- what is heard of a line, by what it asks for
+pub hears_event : (before after : Past) (line : List ℕ) (event : Event) (said : Said) → AsksEvent line event → Replies before event said after → Hears before line said after
+hears_event before after line event said asked replies =
+    record { answer = answer.Reply replies.reply; may = may_answer before after line event replies.reply asked replies.may; means = replies.means }
 
--- what an event is answered is an answer to the line that asks for it
-pub answer_of_reply : {A E : Type 0} (before after : Past) (line : List ℕ) (event : Event) (old new : Outlet) (r : Result A E)
-    → AsksEvent line event → PutsReply before event after old new r → PutsAnswer before line after old new r
-answer_of_reply before after line event old new r asked puts =
-    record { said = answer.Reply puts.said; may = may_answer before after line event puts.said asked puts.may; text = puts.text; is = puts.is; put = puts.put }
+pub hears_pass : (before after : Past) (line : List ℕ) (budget : ℕ) (end : PassEnd) → Asks line (asks.Pass budget) → MayPass before budget end after → Hears before line (Passed end) after
+hears_pass before after line budget end asked may = record { answer = answer.Pass end; may = (budget, asked, may); means = refl }
 
--- and so is how a pass ends to the line that asks for it
-pub answer_of_pass : {A E : Type 0} (before after : Past) (line : List ℕ) (budget : ℕ) (end : PassEnd) (old new : Outlet) (r : Result A E)
-    → Asks line (asks.Pass budget) → MayPass before budget end after → Puts old new (pass_text end) r → PutsAnswer before line after old new r
-answer_of_pass before after line budget end old new r asked may put =
-    record { said = answer.Pass end; may = (budget, asked, may); text = pass_text end; is = refl; put = put }
+pub hears_history : (past : Past) (line : List ℕ) → Asks line asks.History → Hears past line History past
+hears_history past line asked = record { answer = answer.History past.folded past.entries; may = (asked, refl, refl, refl); means = refl }
 
--- and the history to the line that asks for that
-pub answer_of_history : {A E : Type 0} (past : Past) (line : List ℕ) (folded : ℕ) (entries : List Entry) (old new : Outlet) (r : Result A E)
-    → Asks line asks.History → folded ≡ past.folded → entries ≡ past.entries → Puts old new (history_text folded entries) r → PutsAnswer past line past old new r
-answer_of_history past line folded entries old new r asked f e put =
-    record { said = answer.History folded entries; may = (asked, f, e, refl); text = history_text folded entries; is = refl; put = put }
+pub hears_trim : (before after : Past) (line : List ℕ) (said : Said) → Asks line asks.Trim → Trims before said after → Hears before line said after
+hears_trim before after line (Trimmed count) asked trims = record { answer = answer.Trimmed count; may = (asked, trims.0, trims.1); means = refl }
+hears_trim before after line (Stopped NoMemory) asked trims = record { answer = answer.Reply (Err NoMemory); may = (as_trim asked, trims.1); means = refl }
+hears_trim before after line (Stopped HistoryFull) asked trims = absurd cc
+hears_trim before after line said asked trims = absurd trims
 
-abbrev trim_answer : Result ℕ Stop → Answer
-trim_answer (Ok count) = answer.Trimmed count
-trim_answer (Err stop) = answer.Reply (Err stop)
+pub hears_stop : (past : Past) (line : List ℕ) → TakesMemory (words_of line) → Hears past line (Stopped NoMemory) past
+hears_stop past line memory = record { answer = answer.Reply (Err NoMemory); may = (as_read memory, refl); means = refl }
 
-may_trim : (before after : Past) (line : List ℕ) (said : Result ℕ Stop) → Asks line asks.Trim → TrimsTo before said after → MayAnswer before line (trim_answer said) after
-may_trim before after line (Ok count) asked trims = (asked, trims.0, trims.1)
-may_trim before after line (Err NoMemory) asked trims = (as_trim asked, trims.1)
-may_trim before after line (Err HistoryFull) asked trims = absurd cc
+pub hears_fault : (past : Past) (line : List ℕ) (why : LineFault) → (why ≡ fault.NoMemory) ⊎ IsFirstFault line why → why ≢ fault.NoMemory → Hears past line (Bad why) past
+hears_fault past line why (inl memory) other = absurd (other memory)
+hears_fault past line why (inr first) other = record { answer = answer.Bad why; may = (first, refl); means = refl }
 
-is_trim : (said : Result ℕ Stop) → IsText (trim_answer said) (trim_text said)
-is_trim (Ok count) = refl
-is_trim (Err stop) = refl
+-- one answer is meant
+one_meaning : (after : Past) (said : Said) (a b : Answer) → Means after said a → Means after said b → a ≡ b
+one_meaning after Nothing a b m n = absurd m
+one_meaning after Replied a b m n =
+    let same : m.0 ≡ n.0 = cc (m.1, n.1) in m.2 ∙ ap (λ (e : Entry). answer.Reply (Ok e.reply)) same ∙ sym n.2
+one_meaning after (Bad f) a b m n = m ∙ sym n
+one_meaning after (Stopped s) a b m n = m ∙ sym n
+one_meaning after (Passed e) a b m n = m ∙ sym n
+one_meaning after History a b m n = m ∙ sym n
+one_meaning after (Trimmed c) a b m n = m ∙ sym n
 
--- a trim that folded so many entries
-pub puts_trimmed : {A E : Type 0} (before after : Past) (count : ℕ) (old new : Outlet) (r : Result A E) → (count ≡ length before.entries) × (after ≡ trimmed before)
-    → Puts old new (trimmed_text count) r → PutsTrim before after old new r
-puts_trimmed before after count old new r trims put = record { said = Ok count; trims = trims; put = put }
+-- its text is what is told
+said_text : (after : Past) (said : Said) (text : List ℕ) (a : Answer) → Means after said a → IsSaidText after said text → IsText a text
+said_text after Nothing text a means is = absurd means
+said_text after Replied text a means is = subst (λ (b : Answer). IsText b text) (one_meaning after Replied is.0 a is.1 means) is.2
+said_text after (Bad f) text a means is = subst (λ (b : Answer). IsText b text) (one_meaning after (Bad f) is.0 a is.1 means) is.2
+said_text after (Stopped s) text a means is = subst (λ (b : Answer). IsText b text) (one_meaning after (Stopped s) is.0 a is.1 means) is.2
+said_text after (Passed e) text a means is = subst (λ (b : Answer). IsText b text) (one_meaning after (Passed e) is.0 a is.1 means) is.2
+said_text after History text a means is = subst (λ (b : Answer). IsText b text) (one_meaning after History is.0 a is.1 means) is.2
+said_text after (Trimmed c) text a means is = subst (λ (b : Answer). IsText b text) (one_meaning after (Trimmed c) is.0 a is.1 means) is.2
 
--- and one that was stopped
-pub puts_untrimmed : {A E : Type 0} (before after : Past) (old new : Outlet) (r : Result A E) → after ≡ before → Puts old new (stop_text NoMemory) r → PutsTrim before after old new r
-puts_untrimmed before after old new r same put = record { said = Err NoMemory; trims = (refl, same); put = put }
+-- an answer has a text
+answer_text : (before after : Past) (line : List ℕ) (said : Answer) → MayAnswer before line said after → (text : List ℕ) × IsText said text
+answer_text before after line (answer.Bad f) may = (_, refl)
+answer_text before after line (answer.Reply (Ok told)) may =
+    some_text told (subst IsInTime (sym (ap (λ (both : Reply × Past). both.0) may.2.1)) (told_in_time (world_of before) may.0 (asked_in_time line may.0 may.1)))
+answer_text before after line (answer.Reply (Err stop)) may = (_, refl)
+answer_text before after line (answer.Pass end) may = (_, refl)
+answer_text before after line (answer.History folded entries) may = (_, refl)
+answer_text before after line (answer.Trimmed count) may = (_, refl)
 
--- and what a trim is answered
-pub answer_of_trim : {A E : Type 0} (before after : Past) (line : List ℕ) (old new : Outlet) (r : Result A E)
-    → Asks line asks.Trim → PutsTrim before after old new r → PutsAnswer before line after old new r
-answer_of_trim before after line old new r asked puts =
-    record { said = trim_answer puts.said; may = may_trim before after line puts.said asked puts.trims; text = trim_text puts.said; is = is_trim puts.said; put = puts.put }
+has_text : (after : Past) (said : Said) (a : Answer) → Means after said a → (text : List ℕ) × IsText a text → HasText after said
+has_text after Nothing a means text = absurd means
+has_text after Replied a means text = (text.0, (a, means, text.1))
+has_text after (Bad f) a means text = (text.0, (a, means, text.1))
+has_text after (Stopped s) a means text = (text.0, (a, means, text.1))
+has_text after (Passed e) a means text = (text.0, (a, means, text.1))
+has_text after History a means text = (text.0, (a, means, text.1))
+has_text after (Trimmed c) a means text = (text.0, (a, means, text.1))
 
--- a line that takes memory may be stopped for want of it
-pub answer_of_stop : {A E : Type 0} (state : Past) (line : List ℕ) (old new : Outlet) (r : Result A E)
-    → TakesMemory (words_of line) → Puts old new (stop_text NoMemory) r → PutsAnswer state line state old new r
-answer_of_stop state line old new r memory put =
-    record { said = answer.Reply (Err NoMemory); may = (as_read memory, refl); text = stop_text NoMemory; is = refl; put = put }
+front_run : (manner : Manner) (number byte : ℕ) (bytes : List ℕ) (after : Past) (said : Said) (a : Answer) → Means after said a
+    → said_front manner number said ≡ front_of manner number (Some (byte ∷ bytes))
+front_run manner number byte bytes after Nothing a means = absurd means
+front_run manner number byte bytes after said a means = refl
 
--- a fault that isn't want of memory is the line's first
-pub answer_of_fault : {A E : Type 0} (state : Past) (line : List ℕ) (why : LineFault) (old new : Outlet) (r : Result A E)
-    → (why ≡ fault.NoMemory) ⊎ IsFirstFault line why → why ≢ fault.NoMemory → Puts old new (bad_text why) r → PutsAnswer state line state old new r
-answer_of_fault state line why old new r (inl memory) other put = absurd (other memory)
-answer_of_fault state line why old new r (inr first) other put =
-    record { said = answer.Bad why; may = (first, refl); text = bad_text why; is = refl; put = put }
+-- a line that is run
+kept_run : (manner : Manner) (before after : Past) (line : List ℕ) (said : Said) → 1 ≤ length line → heard manner (Some line) ≡ Some line
+    → Hears before line said after → HearsKept manner before (Some line) said after
+kept_run manner before after [] said some same hears = absurd (omega (arith, some))
+kept_run manner before after (byte ∷ bytes) said some same hears = record {
+  has_text = has_text after said hears.answer hears.means (answer_text before after (byte ∷ bytes) hears.answer hears.may);
+  block = λ text is. subst (λ (l : Option (List ℕ)). IsBlock before l text after) (sym same) (hears.answer, hears.may, said_text after said text hears.answer hears.means is);
+  front = λ number. front_run manner number byte bytes after said hears.answer hears.means ∙ ap (front_of manner number) (sym same);
+}
 
--- the answer's text is the block
-pub block_of_answer : {A E : Type 0} (before after : Past) (line : List ℕ) (old new : Outlet) (r : Result A E)
-    → 1 ≤ length line → PutsAnswer before line after old new r → PutsBlock before (Some line) after old new r
-block_of_answer before after [] old new r some puts = absurd (omega (arith, some))
-block_of_answer before after (byte ∷ bytes) old new r some puts = record { block = puts.text; is = (puts.said, puts.may, puts.is); put = puts.put }
+-- one of which nothing is heard
+kept_none : (manner : Manner) (past : Past) (line : Option (List ℕ)) → heard manner line ≡ Some [] → HearsKept manner past line Nothing past
+kept_none manner past line same = record {
+  has_text = ([], refl);
+  block = λ text is. subst (λ (l : Option (List ℕ)). IsBlock past l text past) (sym same) (is, refl);
+  front = λ number. ap (front_of manner number) (sym same);
+}
 
--- an empty line has no block
-pub block_of_empty : {A E : Type 0} (value : A) (state : Past) (line : List ℕ) (held : Outlet)
-    → length line < 1 → PutsBlock {A = A} {E = E} state (Some line) state held held (Ok value)
-block_of_empty value state [] held few = record { block = []; is = (refl, refl); put = takes_nil held }
-block_of_empty value state (byte ∷ bytes) held few = absurd (omega (arith, few))
+-- what is heard of a line, by whether it is passed over
+abbrev pick : Bool → Option (List ℕ) → Option (List ℕ)
+pick test line = if test then Some [] else line
 
--- what is held fails to be handed over, with a last block behind it
-pub finishes_front : {E : Type 0} (n : ℕ) (buffer : Option (List ℕ)) (a b c : Outlet) (r : Result ℕ E) → IsErr r
-    → Takes a b (cut_block buffer) → (c.writer ≡ b.writer) × AppendsFront b.known c.known b.held → WritesLast n buffer a c r
-finishes_front n buffer a b c (Ok x) is p q = absurd cc
-finishes_front n buffer a b c (Err x) is p q =
+never : (test : Bool) → (test && false) ≡ false
+never true = refl
+never false = refl
+
+long_heard : (manner : Manner) → heard manner None ≡ None
+long_heard manner = ap (λ (test : Bool). pick test None) (never manner.remarks)
+
+-- a line that gets no answer, and one that gets one
+heard_none : (manner : Manner) (line : List ℕ) → is_silent manner line ≡ true → heard manner (Some line) ≡ Some []
+heard_none manner [] is = ap (λ (test : Bool). pick test (Some [])) (never manner.remarks)
+heard_none manner (byte ∷ bytes) is = ap (λ (test : Bool). pick test (Some (byte ∷ bytes))) is
+
+heard_all : (manner : Manner) (line : List ℕ) → is_silent manner line ≡ false → heard manner (Some line) ≡ Some line
+heard_all manner [] is = absurd cc
+heard_all manner (byte ∷ bytes) is = ap (λ (test : Bool). pick test (Some (byte ∷ bytes))) is
+
+some_line : (manner : Manner) (line : List ℕ) → is_silent manner line ≡ false → 1 ≤ length line
+some_line manner [] is = absurd cc
+some_line manner (byte ∷ bytes) is = omega arith
+
+pub kept_silent : (manner : Manner) (past : Past) (line : List ℕ) → is_silent manner line ≡ true → HearsKept manner past (Some line) Nothing past
+kept_silent manner past line is = kept_none manner past (Some line) (heard_none manner line is)
+
+pub kept_heard : (manner : Manner) (before after : Past) (line : List ℕ) (said : Said) → is_silent manner line ≡ false → Hears before line said after → HearsKept manner before (Some line) said after
+kept_heard manner before after line said is hears = kept_run manner before after line said (some_line manner line is) (heard_all manner line is) hears
+
+-- and one that is too long
+pub kept_long : (manner : Manner) (past : Past) → HearsKept manner past None (Bad fault.LineTooLong) past
+kept_long manner past = record {
+  has_text = (bad_text fault.LineTooLong, (answer.Bad fault.LineTooLong, refl, refl));
+  block = λ text is. subst (λ (l : Option (List ℕ)). IsBlock past l text past) (sym (long_heard manner)) (said_text past (Bad fault.LineTooLong) text (answer.Bad fault.LineTooLong) refl is, refl);
+  front = λ number. ap (front_of manner number) (sym (long_heard manner));
+}
+
+-- a reply is told by `ok` unless it is a refusal
+abbrev pub is_refused : Reply → Bool
+is_refused (reply.Refused why) = true
+is_refused other = false
+
+well_reply : (said : Reply) (text : List ℕ) → IsReplyText said text → is_well text ≡ not (is_refused said)
+well_reply (reply.Now moment) text is = rw is.2 refl
+well_reply (reply.Closed None) text is = rw is refl
+well_reply (reply.Closed (Some number)) text is = rw is refl
+well_reply said text is = rw is refl
+
+abbrev pub is_fine : Past → Said → Bool
+is_fine after Nothing = true
+is_fine after (Bad f) = false
+is_fine after (Stopped s) = false
+is_fine after Replied = true
+is_fine after (Passed (ends.Stopped s n)) = false
+is_fine after (Passed end) = true
+is_fine after History = true
+is_fine after (Trimmed c) = true
+
+-- and whatever else is said by what it is
+pub well_said : (after : Past) (said : Said) (text : List ℕ) → said ≢ Replied → IsSaidText after said text → is_well text ≡ is_fine after said
+well_said after Nothing text other is = rw is refl
+well_said after Replied text other is = absurd (other refl)
+well_said after (Bad f) text other is = rw (said_text after (Bad f) text (answer.Bad f) refl is) refl
+well_said after (Stopped s) text other is = rw (said_text after (Stopped s) text (answer.Reply (Err s)) refl is) refl
+well_said after (Passed (ends.Finished n)) text other is = rw (said_text after (Passed (ends.Finished n)) text (answer.Pass (ends.Finished n)) refl is) refl
+well_said after (Passed (ends.Budget n)) text other is = rw (said_text after (Passed (ends.Budget n)) text (answer.Pass (ends.Budget n)) refl is) refl
+well_said after (Passed (ends.Stopped s n)) text other is = rw (said_text after (Passed (ends.Stopped s n)) text (answer.Pass (ends.Stopped s n)) refl is) refl
+well_said after History text other is = rw (said_text after History text (answer.History after.folded after.entries) refl is) refl
+well_said after (Trimmed c) text other is = rw (said_text after (Trimmed c) text (answer.Trimmed c) refl is) refl
+
+pub well_last : (after : Past) (entry : Entry) (text : List ℕ) → Some entry ≡ slice_get after.entries (length after.entries - 1) → IsSaidText after Replied text
+    → is_well text ≡ not (is_refused entry.reply)
+well_last after entry text last is = well_reply entry.reply text (said_text after Replied text (answer.Reply (Ok entry.reply)) (entry, last, refl) is)
+
+-- the next line was heard
+pub heard_next : (before after : Course) (line : Option (List ℕ)) (said : Said) (past : Past) (fine : Bool) → HearsKept before.manner before.past line said past
+    → ((text : List ℕ) → IsSaidText past said text → fine ≡ is_well text)
+    → after ≡ record before { past = past; number = before.number + 1; ended = before.manner.strict && not fine } → HearsNext before line said after
+heard_next before after line said past fine kept well is = rw is (record {
+  kept = kept;
+  manner = refl;
+  number = refl;
+  after_is = λ text told. ap (λ (b : Bool). record before { past = past; number = before.number + 1; ended = before.manner.strict && not b }) (well text told);
+})
+
+-- and what is told for it is known
+told_next : (before after : Course) (line : Option (List ℕ)) (said : Said) (text : List ℕ) → before.ended ≡ false → HearsNext before line said after
+    → IsSaidText after.past said text → IsTold before line (said_front after.manner after.number said ++ text) after
+told_next before after line said text on hears is = record {
+  block = text;
+  past = after.past;
+  goes_on = on;
+  is = hears.kept.block text is;
+  told_is = ap (λ (w : List ℕ). w ++ text) (ap (λ (m : Manner). said_front m after.number said) hears.manner ∙ ap (λ (n : ℕ). said_front before.manner n said) hears.number ∙ hears.kept.front (before.number + 1));
+  after_is = hears.after_is text is;
+}
+
+-- all of x was put, and then y or a front of it
+pub puts_both : {A E : Type 0} (a b c : Outlet) (x y : List ℕ) (r : Result A E) → Takes a b x → Puts b c y r → Puts a c (x ++ y) r
+puts_both a b c x y (Ok v) p q = takes_then a b c x y p q
+puts_both a b c x y (Err e) p q = record { same = q.same ∙ p.same; front = front_then a b c x y p q }
+
+-- a front of x was put, which is one of x and more
+pub puts_some : {A E : Type 0} (a b : Outlet) (x y : List ℕ) (r : Result A E) → IsErr r → TakesFront a b x → Puts a b (x ++ y) r
+puts_some a b x y (Ok v) is p = absurd cc
+puts_some a b x y (Err e) is p = record { same = p.same; front = front_more a b x y p }
+  where
+    front_more : (a b : Outlet) (x y : List ℕ) → TakesFront a b x → AppendsFront a.known b.known (a.held ++ (x ++ y))
+    front_more a b x y q =
+        let parts : a.held ++ (x ++ y) ≡ q.front.front ++ (q.front.back ++ y) = cc (append_assoc a.held x y, append_assoc q.front.front q.front.back y) in
+        record { front = q.front.front; back = q.front.back ++ y; parts = parts; written = q.front.written }
+
+-- the number in front and the text were put
+put_here : {A E : Type 0} (before after : Course) (line : Option (List ℕ)) (said : Said) (a b c : Outlet) (r : Result A E) → before.ended ≡ false → HearsNext before line said after
+    → Takes a b (said_front after.manner after.number said) → (text : List ℕ) × IsSaidText after.past said text × Puts b c text r → PutsBlock before line after a c r
+put_here before after line said a b c r on hears front told = record {
+  block = said_front after.manner after.number said ++ told.0;
+  is = told_next before after line said told.0 on hears told.1;
+  put = puts_both a b c (said_front after.manner after.number said) told.0 r front told.2;
+}
+
+pub block_put : {A E : Type 0} (before after view : Course) (line : Option (List ℕ)) (said : Said) (a b c : Outlet) (r : Result A E) → view ≡ after → before.ended ≡ false → HearsNext before line said after
+    → Takes a b (said_front view.manner view.number said) → (text : List ℕ) × IsSaidText view.past said text × Puts b c text r → PutsBlock before line after a c r
+block_put {A} {E} before after view line said a b c r is on hears front told =
+    subst (λ (course : Course). PutsBlock before line course a c r) is
+    (put_here before view line said a b c r on (subst (λ (course : Course). HearsNext before line said course) (sym is) hears) front told)
+
+-- the writer failed in that number
+cut_here : {A E : Type 0} (before after : Course) (line : Option (List ℕ)) (said : Said) (a b : Outlet) (r : Result A E) → before.ended ≡ false → HearsNext before line said after
+    → HasText after.past said → IsErr r → TakesFront a b (said_front after.manner after.number said) → PutsBlock before line after a b r
+cut_here before after line said a b r on hears told is front = record {
+  block = said_front after.manner after.number said ++ told.0;
+  is = told_next before after line said told.0 on hears told.1;
+  put = puts_some a b (said_front after.manner after.number said) told.0 r is front;
+}
+
+pub block_cut : {A E : Type 0} (before after view : Course) (line : Option (List ℕ)) (said : Said) (a b : Outlet) (r : Result A E) → view ≡ after → before.ended ≡ false → HearsNext before line said after
+    → IsErr r → TakesFront a b (said_front view.manner view.number said) → PutsBlock before line after a b r
+block_cut {A} {E} before after view line said a b r same on hears is front =
+    cut_here before after line said a b r on hears hears.kept.has_text is (subst (λ (course : Course). TakesFront a b (said_front course.manner course.number said)) same front)
+
+-- what is held fails to be handed over, with what is told for a last line behind it
+pub finishes_front : {E : Type 0} (course : Course) (buffer : Option (List ℕ)) (a b c : Outlet) (r : Result RunEnd E) → IsErr r
+    → Takes a b (cut_told course buffer) → (c.writer ≡ b.writer) × AppendsFront b.known c.known b.held → WritesLast course buffer a c r
+finishes_front course buffer a b c (Ok x) is p q = absurd cc
+finishes_front course buffer a b c (Err x) is p q =
     (q.0 ∙ p.same, rw p.parts (front_behind a.known b.known c.known p.sent b.held p.written q.1))

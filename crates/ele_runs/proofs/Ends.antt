@@ -1,13 +1,17 @@
 -- How a run ends.
-use Rattle.ele_runs.proofs.Basics.{◌≡◌, ℕ, ◌+◌, ◌≤◌, List, [], ◌∷◌, ◌++◌, length, take, get_or, min, ◌-◌, Option, Some, None, Result, Ok, Err, refl, sym, ap, subst, ◌∙◌, arith, append_assoc, inl, inr, append-nil, length-take, nat_tests}
+use Rattle.ele_runs.proofs.Basics.{◌≡◌, ◌≢◌, true, length-append, ℕ, ◌+◌, ◌≤◌, List, [], ◌∷◌, ◌++◌, length, take, get_or, min, ◌-◌, Option, Some, None, Result, Ok, Err, refl, sym, ap, subst, ◌∙◌, arith, append_assoc, inl, inr, append-nil, length-take, nat_tests}
 use Rattle.ele_runs.proofs.Basics.{flat_map-append, cases_order, IfOk, AllByRecursion, Consumes, Keeps, Appends, IsAtEnd, Consumes-trans, Consumes-kept, Appends-trans}
-use Rattle.ele_runs.proofs.Words.{AppendsFront, Outlet, cut_block, cut_count, most_lines, line_unless_long, IsUnbroken, whole_line, whole_lines, line_count, AreBlocks, AnswersSome, Past}
+use Rattle.ele_runs.proofs.Words.{AppendsFront, Outlet, Takes, TakesFront, longest_line, cut_count, cut_told, end_by, most_lines, line_unless_long, IsUnbroken, whole_line, whole_lines, line_count, AreTold, AnswersLast, AnswersSome, Course}
 use Rattle.ele_runs.specs.declared.fault.ShellFault.{ShellFault}
 use Rattle.ele_runs.specs.declared.fault.ShellFault.TheVariants.{ReadFault}
-use Rattle.ele_runs.specs.Running.{Runs, RanToTheEnd, RanPastABound, RanToAWriteFault}
+use Rattle.ele_runs.specs.declared.end.RunEnd.{RunEnd}
+use Rattle.ele_runs.specs.Telling.{EndsCut, EndsWhole, HasTold, Tells, ToldPastABound, ToldToAWriteFault, ToldToAnEnd, ToldToTheEnd}
 use Rattle.ele_runs.specs.Written.{RunsAt}
 use Rattle.ele_runs.specs.Taken.{TakesPiece}
-use Rattle.ele_runs.proofs.Joins.{blocks_append, front_behind, front_then, all_both}
+use Rattle.std.specs.Prelude.{Bool, false, nat_le, if◌then◌else◌}
+use Rattle.ele_runs.proofs.Courses.{clash, manner_stays, strict_run}
+use Rattle.ele_runs.proofs.Joins.{told_append, front_behind, front_then, all_both, takes_over, takes_then}
+use Rattle.ele_runs.specs.declared.manner.Manner.{Manner}
 use Rattle.ele_runs.proofs.Ran.{RanSoFar, written_all, few_whole}
 
 -- what was read is all, where nothing is left
@@ -21,19 +25,19 @@ known_more input None given taken = ([], grind arith)
 known_more None rest given taken = ([], tt)
 
 -- the writer failed in the blocks of these lines, whatever comes behind them
-fails_in : (start state : Past) (given part text : List ℕ) (lines : List (List ℕ)) (input rest old new : Option (List ℕ))
-    → given ≡ whole_lines lines ++ part → AllByRecursion IsUnbroken lines → AreBlocks start lines text state → Consumes input rest given
-    → AppendsFront old new text → RanToAWriteFault start input old new
+fails_in : (start state : Course) (given part text : List ℕ) (lines : List (List ℕ)) (input rest old new : Option (List ℕ))
+    → given ≡ whole_lines lines ++ part → AllByRecursion IsUnbroken lines → AreTold start lines text state → Consumes input rest given
+    → AppendsFront old new text → ToldToAWriteFault start input old new
 fails_in start state given part text lines input rest old new e whole blocks taken front =
     let more = known_more input rest given taken in
     record {
       lines = lines;
       rest = part ++ more.0;
       text = text;
-      state = state;
+      course = state;
       input_is = subst (λ (xs : List ℕ). Keeps input (Some xs)) (ap (λ (w : List ℕ). w ++ more.0) e ∙ append_assoc (whole_lines lines) part more.0) more.1;
       whole = whole;
-      blocks = blocks;
+      told = blocks;
       written = inl front;
     }
 
@@ -55,42 +59,73 @@ length_taken count piece le = omega (arith, length-take count piece, le)
 one_byte : (piece : List ℕ) (count : ℕ) → 1 ≤ length piece → count ≡ 1 → take count piece ≡ get_or piece 0 0 ∷ []
 one_byte piece count some one = grind arith
 
-module _ {start state : Past} {n : ℕ} {room : ℕ} {buffer input mid : Option (List ℕ)} {old so_far : Outlet} (ran : RanSoFar start n state room buffer input mid old so_far) where
+-- what a last line ends, and by how much it counts
+never_ended : (course : Course) (last : Option (List ℕ)) → course.manner.strict ≡ false → end_by course last ≡ None
+never_ended course None e = rw e refl
+never_ended course (Some []) e = refl
+never_ended course (Some (byte ∷ bytes)) e = rw e refl
+
+ended_so : (test : Bool) (course : Course) (byte : ℕ) (bytes : List ℕ) → course.manner.strict ≡ true
+    → end_by course (if test then Some (byte ∷ bytes) else None) ≡ Some (if test then Some (byte ∷ bytes) else None)
+ended_so true course byte bytes e = rw e refl
+ended_so false course byte bytes e = rw e refl
+
+ended_cut : (course : Course) (byte : ℕ) (bytes : List ℕ) → course.manner.strict ≡ true
+    → end_by course (line_unless_long (byte ∷ bytes)) ≡ Some (line_unless_long (byte ∷ bytes))
+ended_cut course byte bytes e = ended_so (nat_le (length (byte ∷ bytes)) longest_line) course byte bytes e
+
+one_so : (test : Bool) (byte : ℕ) (bytes : List ℕ) → cut_count (if test then Some (byte ∷ bytes) else None) ≡ 1
+one_so true byte bytes = refl
+one_so false byte bytes = refl
+
+counts_one : (byte : ℕ) (bytes : List ℕ) → cut_count (line_unless_long (byte ∷ bytes)) ≡ 1
+counts_one byte bytes = one_so (nat_le (length (byte ∷ bytes)) longest_line) byte bytes
+
+filled : (part : List ℕ) (byte : ℕ) (bytes : List ℕ) → part ≡ byte ∷ bytes → part ≡ [] → ⊥
+filled [] byte bytes e h = absurd cc
+filled (x ∷ xs) byte bytes e h = absurd cc
+
+-- what was put fails to be handed over
+handed_front : (a b c : Outlet) (text : List ℕ) → Takes a b text → (c.writer ≡ b.writer) × AppendsFront b.known c.known b.held → TakesFront a c text
+handed_front a b c text p q = record { same = q.0 ∙ p.same; front = rw p.parts (front_behind a.known b.known c.known p.sent b.held p.written q.1) }
+
+module _ {start state : Course} {room : ℕ} {buffer input mid : Option (List ℕ)} {old so_far : Outlet} (ran : RanSoFar start state room buffer input mid old so_far) where
   -- the writer failed as it was handed what is held
-  pub ends_over : (new : Outlet) → AppendsFront so_far.known new.known so_far.held → RanToAWriteFault start input old.known new.known
+  pub ends_over : (new : Outlet) → AppendsFront so_far.known new.known so_far.held → ToldToAWriteFault start input old.known new.known
   ends_over new front =
       let parts : ran.text ≡ ran.put.sent ++ so_far.held = cc (ran.none, ran.put.parts) in
-      fails_in start state ran.given ran.part ran.text ran.lines input mid old.known new.known ran.are.parts ran.are.whole ran.blocks ran.taken
+      fails_in start state ran.given ran.part ran.text ran.lines input mid old.known new.known ran.are.parts ran.are.whole ran.told ran.taken
       (rw parts (front_behind old.known so_far.known new.known ran.put.sent so_far.held ran.put.written front))
 
   -- the reader failed
   pub ends_read : (rest : Option (List ℕ)) (most : ℕ) (piece : List ℕ) (fault : ShellFault) → so_far.held ≡ [] → TakesPiece mid rest most piece (Err fault)
-      → Runs start input rest old.known so_far.known (Err fault)
+      → Tells start input rest old.known so_far.known (Err fault)
   ends_read rest most piece ReadFault none keeps = record {
     given = ran.given;
     lines = ran.lines;
     part = ran.part;
     text = ran.text;
-    state = state;
+    course = state;
     taken = Consumes-kept input mid rest ran.given ran.taken keeps;
     are = ran.are;
     few_lines = few_whole ran.lines ran.part ran.few;
     few_bytes = omega (arith, ran.size);
-    blocks = ran.blocks;
+    told = ran.told;
+    goes_on = ran.goes_on;
     written = written_all ran none;
   }
   ends_read rest most piece fault none h = absurd h
 
   -- a byte stands behind as much as a script may be
-  pub ends_past : (rest : Option (List ℕ)) (piece : List ℕ) (count : ℕ) → so_far.held ≡ [] → min room (most_lines - n) ≡ 0 → 1 ≤ length piece → count ≡ 1
-      → Consumes mid rest (take count piece) → RanPastABound start input rest old.known so_far.known
+  pub ends_past : (rest : Option (List ℕ)) (piece : List ℕ) (count : ℕ) → so_far.held ≡ [] → min room (most_lines - state.number) ≡ 0 → 1 ≤ length piece → count ≡ 1
+      → Consumes mid rest (take count piece) → ToldPastABound start input rest old.known so_far.known
   ends_past rest piece count none full some one took = record {
     given = ran.given;
     byte = get_or piece 0 0;
     lines = ran.lines;
     part = ran.part;
     text = ran.text;
-    state = state;
+    course = state;
     taken = Consumes-trans input mid rest ran.given (get_or piece 0 0 ∷ []) ran.taken (subst (Consumes mid rest) (one_byte piece count some one) took);
     are = ran.are;
     few_lines = few_whole ran.lines ran.part ran.few;
@@ -102,73 +137,179 @@ module _ {start state : Past} {n : ℕ} {room : ℕ} {buffer input mid : Option 
           let all : length ran.lines ≡ most_lines = omega (arith, full, gt, ran.count, few_whole ran.lines ran.part ran.few) in
           inl (all, none_behind ran.lines ran.part all ran.few)
     ];
-    blocks = ran.blocks;
+    told = ran.told;
+    goes_on = ran.goes_on;
     written = written_all ran none;
   }
 
-  -- the input ends
-  pub ends_all : (rest : Option (List ℕ)) (new : Outlet) (count : ℕ) → so_far.held ≡ [] → Consumes mid rest [] → IsAtEnd rest
-      → (count ≡ n + cut_count buffer) × Appends so_far.known new.known (so_far.held ++ cut_block buffer) → RanToTheEnd start count input rest old.known new.known
-  ends_all rest new count none took at_end done =
-      let counted : count ≡ line_count ran.lines ran.part =
-      done.0 ∙ ap (λ (b : Option (List ℕ)). n + cut_count b) ran.keeps ∙ ap (λ (m : ℕ). m + cut_count (line_unless_long ran.part)) (sym ran.count)
-      ∙ sym (counts_cut ran.lines ran.part) in
+  -- a last line counts as its block does
+  counted_cut : (count : ℕ) → count ≡ state.number + cut_count buffer → count ≡ line_count ran.lines ran.part
+  counted_cut count is =
+      is ∙ ap (λ (b : Option (List ℕ)). state.number + cut_count b) ran.keeps ∙ ap (λ (m : ℕ). m + cut_count (line_unless_long ran.part)) (sym ran.count)
+      ∙ sym (counts_cut ran.lines ran.part)
+
+  cut_is : so_far.held ≡ [] → so_far.held ++ cut_told state buffer ≡ cut_told state (line_unless_long ran.part)
+  cut_is e = ap (λ (w : List ℕ). w ++ cut_told state buffer) e ∙ ap (cut_told state) ran.keeps
+
+  all_taken : (rest : Option (List ℕ)) → Consumes mid rest [] → Consumes input rest ran.given
+  all_taken rest took = subst (Consumes input rest) (append-nil ran.given) (Consumes-trans input mid rest ran.given [] ran.taken took)
+
+  all_written : (new : Outlet) → so_far.held ≡ [] → Appends so_far.known new.known (so_far.held ++ cut_told state buffer)
+      → Appends old.known new.known (ran.text ++ cut_told state (line_unless_long ran.part))
+  all_written new none done =
+      Appends-trans old.known so_far.known new.known ran.text (cut_told state (line_unless_long ran.part)) (written_all ran none)
+      (subst (Appends so_far.known new.known) (cut_is none) done)
+
+  -- the input ends, and no last line ends the run
+  ends_all : (rest : Option (List ℕ)) (new : Outlet) (count : ℕ) → so_far.held ≡ [] → Consumes mid rest [] → IsAtEnd rest
+      → count ≡ state.number + cut_count buffer → (start.manner.strict ≡ true → ran.part ≡ [])
+      → Appends so_far.known new.known (so_far.held ++ cut_told state buffer) → ToldToTheEnd start count input rest old.known new.known
+  ends_all rest new count none took at_end is uncut done =
+      let counted = counted_cut count is in
       record {
         given = ran.given;
         lines = ran.lines;
         last = ran.part;
-        text = ran.text ++ cut_block (line_unless_long ran.part);
-        taken = subst (Consumes input rest) (append-nil ran.given) (Consumes-trans input mid rest ran.given [] ran.taken took);
+        text = ran.text;
+        course = state;
+        taken = all_taken rest took;
         at_end = at_end;
         are = ran.are;
         count = counted;
         few_lines = subst (λ (m : ℕ). m ≤ most_lines) (sym counted) ran.few;
         few_bytes = omega (arith, ran.size);
-        output = record { blocks = ran.text; state = state; are = ran.blocks; text_is = refl };
-        written = Appends-trans old.known so_far.known new.known ran.text (cut_block (line_unless_long ran.part)) (written_all ran none)
-            (subst (Appends so_far.known new.known) (cut_is none) done.1);
+        told = ran.told;
+        goes_on = ran.goes_on;
+        uncut = uncut;
+        written = all_written new none done;
       }
-    where
-      cut_is : so_far.held ≡ [] → so_far.held ++ cut_block buffer ≡ cut_block (line_unless_long ran.part)
-      cut_is e = ap (λ (w : List ℕ). w ++ cut_block buffer) e ∙ ap cut_block ran.keeps
+
+  -- it does
+  ends_cut : (rest : Option (List ℕ)) (new : Outlet) (count : ℕ) (kept : Option (List ℕ)) → so_far.held ≡ [] → Consumes mid rest [] → IsAtEnd rest
+      → count ≡ state.number + 1 → kept ≡ buffer → start.manner.strict ≡ true → ran.part ≢ []
+      → Appends so_far.known new.known (so_far.held ++ cut_told state buffer) → ToldToAnEnd start count kept input rest old.known new.known
+  ends_cut rest new count kept none took at_end is same strict some done =
+      record {
+        given = ran.given;
+        lines = ran.lines;
+        line = ran.part;
+        text = ran.text ++ cut_told state (line_unless_long ran.part);
+        strict = strict;
+        taken = all_taken rest took;
+        whole = ran.are.whole;
+        unbroken = ran.are.cut;
+        count = omega (arith, is, ran.count);
+        keeps = same ∙ ran.keeps;
+        by = inr (record { text = ran.text; course = state; parts = ran.are.parts; at_end = at_end; some = some; are = ran.told; goes_on = ran.goes_on; told_is = refl });
+        written = all_written new none done;
+      }
+
+  -- whether it does is told
+  module _ (rest : Option (List ℕ)) (new : Outlet) (count : ℕ) (kept : Option (Option (List ℕ))) (none : so_far.held ≡ []) (took : Consumes mid rest []) (at_end : IsAtEnd rest)
+      (is : count ≡ state.number + cut_count buffer) (by : kept ≡ end_by state buffer) (done : Appends so_far.known new.known (so_far.held ++ cut_told state buffer)) where
+    strict_is : state.manner.strict ≡ start.manner.strict
+    strict_is = ap (λ (m : Manner). m.strict) (manner_stays start state ran.lines ran.text ran.told)
+
+    buffer_is : (part : List ℕ) → ran.part ≡ part → buffer ≡ line_unless_long part
+    buffer_is part e = ran.keeps ∙ ap line_unless_long e
+
+    by_part : (part : List ℕ) → ran.part ≡ part → (strict : Bool) → start.manner.strict ≡ strict → HasTold start input rest old.known new.known count kept
+    by_part part e false s =
+        subst (HasTold start input rest old.known new.known count) (sym (by ∙ never_ended state buffer (strict_is ∙ s)))
+        (ends_all rest new count none took at_end is (λ t. clash start.manner.strict t s) done)
+    by_part [] e true s =
+        subst (HasTold start input rest old.known new.known count) (sym (by ∙ ap (end_by state) (buffer_is [] e))) (ends_all rest new count none took at_end is (λ t. e) done)
+    by_part (byte ∷ bytes) e true s =
+        let buffered = buffer_is (byte ∷ bytes) e in
+        let ended : end_by state buffer ≡ Some buffer = ap (end_by state) buffered ∙ ended_cut state byte bytes (strict_is ∙ s) ∙ ap Some (sym buffered) in
+        subst (HasTold start input rest old.known new.known count) (sym (by ∙ ended))
+        (ends_cut rest new count buffer none took at_end (is ∙ ap (λ (b : Option (List ℕ)). state.number + cut_count b) buffered ∙ ap (λ (m : ℕ). state.number + m) (counts_one byte bytes)) refl s (λ h. filled ran.part byte bytes e h) done)
+
+    pub ends_by : HasTold start input rest old.known new.known count kept
+    ends_by = by_part ran.part refl start.manner.strict refl
 
   -- the writer failed in the block of a last line without its line feed
   pub ends_in_cut : (rest : Option (List ℕ)) (new : Outlet) → so_far.held ≡ [] → Consumes mid rest [] → IsAtEnd rest
-      → AppendsFront so_far.known new.known (so_far.held ++ cut_block buffer) → RanToAWriteFault start input old.known new.known
+      → AppendsFront so_far.known new.known (so_far.held ++ cut_told state buffer) → ToldToAWriteFault start input old.known new.known
   ends_in_cut rest new none took at_end front = record {
     lines = ran.lines;
     rest = ran.part;
     text = ran.text;
-    state = state;
+    course = state;
     input_is = subst (λ (xs : List ℕ). Keeps input (Some xs)) ran.are.parts
         (whole_input input rest ran.given (subst (Consumes input rest) (append-nil ran.given) (Consumes-trans input mid rest ran.given [] ran.taken took)) at_end);
     whole = ran.are.whole;
-    blocks = ran.blocks;
+    told = ran.told;
     written = inr (
       ran.are.cut,
-      front_behind old.known so_far.known new.known ran.text (cut_block (line_unless_long ran.part)) (written_all ran none)
-          (subst (AppendsFront so_far.known new.known) (ap (λ (w : List ℕ). w ++ cut_block buffer) none ∙ ap cut_block ran.keeps) front),
+      front_behind old.known so_far.known new.known ran.text (cut_told state (line_unless_long ran.part)) (written_all ran none)
+          (subst (AppendsFront so_far.known new.known) (cut_is none) front),
     );
   }
 
   -- the writer failed in the blocks of the lines of a piece
-  pub ends_in_piece : (after : Past) (rest : Option (List ℕ)) (new : Outlet) (piece : List ℕ) → Consumes mid rest piece
-      → AnswersSome state after ran.part piece so_far new → RanToAWriteFault start input old.known new.known
+  pub ends_in_piece : (after : Course) (rest : Option (List ℕ)) (new : Outlet) (piece : List ℕ) → Consumes mid rest piece
+      → AnswersSome state after ran.part piece so_far new → ToldToAWriteFault start input old.known new.known
   ends_in_piece after rest new piece took did =
       fails_in start after (ran.given ++ piece) did.rest (ran.text ++ did.text) (ran.lines ++ did.lines) input rest old.known new.known
       (ap (λ (w : List ℕ). w ++ piece) ran.are.parts ∙ append_assoc (whole_lines ran.lines) ran.part piece ∙ ap (λ (w : List ℕ). whole_lines ran.lines ++ w) did.parts
       ∙ sym (append_assoc (whole_lines ran.lines) (whole_lines did.lines) did.rest) ∙ ap (λ (w : List ℕ). w ++ did.rest) (sym (flat_map-append whole_line ran.lines did.lines)))
       (all_both IsUnbroken ran.lines did.lines ran.are.whole did.whole)
-      (blocks_append start state after ran.lines did.lines ran.text did.text ran.blocks did.blocks)
+      (told_append start state after ran.lines did.lines ran.text did.text ran.told did.told)
       (Consumes-trans input mid rest ran.given piece ran.taken took)
       (subst (λ (w : List ℕ). AppendsFront old.known new.known (w ++ (ran.text ++ did.text))) ran.none (front_then old so_far new ran.text did.text ran.put did.put))
 
+  -- a line of a piece ended the run
+  pub ends_last : (after : Course) (rest : Option (List ℕ)) (new over : Outlet) (piece : List ℕ) (kept : Option (List ℕ)) → Consumes mid rest piece
+      → AnswersLast state after ran.part piece kept so_far new → (over.writer ≡ new.writer) × (over.held ≡ []) × Appends new.known over.known new.held
+      → ToldToAnEnd start after.number kept input rest old.known over.known
+  ends_last after rest new over piece kept took did handed =
+      let parts = ap (λ (w : List ℕ). w ++ piece) ran.are.parts ∙ append_assoc (whole_lines ran.lines) ran.part piece ∙ ap (λ (w : List ℕ). whole_lines ran.lines ++ w) did.parts
+      ∙ sym (append_assoc (whole_lines ran.lines) (whole_lines (did.lines ++ did.line ∷ [])) did.rest) in
+      let lines : ran.lines ++ (did.lines ++ did.line ∷ []) ≡ (ran.lines ++ did.lines) ++ did.line ∷ [] = sym (append_assoc ran.lines did.lines (did.line ∷ [])) in
+      record {
+        given = ran.given ++ piece;
+        lines = ran.lines ++ did.lines;
+        line = did.line;
+        text = ran.text ++ did.text;
+        strict = ap (λ (m : Manner). m.strict) (sym (manner_stays start state ran.lines ran.text ran.told)) ∙ strict_run state after (did.lines ++ did.line ∷ []) did.text did.told ran.goes_on did.ended;
+        taken = Consumes-trans input mid rest ran.given piece ran.taken took;
+        whole = all_both IsUnbroken ran.lines did.lines ran.are.whole did.whole;
+        unbroken = did.unbroken;
+        count = omega (arith, did.counted, ran.count, length-append ran.lines did.lines);
+        keeps = did.keeps;
+        by = inl (record {
+          behind = did.rest;
+          course = after;
+          parts = parts ∙ ap (λ (w : List ℕ). w ++ did.rest) (sym (flat_map-append whole_line ran.lines (did.lines ++ did.line ∷ [])) ∙ ap whole_lines lines);
+          are = subst (λ (xs : List (List ℕ)). AreTold start xs (ran.text ++ did.text) after) lines
+              (told_append start state after ran.lines (did.lines ++ did.line ∷ []) ran.text did.text ran.told did.told);
+          ended = did.ended;
+        });
+        written = takes_over old new over (ran.text ++ did.text) ran.none (takes_then old so_far new ran.text did.text ran.put did.put) handed.2;
+      }
+
+  -- the writer failed as it was handed that
+  pub ends_in_last : (after : Course) (rest : Option (List ℕ)) (new over : Outlet) (piece : List ℕ) (kept : Option (List ℕ)) → Consumes mid rest piece
+      → AnswersLast state after ran.part piece kept so_far new → (over.writer ≡ new.writer) × AppendsFront new.known over.known new.held → ToldToAWriteFault start input old.known over.known
+  ends_in_last after rest new over piece kept took did front =
+      ends_in_piece after rest over piece took (record {
+        lines = did.lines ++ did.line ∷ [];
+        rest = did.rest;
+        text = did.text;
+        parts = did.parts;
+        whole = all_both IsUnbroken did.lines (did.line ∷ []) did.whole (did.unbroken, tt);
+        told = did.told;
+        put = handed_front so_far new over did.text did.put front;
+      })
+
 -- what a run has done at each end
-pub ran_to_the_end : (start : Past) (input rest old new : Option (List ℕ)) (r : Result ℕ ShellFault) → Runs start input rest old new r
-    → IfOk r (λ n. RanToTheEnd start n input rest old new)
-ran_to_the_end start input rest old new r h = grind arith
+pub has_told : (start : Course) (input rest old new : Option (List ℕ)) (r : Result RunEnd ShellFault) → Tells start input rest old new r
+    → IfOk r (λ ran. HasTold start input rest old new ran.lines ran.ended_by)
+has_told start input rest old new (Ok ran) h = h
+has_told start input rest old new (Err fault) h = tt
 
 -- and what the writer holds is what the printer's writer holds
-pub ran_at : (start : Past) (input rest : Option (List ℕ)) (a b : Outlet) (old new : Option (List ℕ)) (r : Result ℕ ShellFault) → RunsAt start input rest a b r
-    → a.known ≡ old → b.known ≡ new → Runs start input rest old new r
-ran_at start input rest a b old new r h e f = rw (← e, ← f) h.1
+pub told_at : (start : Course) (input rest : Option (List ℕ)) (a b : Outlet) (old new : Option (List ℕ)) (r : Result RunEnd ShellFault) → RunsAt start input rest a b r
+    → a.known ≡ old → b.known ≡ new → Tells start input rest old new r
+told_at start input rest a b old new r h e f = rw (← e, ← f) h.1

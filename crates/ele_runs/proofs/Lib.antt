@@ -2,6 +2,7 @@ mod Words
 mod Basics
 pub mod Asked
 pub mod Blocks
+pub mod Courses
 pub mod Ends
 pub mod FrontOfOutput
 pub mod InTime
@@ -11,6 +12,7 @@ pub mod OneAnswer
 pub mod OneOutput
 pub mod OnePass
 pub mod Pieces
+pub mod Plain
 pub mod Ran
 pub mod SomeAnswer
 pub mod SomeOutput

@@ -1,32 +1,50 @@
 -- A piece that was answered so far.
-use Rattle.ele_runs.proofs.Basics.{◌≢◌, ◌≡◌, ℕ, ◌+◌, ◌<◌, ◌≤◌, ◌⊎◌, List, [], ◌∷◌, ◌++◌, length, take, drop, get_or, Option, Some, None, Result, refl, sym, ap, subst, ◌∙◌, arith, append_assoc, length-append, inl, inr, true, ◌==◌, zero}
+use Rattle.ele_runs.proofs.Basics.{◌≢◌, ◌≡◌, ℕ, ◌+◌, ◌<◌, ◌≤◌, ◌⊎◌, List, [], ◌∷◌, ◌++◌, length, take, drop, get_or, Option, Some, None, Result, Ok, Err, refl, sym, ap, subst, ◌∙◌, arith, append_assoc, length-append, inl, inr, true, false, ◌==◌, zero}
 use Rattle.ele_runs.proofs.Basics.{nat_tests, suc, IsErr, take-append-drop, drop_more, length-drop, eq-eqb, eqb-true, AllByRecursion}
-use Rattle.ele_runs.proofs.Words.{Outlet, Takes, TakesFront, IsBlock, line_unless_long, IsUnbroken, whole_line, whole_lines, AreBlocks, Answers, AnswersAll, AnswersSome, Past, PutsBlock}
+use Rattle.ele_runs.proofs.Words.{Outlet, Takes, TakesFront, IsTold, line_unless_long, IsUnbroken, whole_line, whole_lines, AreTold, Answers, AnswersAll, AnswersLast, AnswersSome, Course, PutsBlock}
+use Rattle.std.specs.Prelude.{Bool}
 use Rattle.std.specs.Option.{option_and_then}
+use Rattle.ele_runs.specs.Piece.{AnswersBy}
 use Rattle.memchr.specs.Find.{IsFirstByte, is_byte}
 use Rattle.ele_printer.specs.declared.fault.WriteFault.{WriteFault}
-use Rattle.ele_runs.proofs.Ran.{blocks_push, joined_push}
+use Rattle.ele_runs.proofs.Ran.{told_push, joined_push}
 use Rattle.ele_runs.proofs.Joins.{takes_nil, takes_then, front_then, all_both}
 
 -- these lines of a piece were answered, and so much of it is left; a line that began before is only the first
-pub record HasAnswered (before state : Past) (part piece left : List ℕ) (buffer : Option (List ℕ)) (n count : ℕ) (old new : Outlet) : Type 0 where
+pub record HasAnswered (before state : Course) (part piece left : List ℕ) (buffer : Option (List ℕ)) (old new : Outlet) : Type 0 where
   pub lines : List (List ℕ)
   pub begun : List ℕ
   pub text : List ℕ
   pub parts : part ++ piece ≡ whole_lines lines ++ (begun ++ left)
   pub whole : AllByRecursion IsUnbroken lines
   pub unbroken : IsUnbroken begun
-  pub counted : n + length lines ≡ count
+  pub counted : before.number + length lines ≡ state.number
+  pub goes_on : state.ended ≡ false
   pub few : length lines + length left ≤ length piece
   pub first : (begun ≡ []) ⊎ (lines ≡ [])
   pub keeps : buffer ≡ line_unless_long begun
-  pub blocks : AreBlocks before lines text state
+  pub told : AreTold before lines text state
   pub put : Takes old new text
 
+-- each line counts
+pub number_told : {before after : Course} {told : List ℕ} {line : Option (List ℕ)} → IsTold before line told after → after.number ≡ before.number + 1
+number_told is = ap (λ (c : Course). c.number) is.after_is
+
+-- whether a line ended the run tells which lines were answered
+pub all_of : {before after : Course} {part piece : List ℕ} {buffer : Option (List ℕ)} {old new : Outlet} (ended : Bool) → ended ≡ false → AnswersBy ended before after part piece buffer old new
+    → AnswersAll before after part piece buffer old new
+all_of false is answers = answers
+all_of true is answers = absurd cc
+
+pub last_of : {before after : Course} {part piece : List ℕ} {buffer : Option (List ℕ)} {old new : Outlet} (ended : Bool) → ended ≡ true → AnswersBy ended before after part piece buffer old new
+    → AnswersLast before after part piece buffer old new
+last_of true is answers = answers
+last_of false is answers = absurd cc
+
 -- nothing was answered yet
-pub answered_none : (before : Past) (part piece : List ℕ) (buffer : Option (List ℕ)) (n : ℕ) (old : Outlet)
-    → IsUnbroken part → buffer ≡ line_unless_long part → HasAnswered before before part piece piece buffer n n old old
-answered_none before part piece buffer n old whole keeps =
+pub answered_none : (before : Course) (part piece : List ℕ) (buffer : Option (List ℕ)) (old : Outlet)
+    → before.ended ≡ false → IsUnbroken part → buffer ≡ line_unless_long part → HasAnswered before before part piece piece buffer old old
+answered_none before part piece buffer old goes_on whole keeps =
     record {
       lines = [];
       begun = part;
@@ -35,10 +53,11 @@ answered_none before part piece buffer n old whole keeps =
       whole = tt;
       unbroken = whole;
       counted = omega arith;
+      goes_on = goes_on;
       few = omega arith;
       first = inr refl;
       keeps = keeps;
-      blocks = (refl, refl);
+      told = (refl, refl);
       put = takes_nil old;
     }
 
@@ -68,7 +87,7 @@ cut_at left at h =
 line_parts : (begun line behind : List ℕ) → begun ++ (line ++ 10 ∷ behind) ≡ whole_line (begun ++ line) ++ behind
 line_parts begun line behind = sym (append_assoc begun line (10 ∷ behind)) ∙ sym (append_assoc (begun ++ line) (10 ∷ []) behind)
 
-module _ {before between : Past} {part piece left : List ℕ} {buffer : Option (List ℕ)} {n count : ℕ} {old mid : Outlet} (done : HasAnswered before between part piece left buffer n count old mid) where
+module _ {before between : Course} {part piece left : List ℕ} {buffer : Option (List ℕ)} {old mid : Outlet} (done : HasAnswered before between part piece left buffer old mid) where
   -- where the next line feed stands
   parts_at : (at : ℕ) → IsFirstByte (is_byte 10) left (Some at) → part ++ piece ≡ whole_lines (done.lines ++ (done.begun ++ take at left) ∷ []) ++ drop (at + 1) left
   parts_at at h =
@@ -83,19 +102,21 @@ module _ {before between : Past} {part piece left : List ℕ} {buffer : Option (
       all_both IsUnbroken done.lines ((done.begun ++ take at left) ∷ []) done.whole
       (all_both (λ b. b ≢ 10) done.begun (take at left) done.unbroken (unbroken_before left at (λ k lt is. h.0.before k (omega arith) lt is)), tt)
 
-  block_at : {A E : Type 0} (at : ℕ) (line : List ℕ) (after : Past) (new : Outlet) (r : Result A E) → line ≡ take at left
-      → (wrote : PutsBlock between (option_and_then (λ l. line_unless_long (l ++ line)) buffer) after mid new r) → IsBlock between (line_unless_long (done.begun ++ take at left)) wrote.block after
+  kept_at : (at : ℕ) (line : List ℕ) → line ≡ take at left → option_and_then (λ (l : List ℕ). line_unless_long (l ++ line)) buffer ≡ line_unless_long (done.begun ++ take at left)
+  kept_at at line e =
+      ap (λ (l : List ℕ). option_and_then (λ (b : List ℕ). line_unless_long (b ++ l)) buffer) e ∙ ap (option_and_then (λ (b : List ℕ). line_unless_long (b ++ take at left))) done.keeps ∙ kept_more done.begun (take at left)
+
+  block_at : {A E : Type 0} (at : ℕ) (line : List ℕ) (after : Course) (new : Outlet) (r : Result A E) → line ≡ take at left
+      → (wrote : PutsBlock between (option_and_then (λ l. line_unless_long (l ++ line)) buffer) after mid new r) → IsTold between (line_unless_long (done.begun ++ take at left)) wrote.block after
   block_at at line after new r e wrote =
-      subst (λ (l : Option (List ℕ)). IsBlock between l wrote.block after)
-      (ap (λ (l : List ℕ). option_and_then (λ (b : List ℕ). line_unless_long (b ++ l)) buffer) e ∙ ap (option_and_then (λ (b : List ℕ). line_unless_long (b ++ take at left))) done.keeps ∙ kept_more done.begun (take at left))
-      wrote.is
+      subst (λ (l : Option (List ℕ)). IsTold between l wrote.block after) (kept_at at line e) wrote.is
 
   -- one line more is answered
-  pub answered_more : {A E : Type 0} {after : Past} {new : Outlet} {buffer' : Option (List ℕ)} (at : ℕ) (line left' : List ℕ) (r : Result A E) → IsFirstByte (is_byte 10) left (Some at)
+  pub answered_more : {A E : Type 0} {after : Course} {new : Outlet} {buffer' : Option (List ℕ)} (at : ℕ) (line left' : List ℕ) (r : Result A E) → IsFirstByte (is_byte 10) left (Some at)
       → line ≡ take at left → left' ≡ drop (at + 1) left
-      → (wrote : PutsBlock between (option_and_then (λ l. line_unless_long (l ++ line)) buffer) after mid new r) → Takes mid new wrote.block → buffer' ≡ Some []
-      → HasAnswered before after part piece left' buffer' n (count + 1) old new
-  answered_more {A} {E} {after} {new} {buffer'} at line left' r h e f wrote put begun =
+      → (wrote : PutsBlock between (option_and_then (λ l. line_unless_long (l ++ line)) buffer) after mid new r) → Takes mid new wrote.block → after.ended ≡ false → buffer' ≡ Some []
+      → HasAnswered before after part piece left' buffer' old new
+  answered_more {A} {E} {after} {new} {buffer'} at line left' r h e f wrote put goes_on begun =
       let is = block_at at line after new r e wrote in
       record {
         lines = done.lines ++ (done.begun ++ take at left) ∷ [];
@@ -104,16 +125,45 @@ module _ {before between : Past} {part piece left : List ℕ} {buffer : Option (
         parts = parts_at at h ∙ ap (λ (w : List ℕ). whole_lines (done.lines ++ (done.begun ++ take at left) ∷ []) ++ w) (sym f);
         whole = whole_at at h;
         unbroken = tt;
-        counted = omega (arith, done.counted, length-append done.lines ((done.begun ++ take at left) ∷ []));
+        counted = omega (arith, done.counted, number_told is, length-append done.lines ((done.begun ++ take at left) ∷ []));
+        goes_on = goes_on;
         few = omega (arith, done.few, length-append done.lines ((done.begun ++ take at left) ∷ []), ap length f, length-drop (at + 1) left, h.0.high);
         first = inl refl;
         keeps = begun;
-        blocks = blocks_push before between after done.lines (done.begun ++ take at left) done.text wrote.block done.blocks is;
+        told = told_push before between after done.lines (done.begun ++ take at left) done.text wrote.block done.told is;
         put = takes_then old mid new done.text wrote.block done.put put;
       }
 
+  -- one more was answered, and ended the run
+  answered_last : {A E : Type 0} {after : Course} {new : Outlet} {buffer' : Option (List ℕ)} (at : ℕ) (line : List ℕ) (r : Result A E) → IsFirstByte (is_byte 10) left (Some at)
+      → line ≡ take at left → (wrote : PutsBlock between (option_and_then (λ l. line_unless_long (l ++ line)) buffer) after mid new r) → Takes mid new wrote.block → after.ended ≡ true
+      → buffer' ≡ option_and_then (λ l. line_unless_long (l ++ line)) buffer → AnswersLast before after part piece buffer' old new
+  answered_last {A} {E} {after} {new} {buffer'} at line r h e wrote put ended kept =
+      let is = block_at at line after new r e wrote in
+      record {
+        lines = done.lines;
+        line = done.begun ++ take at left;
+        rest = drop (at + 1) left;
+        text = done.text ++ wrote.block;
+        parts = parts_at at h;
+        whole = done.whole;
+        unbroken = all_both (λ b. b ≢ 10) done.begun (take at left) done.unbroken (unbroken_before left at (λ k lt is. h.0.before k (omega arith) lt is));
+        counted = omega (arith, done.counted, number_told is);
+        keeps = kept ∙ kept_at at line e;
+        ended = ended;
+        told = told_push before between after done.lines (done.begun ++ take at left) done.text wrote.block done.told is;
+        put = takes_then old mid new done.text wrote.block done.put put;
+      }
+
+  -- so the lines of the piece are answered
+  pub answers_last : {A E : Type 0} {after : Course} {new : Outlet} {buffer' : Option (List ℕ)} (at : ℕ) (line : List ℕ) (r : Result A E) → IsFirstByte (is_byte 10) left (Some at)
+      → line ≡ take at left → (wrote : PutsBlock between (option_and_then (λ l. line_unless_long (l ++ line)) buffer) after mid new r) → Takes mid new wrote.block → after.ended ≡ true
+      → buffer' ≡ option_and_then (λ l. line_unless_long (l ++ line)) buffer → AnswersBy after.ended before after part piece buffer' old new
+  answers_last {A} {E} {after} {new} {buffer'} at line r h e wrote put ended kept =
+      subst (λ (over : Bool). AnswersBy over before after part piece buffer' old new) (sym ended) (answered_last at line r h e wrote put ended kept)
+
   -- the writer failed in the block of one line more
-  pub answered_some : {A E : Type 0} {after : Past} {new : Outlet} (at : ℕ) (line : List ℕ) (r : Result A E) → IsFirstByte (is_byte 10) left (Some at)
+  pub answered_some : {A E : Type 0} {after : Course} {new : Outlet} (at : ℕ) (line : List ℕ) (r : Result A E) → IsFirstByte (is_byte 10) left (Some at)
       → line ≡ take at left → (wrote : PutsBlock between (option_and_then (λ l. line_unless_long (l ++ line)) buffer) after mid new r) → TakesFront mid new wrote.block → AnswersSome before after part piece old new
   answered_some {A} {E} {after} {new} at line r h e wrote put =
       let is = block_at at line after new r e wrote in
@@ -123,13 +173,13 @@ module _ {before between : Past} {part piece left : List ℕ} {buffer : Option (
         text = done.text ++ wrote.block;
         parts = parts_at at h;
         whole = whole_at at h;
-        blocks = blocks_push before between after done.lines (done.begun ++ take at left) done.text wrote.block done.blocks is;
+        told = told_push before between after done.lines (done.begun ++ take at left) done.text wrote.block done.told is;
         put = record { same = put.same ∙ done.put.same; front = front_then old mid new done.text wrote.block done.put put };
       }
 
   -- no line feed is left
-  pub answered_all : {buffer' : Option (List ℕ)} → IsFirstByte (is_byte 10) left None → buffer' ≡ option_and_then (λ l. line_unless_long (l ++ left)) buffer
-      → AnswersAll before between part piece buffer' n count old mid
+  answered_all : {buffer' : Option (List ℕ)} → IsFirstByte (is_byte 10) left None → buffer' ≡ option_and_then (λ l. line_unless_long (l ++ left)) buffer
+      → AnswersAll before between part piece buffer' old mid
   answered_all {buffer'} h pushed =
       record {
         lines = done.lines;
@@ -138,16 +188,25 @@ module _ {before between : Past} {part piece left : List ℕ} {buffer : Option (
         are = record { parts = done.parts; whole = done.whole; cut = all_both (λ b. b ≢ 10) done.begun left done.unbroken (none_found left h) };
         counted = done.counted;
         few = few_of done.begun done.first;
-        keeps = pushed ∙ ap (option_and_then (λ (b : List ℕ). line_unless_long (b ++ left))) done.keeps ∙ kept_more done.begun left;
-        blocks = done.blocks;
+        keeps = pushed ∙ kept_at_end;
+        goes_on = done.goes_on;
+        told = done.told;
         put = done.put;
       }
     where
+      kept_at_end : option_and_then (λ (b : List ℕ). line_unless_long (b ++ left)) buffer ≡ line_unless_long (done.begun ++ left)
+      kept_at_end = ap (option_and_then (λ (b : List ℕ). line_unless_long (b ++ left))) done.keeps ∙ kept_more done.begun left
+
       few_of : (begun : List ℕ) → (begun ≡ []) ⊎ (done.lines ≡ []) → (length done.lines + length (begun ++ left) ≤ length piece) ⊎ (done.lines ≡ [])
       few_of begun (inl e) = inl (rw e done.few)
       few_of begun (inr e) = inr e
 
+  pub answers_all : {buffer' : Option (List ℕ)} → IsFirstByte (is_byte 10) left None → buffer' ≡ option_and_then (λ l. line_unless_long (l ++ left)) buffer
+      → AnswersBy between.ended before between part piece buffer' old mid
+  answers_all {buffer'} h pushed = subst (λ (over : Bool). AnswersBy over before between part piece buffer' old mid) (sym done.goes_on) (answered_all h pushed)
+
 -- an error is the writer's
-pub answers_err : (before after : Past) (part piece : List ℕ) (buffer : Option (List ℕ)) (n : ℕ) (old new : Outlet) (r : Result ℕ WriteFault)
-    → IsErr r → AnswersSome before after part piece old new → Answers before after part piece buffer n old new r
-answers_err before after part piece buffer n old new r is h = grind arith
+pub answers_err : {A : Type 0} (before after : Course) (part piece : List ℕ) (buffer : Option (List ℕ)) (old new : Outlet) (r : Result A WriteFault)
+    → IsErr r → AnswersSome before after part piece old new → Answers before after part piece buffer old new r
+answers_err before after part piece buffer old new (Ok x) is h = absurd cc
+answers_err before after part piece buffer old new (Err x) is h = h

@@ -1,30 +1,31 @@
 -- A run so far, and how it goes on.
-use Rattle.ele_runs.proofs.Basics.{◌≡◌, ℕ, ◌+◌, ◌≤◌, ◌⊎◌, List, [], ◌∷◌, ◌++◌, length, Option, Some, refl, sym, ap, subst, ◌∙◌, arith, append_assoc, length-append, append-nil, flat_map-append, flat_map-cons}
+use Rattle.ele_runs.proofs.Basics.{◌≡◌, ℕ, ◌+◌, ◌≤◌, ◌⊎◌, List, [], ◌∷◌, ◌++◌, length, Option, Some, false, refl, sym, ap, subst, ◌∙◌, arith, append_assoc, length-append, append-nil, flat_map-append, flat_map-cons}
 use Rattle.ele_runs.proofs.Basics.{Consumes, Appends, Consumes-nil, Consumes-trans, Appends-nil}
-use Rattle.ele_runs.proofs.Words.{Outlet, Takes, IsBlock, most_lines, most_bytes, line_unless_long, AreLines, whole_line, whole_lines, line_count, AreBlocks, AnswersAll, Past}
-use Rattle.ele_runs.proofs.Joins.{lines_before, blocks_append, takes_nil, takes_then, takes_over}
+use Rattle.ele_runs.proofs.Words.{Outlet, Takes, IsTold, most_lines, most_bytes, line_unless_long, AreLines, whole_line, whole_lines, line_count, AreTold, AnswersAll, Course}
+use Rattle.ele_runs.proofs.Joins.{lines_before, told_append, takes_nil, takes_then, takes_over}
 
--- n whole lines were read and a part of one more, and their blocks put, up to this state; there is room for so many bytes more
-pub record RanSoFar (start : Past) (n : ℕ) (state : Past) (room : ℕ) (buffer input rest : Option (List ℕ)) (old new : Outlet) : Type 0 where
+-- whole lines were read and a part of one more, and what is told for them put, up to this state; there is room for so many bytes more
+pub record RanSoFar (start state : Course) (room : ℕ) (buffer input rest : Option (List ℕ)) (old new : Outlet) : Type 0 where
   pub none : old.held ≡ []
   pub given : List ℕ
   pub lines : List (List ℕ)
   pub part : List ℕ
   pub text : List ℕ
   pub are : AreLines given lines part
-  pub count : length lines ≡ n
+  pub count : length lines ≡ state.number
+  pub goes_on : state.ended ≡ false
   pub few : line_count lines part ≤ most_lines
-  pub within : n ≤ most_lines
+  pub within : state.number ≤ most_lines
   pub size : length given + room ≡ most_bytes
   pub keeps : buffer ≡ line_unless_long part
-  pub blocks : AreBlocks start lines text state
+  pub told : AreTold start lines text state
   pub taken : Consumes input rest given
   pub put : Takes old new text
 
 -- a run that begins
-pub ran_none : (start : Past) (buffer input : Option (List ℕ)) (old : Outlet) → buffer ≡ Some [] → old.held ≡ []
-    → RanSoFar start 0 start most_bytes buffer input input old old
-ran_none start buffer input old clear none =
+pub ran_none : (start : Course) (buffer input : Option (List ℕ)) (old : Outlet) → buffer ≡ Some [] → old.held ≡ []
+    → start.number ≡ 0 → start.ended ≡ false → RanSoFar start start most_bytes buffer input input old old
+ran_none start buffer input old clear none first goes_on =
     record {
       none = none;
       given = [];
@@ -32,28 +33,29 @@ ran_none start buffer input old clear none =
       part = [];
       text = [];
       are = record { parts = refl; whole = tt; cut = tt };
-      count = refl;
+      count = sym first;
+      goes_on = goes_on;
       few = omega arith;
-      within = omega arith;
+      within = omega (arith, first);
       size = refl;
       keeps = clear;
-      blocks = (refl, refl);
+      told = (refl, refl);
       taken = Consumes-nil input;
       put = takes_nil old;
     }
 
--- the blocks of some lines, and then that of one more
-pub blocks_push : (start between after : Past) (lines : List (List ℕ)) (line text block : List ℕ)
-    → AreBlocks start lines text between → IsBlock between (line_unless_long line) block after → AreBlocks start (lines ++ line ∷ []) (text ++ block) after
-blocks_push start between after [] line text block are is =
-    let from_start : IsBlock start (line_unless_long line) block after = subst (λ (s : Past). IsBlock s (line_unless_long line) block after) are.1 is in
+-- what is told for some lines, and then for one more
+pub told_push : (start between after : Course) (lines : List (List ℕ)) (line text block : List ℕ)
+    → AreTold start lines text between → IsTold between (line_unless_long line) block after → AreTold start (lines ++ line ∷ []) (text ++ block) after
+told_push start between after [] line text block are is =
+    let from_start : IsTold start (line_unless_long line) block after = subst (λ (s : Course). IsTold s (line_unless_long line) block after) are.1 is in
     (block, [], after, from_start, (refl, refl), ap (λ (t : List ℕ). t ++ block) are.0 ∙ sym (append-nil block))
-blocks_push start between after (first ∷ lines) line text block (own, rest, mid, is_first, more, parts) is = (
+told_push start between after (first ∷ lines) line text block (own, rest, mid, is_first, more, parts) is = (
   own,
   rest ++ block,
   mid,
   is_first,
-  blocks_push mid between after lines line rest block more is,
+  told_push mid between after lines line rest block more is,
   ap (λ (t : List ℕ). t ++ block) parts ∙ append_assoc own rest block,
 )
 
@@ -61,10 +63,10 @@ pub joined_push : (lines : List (List ℕ)) (line : List ℕ) → whole_lines (l
 joined_push lines line = flat_map-append whole_line lines (line ∷ []) ∙ ap (λ (xs : List ℕ). whole_lines lines ++ xs) (flat_map-cons whole_line line [] ∙ append-nil (whole_line line))
 
 -- what is held is handed over
-pub ran_over : {start state : Past} {n room : ℕ} {buffer input rest : Option (List ℕ)} {old known new : Outlet}
-    → RanSoFar start n state room buffer input rest old known → (new.writer ≡ known.writer) × (new.held ≡ []) × Appends known.known new.known known.held
-    → RanSoFar start n state room buffer input rest old new
-ran_over {start} {state} {n} {room} {buffer} {input} {rest} {old} {known} {new} ran over =
+pub ran_over : {start state : Course} {room : ℕ} {buffer input rest : Option (List ℕ)} {old known new : Outlet}
+    → RanSoFar start state room buffer input rest old known → (new.writer ≡ known.writer) × (new.held ≡ []) × Appends known.known new.known known.held
+    → RanSoFar start state room buffer input rest old new
+ran_over {start} {state} {room} {buffer} {input} {rest} {old} {known} {new} ran over =
     record {
       none = ran.none;
       given = ran.given;
@@ -73,11 +75,12 @@ ran_over {start} {state} {n} {room} {buffer} {input} {rest} {old} {known} {new} 
       text = ran.text;
       are = ran.are;
       count = ran.count;
+      goes_on = ran.goes_on;
       few = ran.few;
       within = ran.within;
       size = ran.size;
       keeps = ran.keeps;
-      blocks = ran.blocks;
+      told = ran.told;
       taken = ran.taken;
       put = record {
         same = over.0 ∙ ran.put.same;
@@ -88,9 +91,9 @@ ran_over {start} {state} {n} {room} {buffer} {input} {rest} {old} {known} {new} 
     }
 
 -- then all that was put is written
-pub written_all : {start state : Past} {n room : ℕ} {buffer input rest : Option (List ℕ)} {old new : Outlet}
-    → (ran : RanSoFar start n state room buffer input rest old new) → new.held ≡ [] → Appends old.known new.known ran.text
-written_all {start} {state} {n} {room} {buffer} {input} {rest} {old} {new} ran none =
+pub written_all : {start state : Course} {room : ℕ} {buffer input rest : Option (List ℕ)} {old new : Outlet}
+    → (ran : RanSoFar start state room buffer input rest old new) → new.held ≡ [] → Appends old.known new.known ran.text
+written_all {start} {state} {room} {buffer} {input} {rest} {old} {new} ran none =
     takes_over old new new ran.text ran.none ran.put (rw none (Appends-nil new.known))
 
 -- a line counts at most once
@@ -105,11 +108,11 @@ pub few_whole : (lines : List (List ℕ)) (part : List ℕ) → line_count lines
 few_whole lines part few = grind arith
 
 -- a piece more is read and answered
-pub ran_on : {start between after : Past} {n ended room left : ℕ} {buffer buffer' input mid rest : Option (List ℕ)} {old so_far new : Outlet} {piece : List ℕ}
-    → (ran : RanSoFar start n between room buffer input mid old so_far) → n + length piece ≤ most_lines → 1 ≤ length piece → length piece + left ≡ room
-    → Consumes mid rest piece → AnswersAll between after ran.part piece buffer' n ended so_far new
-    → RanSoFar start ended after left buffer' input rest old new
-ran_on {start} {between} {after} {n} {ended} {room} {left} {buffer} {buffer'} {input} {mid} {rest} {old} {so_far} {new} {piece} ran fits some fewer taken did =
+pub ran_on : {start between after : Course} {room left : ℕ} {buffer buffer' input mid rest : Option (List ℕ)} {old so_far new : Outlet} {piece : List ℕ}
+    → (ran : RanSoFar start between room buffer input mid old so_far) → between.number + length piece ≤ most_lines → 1 ≤ length piece → length piece + left ≡ room
+    → Consumes mid rest piece → AnswersAll between after ran.part piece buffer' so_far new
+    → RanSoFar start after left buffer' input rest old new
+ran_on {start} {between} {after} {room} {left} {buffer} {buffer'} {input} {mid} {rest} {old} {so_far} {new} {piece} ran fits some fewer taken did =
     let few = count_more ran.lines did.lines did.last most_lines (length piece) (omega (arith, fits, ran.count)) some did.few in
     record {
       none = ran.none;
@@ -120,11 +123,12 @@ ran_on {start} {between} {after} {n} {ended} {room} {left} {buffer} {buffer'} {i
       are = lines_before (ran.given ++ piece) (ran.part ++ piece) ran.lines did.lines did.last
           (ap (λ (w : List ℕ). w ++ piece) ran.are.parts ∙ append_assoc (whole_lines ran.lines) ran.part piece) ran.are.whole did.are;
       count = omega (arith, ran.count, did.counted, length-append ran.lines did.lines);
+      goes_on = did.goes_on;
       few = few;
       within = omega (arith, few_whole (ran.lines ++ did.lines) did.last few, ran.count, did.counted, length-append ran.lines did.lines);
       size = omega (arith, ran.size, fewer, length-append ran.given piece);
       keeps = did.keeps;
-      blocks = blocks_append start between after ran.lines did.lines ran.text did.text ran.blocks did.blocks;
+      told = told_append start between after ran.lines did.lines ran.text did.text ran.told did.told;
       taken = Consumes-trans input mid rest ran.given piece ran.taken taken;
       put = takes_then old so_far new ran.text did.text ran.put did.put;
     }

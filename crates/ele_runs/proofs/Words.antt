@@ -7,12 +7,15 @@ pub use Rattle.ele_printer.specs.Outlet.{Outlet, Puts, Takes, TakesFront}
 pub use Rattle.ele_printer.specs.Prints.{outlet}
 pub use Rattle.ele_script.specs.Words.{longest_line}
 pub use Rattle.ele_runs.specs.Block.{IsBlock, MayAnswer, as_entry, as_read, as_trim, cut_block, cut_count}
+pub use Rattle.ele_runs.specs.Course.{Course, begun, gone_on}
+pub use Rattle.ele_runs.specs.Manner.{front_of, heard, is_well, plain}
+pub use Rattle.ele_runs.specs.Told.{AreTold, IsTold, cut_told}
 pub use Rattle.ele_runs.specs.Bounds.{most_bytes, most_lines}
 pub use Rattle.ele_runs.specs.LineLength.{line_unless_long}
 pub use Rattle.ele_runs.specs.Lines.{AreLines, IsUnbroken, line_count, whole_line, whole_lines}
 pub use Rattle.ele_runs.specs.Output.{AreBlocks}
-pub use Rattle.ele_runs.specs.Piece.{Answers, AnswersAll, AnswersSome}
-pub use Rattle.ele_runs.specs.Written.{PutsAnswer, PutsBlock, PutsReply, PutsTrim}
+pub use Rattle.ele_runs.specs.Piece.{Answers, AnswersAll, AnswersLast, AnswersSome}
+pub use Rattle.ele_runs.specs.Written.{PutsBlock, end_by}
 pub use Rattle.ele_world.specs.declared.refusal.Stop.{Stop}
 pub use Rattle.ele_world.specs.declared.refusal.Stop.TheVariants.{HistoryFull}
 pub use Rattle.ele_world.specs.declared.reply.Reply.{Reply}

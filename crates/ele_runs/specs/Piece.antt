@@ -1,40 +1,61 @@
 -- The lines that end in a piece of the input. No public clause cites this module.
-use Rattle.std.specs.Prelude.{◌≡◌, ℕ, ◌+◌, ◌≤◌, List, [], ◌++◌, length, Option, Result, Ok, Err, ◌⊎◌}
+use Rattle.std.specs.Prelude.{◌≡◌, ℕ, ◌+◌, ◌≤◌, Bool, true, false, List, [], ◌∷◌, ◌++◌, length, Option, Result, Ok, Err, ◌⊎◌}
 use Rattle.std.specs.List.{AllByRecursion}
 use Rattle.ele_printer.specs.declared.fault.WriteFault.{WriteFault}
 use Rattle.ele_printer.specs.Outlet.{Outlet, Takes, TakesFront}
+use Rattle.ele_runs.specs.Course.{Course}
 use Rattle.ele_runs.specs.LineLength.{line_unless_long}
 use Rattle.ele_runs.specs.Lines.{IsUnbroken, AreLines, whole_lines}
-use Rattle.ele_runs.specs.Output.{AreBlocks}
-use Rattle.ele_history.specs.Past.{Past}
+use Rattle.ele_runs.specs.Told.{AreTold}
 
 -- the lines that end in the piece were answered, the first of which may have begun before it, and what is behind them is kept
-pub record AnswersAll (before after : Past) (part piece : List ℕ) (buffer : Option (List ℕ)) (n ended : ℕ) (old new : Outlet) : Type 0 where
+pub record AnswersAll (before after : Course) (part piece : List ℕ) (buffer : Option (List ℕ)) (old new : Outlet) : Type 0 where
   pub lines : List (List ℕ)
   pub last : List ℕ
   pub text : List ℕ
   pub are : AreLines (part ++ piece) lines last
-  pub counted : n + length lines ≡ ended
+  pub counted : before.number + length lines ≡ after.number
   pub few : (length lines + length last ≤ length piece) ⊎ (lines ≡ [])
   pub keeps : buffer ≡ line_unless_long last
-  pub blocks : AreBlocks before lines text after
+  pub goes_on : after.ended ≡ false
+  pub told : AreTold before lines text after
+  pub put : Takes old new text
+
+-- the last of these lines ended the run, and is kept
+pub record AnswersLast (before after : Course) (part piece : List ℕ) (buffer : Option (List ℕ)) (old new : Outlet) : Type 0 where
+  pub lines : List (List ℕ)
+  pub line : List ℕ
+  pub rest : List ℕ
+  pub text : List ℕ
+  pub parts : part ++ piece ≡ whole_lines (lines ++ line ∷ []) ++ rest
+  pub whole : AllByRecursion IsUnbroken lines
+  pub unbroken : IsUnbroken line
+  pub counted : before.number + (length lines + 1) ≡ after.number
+  pub keeps : buffer ≡ line_unless_long line
+  pub ended : after.ended ≡ true
+  pub told : AreTold before (lines ++ line ∷ []) text after
   pub put : Takes old new text
 
 -- the writer failed in a block of these lines, or in what stood before them
-pub record AnswersSome (before after : Past) (part piece : List ℕ) (old new : Outlet) : Type 0 where
+pub record AnswersSome (before after : Course) (part piece : List ℕ) (old new : Outlet) : Type 0 where
   pub lines : List (List ℕ)
   pub rest : List ℕ
   pub text : List ℕ
   pub parts : part ++ piece ≡ whole_lines lines ++ rest
   pub whole : AllByRecursion IsUnbroken lines
-  pub blocks : AreBlocks before lines text after
+  pub told : AreTold before lines text after
   pub put : TakesFront old new text
 
-abbrev pub Answers : Past → Past → List ℕ → List ℕ → Option (List ℕ) → ℕ → Outlet → Outlet → Result ℕ WriteFault → Type 0
-Answers before after part piece buffer n old new (Ok ended) = AnswersAll before after part piece buffer n ended old new
-Answers before after part piece buffer n old new (Err fault) = AnswersSome before after part piece old new
+-- whether the run was ended by them
+abbrev pub AnswersBy : Bool → Course → Course → List ℕ → List ℕ → Option (List ℕ) → Outlet → Outlet → Type 0
+AnswersBy false before after part piece buffer old new = AnswersAll before after part piece buffer old new
+AnswersBy true before after part piece buffer old new = AnswersLast before after part piece buffer old new
+
+abbrev pub Answers : {A : Type 0} → Course → Course → List ℕ → List ℕ → Option (List ℕ) → Outlet → Outlet → Result A WriteFault → Type 0
+Answers before after part piece buffer old new (Ok x) = AnswersBy after.ended before after part piece buffer old new
+Answers before after part piece buffer old new (Err fault) = AnswersSome before after part piece old new
 
 -- whatever was kept of a line that began before the piece
-abbrev pub AnswersPiece : Past → Past → Option (List ℕ) → List ℕ → Option (List ℕ) → ℕ → Outlet → Outlet → Result ℕ WriteFault → Type 0
-AnswersPiece before after began piece buffer n old new result =
-    (part : List ℕ) → IsUnbroken part → began ≡ line_unless_long part → Answers before after part piece buffer n old new result
+abbrev pub AnswersPiece : {A : Type 0} → Course → Course → Option (List ℕ) → List ℕ → Option (List ℕ) → Outlet → Outlet → Result A WriteFault → Type 0
+AnswersPiece before after began piece buffer old new result =
+    (part : List ℕ) → IsUnbroken part → began ≡ line_unless_long part → Answers before after part piece buffer old new result

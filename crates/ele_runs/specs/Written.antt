@@ -1,65 +1,35 @@
 -- What was put for a line, and for a script. No public clause cites this module.
-use Rattle.std.specs.Prelude.{◌≡◌, ℕ, ◌+◌, List, ◌++◌, length, Option, Result, Ok, Err}
+use Rattle.std.specs.Prelude.{◌≡◌, ℕ, ◌+◌, List, [], ◌++◌, Option, Some, None, Result, Ok, Err, if◌then◌else◌}
 use Rattle.std.specs.Io.KnownBytes.{Appends}
-use Rattle.ele_world.specs.declared.event.Event.{Event}
-use Rattle.ele_world.specs.declared.refusal.Stop.{Stop}
-use Rattle.ele_world.specs.declared.refusal.Stop.TheVariants.{NoMemory}
-use Rattle.ele_world.specs.declared.reply.Reply.{Reply}
 use Rattle.ele_printer.specs.Front.{AppendsFront}
 use Rattle.ele_printer.specs.Outlet.{Outlet, Puts}
-use Rattle.ele_printer.specs.HistoryText.{trimmed_text}
-use Rattle.ele_printer.specs.Printed.{IsAnswerText, stop_text}
-use Rattle.ele_runs.specs.Answer.{Answer}
-use Rattle.ele_runs.specs.Block.{MayAnswer, IsBlock, IsText, cut_block, cut_count}
-use Rattle.ele_runs.specs.Running.{Runs}
-use Rattle.ele_history.specs.Past.{Past, trimmed}
-use Rattle.ele_history.specs.Reply.{MayReply}
+use Rattle.ele_runs.specs.Block.{cut_count}
+use Rattle.ele_runs.specs.Course.{Course}
+use Rattle.ele_runs.specs.Telling.{Tells}
+use Rattle.ele_runs.specs.Told.{IsTold, cut_told}
+use Rattle.ele_runs.specs.declared.end.RunEnd.{RunEnd}
 use Rattle.ele_runs.specs.declared.fault.ShellFault.{ShellFault}
 
--- the text of the event's reply was put, or at an error a front of all that was to be written was taken
-pub record PutsReply {A E : Type 0} (before : Past) (event : Event) (after : Past) (old new : Outlet) (result : Result A E) : Type 0 where
-  pub said : Result Reply Stop
-  pub may : MayReply before event said after
-  pub text : List ℕ
-  pub is : IsAnswerText said text
-  pub put : Puts old new text result
-
--- a trim was answered: how many entries it folded, or a stop for memory, which leaves the history
-abbrev pub TrimsTo : Past → Result ℕ Stop → Past → Type 0
-TrimsTo before (Ok count) after = (count ≡ length before.entries) × (after ≡ trimmed before)
-TrimsTo before (Err stop) after = (stop ≡ NoMemory) × (after ≡ before)
-
-abbrev pub trim_text : Result ℕ Stop → List ℕ
-trim_text (Ok count) = trimmed_text count
-trim_text (Err stop) = stop_text stop
-
--- its text was put, or at an error a front of all that was to be written was taken
-pub record PutsTrim {A E : Type 0} (before after : Past) (old new : Outlet) (result : Result A E) : Type 0 where
-  pub said : Result ℕ Stop
-  pub trims : TrimsTo before said after
-  pub put : Puts old new (trim_text said) result
-
--- the text of the line's answer was put, or at an error a front of all that was to be written was taken
-pub record PutsAnswer {A E : Type 0} (before : Past) (line : List ℕ) (after : Past) (old new : Outlet) (result : Result A E) : Type 0 where
-  pub said : Answer
-  pub may : MayAnswer before line said after
-  pub text : List ℕ
-  pub is : IsText said text
-  pub put : Puts old new text result
-
--- the line's block was put, or at an error a front of all that was to be written was taken
-pub record PutsBlock {A E : Type 0} (before : Past) (line : Option (List ℕ)) (after : Past) (old new : Outlet) (result : Result A E) : Type 0 where
+-- what is told for the line was put, or at an error a front of all that was to be written was taken
+pub record PutsBlock {A E : Type 0} (before : Course) (line : Option (List ℕ)) (after : Course) (old new : Outlet) (result : Result A E) : Type 0 where
   pub block : List ℕ
-  pub is : IsBlock before line block after
+  pub is : IsTold before line block after
   pub put : Puts old new block result
 
--- all that was to be written and the block of a last line were written, or at an error a front of these; the line counts
--- unless it is empty
-abbrev pub WritesLast : {E : Type 0} → ℕ → Option (List ℕ) → Outlet → Outlet → Result ℕ E → Type 0
-WritesLast n buffer old new (Ok count) =
-    (new.writer ≡ old.writer) × (count ≡ n + cut_count buffer) × Appends old.known new.known (old.held ++ cut_block buffer)
-WritesLast n buffer old new (Err fault) = (new.writer ≡ old.writer) × AppendsFront old.known new.known (old.held ++ cut_block buffer)
+-- a last line without its line feed ends a strict run, unless it is empty
+abbrev pub end_by : Course → Option (List ℕ) → Option (Option (List ℕ))
+end_by course (Some []) = None
+end_by course last = if course.manner.strict then Some last else None
+
+-- all that was to be written and what is told for a last line were written, or at an error a front of these; the line
+-- counts unless it is empty
+abbrev pub WritesLast : {E : Type 0} → Course → Option (List ℕ) → Outlet → Outlet → Result RunEnd E → Type 0
+WritesLast course buffer old new (Ok ran) =
+    (new.writer ≡ old.writer) × (ran.lines ≡ course.number + cut_count buffer) × (ran.ended_by ≡ end_by course buffer)
+    × Appends old.known new.known (old.held ++ cut_told course buffer)
+WritesLast course buffer old new (Err fault) =
+    (new.writer ≡ old.writer) × AppendsFront old.known new.known (old.held ++ cut_told course buffer)
 
 -- what a run has done at its writer, by how it ends
-abbrev pub RunsAt : Past → Option (List ℕ) → Option (List ℕ) → Outlet → Outlet → Result ℕ ShellFault → Type 0
-RunsAt start input rest old new result = (new.writer ≡ old.writer) × Runs start input rest old.known new.known result
+abbrev pub RunsAt : Course → Option (List ℕ) → Option (List ℕ) → Outlet → Outlet → Result RunEnd ShellFault → Type 0
+RunsAt start input rest old new result = (new.writer ≡ old.writer) × Tells start input rest old.known new.known result

@@ -1,96 +1,103 @@
-//! The keeper of a run: a history, and the answers to its lines.
-//! A contract sees a keeper as its history.
-ghost use Rattle.std.specs.Prelude.{◌≡◌, IfOk};
+//! The keeper of a run: a history, the answers to its lines, and the manner in which they are told.
+//! A contract sees a keeper as how far its run has got.
+ghost use Rattle.std.specs.Prelude.{◌≡◌, ◌+◌, ◌<◌, ◌^◌, false, IfOk};
+ghost use Rattle.std.specs.Option.{option_map};
 ghost use Rattle.ele_history.specs.Past.{fresh};
 ghost use Rattle.ele_printer.specs.Prints.{outlet};
-ghost use Rattle.ele_runs.specs.Written.{PutsReply, PutsAnswer, PutsTrim};
+ghost use Rattle.ele_runs.specs.Course.{begun};
+ghost use Rattle.ele_runs.specs.Said.{HearsNext};
+ghost use Rattle.ele_runs.specs.Written.{PutsBlock};
 
+use crate::manner::Manner;
+use crate::said::{Said, hear_kept};
 use ele_history::History;
 use ele_moment::NoMemory;
-use ele_printer::{put_history, put_trimmed};
-use ele_script::{
-    Line, LineFault, Printer, WriteFault, put_answer, put_fault, put_pass, put_stop, read_line,
-};
-use ele_world::{Event, Limits, Stepping, Stop};
+use ele_script::{Printer, WriteFault};
+use ele_world::{Limits, Stepping};
 use std::alloc::Global;
 use std::io::Write;
 use std::marker::Model;
 
-/// A history, and where lines are read.
+/// A history, where lines are read, in which manner they are answered, and how many were.
 #[derive(Drop)]
 pub(crate) struct Keeper<C: Stepping> {
     alloc: Global,
     history: History<C>,
+    manner: Manner,
+    lines: u64,
+    has_ended: bool,
 }
 
 impl<C: Stepping> Model for Keeper<C> {
-    ghost use Rattle.ele_history.specs.Past.{Past};
+    ghost use Rattle.ele_runs.specs.Course.{Course};
 
-    ghost Value = { Past };
+    ghost Value = { Course };
 
-    ghost view = { λ k. k.history };
+    ghost view = { λ k. record { manner = k.manner; past = k.history; number = k.lines; ended = k.has_ended } };
 }
 
 impl<C: Stepping> Keeper<C> {
-    /// The history of a fresh world, before its first entry.
-    pub(crate) fn new(alloc: Global, limits: Limits) -> Result<Keeper<C>, NoMemory>
-        ensures { IfOk result (λ keeper. keeper ≡ fresh limits) }
+    /// The history of a fresh world, before the first line.
+    pub(crate) fn new(alloc: Global, limits: Limits, manner: Manner) -> Result<Keeper<C>, NoMemory>
+        ensures { IfOk result (λ keeper. keeper ≡ begun manner (fresh limits)) }
     {
         let history = History::<C>::new(alloc, limits)?;
-        Ok(Keeper { alloc, history })
+        Ok(Keeper {
+            alloc,
+            history,
+            manner,
+            lines: 0,
+            has_ended: false,
+        })
     }
 
-    /// Answers a line that is neither empty nor too long, and puts the answer behind the others. At
-    /// a fault the writer took a front of all.
-    pub(crate) fn put_answer<W: Write>(
+    /// The manner of the run.
+    pub(crate) fn manner(&self) -> Manner
+        ensures { result ≡ self.now.manner }
+    {
+        self.manner
+    }
+
+    /// How many lines were heard.
+    pub(crate) fn lines(&self) -> u64
+        ensures { result ≡ self.now.number }
+    {
+        self.lines
+    }
+
+    /// Whether one of them has ended the run.
+    pub(crate) fn has_ended(&self) -> bool
+        ensures { result ≡ self.now.ended }
+    {
+        self.has_ended
+    }
+
+    // Hears the next line as it is kept, and answers it.
+    #[tactic(auto, using(crate::proofs::Blocks::heard_next))]
+    fn hear(&mut self, line: Option<&[u8]>) -> Said
+        requires { self.old.number + 1 < 2 ^ 64 }
+        ensures { HearsNext self.old (option_map (λ line. line.now) line.entry) result self.new }
+    {
+        let said = hear_kept(self.alloc, self.manner, line, &mut self.history);
+        self.lines += 1;
+        self.has_ended = self.manner.strict && !said.is_well(&self.history);
+        said
+    }
+
+    /// Answers the next line as it is kept, and puts what is told for it. At a fault the writer took
+    /// a front of all.
+    pub(crate) fn put_block<W: Write>(
         &mut self,
-        line: &[u8],
+        line: Option<&[u8]>,
         printer: &mut Printer<'_, W>,
     ) -> Result<(), WriteFault>
-        ensures { PutsAnswer self.old line.now self.new
+        requires goes_on { self.old.ended ≡ false }
+        requires few { self.old.number + 1 < 2 ^ 64 }
+        ensures { PutsBlock self.old (option_map (λ line. line.now) line.entry) self.new
             (outlet W.contents printer.old) (outlet W.contents printer.new) result }
     {
-        match read_line(self.alloc, line) {
-            Ok(Line::Event(event)) => self.put_reply(event, printer),
-            Ok(Line::Pass(budget)) => put_pass(&self.history.pass(budget), printer),
-            Ok(Line::History) => {
-                put_history(self.history.folded(), self.history.entries(), printer)
-            }
-            Ok(Line::Trim) => self.put_trim(printer),
-            Err(fault) => match fault {
-                LineFault::NoMemory => put_stop(Stop::NoMemory, printer),
-                _ => put_fault(fault, printer),
-            },
-        }
-    }
-
-    // Puts the reply to an event, which stands in the history, or the stop in its place, which
-    // leaves the history.
-    fn put_reply<W: Write>(
-        &mut self,
-        event: Event,
-        printer: &mut Printer<'_, W>,
-    ) -> Result<(), WriteFault>
-        ensures { PutsReply self.old event self.new
-            (outlet W.contents printer.old) (outlet W.contents printer.new) result }
-    {
-        if let Err(stop) = self.history.record(event) {
-            return put_stop(stop, printer);
-        }
-        match self.history.last() {
-            Some(entry) => put_answer(&entry.reply, printer),
-            None => unreachable!(),
-        }
-    }
-
-    // Folds the history, and puts how many entries that took from it.
-    fn put_trim<W: Write>(&mut self, printer: &mut Printer<'_, W>) -> Result<(), WriteFault>
-        ensures { PutsTrim self.old self.new
-            (outlet W.contents printer.old) (outlet W.contents printer.new) result }
-    {
-        match self.history.trim() {
-            Ok(count) => put_trimmed(count, printer),
-            Err(_) => put_stop(Stop::NoMemory, printer),
-        }
+        let said = self.hear(line);
+        said.put_front(self.manner, self.lines, printer)?;
+        said.put(&self.history, printer)
     }
 }

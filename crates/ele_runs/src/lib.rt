@@ -3,13 +3,19 @@
 //! known.
 #![tactic(auto)]
 
+mod end;
 mod fault;
 mod keeper;
 pub mod laws;
 mod line_buffer;
 mod lines;
+mod manner;
 mod piece;
+mod said;
 mod script;
 
+pub use end::RunEnd;
 pub use fault::ShellFault;
-pub use script::run_over;
+pub use line_buffer::LineBuffer;
+pub use manner::Manner;
+pub use script::{run_in, run_over};

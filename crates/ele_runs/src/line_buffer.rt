@@ -10,7 +10,7 @@ use std::marker::Model;
 
 /// A line without its line feed. Of one that is too long only that is kept.
 #[derive(Drop)]
-pub(crate) struct LineBuffer {
+pub struct LineBuffer {
     bytes: ArrayVec<u8, LONGEST_LINE>,
     is_too_long: bool,
 }
@@ -60,7 +60,7 @@ impl LineBuffer {
     }
 
     /// The line, unless it is too long.
-    pub(crate) fn line(&self) -> Option<&[u8]>
+    pub fn line(&self) -> Option<&[u8]>
         ensures { option_map (λ line. line.now) result ≡ self.now }
     {
         if self.is_too_long {

@@ -1,55 +1,54 @@
 //! The lines of a piece, and their blocks.
 //! A contract sees the lines that end in the piece, and what was put for them.
-ghost use Rattle.std.specs.Prelude.{◌≡◌, ◌+◌, ◌^◌, ◌<◌, ◌≤◌, ◌++◌, [], Some, length, OnOk, IfOk};
+ghost use Rattle.std.specs.Prelude.{◌≡◌, ◌+◌, ◌^◌, ◌<◌, ◌≤◌, ◌++◌, [], true, false, Some, length, OnOk, IfOk};
 ghost use Rattle.std.specs.Option.{option_map, option_and_then};
 ghost use Rattle.memchr.specs.Find.{IsFirstByte, is_byte};
+ghost use Rattle.ele_printer.specs.Printed.{bad_text};
 ghost use Rattle.ele_printer.specs.Prints.{outlet, Prints};
-ghost use Rattle.ele_runs.specs.Block.{cut_block, cut_count};
+ghost use Rattle.ele_runs.specs.Block.{cut_count};
 ghost use Rattle.ele_runs.specs.LineLength.{line_unless_long};
 ghost use Rattle.ele_runs.specs.Piece.{AnswersPiece};
+ghost use Rattle.ele_runs.specs.Said.{said_front};
+ghost use Rattle.ele_runs.specs.Told.{cut_told};
 ghost use Rattle.ele_runs.specs.Written.{PutsBlock, WritesLast};
 
+use crate::end::RunEnd;
 use crate::keeper::Keeper;
 use crate::line_buffer::{LineBuffer, kept_line};
+use crate::said::Said;
 use ele_script::{LineFault, Printer, WriteFault, put_fault};
 use ele_world::Stepping;
 use memchr::memchr;
 use std::io::Write;
 
-// Answers a whole line, and puts its block.
-fn put_block<C: Stepping, W: Write>(
-    line: Option<&[u8]>,
-    keeper: &mut Keeper<C>,
-    printer: &mut Printer<'_, W>,
-) -> Result<(), WriteFault>
-    ensures { PutsBlock keeper.old (option_map (λ line. line.now) line.entry) keeper.new
-        (outlet W.contents printer.old) (outlet W.contents printer.new) result }
-{
-    match line {
-        None => put_fault(LineFault::LineTooLong, printer),
-        Some([]) => Ok(()),
-        Some(line) => keeper.put_answer(line, printer),
-    }
-}
-
-// Answers the line that ends with these bytes, and begins a new one.
+// Answers the line that ends with these bytes, and begins a new one, unless that line ended the run.
 fn put_whole<C: Stepping, W: Write>(
     end: &[u8],
     buffer: &mut LineBuffer,
     keeper: &mut Keeper<C>,
     printer: &mut Printer<'_, W>,
 ) -> Result<(), WriteFault>
+    requires goes_on { keeper.old.ended ≡ false }
+    requires few { keeper.old.number + 1 < 2 ^ 64 }
     ensures block { PutsBlock keeper.old
         (option_and_then (λ line. line_unless_long (line ++ end.now)) buffer.old) keeper.new
         (outlet W.contents printer.old) (outlet W.contents printer.new) result }
-    ensures begun { OnOk result (buffer.new ≡ Some []) }
+    ensures begun { OnOk result (keeper.new.ended ≡ false → buffer.new ≡ Some []) }
+    ensures kept { OnOk result (keeper.new.ended ≡ true → buffer.new
+        ≡ option_and_then (λ line. line_unless_long (line ++ end.now)) buffer.old) }
 {
     if buffer.is_empty() {
-        return put_block(kept_line(end), keeper, printer);
+        keeper.put_block(kept_line(end), printer)?;
+        if keeper.has_ended() {
+            buffer.extend(end);
+        }
+        return Ok(());
     }
     buffer.extend(end);
-    put_block(buffer.line(), keeper, printer)?;
-    buffer.clear();
+    keeper.put_block(buffer.line(), printer)?;
+    if !keeper.has_ended() {
+        buffer.clear();
+    }
     Ok(())
 }
 
@@ -60,58 +59,91 @@ fn line_end(bytes: &[u8]) -> Option<usize>
     memchr(b'\n', bytes)
 }
 
-/// Answers the lines that end in the piece, keeps what is behind them, and tells how many lines
-/// have ended by then.
+/// Answers the lines that end in the piece, and keeps what is behind them, or the line that ended
+/// the run.
 pub(crate) fn answer_piece<C: Stepping, W: Write>(
     piece: &[u8],
-    lines: u64,
     buffer: &mut LineBuffer,
     keeper: &mut Keeper<C>,
     printer: &mut Printer<'_, W>,
-) -> Result<u64, WriteFault>
-    requires { lines + length piece.now < 2 ^ 64 }
-    ensures { AnswersPiece keeper.old keeper.new buffer.old piece.now buffer.new lines
+) -> Result<(), WriteFault>
+    requires goes_on { keeper.old.ended ≡ false }
+    requires few { keeper.old.number + length piece.now < 2 ^ 64 }
+    ensures { AnswersPiece keeper.old keeper.new buffer.old piece.now buffer.new
         (outlet W.contents printer.old) (outlet W.contents printer.new) result }
 {
-    let mut ended = lines;
     let mut rest = piece;
     'lines: while let Some(at) = line_end(rest) {
         put_whole(&rest[..at], buffer, keeper, printer)?;
+        if keeper.has_ended() {
+            return Ok(());
+        }
         rest = rest.split_at(at + 1).1;
-        ended += 1;
     }
     buffer.extend(rest);
-    Ok(ended)
+    Ok(())
 }
 
-// Puts the block of a last line without its line feed, which is never run, and tells by how much
+// Puts the fault of a last line without its line feed, with its number in front where lines are
+// numbered.
+fn put_cut_fault<C: Stepping, W: Write>(
+    fault: LineFault,
+    keeper: &Keeper<C>,
+    printer: &mut Printer<'_, W>,
+) -> Result<(), WriteFault>
+    requires { keeper.now.number + 1 < 2 ^ 64 }
+    ensures { Prints W.contents printer.old printer.new
+        (said_front keeper.now.manner (keeper.now.number + 1) (Said.Bad fault) ++ bad_text fault)
+        result }
+{
+    Said::Bad(fault).put_front(keeper.manner(), keeper.lines() + 1, printer)?;
+    put_fault(fault, printer)
+}
+
+// Puts what is told for a last line without its line feed, which is never run, and tells by how much
 // that line counts.
-fn put_cut<W: Write>(line: Option<&[u8]>, printer: &mut Printer<'_, W>) -> Result<u64, WriteFault>
+fn put_cut<C: Stepping, W: Write>(
+    line: Option<&[u8]>,
+    keeper: &Keeper<C>,
+    printer: &mut Printer<'_, W>,
+) -> Result<u64, WriteFault>
+    requires { keeper.now.number + 1 < 2 ^ 64 }
     ensures count { IfOk result (λ n. n ≡ cut_count (option_map (λ line. line.now) line.entry)) }
     ensures few { IfOk result (λ n. n ≤ 1) }
     ensures put { Prints W.contents printer.old printer.new
-        (cut_block (option_map (λ line. line.now) line.entry)) result }
+        (cut_told keeper.now (option_map (λ line. line.now) line.entry)) result }
 {
-    match line {
-        None => put_fault(LineFault::LineTooLong, printer)?,
+    let fault = match line {
+        None => LineFault::LineTooLong,
         Some([]) => return Ok(0),
-        Some(_) => put_fault(LineFault::Syntax, printer)?,
-    }
+        Some(_) => LineFault::Syntax,
+    };
+    put_cut_fault(fault, keeper, printer)?;
     Ok(1)
 }
 
-/// Writes all that is held and the block of a last line without its line feed, and tells how many
-/// lines there were: a last one counts unless it is empty.
-pub(crate) fn finish<W: Write>(
-    lines: u64,
-    buffer: &LineBuffer,
+/// Writes all that is held and what is told for a last line without its line feed, and tells how the
+/// run ended: that line counts unless it is empty, and ends a strict run then.
+pub(crate) fn finish<C: Stepping, W: Write>(
+    buffer: LineBuffer,
+    keeper: &Keeper<C>,
     printer: &mut Printer<'_, W>,
-) -> Result<u64, WriteFault>
-    requires { lines + 1 < 2 ^ 64 }
-    ensures { WritesLast lines buffer.now (outlet W.contents printer.old)
+) -> Result<RunEnd, WriteFault>
+    requires { keeper.now.number + 1 < 2 ^ 64 }
+    ensures { WritesLast keeper.now buffer (outlet W.contents printer.old)
         (outlet W.contents printer.new) result }
 {
-    let cut = put_cut(buffer.line(), printer)?;
+    let cut = put_cut(buffer.line(), keeper, printer)?;
     printer.hand_over()?;
-    Ok(lines + cut)
+    let lines = keeper.lines() + cut;
+    if keeper.manner().strict && cut > 0 {
+        return Ok(RunEnd {
+            lines,
+            ended_by: Some(buffer),
+        });
+    }
+    Ok(RunEnd {
+        lines,
+        ended_by: None,
+    })
 }

@@ -1,15 +1,19 @@
 //! The run of a script, piece by piece.
 //! A contract sees the lines that the reader gives, and their output at the writer.
-ghost use Rattle.std.specs.Prelude.{◌≡◌, ◌≤◌, ◌-◌, [], min, IfOk, IsErrOf, length};
+ghost use Rattle.std.specs.Prelude.{◌≡◌, ◌≤◌, ◌-◌, [], false, Some, min, IfOk, IsErrOf, length};
 ghost use Rattle.ele_history.specs.Past.{fresh};
 ghost use Rattle.ele_printer.specs.Prints.{outlet};
+ghost use Rattle.ele_runs.specs.Course.{begun};
+ghost use Rattle.ele_runs.specs.Telling.{HasTold, Tells, ToldPastABound, ToldToAReadFault, ToldToAWriteFault};
 ghost use Rattle.ele_runs.specs.Written.{RunsAt};
-ghost use Rattle.ele_runs.specs.Running.{Runs, RanToTheEnd, RanToAReadFault, RanPastABound, RanToAWriteFault};
+ghost use Rattle.ele_runs.specs.Running.{RanToTheEnd, RanToAReadFault, RanPastABound, RanToAWriteFault};
 
+use crate::end::RunEnd;
 use crate::fault::ShellFault;
 use crate::keeper::Keeper;
 use crate::line_buffer::LineBuffer;
 use crate::lines::{answer_piece, finish};
+use crate::manner::Manner;
 use crate::piece::read_piece;
 use ele_script::Printer;
 use ele_world::{Limits, Stepping};
@@ -51,52 +55,108 @@ fn most_of(left: u64) -> usize
     PIECE
 }
 
-// Reads pieces and answers their lines until the input ends, a bound is passed, or the reader or
-// the writer fails. No piece is longer than what may still come, so that nothing is read behind the
+// How a run ended that this line ended.
+fn ended_by<C: Stepping>(line: LineBuffer, keeper: &Keeper<C>) -> RunEnd
+    ensures lines { result.lines ≡ keeper.now.number }
+    ensures line { result.ended_by ≡ Some line }
+{
+    RunEnd {
+        lines: keeper.lines(),
+        ended_by: Some(line),
+    }
+}
+
+// Reads pieces and answers their lines until the input ends, a line ends the run, a bound is
+// passed, or the reader or the writer fails. No piece is longer than what may still come, so that nothing is read behind the
 // byte that passes a bound.
 fn run_pieces<C: Stepping, R: Read, W: Write>(
     keeper: &mut Keeper<C>,
     reader: &mut R,
     printer: &mut Printer<'_, W>,
     piece: &mut [u8],
-) -> Result<u64, ShellFault>
+) -> Result<RunEnd, ShellFault>
     requires piece { length piece.old ≡ PIECE }
     requires none { (outlet W.contents printer.old).held ≡ [] }
+    requires first { keeper.old.number ≡ 0 }
+    requires goes_on { keeper.old.ended ≡ false }
     ensures { RunsAt keeper.old (R.remaining reader.old) (R.remaining reader.new)
         (outlet W.contents printer.old) (outlet W.contents printer.new) result }
 {
     let mut buffer = LineBuffer::new();
     let mut room = MOST_BYTES;
-    let mut lines = 0;
     'pieces: loop {
         printer.hand_over()?;
-        let left = left_of(room, lines);
+        let left = left_of(room, keeper.lines());
         let count = read_piece(reader, piece, most_of(left))?;
         if count == 0 {
-            return Ok(finish(lines, &buffer, printer)?);
+            return Ok(finish(buffer, keeper, printer)?);
         }
         if left == 0 {
             return Err(ShellFault::TooManyLines);
         }
-        lines = answer_piece(&piece[..count], lines, &mut buffer, keeper, printer)?;
+        answer_piece(&piece[..count], &mut buffer, keeper, printer)?;
+        if keeper.has_ended() {
+            printer.hand_over()?;
+            return Ok(ended_by(buffer, keeper));
+        }
         room -= count as u64;
     }
 }
 
 // Runs the script in pieces, over a printer of its own.
-#[tactic(auto, using(crate::proofs::Ends::ran_at))]
+#[tactic(auto, using(crate::proofs::Ends::told_at))]
 fn run_printed<C: Stepping, R: Read, W: Write>(
     keeper: &mut Keeper<C>,
     reader: &mut R,
     writer: &mut W,
     piece: &mut [u8],
-) -> Result<u64, ShellFault>
-    requires { length piece.old ≡ PIECE }
-    ensures { Runs keeper.old (R.remaining reader.old) (R.remaining reader.new)
+) -> Result<RunEnd, ShellFault>
+    requires piece { length piece.old ≡ PIECE }
+    requires first { keeper.old.number ≡ 0 }
+    requires goes_on { keeper.old.ended ≡ false }
+    ensures { Tells keeper.old (R.remaining reader.old) (R.remaining reader.new)
         (W.contents writer.old) (W.contents writer.new) result }
 {
     let mut printer = Printer::new(writer);
     run_pieces(keeper, reader, &mut printer, piece)
+}
+
+/// Runs the script that the reader gives in some manner, as `run_over` does without any option, and
+/// answers how it ended. A strict run ends at the first line that isn't answered by `ok`: what is
+/// told for the lines up to that one is written then, and lines behind it are never run. The line
+/// counts, and comes back as it is kept. A last line without its line feed is such a line, and is
+/// never run as a remark either.
+///
+/// The errors are those of `run_over`.
+pub fn run_in<C: Stepping, R: Read, W: Write>(
+    manner: Manner,
+    alloc: Global,
+    reader: &mut R,
+    writer: &mut W,
+    limits: Limits,
+) -> Result<RunEnd, ShellFault>
+    ensures ok { IfOk result (λ ran. HasTold (begun manner (fresh limits))
+        (R.remaining reader.old) (R.remaining reader.new)
+        (W.contents writer.old) (W.contents writer.new) ran.lines ran.ended_by) }
+    ensures read_fault { IsErrOf result ShellFault.ReadFault
+        → ToldToAReadFault (begun manner (fresh limits))
+        (R.remaining reader.old) (R.remaining reader.new)
+        (W.contents writer.old) (W.contents writer.new) }
+    ensures too_many_lines { IsErrOf result ShellFault.TooManyLines
+        → ToldPastABound (begun manner (fresh limits))
+        (R.remaining reader.old) (R.remaining reader.new)
+        (W.contents writer.old) (W.contents writer.new) }
+    ensures write_fault { IsErrOf result ShellFault.WriteFault
+        → ToldToAWriteFault (begun manner (fresh limits))
+        (R.remaining reader.old) (W.contents writer.old) (W.contents writer.new) }
+    ensures no_memory { IsErrOf result ShellFault.NoMemory
+        → (reader.new ≡ reader.old) × (writer.new ≡ writer.old) }
+{
+    let Ok(mut piece) = vec![in alloc; 0u8; PIECE] else {
+        return Err(ShellFault::NoMemory);
+    };
+    let mut keeper = Keeper::<C>::new(alloc, limits, manner)?;
+    run_printed(&mut keeper, reader, writer, piece.as_mut_slice())
 }
 
 /// Runs the script that the reader gives: answers each whole line at the writer, and answers how
@@ -134,9 +194,8 @@ pub fn run_over<C: Stepping, R: Read, W: Write>(
     ensures no_memory { IsErrOf result ShellFault.NoMemory
         → (reader.new ≡ reader.old) × (writer.new ≡ writer.old) }
 {
-    let Ok(mut piece) = vec![in alloc; 0u8; PIECE] else {
-        return Err(ShellFault::NoMemory);
-    };
-    let mut keeper = Keeper::<C>::new(alloc, limits)?;
-    run_printed(&mut keeper, reader, writer, piece.as_mut_slice())
+    match run_in::<C, R, W>(Manner::plain(), alloc, reader, writer, limits) {
+        Ok(ran) => Ok(ran.lines),
+        Err(fault) => Err(fault),
+    }
 }

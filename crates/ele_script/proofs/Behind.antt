@@ -1,16 +1,23 @@
 -- Single words and their faults.
 use Rattle.ele_script.proofs.Basics.{◌≡◌, ℕ, List, [], ◌∷◌, true, false, refl, ap, ◌⊎◌, inl, inr, Option, Some, None, OnOk, ok_or}
-use Rattle.ele_script.proofs.Prelude.{SpellsNumber, LineFault, NoMemory, Syntax, IsTaggedFault, fault_of_path, IsTaggedWordFault, begins_path, of_handle, NumberWord, PathWord, SourceWord, PolicyWord, IsOfKind, IsWordFault, IsRefused}
+use Rattle.ele_script.proofs.Prelude.{SpellsNumber, LineFault, NoMemory, Syntax, IsTaggedFault, fault_of_path, IsTaggedWordFault, begins_path, of_handle, NumberWord, MomentWord, PathWord, SourceWord, PolicyWord, IsOfKind, IsWordFault, IsRefused}
 use Rattle.ele_script.proofs.Prelude.{bad_word}
 use Rattle.std.specs.Prelude.{IfSome}
 use Rattle.ele_time_path.specs.declared.fault.PathFault.{PathFault}
 use Rattle.ele_time_path.specs.declared.fault.PathFault.TheVariants as path
-use Rattle.ele_script.specs.Value.{Number}
+use Rattle.ele_moment.specs.Spelled.{SpellsMoment}
+use Rattle.ele_printer.specs.declared.fault.LineFault.TheVariants.{BadMoment}
+use Rattle.ele_script.specs.Value.{Number, Moment}
 
 -- a word of which a number was read is one of a number
 pub number_kind : (word : List ℕ) (read : Option ℕ) → IfSome read (SpellsNumber word) → OnOk (ok_or read Syntax) (IsOfKind NumberWord word)
 number_kind word None is = tt
 number_kind word (Some n) is = (Number n, refl, is)
+
+-- and one of which a moment was read is one of a moment
+pub moment_kind : (word : List ℕ) (read : Option ℕ) → IfSome read (SpellsMoment word) → OnOk (ok_or read BadMoment) (IsOfKind MomentWord word)
+moment_kind word None is = tt
+moment_kind word (Some m) is = (Moment m, refl, is)
 
 -- a path and a word that is no policy
 pub refused_policy : (words : List (List ℕ)) (path word : List ℕ) (fault : LineFault) → words ≡ path ∷ word ∷ [] → IsOfKind PathWord path → IsWordFault PolicyWord word fault → IsRefused true (PathWord ∷ PolicyWord ∷ []) words fault

@@ -34,7 +34,7 @@ no_command_fits : (words : List (List ℕ)) → command_of words ≡ None → (c
 no_command_fits words none command arguments fits = let some = fits_found words command arguments fits in cc
 
 -- the faults behind the command are those of the words
-pub fault_of_words : (words : List (List ℕ)) (command : Command) (arguments : List (List ℕ)) (fault : LineFault) → command_of words ≡ Some (command, arguments) → words ≡ command_words command ++ arguments → IsFaultOfKinds (kinds_behind command) arguments fault → IsFaultOfWords words fault
+pub fault_of_words : (words : List (List ℕ)) (command : Command) (arguments : List (List ℕ)) (fault : LineFault) → command_of words ≡ Some (command, arguments) → words ≡ command_words command ++ arguments → IsFaultOfKinds (kinds_behind command arguments) arguments fault → IsFaultOfWords words fault
 fault_of_words words command arguments fault found are (miscounted number is) = no_command (λ c xs fits. grind (arith, number, fits_found words c xs fits, fits.count, same_Some)) is
 fault_of_words words command arguments fault found are (bad_word count first) =
     of_word command arguments (record { are = are; count = count }) first

@@ -13,7 +13,8 @@ use Rattle.ele_time_path.specs.Tagged.{SpellsTag, SpellsTaggedPath}
 use Rattle.ele_time_path.specs.declared.tagged.Tag.{Tag}
 use Rattle.ele_time_path.specs.declared.tagged.Tag.TheVariants.{Now, At, Number as Numbered}
 use Rattle.ele_world.specs.declared.event.Source.TheVariants as source
-use Rattle.ele_printer.specs.EventText.{IsTag, IsValue, event_words, path_word, tag_text, tagged_word, value_word}
+use Rattle.ele_printer.specs.EventText.{IsTag, IsValue, event_words, value_word}
+use Rattle.ele_time_path.specs.PathText.{path_word, tag_text, tagged_word}
 use Rattle.ele_printer.specs.Parts.{parts_of}
 use Rattle.ele_printer.specs.Printed.{bytes_word}
 use Rattle.ele_script.specs.declared.reading.Line.TheVariants as asks

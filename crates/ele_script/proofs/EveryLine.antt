@@ -1,6 +1,6 @@
 -- Each line asks for something or has a first fault.
-use Rattle.ele_script.proofs.Basics.{◌≡◌, ℕ, ◌≤◌, Bool, true, false, List, [], ◌∷◌, length, refl, ◌⊎◌, inl, inr, Option, Some, None, ℕ_discrete, dec_le}
-use Rattle.ele_script.proofs.Prelude.{Line, Command, LineFault, Syntax, Value, Moment, Name, Path, Timed, Bytes, kinds_behind, longest_line, words_of, is_worded, SpellsWords, Asks, IsFaultOfWords, of_word, IsFirstFault, too_long, not_worded, of_words, miscounted}
+use Rattle.ele_script.proofs.Basics.{◌≡◌, ℕ, ◌==◌, ◌≤◌, Bool, true, false, List, [], ◌∷◌, length, refl, ◌⊎◌, inl, inr, Option, Some, None, ℕ_discrete, dec_le}
+use Rattle.ele_script.proofs.Prelude.{Line, Command, LineFault, Syntax, Value, Moment, Name, Path, Timed, Bytes, kinds_behind, kinds_if, longest_line, words_of, is_worded, SpellsWords, Asks, IsFaultOfWords, of_word, IsFirstFault, too_long, not_worded, of_words, miscounted}
 use Rattle.std.proofs.Math.Nat.{lt_of_not-le}
 use Rattle.ele_printer.specs.declared.command.Command.TheVariants.{Clock, Tick, MakeDir, RemoveDir, Create, Link, Unlink, Rename, Undelete, OpenWrite, OpenRead, Write, Truncate, Close, Revert, SetPolicy, Default, GroupMake, GroupDrop, GroupAdd, GroupRemove, Mark, Unmark, Clean, Read, Stat, Versions, ListNames, Restorable, Due, Usage, Groups, Pass, History, Trim}
 use Rattle.ele_printer.specs.declared.fault.LineFault.TheVariants.{LineTooLong}
@@ -15,53 +15,54 @@ use Rattle.ele_script.proofs.Laws.{kinds_of}
 use Rattle.ele_script.proofs.WordMeanings.{words_meaning}
 
 -- a command and values of the kinds behind it ask for something
-asked_by : (command : Command) (values : List Value) → kinds_of values ≡ kinds_behind command → (asked : Line) × ((line_parts asked).0 ≡ command) × ((line_parts asked).1 ≡ values)
-asked_by Clock (Moment moment ∷ []) kinds = (asks.Event (event.Clock moment), refl, refl)
-asked_by Tick (Number seconds ∷ []) kinds = (asks.Event (event.Tick seconds), refl, refl)
-asked_by MakeDir (Path path ∷ []) kinds = (asks.Event (event.MakeDir path), refl, refl)
-asked_by RemoveDir (Path path ∷ []) kinds = (asks.Event (event.RemoveDir path), refl, refl)
-asked_by Create (Path path ∷ []) kinds = (asks.Event (event.Create path), refl, refl)
-asked_by Link (Path from ∷ Path to ∷ []) kinds = (asks.Event (event.Link from to), refl, refl)
-asked_by Unlink (Path path ∷ []) kinds = (asks.Event (event.Unlink path), refl, refl)
-asked_by Rename (Path from ∷ Path to ∷ []) kinds = (asks.Event (event.Rename from to), refl, refl)
-asked_by Undelete (Path path ∷ []) kinds = (asks.Event (event.Undelete path), refl, refl)
-asked_by OpenWrite (Path path ∷ []) kinds = (asks.Event (event.OpenWrite path), refl, refl)
-asked_by OpenRead (Tagged tagged ∷ []) kinds = (asks.Event (event.OpenRead tagged), refl, refl)
-asked_by Write (Number handle ∷ Number offset ∷ Bytes bytes ∷ []) kinds = (asks.Event (event.Write handle offset bytes), refl, refl)
-asked_by Truncate (Number handle ∷ Number size ∷ []) kinds = (asks.Event (event.Truncate handle size), refl, refl)
-asked_by Close (Number handle ∷ []) kinds = (asks.Event (event.Close handle), refl, refl)
-asked_by Revert (Path path ∷ Number number ∷ []) kinds = (asks.Event (event.Revert path number), refl, refl)
-asked_by SetPolicy (Path path ∷ Policy policy ∷ []) kinds = (asks.Event (event.SetPolicy path policy), refl, refl)
-asked_by Default (Path path ∷ Policy policy ∷ []) kinds = (asks.Event (event.SetDefault path policy), refl, refl)
-asked_by GroupMake (Name name ∷ []) kinds = (asks.Event (event.GroupMake name), refl, refl)
-asked_by GroupDrop (Name name ∷ []) kinds = (asks.Event (event.GroupDrop name), refl, refl)
-asked_by GroupAdd (Name name ∷ Path path ∷ []) kinds = (asks.Event (event.GroupAdd name path), refl, refl)
-asked_by GroupRemove (Name name ∷ Path path ∷ []) kinds = (asks.Event (event.GroupRemove name path), refl, refl)
-asked_by Mark (Name name ∷ Moment moment ∷ []) kinds = (asks.Event (event.Mark name moment), refl, refl)
-asked_by Unmark (Name name ∷ Moment moment ∷ []) kinds = (asks.Event (event.Unmark name moment), refl, refl)
-asked_by Clean [] kinds = (asks.Event event.CleanOne, refl, refl)
-asked_by Read (Source source ∷ []) kinds = (asks.Event (event.Read source), refl, refl)
-asked_by Stat (Tagged tagged ∷ []) kinds = (asks.Event (event.Stat tagged), refl, refl)
-asked_by Versions (Timed timed ∷ []) kinds = (asks.Event (event.Versions timed), refl, refl)
-asked_by ListNames (Timed timed ∷ []) kinds = (asks.Event (event.List timed), refl, refl)
-asked_by Restorable [] kinds = (asks.Event event.Restorable, refl, refl)
-asked_by Due [] kinds = (asks.Event event.Due, refl, refl)
-asked_by Usage [] kinds = (asks.Event event.UsageAll, refl, refl)
-asked_by Groups [] kinds = (asks.Event event.GroupsAll, refl, refl)
-asked_by Pass (Number budget ∷ []) kinds = (asks.Pass budget, refl, refl)
-asked_by History [] kinds = (asks.History, refl, refl)
-asked_by Trim [] kinds = (asks.Trim, refl, refl)
-asked_by command values kinds = absurd cc
+asked_by : (command : Command) (ended : Bool) (values : List Value) → kinds_of values ≡ kinds_if command ended → (asked : Line) × ((line_parts asked).0 ≡ command) × ((line_parts asked).1 ≡ values)
+asked_by Clock ended (Moment moment ∷ []) kinds = (asks.Event (event.Clock moment), refl, refl)
+asked_by Tick ended (Number seconds ∷ []) kinds = (asks.Event (event.Tick seconds), refl, refl)
+asked_by MakeDir ended (Path path ∷ []) kinds = (asks.Event (event.MakeDir path), refl, refl)
+asked_by RemoveDir ended (Path path ∷ []) kinds = (asks.Event (event.RemoveDir path), refl, refl)
+asked_by Create ended (Path path ∷ []) kinds = (asks.Event (event.Create path), refl, refl)
+asked_by Link ended (Path from ∷ Path to ∷ []) kinds = (asks.Event (event.Link from to), refl, refl)
+asked_by Unlink ended (Path path ∷ []) kinds = (asks.Event (event.Unlink path), refl, refl)
+asked_by Rename ended (Path from ∷ Path to ∷ []) kinds = (asks.Event (event.Rename from to), refl, refl)
+asked_by Undelete ended (Path path ∷ []) kinds = (asks.Event (event.Undelete path), refl, refl)
+asked_by OpenWrite ended (Path path ∷ []) kinds = (asks.Event (event.OpenWrite path), refl, refl)
+asked_by OpenRead ended (Tagged tagged ∷ []) kinds = (asks.Event (event.OpenRead tagged), refl, refl)
+asked_by Write ended (Number handle ∷ Number offset ∷ Bytes bytes ∷ []) kinds = (asks.Event (event.Write handle offset bytes), refl, refl)
+asked_by Truncate ended (Number handle ∷ Number size ∷ []) kinds = (asks.Event (event.Truncate handle size), refl, refl)
+asked_by Close ended (Number handle ∷ []) kinds = (asks.Event (event.Close handle), refl, refl)
+asked_by Revert ended (Path path ∷ Number number ∷ []) kinds = (asks.Event (event.Revert path number), refl, refl)
+asked_by SetPolicy ended (Path path ∷ Policy policy ∷ []) kinds = (asks.Event (event.SetPolicy path policy), refl, refl)
+asked_by Default ended (Path path ∷ Policy policy ∷ []) kinds = (asks.Event (event.SetDefault path policy), refl, refl)
+asked_by GroupMake ended (Name name ∷ []) kinds = (asks.Event (event.GroupMake name), refl, refl)
+asked_by GroupDrop ended (Name name ∷ []) kinds = (asks.Event (event.GroupDrop name), refl, refl)
+asked_by GroupAdd ended (Name name ∷ Path path ∷ []) kinds = (asks.Event (event.GroupAdd name path), refl, refl)
+asked_by GroupRemove ended (Name name ∷ Path path ∷ []) kinds = (asks.Event (event.GroupRemove name path), refl, refl)
+asked_by Mark false (Name name ∷ Moment moment ∷ []) kinds = (asks.Event (event.Mark name moment None), refl, refl)
+asked_by Mark true (Name name ∷ Moment moment ∷ Moment end ∷ []) kinds = (asks.Event (event.Mark name moment (Some end)), refl, refl)
+asked_by Unmark ended (Name name ∷ Moment moment ∷ []) kinds = (asks.Event (event.Unmark name moment), refl, refl)
+asked_by Clean ended [] kinds = (asks.Event event.CleanOne, refl, refl)
+asked_by Read ended (Source source ∷ []) kinds = (asks.Event (event.Read source), refl, refl)
+asked_by Stat ended (Tagged tagged ∷ []) kinds = (asks.Event (event.Stat tagged), refl, refl)
+asked_by Versions ended (Timed timed ∷ []) kinds = (asks.Event (event.Versions timed), refl, refl)
+asked_by ListNames ended (Timed timed ∷ []) kinds = (asks.Event (event.List timed), refl, refl)
+asked_by Restorable ended [] kinds = (asks.Event event.Restorable, refl, refl)
+asked_by Due ended [] kinds = (asks.Event event.Due, refl, refl)
+asked_by Usage ended [] kinds = (asks.Event event.UsageAll, refl, refl)
+asked_by Groups ended [] kinds = (asks.Event event.GroupsAll, refl, refl)
+asked_by Pass ended (Number budget ∷ []) kinds = (asks.Pass budget, refl, refl)
+asked_by History ended [] kinds = (asks.History, refl, refl)
+asked_by Trim ended [] kinds = (asks.Trim, refl, refl)
+asked_by command ended values kinds = absurd cc
 
 words_ask : (words : List (List ℕ)) (command : Command) (arguments : List (List ℕ)) → command_of words ≡ Some (command, arguments) → ((asked : Line) × SpellsWords words asked) ⊎ ((fault : LineFault) × IsFaultOfWords words fault)
 words_ask words command arguments found =
     let are = words_found words command arguments found in
-    elim (ℕ_discrete (length arguments) (length (kinds_behind command))) [
+    elim (ℕ_discrete (length arguments) (length (kinds_behind command arguments))) [
       | no other ↦ inr (Syntax, fault_of_words words command arguments Syntax found are (miscounted other refl))
-      | yes count ↦ elim (words_meaning (kinds_behind command) arguments count) [
+      | yes count ↦ elim (words_meaning (kinds_behind command arguments) arguments count) [
         | inr bad ↦ inr (bad.0, of_word command arguments (record { are = are; count = count }) bad.1)
         | inl values ↦
-            let line = asked_by command values.0 values.1 in
+            let line = asked_by command (length arguments == 3) values.0 values.1 in
             inl (line.0, record { arguments = arguments; are = rw line.1 are; values = rw line.2 values.2 })
       ]
     ]

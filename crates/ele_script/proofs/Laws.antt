@@ -1,8 +1,11 @@
 -- What is true of lines: each asks for one thing, or has a first fault, and not both.
-use Rattle.ele_script.proofs.Basics.{nat_tests, ◌≡◌, ◌≢◌, ℕ, ◌≤◌, true, true≢false, List, [], ◌∷◌, length, refl, sym, ap, ◌∙◌, arith, ◌⊎◌, inl, inr, Result, Ok, Err, IfOk, IfErr, same_Some}
-use Rattle.ele_script.proofs.Prelude.{OneMeaning, Line, Command, LineFault, NoMemory, WordKind, Value, word_kind, kinds_behind, longest_line, words_of, is_worded, SpellsValues, SpellsWords, SpellsLine, Asks, AsksEvent}
+use Rattle.ele_script.proofs.Basics.{nat_tests, ◌≡◌, ◌≢◌, ◌+◌, ◌==◌, None, Some, ℕ, ◌≤◌, true, true≢false, List, [], ◌∷◌, length, refl, sym, ap, ◌∙◌, arith, ◌⊎◌, inl, inr, Result, Ok, Err, IfOk, IfErr, same_Some}
+use Rattle.ele_script.proofs.Prelude.{OneMeaning, Line, Command, LineFault, NoMemory, WordKind, Value, word_kind, kinds_behind, kinds_if, longest_line, words_of, is_worded, SpellsValues, SpellsWords, SpellsLine, Asks, AsksEvent}
 use Rattle.ele_script.proofs.Prelude.{IsFirstWordFault, IsFaultOfWords, no_command, of_word, IsFirstFault, too_long, not_worded, of_words, IsEventFault, of_line, no_event}
+use Rattle.ele_printer.specs.Parts.{parts_of}
 use Rattle.ele_world.specs.declared.event.Event.{Event}
+use Rattle.ele_world.specs.declared.event.Event.TheVariants as event
+use Rattle.ele_script.specs.Spells.{line_parts}
 use Rattle.ele_script.specs.declared.reading.Line.TheVariants as asks
 use Rattle.ele_script.specs.EventOf.{event_of}
 use Rattle.ele_script.proofs.Commands.{one_fit}
@@ -25,7 +28,24 @@ as_many : (words : List (List ℕ)) (values : List Value) → SpellsValues words
 as_many (word ∷ words) (v ∷ vs) h = omega (arith, as_many words vs h.1)
 as_many words values h = grind arith
 
-moved : (fault : LineFault) {c d : Command} {xs ys : List (List ℕ)} → c ≡ d → xs ≡ ys → IsFirstWordFault (kinds_behind c) xs fault → IsFirstWordFault (kinds_behind d) ys fault
+-- what is asked for has the kinds that its words have
+asked_kinds : (asked : Line) → kinds_of (line_parts asked).1 ≡ kinds_if (line_parts asked).0 (length (line_parts asked).1 == 3)
+asked_kinds (asks.Event e) = of_event e where
+  of_event : (e : Event) → kinds_of (parts_of e).1 ≡ kinds_if (parts_of e).0 (length (parts_of e).1 == 3)
+  of_event (event.Mark name moment None) = refl
+  of_event (event.Mark name moment (Some end)) = refl
+  of_event e = refl
+asked_kinds (asks.Pass budget) = refl
+asked_kinds asks.History = refl
+asked_kinds asks.Trim = refl
+
+spelled_kinds : (words : List (List ℕ)) (asked : Line) → SpellsValues words (line_parts asked).1 → kinds_of (line_parts asked).1 ≡ kinds_behind (line_parts asked).0 words
+spelled_kinds words asked spells = asked_kinds asked ∙ ap (λ n. kinds_if (line_parts asked).0 (n == 3)) (sym (as_many words (line_parts asked).1 spells ∙ length_kinds (line_parts asked).1)) where
+  length_kinds : (values : List Value) → length (kinds_of values) ≡ length values
+  length_kinds [] = refl
+  length_kinds (value ∷ values) = grind (arith, length_kinds values)
+
+moved : (fault : LineFault) {c d : Command} {xs ys : List (List ℕ)} → c ≡ d → xs ≡ ys → IsFirstWordFault (kinds_behind c xs) xs fault → IsFirstWordFault (kinds_behind d ys) ys fault
 moved fault {c} {d} {xs} {ys} p q h = grind (arith, nat_tests)
 
 module _ (law : OneMeaning) where
@@ -36,7 +56,7 @@ module _ (law : OneMeaning) where
 
   -- a line spells one thing
   pub one_spelling : (line : List ℕ) (a b : Line) → SpellsLine line a → SpellsLine line b → a ≡ b
-  one_spelling line a b h k = grind (arith, nat_tests, one_fit, one_list, parts_is, same_Some)
+  one_spelling line a b h k = grind (arith, nat_tests, one_fit, one_list, parts_is, same_Some, spelled_kinds)
 
   -- words that stand for values of their kinds have no fault
   no_first : (words : List (List ℕ)) (values : List Value) (fault : LineFault) → SpellsValues words values → IsFirstWordFault (kinds_of values) words fault → ⊥
@@ -45,7 +65,7 @@ module _ (law : OneMeaning) where
   no_first words values fault h bad = grind arith
 
   no_words : (words : List (List ℕ)) (asked : Line) (fault : LineFault) → SpellsWords words asked → IsFaultOfWords words fault → ⊥
-  no_words words asked fault h x4 = grind (arith, nat_tests, as_many, one_fit, moved, no_first)
+  no_words words asked fault h x4 = grind (arith, nat_tests, as_many, one_fit, moved, no_first, spelled_kinds)
 
   -- a line that asks for something has no fault
   pub spelled_faultless : (line : List ℕ) (asked : Line) (fault : LineFault) → Asks line asked → IsFirstFault line fault → ⊥
@@ -62,7 +82,7 @@ module _ (law : OneMeaning) where
   one_of_words words a b (no_command unfit x) (of_word c xs fits bad) = absurd (unfit c xs fits)
   one_of_words words a b (of_word c xs fits bad) (no_command unfit y) = absurd (unfit c xs fits)
   one_of_words words a b (of_word c xs fits x) (of_word d ys other y) =
-      let fit = one_fit words c d xs ys fits.are other.are in one_first (kinds_behind d) ys a b (moved a fit.0 fit.1 x) y
+      let fit = one_fit words c d xs ys fits.are other.are in one_first (kinds_behind d ys) ys a b (moved a fit.0 fit.1 x) y
 
   -- a line has one first fault
   pub one_fault : (line : List ℕ) (a b : LineFault) → IsFirstFault line a → IsFirstFault line b → a ≡ b

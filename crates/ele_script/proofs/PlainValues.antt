@@ -12,8 +12,10 @@ use Rattle.ele_policy.specs.declared.policy.Policy.{Policy as AnyPolicy}
 use Rattle.ele_policy.specs.declared.policy.Policy.TheVariants as policy
 use Rattle.ele_time_path.specs.PathAt.{tag_at}
 use Rattle.ele_world.specs.declared.event.Source.TheVariants as source
-use Rattle.ele_printer.specs.EventText.{IsValue, path_word, value_word}
-use Rattle.ele_printer.specs.Printed.{bytes_word, policy_word}
+use Rattle.ele_printer.specs.EventText.{IsValue, value_word}
+use Rattle.ele_printer.specs.Printed.{bytes_word}
+use Rattle.ele_policy.specs.PolicyText.{policy_word}
+use Rattle.ele_time_path.specs.PathText.{path_word}
 use Rattle.ele_script.specs.Value.{Number, Tagged, Source, Policy}
 use Rattle.ele_script.proofs.PolicyBack.{spelled_pairs}
 use Rattle.ele_script.proofs.PlainWords.{all_so, is_inner, is_word, joined_all, name_plain, number_inner, number_is, path_inner, path_some, tagged_is, word_is}

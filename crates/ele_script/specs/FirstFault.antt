@@ -42,12 +42,12 @@ IsFirstWordFault kinds words fault = ⊥
 -- the words are the command, and as many words behind it as it wants
 pub record FitsCommand (words : List (List ℕ)) (command : Command) (arguments : List (List ℕ)) : Type 0 where
   pub are : words ≡ command_words command ++ arguments
-  pub count : length arguments ≡ length (kinds_behind command)
+  pub count : length arguments ≡ length (kinds_behind command arguments)
 
 -- the fault of plain words: they fit no command, or the first bad one
 pub data IsFaultOfWords (words : List (List ℕ)) (fault : LineFault) : Type 0 where
   no_command : ((command : Command) (arguments : List (List ℕ)) → ¬ FitsCommand words command arguments) → fault ≡ Syntax → IsFaultOfWords words fault
-  of_word : (command : Command) (arguments : List (List ℕ)) → FitsCommand words command arguments → IsFirstWordFault (kinds_behind command) arguments fault → IsFaultOfWords words fault
+  of_word : (command : Command) (arguments : List (List ℕ)) → FitsCommand words command arguments → IsFirstWordFault (kinds_behind command arguments) arguments fault → IsFaultOfWords words fault
 
 -- the first fault of a line: its length, its bytes and spaces, its command and number of words, its first bad word
 pub data IsFirstFault (line : List ℕ) (fault : LineFault) : Type 0 where

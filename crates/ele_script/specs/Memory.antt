@@ -23,7 +23,7 @@ takes_memory PolicyWord = false
 -- a path or bytes stand behind the command; behind `read` the word is looked at
 abbrev pub behind_takes : Command → List (List ℕ) → Bool
 behind_takes Read arguments = list_any begins_path arguments
-behind_takes command arguments = list_any takes_memory (kinds_behind command)
+behind_takes command arguments = list_any takes_memory (kinds_behind command arguments)
 
 -- the words begin with a command behind which a path or bytes stand
 pub record TakesMemory (words : List (List ℕ)) : Type 0 where

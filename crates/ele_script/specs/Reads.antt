@@ -40,4 +40,4 @@ pub record SpellsBehind (command : Command) (words : List (List ℕ)) (asked : L
 -- they make it what was read, or are refused
 abbrev pub ReadsLine : Command → List (List ℕ) → Result Line LineFault → Type 0
 ReadsLine command words (Ok asked) = SpellsBehind command words asked
-ReadsLine command words (Err fault) = IsRefused (behind_takes command words) (kinds_behind command) words fault
+ReadsLine command words (Err fault) = IsRefused (behind_takes command words) (kinds_behind command words) words fault

@@ -183,6 +183,18 @@ pub(crate) fn name_and_moment(words: &[&[u8]]) -> Result<(Name, Moment), LineFau
     Ok((first, word::moment(second)?))
 }
 
+/// A name and two moments.
+pub(crate) fn name_and_two_moments(words: &[&[u8]]) -> Result<(Name, Moment, Moment), LineFault>
+    ensures { Reads (NameWord ∷ MomentWord ∷ MomentWord ∷ [])
+        (λ all. value.Name all.0 ∷ value.Moment all.1 ∷ value.Moment all.2 ∷ [])
+        (map (λ word. word.now) words.now) result }
+{
+    let (first, second, third) = three(words)?;
+    let first = word::name(first)?;
+    let second = word::moment(second)?;
+    Ok((first, second, word::moment(third)?))
+}
+
 /// Two numbers and bytes.
 pub(crate) fn two_numbers_and_bytes(
     alloc: Global,

@@ -9,8 +9,9 @@ ghost use Rattle.ele_script.specs.Reads.{ReadsLine};
 ghost use Rattle.ele_script.specs.FirstFault.{IsFirstFault, IsEventFault, IsFaultOfWords};
 
 use crate::arguments::{
-    moment, name, name_and_moment, name_and_path, nothing, number, path, path_and_number,
-    path_and_policy, path_at, source, tagged, two_numbers, two_numbers_and_bytes, two_paths,
+    moment, name, name_and_moment, name_and_path, name_and_two_moments, nothing, number, path,
+    path_and_number, path_and_policy, path_at, source, tagged, two_numbers, two_numbers_and_bytes,
+    two_paths,
 };
 use crate::command::read_command;
 use arrayvec::ArrayVec;
@@ -204,9 +205,7 @@ fn line_behind(alloc: Global, command: Command, words: &[&[u8]]) -> Result<Line,
             let read = name_and_path(alloc, words);
             read.map(|(name, path)| Line::Event(Event::GroupRemove(name, path)))
         }
-        Command::Mark => {
-            name_and_moment(words).map(|(name, moment)| Line::Event(Event::Mark(name, moment)))
-        }
+        Command::Mark => mark(words),
         Command::Unmark => {
             name_and_moment(words).map(|(name, moment)| Line::Event(Event::Unmark(name, moment)))
         }
@@ -222,5 +221,17 @@ fn line_behind(alloc: Global, command: Command, words: &[&[u8]]) -> Result<Line,
         Command::Pass => number(words).map(Line::Pass),
         Command::History => nothing(words).map(|()| Line::History),
         Command::Trim => nothing(words).map(|()| Line::Trim),
+    }
+}
+
+// A mark, and its end behind it, where there are three words.
+fn mark(words: &[&[u8]]) -> Result<Line, LineFault>
+    ensures { ReadsLine Command.Mark (map (λ word. word.now) words.now) result }
+{
+    if words.len() == 3 {
+        let read = name_and_two_moments(words);
+        read.map(|(name, at, end)| Line::Event(Event::Mark(name, at, Some(end))))
+    } else {
+        name_and_moment(words).map(|(name, at)| Line::Event(Event::Mark(name, at, None)))
     }
 }

@@ -29,9 +29,10 @@ pub(crate) fn number(word: &[u8]) -> Result<u64, LineFault>
 }
 
 /// A moment.
-#[tactic(auto, using(crate::proofs::Values::moment_fault))]
+#[tactic(auto, using(crate::proofs::Values::moment_fault, crate::proofs::Behind::moment_kind))]
 pub(crate) fn moment(word: &[u8]) -> Result<Moment, LineFault>
     ensures found { IfOk result (SpellsMoment word.now) }
+    ensures kind { OnOk result (IsOfKind MomentWord word.now) }
     ensures fault { IfErr result (IsWordFault MomentWord word.now) }
 {
     Moment::read(word).ok().ok_or(LineFault::BadMoment)
@@ -117,8 +118,9 @@ pub(crate) fn bytes(alloc: Global, word: &[u8]) -> Result<ByteList, LineFault>
     }
 }
 
-/// A policy: its form first, and then its numbers.
-pub(crate) fn policy(word: &[u8]) -> Result<Policy, LineFault>
+/// The policy that a word is: its form first, and then its numbers. `Syntax` where it has the form of
+/// none, and `BadLadder` where its numbers are no policy's.
+pub fn policy(word: &[u8]) -> Result<Policy, LineFault>
     ensures { ReadsPolicy word.now result }
 {
     if word == b"one".as_slice() {

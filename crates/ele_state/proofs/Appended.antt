@@ -1,5 +1,6 @@
 -- Which keys the versions have, once a file has its next version: two came, and all others stayed.
-use Rattle.ele_state.proofs.Words.{◌≡◌, ℕ, ◌==◌, Bool, true, false, cond, not, ◌&&◌, ◌||◌, List, Option, Some, None, refl, ◌∙◌, and-false, arith, or-false, unwrap_or, option_and_then, option_map_or, false≢true, nat_tests, Cell, IsTracked, NewKeys, Rows, world_of, IsQueued, is_entry, is_new, gained_moment, own_moment, new_keys, Key, has_key, IfSome, rows_of, Policy, IsLawful, VersionRow, with_version, ripe_at, is_moment, near_moment, newest_of, is_marked, World, is_live, is_open, next_of, policy_is, policy_of, MayGrow, touches, next_before, next_after, newest_before, newest_was, newest_is, others_after, []}
+use Rattle.ele_policy.specs.Ripe.{alone, ripe_by}
+use Rattle.ele_state.proofs.Words.{Cover, is_some, ripe_past, ap, ◌≡◌, ℕ, ◌==◌, Bool, true, false, cond, not, ◌&&◌, ◌||◌, List, Option, Some, None, refl, ◌∙◌, and-false, arith, or-false, unwrap_or, option_and_then, option_map_or, false≢true, nat_tests, Cell, IsTracked, NewKeys, Rows, world_of, IsQueued, is_entry, is_new, gained_moment, own_moment, new_keys, Key, has_key, IfSome, rows_of, Policy, IsLawful, VersionRow, with_version, ripe_at, is_moment, near_moment, newest_of, cover_of, World, is_live, is_open, next_of, policy_is, policy_of, MayGrow, touches, next_before, next_after, newest_before, newest_was, newest_is, others_after, []}
 use Rattle.ele_state.proofs.Following.{follows}
 
 -- ---- what the newest version gets
@@ -9,9 +10,22 @@ record IsGained (m : ℕ) (was came is : Option ℕ) : Type 0 where
   is_now : is_moment m is ≡ (is_moment m came || is_moment m was)
   wasnt : is_moment m came ≡ true → is_moment m was ≡ false
 
-gained : (marks : ℕ → Option ℕ → Bool) (policy : Option Policy) (now closed m : ℕ) (ended : Option ℕ) → IfSome policy IsLawful
-    → IsGained m (option_and_then (near_moment marks policy None closed) ended) (gained_moment marks policy now closed ended) (near_moment marks policy (Some now) closed (unwrap_or ended now))
-gained marks policy now closed m x5 given = grind (arith, nat_tests, or-false, false≢true)
+-- as far as a cover lets it come
+gained_as : (m : ℕ) (was is : Option ℕ) → (is_some was ≡ true → is ≡ was) → IsGained m was (cond (is_some was) None is) is
+gained_as m None is same = grind (arith, nat_tests, or-false)
+gained_as m (Some r) is same = rw (same refl) (grind (arith, nat_tests, or-false, false≢true))
+
+gained : (cover : ℕ → Option ℕ → Cover) (policy : Option Policy) (now closed m : ℕ) (ended : Option ℕ) → IfSome policy IsLawful
+    → IsGained m (option_and_then (near_moment cover policy None closed) ended) (gained_moment cover policy now closed ended) (near_moment cover policy (Some now) closed (unwrap_or ended now))
+gained cover policy now closed m None given = gained_as m None (near_moment cover policy (Some now) closed now) (λ h. absurd (false≢true h))
+gained cover None now closed m (Some ended) given = gained_as m None None (λ h. absurd (false≢true h))
+gained cover (Some policy) now closed m (Some ended) given = gained_as m (later (ripe_by policy closed (alone None) ended)) (later (ripe_by policy closed (alone (Some now)) ended)) (by (ripe_by policy closed (alone None) ended) refl) where
+  later : Option ℕ → Option ℕ
+  later = option_and_then (ripe_past (cover closed (Some ended)))
+
+  by : (o : Option ℕ) → ripe_by policy closed (alone None) ended ≡ o → is_some (later o) ≡ true → later (ripe_by policy closed (alone (Some now)) ended) ≡ later o
+  by None none h = absurd (false≢true h)
+  by (Some r) some h = ap later (given.ripe_keeps closed ended r now some)
 
 module _ (w : World) (file opened : ℕ) (cells : List Cell) (k : MayGrow w file) where
   abbrev next : ℕ
@@ -24,13 +38,13 @@ module _ (w : World) (file opened : ℕ) (cells : List Cell) (k : MayGrow w file
   own live = own_moment w.groups w.files file w.now live
 
   abbrev came : VersionRow → Option ℕ
-  came row = cond (is_open w.handles file row.number) None (gained_moment (is_marked w.groups file) (policy_of w.files file) w.now row.closed row.ended)
+  came row = cond (is_open w.handles file row.number) None (gained_moment (cover_of w.groups file) (policy_of w.files file) w.now row.closed row.ended)
 
   newest_gains : (row : VersionRow) (m : ℕ) → newest_of w.versions file ≡ Some row → IsGained m (ripe_at w file row.number) (came row) (ripe_at appended file row.number)
   newest_gains row m is = rw (newest_was w file opened cells k row is, newest_is w file opened cells k row is) (by (is_open w.handles file row.number)) where
-    by : (b : Bool) → IsGained m (cond b None (option_and_then (near_moment (is_marked w.groups file) (policy_of w.files file) None row.closed) row.ended)) (cond b None (gained_moment (is_marked w.groups file) (policy_of w.files file) w.now row.closed row.ended)) (cond b None (near_moment (is_marked w.groups file) (policy_of w.files file) (Some w.now) row.closed (unwrap_or row.ended w.now)))
+    by : (b : Bool) → IsGained m (cond b None (option_and_then (near_moment (cover_of w.groups file) (policy_of w.files file) None row.closed) row.ended)) (cond b None (gained_moment (cover_of w.groups file) (policy_of w.files file) w.now row.closed row.ended)) (cond b None (near_moment (cover_of w.groups file) (policy_of w.files file) (Some w.now) row.closed (unwrap_or row.ended w.now)))
     by true = record { is_now = refl; wasnt = λ h. refl }
-    by false = gained (is_marked w.groups file) (policy_of w.files file) w.now row.closed m row.ended (policy_is w.files file k.policies)
+    by false = gained (cover_of w.groups file) (policy_of w.files file) w.now row.closed m row.ended (policy_is w.files file k.policies)
 
   -- ---- the queue
 

@@ -1,7 +1,10 @@
 -- What is told of one version, and of the first that are due.
-use Rattle.ele_state.proofs.Words.{◌≡◌, ℕ, false, ◌&&◌, List, cond, Option, Some, None, refl, ap, sym, ◌∙◌, arith, nat_le, slice_get, filter_map, option_map, option_map_or, nat_tests, world_of, IsSound, former_moment, gained_moment, Rows, Key, has_key, is_ripe_by, Held, Stamps, ripe_at, free_moment, newest_of, due_key, first_due, is_marked, GroupRow, stamps_of, World, is_open, policy_of, in_order_of, ripe_at_near, is_due_is, scan_members}
+use Rattle.ele_state.proofs.Words.{◌≡◌, ℕ, ◌≤◌, false, ◌&&◌, List, cond, Option, Some, None, refl, ap, sym, ◌∙◌, arith, nat_le, slice_get, filter_map, option_map, option_map_or, nat_tests, world_of, IsSound, former_moment, gained_moment, Rows, Key, has_key, is_ripe_by, Held, Stamps, ripe_at, free_moment, newest_of, due_key, first_due, cover_of, GroupRow, stamps_of, World, is_open, policy_of, in_order_of, ripe_at_near, is_due_is, scan_members}
+use Rattle.ele_moment.specs.Last.{last_moment}
 use Rattle.ele_due.specs.InOrder.{in_order}
 use Rattle.ele_due.specs.Key.{if_ripe}
+use Rattle.ele_world.proofs.RipeAt.{scan_members_at}
+use Rattle.ele_world.specs.Change.{Time, after_change}
 use Rattle.ele_world.specs.Due.{is_due}
 use Rattle.ele_world.specs.Scan.{scan}
 
@@ -9,9 +12,16 @@ use Rattle.ele_world.specs.Scan.{scan}
 pub due_keys : (rows : Rows) → IsSound rows → (k : Key) → has_key k (filter_map (due_key (world_of rows)) rows.files.versions) ≡ (is_ripe_by rows.moment k && has_key k rows.queue)
 due_keys rows sound k = scan_members (world_of rows) sound.formed k ∙ ap (λ b. is_ripe_by rows.moment k && b) (sym (sound.tracked.queue k))
 
+-- at any other moment they have those of the queue that are ripe by then
+pub keys_by : (rows : Rows) (moment : ℕ) → IsSound rows → moment ≤ last_moment → (k : Key) → has_key k (filter_map (due_key (after_change (world_of rows) (Time moment))) rows.files.versions) ≡ (is_ripe_by moment k && has_key k rows.queue)
+keys_by rows moment sound fits k = scan_members_at (world_of rows) moment sound.formed fits k ∙ ap (λ b. is_ripe_by moment k && b) (sym (sound.tracked.queue k))
+
 pub scan_is : (w : World) → in_order (filter_map (due_key w) w.versions) ≡ scan w
 unfolding scan
 scan_is w = refl
+
+pub scan_by : (rows : Rows) (moment : ℕ) → in_order (filter_map (due_key (after_change (world_of rows) (Time moment))) rows.files.versions) ≡ scan (after_change (world_of rows) (Time moment))
+scan_by rows moment = scan_is (after_change (world_of rows) (Time moment))
 
 -- the first of the queue is the first of the scan, if it is ripe
 pub first_is : (rows : Rows) (first : Option Key) → IsSound rows
@@ -29,7 +39,7 @@ ripe_told rows file number sound = ripe_at_near (world_of rows) file number (in_
 
 -- the moment that the newest version gets, by what is told of it
 abbrev gained_by : List GroupRow → Held → ℕ → ℕ → ℕ → ℕ → Option ℕ → Option ℕ
-gained_by groups h file now number closed ended = cond (is_open h.handles file number) None (gained_moment (is_marked groups file) (policy_of h.files file) now closed ended)
+gained_by groups h file now number closed ended = cond (is_open h.handles file number) None (gained_moment (cover_of groups file) (policy_of h.files file) now closed ended)
 
 pub former_told : (groups : List GroupRow) (h : Held) (file now : ℕ) (newest : Stamps) → option_map stamps_of (newest_of h.versions file) ≡ Some newest
     → former_moment groups h file now ≡ gained_by groups h file now newest.number newest.closed newest.ended

@@ -1,5 +1,5 @@
 -- The book of usage, as the files change.
-use Rattle.ele_state.proofs.Words.{IsFew, TruncateDraft, WriteDraft, changed_at, nat_tests, ◌≡◌, ℕ, ◌+◌, ◌-◌, ◌<◌, ◌≤◌, ◌^◌, Bool, true, cond, List, ◌∷◌, length, Some, Ok, refl, ◌∙◌, arith, sum_by, world_of, IsSound, IsTracked, held_world, blocks_of, only_blocks, IsOwed, IsBooked, Rows, content_of, Held, rows_after, rows_of, opened_by, written_by, fitted, sum_by-map, Kind, Policy, kind_of, is_kind, Usage, Book, sums_of, only_at, nothing, plus, Fits, usage_of, is_file_of, bytes_in, ChangesOnly, World, VersionRow, MakeFile, created, made_is, policy_of, file_by, usage_changes, usage_same, within_files, within_versions, within_bytes, within_blocks, whole_files, whole_versions, whole_bytes, created_usage, only_at_is, []}
+use Rattle.ele_state.proofs.Words.{IsFew, IsOwedBy, of_file, sym, TruncateDraft, WriteDraft, changed_at, nat_tests, ◌≡◌, ℕ, ◌+◌, ◌-◌, ◌<◌, ◌≤◌, ◌^◌, Bool, true, cond, List, ◌∷◌, length, Some, Ok, refl, ◌∙◌, arith, sum_by, world_of, IsSound, IsTracked, held_world, blocks_of, only_blocks, IsOwed, IsBooked, Rows, content_of, Held, rows_after, rows_of, opened_by, written_by, fitted, sum_by-map, Kind, Policy, kind_of, is_kind, Usage, Book, sums_of, only_at, nothing, plus, Fits, usage_of, is_file_of, bytes_in, ChangesOnly, World, VersionRow, MakeFile, created, made_is, policy_of, file_by, usage_changes, usage_same, within_files, within_versions, within_bytes, within_blocks, whole_files, whole_versions, whole_bytes, created_usage, only_at_is, []}
 use Rattle.ele_world.proofs.Others.{drafts-opened, drafts-updated, other_drafts}
 
 pub booked : (rows : Rows) → IsTracked rows → (k : Kind) → sums_of rows.book k ≡ usage_of (world_of rows) k
@@ -92,8 +92,21 @@ made_book rows directory name policy now book sound after added k =
 pub same_kind : (k : Kind) → is_kind k k ≡ true
 same_kind x0 = grind (arith, nat_tests)
 
-pub shift_fits : (files : Held) (book : Book) (file before : ℕ) (policy : Policy) → IsOwed files book file before → policy_of files.files file ≡ Some policy → Fits (record (sums_of book (kind_of policy)) { blocks = 0 }) → before < 2 ^ 64 → blocks_of files < 2 ^ 64 → Fits (plus (sums_of book (kind_of policy)) (only_blocks (blocks_of files - before)))
-shift_fits files book file before policy owed of room few_before few_now = grind (arith, nat_tests, same_kind, within_blocks)
+-- what is only at a kind is of each file of that kind
+pub of_kind : (h : Held) (file : ℕ) (policy : Policy) (u : Usage) (k : Kind) → policy_of h.files file ≡ Some policy → only_at (kind_of policy) u k ≡ of_file h file u k
+of_kind h file policy u k of = grind (arith, nat_tests, only_at_is)
+
+pub owed_by : (h : Held) (book : Book) (file before : ℕ) (policy : Policy) → policy_of h.files file ≡ Some policy → IsOwed h book file before → IsOwedBy h book (kind_of policy) before
+owed_by h book file before policy of owed k = rw (of_kind h file policy (only_blocks before) k of, of_kind h file policy (only_blocks (blocks_of h)) k of) (owed k)
+
+pub shift_fits : (files : Held) (book : Book) (kind : Kind) (before : ℕ) → IsOwedBy files book kind before → Fits (record (sums_of book kind) { blocks = 0 }) → before < 2 ^ 64 → blocks_of files < 2 ^ 64 → Fits (plus (sums_of book kind) (only_blocks (blocks_of files - before)))
+shift_fits files book kind before owed room few_before few_now = grind (arith, nat_tests, same_kind, within_blocks, owed kind)
+
+pub shift_there : (files : Held) (book : Book) (kind : Kind) (before : ℕ) → IsOwedBy files book kind before → before - blocks_of files ≤ (sums_of book kind).blocks
+shift_there files book kind before owed = grind (arith, nat_tests, same_kind, owed kind)
+
+pub shifted : (files : Held) (book after : Book) (kind : Kind) (before : ℕ) → IsOwedBy files book kind before → ((k : Kind) → plus (sums_of after k) (only_at kind (only_blocks before) k) ≡ plus (sums_of book k) (only_at kind (only_blocks (blocks_of files)) k)) → IsBooked files after
+shifted files book after kind before owed is k = plus-cancel (sums_of after k) (usage_of (held_world files) k) (only_at kind (only_blocks before) k) (is k ∙ sym (owed k))
 
 pub and_nothing : (u : Usage) → plus u nothing ≡ u
 and_nothing u = grind (arith, nat_tests)

@@ -1,5 +1,5 @@
 -- What the book of usage has, once a handle is closed.
-use Rattle.ele_state.proofs.Words.{None, left_by, opening_by, with_rows, Closed, Close, DropIdle, IsBooked, after_change, step, nat_tests, ◌≡◌, ℕ, ◌+◌, ◌-◌, ◌≤◌, ◌<◌, ◌^◌, cond, List, length, Ok, refl, sym, arith, content_of, longest_content, world_of, IsSound, IsRoomy, IsTracked, held_world, blocks_of, one_version, IsOwed, Rows, Held, cells_of_draft, insert_before, update_first, DraftRow, all-found, length-update_first, length-insert_before, Kind, Book, sums_of, nothing, plus, Fits, VersionRow, ended_at, with_end, is_file_of, bytes_in, Drafts, ChangesOnly, Draft, World, reads_by, is_version, is_version_after, next_of, versions-finished, kinds-numbered, files-numbered, sum_by-insert_before, sum_by-update_same, Bool, Usage, usage_of, subst, ap, ◌∙◌, IsQueued, HasParts}
+use Rattle.ele_state.proofs.Words.{None, only_at, left_by, opening_by, with_rows, Closed, Close, DropIdle, IsBooked, after_change, step, nat_tests, ◌≡◌, ℕ, ◌+◌, ◌-◌, ◌≤◌, ◌<◌, ◌^◌, cond, List, length, Ok, refl, sym, arith, content_of, longest_content, world_of, IsSound, IsRoomy, IsTracked, held_world, blocks_of, one_version, IsOwed, Rows, Held, cells_of_draft, insert_before, update_first, DraftRow, all-found, length-update_first, length-insert_before, Kind, Book, sums_of, nothing, plus, Fits, VersionRow, ended_at, with_end, is_file_of, bytes_in, Drafts, ChangesOnly, Draft, World, reads_by, is_version, is_version_after, next_of, versions-finished, kinds-numbered, files-numbered, sum_by-insert_before, sum_by-update_same, Bool, Usage, usage_of, subst, ap, ◌∙◌, IsQueued, HasParts}
 use Rattle.ele_state.proofs.Booked.{few_blocks, owed, drafts_owed, and_nothing, size, bytes_are}
 use Rattle.ele_state.proofs.ClosedSteps.{leaves, left_keeps, left_queue, left_step, left_world}
 use Rattle.ele_world.proofs.Others.{other_drafts}
@@ -63,5 +63,5 @@ draft_short rows sound file bytes is = grind (arith, nat_tests, all-found, sound
 pub version_fits : (rows : Rows) → IsTracked rows → IsRoomy rows → (bytes before : ℕ) → bytes ≤ longest_content → before ≡ blocks_of rows.files → before < 2 ^ 64 → (k : Kind) → Fits (plus (sums_of rows.book k) (one_version bytes))
 version_fits rows tracked roomy bytes before short is bound k = grind (arith, nat_tests, roomy.sums k, few_blocks rows tracked k)
 
-pub added_fits : (rows : Rows) (now : Held) (file : ℕ) (book : Book) (bytes : ℕ) → IsRoomy rows → bytes ≤ longest_content → HasAdded now file rows.book book bytes → (k : Kind) → Fits (record (sums_of book k) { blocks = 0 })
-added_fits rows now file book bytes roomy short added k = grind (arith, nat_tests, roomy.sums k)
+pub added_fits : (rows : Rows) (kind : Kind) (book : Book) (bytes : ℕ) → IsRoomy rows → bytes ≤ longest_content → ((k : Kind) → sums_of book k ≡ plus (sums_of rows.book k) (only_at kind (one_version bytes) k)) → (k : Kind) → Fits (record (sums_of book k) { blocks = 0 })
+added_fits rows kind book bytes roomy short added k = grind (arith, nat_tests, roomy.sums k, added k)

@@ -1,5 +1,5 @@
 -- The keys and the book, once a file has another policy.
-use Rattle.ele_state.proofs.Words.{IsTold, key_unless, ◌∙◌, Versions, all_found, ap, find, is_marked, moment_under, near_moment, next_closing, option_and_then, option_map, rows_of, ◌≡◌, ℕ, ◌<◌, ◌==◌, Bool, true, false, cond, not, ◌&&◌, ◌||◌, List, ◌∷◌, Option, Some, refl, sym, subst, arith, filter, map, AllByRecursion, filter_map, list_any, option_map_or, nat_tests, world_of, IsSound, IsQueued, is_under, key_under, unread_under, held_world, IsBooked, Rows, Key, has_key, is_key, Held, changed_at, found_passes, any-found, Kind, Policy, IsLawful, is_kind, kind_of, Usage, Book, sums_of, only_at, plus, Fits, IsWithin, GroupRow, Stamps, VersionRow, PutUnder, after_change, is_moment, is_version_of, stamps_of, file_usage, usage_of, usages, Bounded, World, is_version, next_of, policy_of, in_order_of, ripe_at_near, put_under_keeps, usage_same, usages_fit, [], HasParts, cons_option}
+use Rattle.ele_state.proofs.Words.{IsTold, key_unless, ◌∙◌, Versions, all_found, ap, find, cover_of, moment_under, near_moment, next_closing, option_and_then, option_map, rows_of, ◌≡◌, ℕ, ◌<◌, ◌==◌, Bool, true, false, cond, not, ◌&&◌, ◌||◌, List, ◌∷◌, Option, Some, refl, sym, subst, arith, filter, map, AllByRecursion, filter_map, list_any, option_map_or, nat_tests, world_of, IsSound, IsQueued, is_under, key_under, unread_under, held_world, IsBooked, Rows, Key, has_key, is_key, Held, changed_at, found_passes, any-found, Kind, Policy, IsLawful, is_kind, kind_of, Usage, Book, sums_of, only_at, plus, Fits, IsWithin, GroupRow, Stamps, VersionRow, PutUnder, after_change, is_moment, is_version_of, stamps_of, file_usage, usage_of, usages, Bounded, World, is_version, next_of, policy_of, in_order_of, ripe_at_near, put_under_keeps, usage_same, usages_fit, [], HasParts, cons_option}
 use Rattle.ele_state.proofs.Booked.{booked, plus-cancel, same_kind}
 use Rattle.ele_state.proofs.Following.{follows}
 use Rattle.ele_world.proofs.PolicyUsage.{file_within, policy_usage}
@@ -43,9 +43,9 @@ module _ (groups : List GroupRow) (h : Held) (file : ℕ) (policy other : Policy
 
 -- what is told of a held version tells its moment
 pub under_told : (groups : List GroupRow) (policy : Policy) (h : Held) (file : ℕ) (stamps : Stamps) → IsTold h file stamps
-    → moment_under (is_marked groups file) (Some policy) h.versions file stamps.number ≡ option_and_then (near_moment (is_marked groups file) (Some policy) (next_closing h.versions file stamps.number) stamps.closed) stamps.ended
+    → moment_under (cover_of groups file) (Some policy) h.versions file stamps.number ≡ option_and_then (near_moment (cover_of groups file) (Some policy) (next_closing h.versions file stamps.number) stamps.closed) stamps.ended
 under_told groups policy h file stamps told = by (find (is_version file stamps.number) h.versions) told where
-  by : (o : Option VersionRow) → option_map stamps_of o ≡ Some stamps → option_and_then (λ row. option_and_then (near_moment (is_marked groups file) (Some policy) (next_closing h.versions file stamps.number) row.closed) row.ended) o ≡ option_and_then (near_moment (is_marked groups file) (Some policy) (next_closing h.versions file stamps.number) stamps.closed) stamps.ended
+  by : (o : Option VersionRow) → option_map stamps_of o ≡ Some stamps → option_and_then (λ row. option_and_then (near_moment (cover_of groups file) (Some policy) (next_closing h.versions file stamps.number) row.closed) row.ended) o ≡ option_and_then (near_moment (cover_of groups file) (Some policy) (next_closing h.versions file stamps.number) stamps.closed) stamps.ended
   by x0 told = grind (arith, nat_tests)
 
 -- so is each that is told of a file whose versions are in order

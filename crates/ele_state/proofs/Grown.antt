@@ -1,10 +1,11 @@
 -- What a file's next version leaves, whatever its content comes from.
-use Rattle.ele_state.proofs.Words.{◌≡◌, ℕ, ◌+◌, ◌<◌, ◌||◌, List, arith, refl, ◌∙◌, ap, Bool, Book, HasSource, Held, IsOwed, IsQueued, IsReady, IsRoomy, IsSound, IsSource, IsTracked, Key, MayGrow, NewKeys, Rows, Source, World, after_changes, appending, blocks_of, cells_of_draft, cells_of_version, content_of, has_key, is_draft, is_live, is_new, length, may_grow, new_keys, next_of, next_version, remove_first, rows_after, source_cells, with_rows, world_of, drafts-removed}
+use Rattle.ele_state.proofs.Words.{◌≡◌, ℕ, ◌+◌, ◌<◌, ◌||◌, List, arith, refl, ◌∙◌, ap, Bool, Book, HasSource, Held, IsOwed, IsOwedBy, IsQueued, Kind, Policy, Some, kind_of, one_version, only_at, plus, policy_of, sums_of, IsReady, IsRoomy, IsSound, IsSource, IsTracked, Key, MayGrow, NewKeys, Rows, Source, World, after_changes, appending, blocks_of, cells_of_draft, cells_of_version, content_of, has_key, is_draft, is_live, is_new, length, may_grow, new_keys, next_of, next_version, remove_first, rows_after, source_cells, with_rows, world_of, drafts-removed}
 use Rattle.ele_state.proofs.Appended.{appended_queue}
-use Rattle.ele_state.proofs.Booked.{few}
+use Rattle.ele_state.proofs.Booked.{few, of_kind, owed_by}
 use Rattle.ele_state.proofs.Bounded.{rows_few, versions_few}
 use Rattle.ele_state.proofs.ClosedSteps.{finished_queue, numbered, past}
 use Rattle.ele_state.proofs.ClosedSums.{HasAdded, version_owed}
+use Rattle.ele_world.proofs.Files.{policies-numbered}
 use Rattle.ele_world.specs.World.{is_handle}
 use Rattle.ele_state.specs.declared.append.Source.TheVariants.{Draft, Version}
 
@@ -34,9 +35,20 @@ module _ (rows : Rows) (file : ℕ) (tracked : IsTracked rows) where
   grown_queue (Draft handle opened) after live keys has lives are = finished_queue w handle file has.ready.is.reads opened has.ready.is.changed has.grows rows.queue after live keys tracked.queue lives are
   grown_queue (Version number) after live keys has lives are = appended_queue w file rows.moment (cells_of_version h file number) has.grows rows.queue after tracked.queue keys (are ∙ ap (new_keys rows.groups h file rows.moment) lives)
 
-  pub grown_owed : (source : Source) (after : Held) (book : Book) (bytes before : ℕ) → after ≡ rows_after w h (appending h rows.moment file source) → bytes ≡ length (content_of (source_cells h file source)) → before ≡ blocks_of h → HasAdded after file rows.book book bytes → IsOwed after book file before
+  grown_owed : (source : Source) (after : Held) (book : Book) (bytes before : ℕ) → after ≡ rows_after w h (appending h rows.moment file source) → bytes ≡ length (content_of (source_cells h file source)) → before ≡ blocks_of h → HasAdded after file rows.book book bytes → IsOwed after book file before
   grown_owed (Draft handle opened) = version_owed rows file (next_version w file opened (cells_of_draft h file)) (remove_first (is_draft file) h.drafts) (remove_first (is_handle handle) h.handles) refl (drafts-removed file h.drafts) tracked
   grown_owed (Version number) = version_owed rows file (next_version w file rows.moment (cells_of_version h file number)) h.drafts h.handles refl refl tracked
+
+  grown_policy : (source : Source) (after : Held) → after ≡ rows_after w h (appending h rows.moment file source) → policy_of after.files file ≡ policy_of h.files file
+  grown_policy (Draft handle opened) after is = rw is (policies-numbered h.files file file)
+  grown_policy (Version number) after is = rw is (policies-numbered h.files file file)
+
+  -- so it is to the kind of its policy, once that has the version
+  pub grown_owed_by : (source : Source) (after : Held) (book : Book) (bytes before : ℕ) (policy : Policy) → policy_of h.files file ≡ Some policy → after ≡ rows_after w h (appending h rows.moment file source) → bytes ≡ length (content_of (source_cells h file source)) → before ≡ blocks_of h
+      → ((k : Kind) → sums_of book k ≡ plus (sums_of rows.book k) (only_at (kind_of policy) (one_version bytes) k)) → IsOwedBy after book (kind_of policy) before
+  grown_owed_by source after book bytes before policy of is long same added =
+      let own = grown_policy source after is ∙ of in
+      owed_by after book file before policy own (grown_owed source after book bytes before is long same (λ k. added k ∙ ap (plus (sums_of rows.book k)) (of_kind after file policy (one_version bytes) k own)))
 
   -- the world with the files that have it, once it is counted
   pub grown_world : (source : Source) (after : Held) → after ≡ rows_after w h (appending h rows.moment file source) → with_rows (record w { made = record w.made { versions = w.made.versions + 1 } }) after ≡ after_changes w (appending h rows.moment file source)

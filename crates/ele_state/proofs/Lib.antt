@@ -20,3 +20,4 @@ pub mod Unlinked
 pub mod OpenedKeys
 pub mod ToldVersions
 pub mod Walked
+pub mod Fated

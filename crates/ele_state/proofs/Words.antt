@@ -5,10 +5,11 @@ pub use Rattle.ele_state.specs.Inside.{IsSettled, IsSound, IsTracked, shown_of, 
 pub use Rattle.ele_state.specs.Shown.{Shown}
 pub use Rattle.ele_state.specs.Source.{Grows, HasSource, IsHeldAlone, IsLast, IsReady, IsRoomy, IsSource, appending, source_cells}
 pub use Rattle.ele_state.specs.declared.append.Source.{Source}
-pub use Rattle.ele_state.specs.Queued.{IsQueued, IsRekeyed, IsTold, key_unless, end_moment, former_moment, gained_moment, is_entry, is_new, is_under, key_at, key_under, keys_at, marked_but, moment_but, new_keys, own_moment, unread_under}
-pub use Rattle.ele_state.specs.Tracked.{IsBooked, IsFew, IsOwed, blocks_of, held_world, of_file, one_version, only_blocks}
+pub use Rattle.ele_state.specs.Queued.{IsQueued, IsRekeyed, IsTold, key_unless, end_moment, former_moment, gained_moment, is_entry, is_new, is_under, key_at, key_under, keys_at, cover_asked, moment_asked, new_keys, own_moment, unread_under}
+pub use Rattle.ele_state.specs.Tracked.{IsBooked, IsFew, IsOwed, IsOwedBy, blocks_of, held_world, of_file, one_version, only_blocks}
 pub use Rattle.ele_state.specs.declared.keys.NewKeys.{NewKeys}
-pub use Rattle.ele_state.specs.declared.mark.Left.{Left}
+pub use Rattle.ele_state.specs.declared.mark.Asked.{Asked}
+pub use Rattle.ele_state.specs.declared.mark.Asked.TheVariants.{Joined, Marked, Standing, Without}
 pub use Rattle.ele_state.specs.declared.rows.Rows.{Rows}
 pub use Rattle.ele_due.specs.declared.key.Key.{Key}
 pub use Rattle.ele_files.specs.Closing.{IsPast, changed_opening, finishing, last_draft, leaving, left_by, left_of, opening_by}
@@ -25,7 +26,7 @@ pub use Rattle.ele_world.proofs.Basics.{AllByRecursion, AllLater, Bool, Err, IsS
 pub use Rattle.ele_world.proofs.Created.{created, first_version, made_is, named_live, new_file, new_name, versions_before}
 pub use Rattle.ele_world.proofs.Dropped.{dropped, stays_named}
 pub use Rattle.ele_world.proofs.DueRows.{IsDueKey, first_is_due}
-pub use Rattle.ele_world.proofs.GroupMoments.{MarksCome, MarksGo, group_goes, is_covered, is_touched, mark_comes, mark_goes, member_comes, member_goes}
+pub use Rattle.ele_world.proofs.GroupMoments.{MarksMove, drop_moves, is_covered, is_touched, leave_moves, mark_moves, member_moves, unmark_moves}
 pub use Rattle.ele_world.proofs.Homes.{parent_home}
 pub use Rattle.ele_world.proofs.Keeps.{all_keep, change_keeps, event_keeps}
 pub use Rattle.ele_world.proofs.KeptNames.{apart_from_new, put_under_keeps}
@@ -43,7 +44,7 @@ pub use Rattle.ele_world.proofs.Usages.{changes_opened, changes_removed, changes
 pub use Rattle.ele_world.proofs.Views.{placed_of, policy_is}
 pub use Rattle.ele_world.proofs.Versions.{all_found}
 pub use Rattle.ele_world.proofs.Walks.{file_live, file_of, file_there, last_names, live_target-push as name_stands, target_live}
-pub use Rattle.ele_world.proofs.Words.{AddMark, AddMember, AddName, Append, AreApart, ArePlaced, Bounded, ChangesOnly, Counted, Directories, Drafts, DropGroup, DropIdle, EndDraft, EndFileName, EndName, Files, Fits, Groups, Handles, IsCleaned, IsEvent, IsFile, IsGroup, IsLawful, IsNameRow, IsThere, HasParts, IsWithin, MakeFile, MoveName, Names, OpenHandle, PutUnder, RemoveMark, RemoveMember, Revive, ShutHandle, StartDraft, Take, Versions, World, after_change, after_changes, alone, born_row, bytes_in, changed_by, clean_step, content_of, covers_moment, current_cells, dies, directory_in, draft_read, due_key, ended_at, file_at, file_by, file_now, file_usage, file_written, first_due, fitted_by, forgotten, free_moment, fresh_world, had_life, has_draft, has_key, is_draft, is_draft_after, is_file, is_file_of, is_held, is_idle, is_key, is_kind, is_live, is_live_name, is_live_name_of, is_marked, is_moment, is_open, is_ripe_by, is_target_file, is_version, is_version_after, is_version_of, kind_of, live_target, lives_at, longest_content, marks_of, members_of, moment_under, near_moment, new_draft, newest_of, next_closing, next_of, next_version, nothing, only_at, parent_now, plus, policy_of, reads_by, reads_version, returning_name, ripe_at, root, step, target_at, usages, version_at, version_found, version_meant, file_view, walk_meant, walk_now, whole, with_end, with_name, with_version, without_file, without_name, Change, Homes, IsHoused, IsDirectoryThere, is_named, last_dead, Govern, MakeDirectory, Time, WriteDraft, TruncateDraft, MakeGroup, IsPolicy, is_reached, has_directory, Readers, current_of}
+pub use Rattle.ele_world.proofs.Words.{cover_of, cover_until, cover_with, cover_without, longer, ripe_past, AddMark, AddMember, AddName, Append, AreApart, ArePlaced, Bounded, ChangesOnly, Counted, Directories, Drafts, DropGroup, DropIdle, EndDraft, EndFileName, EndName, Files, Fits, Groups, Handles, IsCleaned, IsEvent, IsFile, IsGroup, IsLawful, IsNameRow, IsThere, HasParts, IsWithin, MakeFile, MoveName, Names, OpenHandle, PutUnder, RemoveMark, RemoveMember, Revive, ShutHandle, StartDraft, Take, Versions, World, after_change, after_changes, alone, born_row, bytes_in, changed_by, clean_step, content_of, covers_moment, current_cells, dies, directory_in, draft_read, due_key, ended_at, file_at, file_by, file_now, file_usage, file_written, first_due, fitted_by, forgotten, free_moment, fresh_world, had_life, has_draft, has_key, is_draft, is_draft_after, is_file, is_file_of, is_held, is_idle, is_key, is_kind, is_live, is_live_name, is_live_name_of, is_moment, is_open, is_ripe_by, is_target_file, is_version, is_version_after, is_version_of, kind_of, live_target, lives_at, longest_content, marks_of, members_of, moment_under, near_moment, new_draft, newest_of, next_closing, next_of, next_version, nothing, only_at, parent_now, plus, policy_of, reads_by, reads_version, returning_name, ripe_at, root, step, target_at, usages, version_at, version_found, version_meant, file_view, walk_meant, walk_now, whole, with_end, with_name, with_version, without_file, without_name, Change, Homes, IsHoused, IsDirectoryThere, is_named, last_dead, Govern, MakeDirectory, Time, WriteDraft, TruncateDraft, MakeGroup, IsPolicy, is_reached, has_directory, Readers, current_of}
 pub use Rattle.ele_world.specs.May.{HasRoom, May, MayAdd, MayAppend, MayEnd, MayGroup, MayHaveMore, MayJoin, MayMake, MayMakeDirectory, MayMark, MayMove, MayName, MayOpen, MayRevive, MayStart}
 pub use Rattle.ele_world.specs.NoIdleStays.{HasNoIdle}
 pub use Rattle.ele_world.specs.Plan.{found_outcome}
@@ -59,6 +60,8 @@ pub use Rattle.ele_world.specs.declared.reply.Reply.TheVariants.{Bytes, Closed, 
 pub use Rattle.ele_world.specs.declared.rows.DraftRow.{DraftRow}
 pub use Rattle.ele_world.specs.declared.rows.FileRow.{FileRow}
 pub use Rattle.ele_world.specs.declared.rows.GroupRow.{GroupRow}
+pub use Rattle.ele_world.specs.declared.rows.MarkRow.{MarkRow}
+pub use Rattle.ele_world.specs.declared.cover.Cover.{Cover}
 pub use Rattle.ele_world.specs.declared.rows.NameRow.{NameRow}
 pub use Rattle.ele_world.specs.declared.rows.Reads.TheVariants.{Draft, Version}
 pub use Rattle.ele_world.specs.declared.rows.Stamps.{Stamps}

@@ -3,17 +3,19 @@ use Rattle.std.specs.Prelude.{◌≡◌, ℕ, ◌-◌, ◌==◌, Bool, not, ◌&
 use Rattle.std.specs.List.{filter_map, flat_map}
 use Rattle.std.specs.Option.{option_map, option_map_or}
 use Rattle.ele_state.specs.declared.keys.NewKeys.{NewKeys}
-use Rattle.ele_state.specs.declared.mark.Left.{Left}
+use Rattle.ele_state.specs.declared.mark.Asked.{Asked}
+use Rattle.ele_state.specs.declared.mark.Asked.TheVariants.{Standing, Marked, Joined, Without}
 use Rattle.ele_due.specs.declared.key.Key.{Key}
 use Rattle.ele_due.specs.HasKey.{has_key}
 use Rattle.ele_files.specs.Held.{Held}
 use Rattle.ele_policy.specs.declared.policy.Policy.{Policy}
+use Rattle.ele_world.specs.declared.cover.Cover.{Cover}
 use Rattle.ele_world.specs.declared.rows.FileRow.{FileRow}
 use Rattle.ele_world.specs.declared.rows.GroupRow.{GroupRow}
 use Rattle.ele_world.specs.Due.{ripe_at}
 use Rattle.ele_world.specs.Neighbours.{is_moment, moment_under, near_moment, newest_of, next_closing}
-use Rattle.ele_world.specs.GroupRows.{is_marked}
-use Rattle.ele_world.specs.GroupsAsked.{is_marked_without}
+use Rattle.ele_world.specs.Cover.{cover_of, cover_until, longer}
+use Rattle.ele_world.specs.GroupsAsked.{cover_with, cover_without}
 use Rattle.ele_world.specs.Tagged.{had_life}
 use Rattle.ele_world.specs.Told.{stamps_of}
 use Rattle.ele_world.specs.declared.rows.Stamps.{Stamps}
@@ -43,19 +45,19 @@ is_new keys k = is_either keys.file keys.newest keys.number keys.former keys.own
 
 -- what a row gets as the next version closes beside it, which ends it unless it has ended; none where it keeps the moment that
 -- it had alone
-abbrev pub gained_moment : (ℕ → Option ℕ → Bool) → Option Policy → ℕ → ℕ → Option ℕ → Option ℕ
-gained_moment is_marked policy now closed ended =
-    if is_some (option_and_then (near_moment is_marked policy None closed) ended) then None
-    else near_moment is_marked policy (Some now) closed (unwrap_or ended now)
+abbrev pub gained_moment : (ℕ → Option ℕ → Cover) → Option Policy → ℕ → ℕ → Option ℕ → Option ℕ
+gained_moment cover policy now closed ended =
+    if is_some (option_and_then (near_moment cover policy None closed) ended) then None
+    else near_moment cover policy (Some now) closed (unwrap_or ended now)
 
 -- so does the file's newest version; none where a handle reads it
 abbrev pub former_moment : List GroupRow → Held → ℕ → ℕ → Option ℕ
 former_moment groups h file now =
-    option_and_then (λ row. if is_open h.handles file row.number then None else gained_moment (is_marked groups file) (policy_of h.files file) now row.closed row.ended) (newest_of h.versions file)
+    option_and_then (λ row. if is_open h.handles file row.number then None else gained_moment (cover_of groups file) (policy_of h.files file) now row.closed row.ended) (newest_of h.versions file)
 
 -- that of the file's next version, which closes now and ends at once where the file isn't live
 abbrev pub own_moment : List GroupRow → List FileRow → ℕ → ℕ → Bool → Option ℕ
-own_moment groups files file now live = if live then None else near_moment (is_marked groups file) (policy_of files file) None now now
+own_moment groups files file now live = if live then None else near_moment (cover_of groups file) (policy_of files file) None now now
 
 -- the keys of both
 abbrev pub new_keys : List GroupRow → Held → ℕ → ℕ → Bool → NewKeys
@@ -74,14 +76,14 @@ abbrev pub end_moment : List GroupRow → Held → ℕ → ℕ → Option ℕ
 end_moment groups h file now =
     let last = next_of h.files file - 1 in
     if is_open h.handles file last then None
-    else option_and_then (λ row. if is_some row.ended then None else near_moment (is_marked groups file) (policy_of h.files file) None row.closed now) (find (is_version file last) h.versions)
+    else option_and_then (λ row. if is_some row.ended then None else near_moment (cover_of groups file) (policy_of h.files file) None row.closed now) (find (is_version file last) h.versions)
 
 -- ---- what another policy touches
 
 -- the moment of a version of the file under the policy; none where a handle reads it
 abbrev pub unread_under : List GroupRow → Policy → Held → ℕ → ℕ → Option ℕ
 unread_under groups policy h file number =
-    if is_open h.handles file number then None else moment_under (is_marked groups file) (Some policy) h.versions file number
+    if is_open h.handles file number then None else moment_under (cover_of groups file) (Some policy) h.versions file number
 
 -- the version of these stamps is held
 abbrev pub IsTold : Held → ℕ → Stamps → Type 0
@@ -103,23 +105,24 @@ is_under groups h file policy other k =
 
 -- ---- what marks of groups touch
 
--- whether a version of the file is marked that was current then, but for marks that are left out, if any are
-abbrev pub marked_but : Option Left → List GroupRow → ℕ → ℕ → Option ℕ → Bool
-marked_but None groups file closed ended = is_marked groups file closed ended
-marked_but (Some left) groups file closed ended = is_marked_without groups left.group left.mark file closed ended
+-- for how long marks keep what was current of the file from the one moment until the other, as they are asked
+abbrev pub cover_asked : Asked → List GroupRow → ℕ → ℕ → Option ℕ → Cover
+cover_asked Standing groups file closed ended = cover_of groups file closed ended
+cover_asked (Marked until) groups file closed ended = longer (cover_until until) (cover_of groups file closed ended)
+cover_asked (Joined name) groups file closed ended = cover_with groups name file closed ended
+cover_asked (Without name mark) groups file closed ended = cover_without groups name mark file closed ended
 
--- the moment of the file's version of that number that closed and ended then, while marks are left out; none where a handle
--- reads it
-abbrev pub moment_but : Option Left → List GroupRow → Held → ℕ → ℕ → ℕ → Option ℕ → Option ℕ
-moment_but left groups h file number closed ended =
+-- the moment of the file's version of that number that closed and ended then, as marks are asked; none where a handle reads it
+abbrev pub moment_asked : Asked → List GroupRow → Held → ℕ → ℕ → ℕ → Option ℕ → Option ℕ
+moment_asked asked groups h file number closed ended =
     if is_open h.handles file number then None
-    else option_and_then (near_moment (marked_but left groups file) (policy_of h.files file) (next_closing h.versions file number) closed) ended
+    else option_and_then (near_moment (cover_asked asked groups file) (policy_of h.files file) (next_closing h.versions file number) closed) ended
 
--- the key of the version of the file that was current at the mark, while marks are left out
-abbrev pub key_at : Option Left → List GroupRow → Held → ℕ → ℕ → Option Key
-key_at left groups h file mark =
-    option_and_then (λ row. option_map (λ m. record { ripe = m; file = file; number = row.number }) (moment_but left groups h file row.number row.closed row.ended)) (find (had_life file mark) h.versions)
+-- the key of the version of the file that was current at the mark, as marks are asked the one way, unless it is that of the other
+abbrev pub key_at : Asked → Asked → List GroupRow → Held → ℕ → ℕ → Option Key
+key_at one other groups h file mark =
+    option_and_then (λ row. key_unless file row.number (moment_asked one groups h file row.number row.closed row.ended) (moment_asked other groups h file row.number row.closed row.ended)) (find (had_life file mark) h.versions)
 
 -- the keys of the versions of those files that were current at those marks
-abbrev pub keys_at : Option Left → List GroupRow → Held → List ℕ → List ℕ → List Key
-keys_at left groups h files marks = flat_map (λ file. filter_map (key_at left groups h file) marks) files
+abbrev pub keys_at : Asked → Asked → List GroupRow → Held → List ℕ → List ℕ → List Key
+keys_at one other groups h files marks = flat_map (λ file. filter_map (key_at one other groups h file) marks) files

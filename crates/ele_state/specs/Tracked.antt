@@ -5,6 +5,7 @@ use Rattle.ele_files.specs.Held.{Held}
 use Rattle.ele_policy.specs.declared.policy.Kind.{Kind}
 use Rattle.ele_usage.specs.declared.usage.Usage.{Usage}
 use Rattle.ele_usage.specs.Book.{Book, sums_of}
+use Rattle.ele_usage.specs.OnlyAt.{only_at}
 use Rattle.ele_usage.specs.Sums.{nothing, plus}
 use Rattle.ele_world.specs.declared.rows.FileRow.{FileRow}
 use Rattle.ele_world.specs.declared.rows.VersionRow.{VersionRow}
@@ -46,6 +47,11 @@ own h file n k = of_file h file (only_blocks n) k
 -- the book has what was used when there were so many blocks, and the file alone has changed since
 abbrev pub IsOwed : Held → Book → ℕ → ℕ → Type 0
 IsOwed h book file before = (k : Kind) → plus (usage_of (held_world h) k) (own h file before k) ≡ plus (sums_of book k) (own h file (blocks_of h) k)
+
+-- the same, where a file of the kind has changed
+abbrev pub IsOwedBy : Held → Book → Kind → ℕ → Type 0
+IsOwedBy h book kind before =
+    (k : Kind) → plus (usage_of (held_world h) k) (only_at kind (only_blocks before) k) ≡ plus (sums_of book k) (only_at kind (only_blocks (blocks_of h)) k)
 
 -- the book has what the files of each kind use
 abbrev pub IsBooked : Held → Book → Type 0

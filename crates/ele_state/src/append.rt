@@ -1,30 +1,25 @@
 //! A version that a file gets: where its content comes from, the keys that come with it, and what it uses.
-ghost use Rattle.std.specs.Prelude.{◌≡◌, ◌≤◌, ◌<◌, ◌+◌, ◌^◌, Some, None, IfOk, OnOk, OnErr, is_some, length, option_and_then, if◌then◌else◌};
+ghost use Rattle.std.specs.Prelude.{◌≡◌, ◌≤◌, ◌<◌, ◌+◌, ◌^◌, Some, None, IfOk, OnOk, OnErr, is_some, length, option_and_then};
 ghost use Rattle.std.specs.Option.{option_map};
 ghost use Rattle.ele_content.specs.Content.{content_of, longest_content};
 ghost use Rattle.ele_files.specs.Held.{Became};
 ghost use Rattle.ele_files.specs.Standing.{Stands};
-ghost use Rattle.ele_policy.specs.declared.policy.Kind.{Kind};
-ghost use Rattle.ele_usage.specs.Book.{sums_of};
-ghost use Rattle.ele_usage.specs.Sums.{nothing, plus, Fits};
 ghost use Rattle.ele_world.specs.Change.{after_changes};
-ghost use Rattle.ele_world.specs.GroupRows.{is_marked};
+ghost use Rattle.ele_world.specs.Cover.{cover_of};
 ghost use Rattle.ele_world.specs.Neighbours.{near_moment, newest_of};
 ghost use Rattle.ele_world.specs.Told.{stamps_of};
-ghost use Rattle.ele_world.specs.Usage.{is_file_of};
 ghost use Rattle.ele_world.specs.World.{next_of, policy_of};
 ghost use Rattle.ele_state.specs.Inside.{world_of, IsTracked};
 ghost use Rattle.ele_state.specs.Queued.{end_moment, former_moment, gained_moment, own_moment, new_keys};
 ghost use Rattle.ele_state.specs.Source.{HasSource, IsReady, IsRoomy, appending, source_cells};
-ghost use Rattle.ele_state.specs.Tracked.{one_version};
 
-use crate::book::{blocks, follow_blocks, one_version};
+use crate::book::{blocks, one_version, settle_blocks};
 use crate::keys::{NewKeys, near_moment};
+use crate::mark::Asked;
 use crate::rows::Rows;
 use ele_files::{Files, Meter, Standing};
 use ele_groups::Groups;
 use ele_policy::Policy;
-use ele_usage::UsageBook;
 use ele_world::{FileId, Handle, Moment, NoMemory, Stamps, VersionNo};
 
 // Where the content of a file's next version comes from: the draft that was opened then, of which the handle is the last one;
@@ -52,19 +47,20 @@ pub fn standing(files: &Files, file: FileId, meter: &mut Meter) -> Standing
 // Whether the policy has a ripe moment for a version without a newer one.
 fn ripens_alone(groups: &Groups, file: FileId, policy: &Policy, stamps: &Stamps) -> bool
     ensures { result ≡ is_some (option_and_then
-        (near_moment (is_marked groups.now file) (Some policy.now) None stamps.now.closed)
+        (near_moment (cover_of groups.now file) (Some policy.now) None stamps.now.closed)
         stamps.now.ended) }
 {
     match stamps.ended {
         Some(ended) => near_moment(
             groups,
-            &None,
+            &Asked::Standing,
             file,
             policy,
             &None,
             stamps.closed,
             ended,
-        ).is_some(),
+        )
+        .is_some(),
         None => false,
     }
 }
@@ -79,14 +75,14 @@ fn gained_moment(
     now: Moment,
 ) -> Option<Moment>
     ensures { result
-        ≡ gained_moment (is_marked groups.now file) (Some policy.now) now stamps.now.closed stamps.now.ended }
+        ≡ gained_moment (cover_of groups.now file) (Some policy.now) now stamps.now.closed stamps.now.ended }
 {
     if ripens_alone(groups, file, policy, stamps) {
         return None;
     }
     near_moment(
         groups,
-        &None,
+        &Asked::Standing,
         file,
         policy,
         &Some(now),
@@ -133,7 +129,7 @@ fn new_keys(
     let own = if is_live {
         None
     } else {
-        near_moment(groups, &None, file, policy, &None, now, now)
+        near_moment(groups, &Asked::Standing, file, policy, &None, now, now)
     };
     let number = standing.next;
     match &standing.newest {
@@ -179,24 +175,13 @@ pub fn end_moment(
     }
     near_moment(
         groups,
-        &None,
+        &Asked::Standing,
         file,
         &standing.policy,
         &None,
         stamps.closed,
         now,
     )
-}
-
-// The book has one version more for the kind of the file, of so many bytes.
-fn add_version(book: &mut UsageBook, files: &Files, file: FileId, bytes: u64)
-    requires { (k : Kind) → Fits (plus (sums_of book.old k) (one_version bytes)) }
-    ensures { (k : Kind) → sums_of book.new k ≡ plus (sums_of book.old k)
-        (if is_file_of files.now.files k file then one_version bytes else nothing) }
-{
-    if let Some(policy) = files.policy_of(file) {
-        book.add(policy.kind(), one_version(bytes));
-    }
 }
 
 // The file's next version stands in the files.
@@ -221,21 +206,23 @@ fn put_version(
     }
 }
 
-// The file has its next version, of so many bytes, which closes now, and the version before it ends. Where memory is refused,
-// all but the queue is as it was.
+// The file, which stands so, has its next version, of so many bytes, which closes now, and the version before it ends. Where
+// memory is refused, all but the queue is as it was.
 pub fn append(
     rows: &mut Rows,
     file: FileId,
+    standing: &Standing,
     source: Source,
     bytes: u64,
 ) -> Result<VersionNo, NoMemory>
     requires tracked { IsTracked rows.old }
     requires roomy { IsRoomy rows.old }
     requires there { 0 < next_of rows.old.files.files file }
+    requires stands { Stands rows.old.files file standing.now }
     requires source { HasSource rows.old file source }
     requires bytes { bytes ≡ length (content_of (source_cells rows.old.files file source)) }
     requires short { bytes ≤ longest_content }
-    requires meter { rows.old.meter < 2 ^ 59 }
+    requires meter { rows.old.meter < 2 ^ 60 }
     ensures number { IfOk result (λ number. number ≡ next_of rows.old.files.files file) }
     ensures ok { OnOk result (world_of rows.new ≡ after_changes (world_of rows.old)
         (appending rows.old.files rows.old.moment file source)) }
@@ -245,8 +232,8 @@ pub fn append(
 {
     let is_live = rows.names.is_live(file);
     let now = rows.moment;
-    let standing = standing(&rows.files, file, &mut rows.meter);
-    let keys = new_keys(&rows.files, &rows.groups, file, &standing, now, is_live);
+    let kind = standing.policy.kind();
+    let keys = new_keys(&rows.files, &rows.groups, file, standing, now, is_live);
     let before = blocks(&rows.files);
     // All keys come before the version does, so that one that is refused is still without trace.
     keys.put(&mut rows.queue)?;
@@ -258,8 +245,8 @@ pub fn append(
             return Err(refused);
         }
     };
-    add_version(&mut rows.book, &rows.files, file, bytes);
-    follow_blocks(&mut rows.book, &rows.files, file, before);
+    rows.book.add(kind, one_version(bytes));
+    settle_blocks(&mut rows.book, &rows.files, kind, before);
     rows.made.versions += 1;
     Ok(number)
 }

@@ -4,7 +4,7 @@ ghost use Rattle.ele_policy.specs.declared.policy.Kind.{Kind};
 ghost use Rattle.ele_usage.specs.Book.{sums_of};
 ghost use Rattle.ele_usage.specs.Sums.{plus, Fits, IsWithin};
 ghost use Rattle.ele_usage.specs.OnlyAt.{only_at};
-ghost use Rattle.ele_state.specs.Tracked.{blocks_of, only_blocks, one_version, of_file, IsOwed, IsBooked};
+ghost use Rattle.ele_state.specs.Tracked.{blocks_of, only_blocks, one_version, of_file, IsOwed, IsOwedBy, IsBooked};
 ghost use Rattle.ele_world.specs.Usage.{is_file_of};
 
 use ele_files::Files;
@@ -53,17 +53,27 @@ pub fn blocks_fit(files: &Files)
     let _fits = blocks(files);
 }
 
-// The book follows a change of one file's versions or drafts, which had so many blocks with those of all other files
-// before: one event changes the blocks of one file, so what came or went is this file's.
-#[tactic(auto, using(crate::proofs::Words::nat_tests, crate::proofs::Booked::shift_fits))]
+// The book follows a change of a file with a policy of that kind, where all files had so many blocks before: one event changes
+// the blocks of one file, so what came or went is this file's.
+#[tactic(auto, using(crate::proofs::Booked::shift_fits, crate::proofs::Booked::shift_there, crate::proofs::Booked::shifted))]
+pub fn settle_blocks(book: &mut UsageBook, files: &Files, kind: Kind, before: u64)
+    requires owed { IsOwedBy files.now book.old kind before }
+    requires fits { (k : Kind) → Fits (record (sums_of book.old k) { blocks = 0 }) }
+    ensures { IsBooked files.now book.new }
+{
+    let after = blocks(files);
+    shift_blocks(book, kind, before, after);
+}
+
+// The same for a file by its number; where it isn't there, nothing came or went.
+#[tactic(auto, using(crate::proofs::Words::nat_tests, crate::proofs::Booked::owed_by))]
 pub fn follow_blocks(book: &mut UsageBook, files: &Files, file: FileId, before: u64)
     requires owed { IsOwed files.now book.old file before }
     requires fits { (k : Kind) → Fits (record (sums_of book.old k) { blocks = 0 }) }
     ensures { IsBooked files.now book.new }
 {
-    let after = blocks(files);
     if let Some(policy) = files.policy_of(file) {
-        shift_blocks(book, policy.kind(), before, after);
+        settle_blocks(book, files, policy.kind(), before);
     }
 }
 

@@ -1,13 +1,14 @@
 //! Groups: their files and their marks.
-ghost use Rattle.std.specs.Prelude.{◌≡◌, ◌<◌, true, false, OnOk, OnErr, IfOk};
+ghost use Rattle.std.specs.Option.{option_map_or};
+ghost use Rattle.std.specs.Prelude.{◌≡◌, nat_le, ◌<◌, true, false, OnOk, OnErr, IfOk};
 ghost use Rattle.ele_world.specs.Change.{AddMark, AddMember, DropGroup, MakeGroup, RemoveMark, RemoveMember, after_change};
 ghost use Rattle.ele_world.specs.GroupRows.{has_group, has_member, is_marked_at};
 ghost use Rattle.ele_world.specs.World.{next_of};
 
 use crate::State;
 use crate::keys::{put_all, take_all};
-use crate::mark::{Left, keys_at};
-use ele_world::{FileId, GroupList, Moment, Name, NoMemory};
+use crate::mark::{Asked, keys_at};
+use ele_world::{FileId, GroupList, MarkRow, Moment, Name, NoMemory};
 
 impl State {
     /// Whether there is a group of that name.
@@ -55,10 +56,10 @@ impl State {
         Ok(())
     }
 
-    /// The group of that name goes, and the versions that its marks alone kept have their keys again.
+    /// The group of that name goes, and the versions that its marks cover have their keys as without it.
     ///
     /// `NoMemory` where memory is refused; the world stays.
-    #[tactic(auto, using(crate::proofs::Words::nat_tests, crate::proofs::Marked::drop_queue))]
+    #[tactic(auto, using(crate::proofs::Words::nat_tests))]
     pub fn drop_group(&mut self, name: &Name) -> Result<(), NoMemory>
         ensures ok { OnOk result
             (self.new.world ≡ after_change self.old.world (DropGroup name.now)) }
@@ -66,20 +67,18 @@ impl State {
     {
         let members = self.rows.groups.members(name)?;
         let marks = self.rows.groups.marks(name)?;
-        let left = Left {
-            group: *name,
-            mark: None,
-        };
-        let come = keys_at(&self.rows, &Some(left), &members, &marks)?;
+        let asked = Asked::Without(*name, None);
+        let (come, gone) = keys_at(&self.rows, &asked, &members, &marks)?;
         put_all(&mut self.rows.queue, &come)?;
+        take_all(&mut self.rows.queue, &gone);
         self.rows.groups.take_group(name);
         Ok(())
     }
 
-    /// The group of that name gets the file, whose versions that its marks cover lose their keys.
+    /// The group of that name gets the file, whose versions that its marks cover have later keys, or none.
     ///
     /// `NoMemory` where memory is refused; the world stays.
-    #[tactic(auto, using(crate::proofs::Words::nat_tests, crate::proofs::Marked::member_queue))]
+    #[tactic(auto, using(crate::proofs::Words::nat_tests))]
     pub fn add_member(&mut self, name: &Name, file: FileId) -> Result<(), NoMemory>
         requires there { 0 < next_of self.old.world.files file }
         requires other { has_member self.old.world.groups name.now file ≡ false }
@@ -89,17 +88,21 @@ impl State {
         ensures err { OnErr result (self.new.world ≡ self.old.world) }
     {
         let marks = self.rows.groups.marks(name)?;
-        let gone = keys_at(&self.rows, &None, &[file], &marks)?;
-        self.rows.groups.add_member(name, file)?;
+        let (come, gone) = keys_at(&self.rows, &Asked::Joined(*name), &[file], &marks)?;
+        put_all(&mut self.rows.queue, &come)?;
+        if let Err(refused) = self.rows.groups.add_member(name, file) {
+            take_all(&mut self.rows.queue, &come);
+            return Err(refused);
+        }
         take_all(&mut self.rows.queue, &gone);
         self.rows.made.members += 1;
         Ok(())
     }
 
-    /// The group of that name loses the file, whose versions that its marks alone kept have their keys again.
+    /// The group of that name loses the file, whose versions have their keys as without its marks.
     ///
     /// `NoMemory` where memory is refused; the world stays.
-    #[tactic(auto, using(crate::proofs::Words::nat_tests, crate::proofs::Marked::leave_queue, crate::proofs::Marked::member_still))]
+    #[tactic(auto, using(crate::proofs::Words::nat_tests))]
     pub fn remove_member(&mut self, name: &Name, file: FileId) -> Result<(), NoMemory>
         requires { has_member self.old.world.groups name.now file ≡ true }
         ensures ok { OnOk result
@@ -107,40 +110,44 @@ impl State {
         ensures err { OnErr result (self.new.world ≡ self.old.world) }
     {
         let marks = self.rows.groups.marks(name)?;
-        let left = Left {
-            group: *name,
-            mark: None,
-        };
-        let come = keys_at(&self.rows, &Some(left), &[file], &marks)?;
+        let asked = Asked::Without(*name, None);
+        let (come, gone) = keys_at(&self.rows, &asked, &[file], &marks)?;
         put_all(&mut self.rows.queue, &come)?;
+        take_all(&mut self.rows.queue, &gone);
         self.rows.groups.take_member(name, file);
         Ok(())
     }
 
-    /// The group of that name is marked at a moment that has passed, and the versions that the mark covers lose their keys.
+    /// The group of that name is marked at a moment that has passed, until one that is to come, if the mark ends: the versions that
+    /// it covers have their keys no earlier than that, or none.
     ///
     /// `NoMemory` where memory is refused; the world stays.
-    #[tactic(auto, using(crate::proofs::Words::nat_tests, crate::proofs::Marked::mark_queue))]
-    pub fn add_mark(&mut self, name: &Name, mark: Moment) -> Result<(), NoMemory>
-        requires past { mark < self.old.world.now }
-        requires other { is_marked_at self.old.world.groups name.now mark ≡ false }
+    #[tactic(auto, using(crate::proofs::Words::nat_tests))]
+    pub fn add_mark(&mut self, name: &Name, mark: &MarkRow) -> Result<(), NoMemory>
+        requires past { mark.now.at < self.old.world.now }
+        requires ahead { option_map_or (λ end. nat_le end self.old.world.now) mark.now.until false ≡ false }
+        requires other { is_marked_at self.old.world.groups name.now mark.now.at ≡ false }
         requires room { self.old.world.made.marks < self.old.world.limits.marks }
         ensures ok { OnOk result
-            (self.new.world ≡ after_change self.old.world (AddMark name.now mark)) }
+            (self.new.world ≡ after_change self.old.world (AddMark name.now mark.now)) }
         ensures err { OnErr result (self.new.world ≡ self.old.world) }
     {
         let members = self.rows.groups.members(name)?;
-        let gone = keys_at(&self.rows, &None, &members, &[mark])?;
-        self.rows.groups.add_mark(name, mark)?;
+        let (come, gone) = keys_at(&self.rows, &Asked::Marked(mark.until), &members, &[mark.at])?;
+        put_all(&mut self.rows.queue, &come)?;
+        if let Err(refused) = self.rows.groups.add_mark(name, mark) {
+            take_all(&mut self.rows.queue, &come);
+            return Err(refused);
+        }
         take_all(&mut self.rows.queue, &gone);
         self.rows.made.marks += 1;
         Ok(())
     }
 
-    /// The group of that name loses the mark, and the versions that it alone kept have their keys again.
+    /// The group of that name loses the mark, and the versions that it covers have their keys as without it.
     ///
     /// `NoMemory` where memory is refused; the world stays.
-    #[tactic(auto, using(crate::proofs::Words::nat_tests, crate::proofs::Marked::unmark_queue, crate::proofs::Marked::marked_still))]
+    #[tactic(auto, using(crate::proofs::Words::nat_tests))]
     pub fn remove_mark(&mut self, name: &Name, mark: Moment) -> Result<(), NoMemory>
         requires { is_marked_at self.old.world.groups name.now mark ≡ true }
         ensures ok { OnOk result
@@ -148,12 +155,10 @@ impl State {
         ensures err { OnErr result (self.new.world ≡ self.old.world) }
     {
         let members = self.rows.groups.members(name)?;
-        let left = Left {
-            group: *name,
-            mark: Some(mark),
-        };
-        let come = keys_at(&self.rows, &Some(left), &members, &[mark])?;
+        let asked = Asked::Without(*name, Some(mark));
+        let (come, gone) = keys_at(&self.rows, &asked, &members, &[mark])?;
         put_all(&mut self.rows.queue, &come)?;
+        take_all(&mut self.rows.queue, &gone);
         self.rows.groups.take_mark(name, mark);
         Ok(())
     }

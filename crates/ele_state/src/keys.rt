@@ -3,14 +3,14 @@ ghost use Rattle.std.specs.Prelude.{◌≡◌, ◌<◌, ◌≤◌, ◌+◌, ◌^
 ghost use Rattle.ele_due.specs.declared.key.Key.{Key};
 ghost use Rattle.ele_due.specs.HasKey.{has_key};
 ghost use Rattle.ele_world.specs.Neighbours.{free_moment, near_moment};
-ghost use Rattle.ele_state.specs.Queued.{IsRekeyed, is_entry, is_new, marked_but};
+ghost use Rattle.ele_state.specs.Queued.{IsRekeyed, cover_asked, is_entry, is_new, key_unless};
 
-use crate::mark::Left;
+use crate::mark::Asked;
 use ele_due::DueQueue;
 use ele_files::{Files, Meter};
 use ele_groups::Groups;
 use ele_policy::{Policy, ripe};
-use ele_world::{FileId, Key, Moment, NoMemory, VersionNo};
+use ele_world::{Cover, FileId, Key, Moment, NoMemory, VersionNo};
 
 // Puts in the key of the version with that moment, if there is one.
 pub fn put(
@@ -35,6 +35,24 @@ pub fn take(queue: &mut DueQueue, file: FileId, number: VersionNo, moment: Optio
     if let Some(ripe) = moment {
         let _was = queue.remove(&Key { ripe, file, number });
     }
+}
+
+// The key of the file's version with that number and moment, unless the moment is the other one.
+pub fn key_unless(
+    file: FileId,
+    number: VersionNo,
+    moment: &Option<Moment>,
+    other: &Option<Moment>,
+) -> Option<Key>
+    ensures { result ≡ key_unless file number moment.now other.now }
+{
+    let Some(ripe) = *moment else {
+        return None;
+    };
+    if *other == Some(ripe) {
+        return None;
+    }
+    Some(Key { ripe, file, number })
 }
 
 // Puts in all the keys, or none where memory is refused; none of them is there.
@@ -62,12 +80,34 @@ pub fn take_all(queue: &mut DueQueue, keys: &[Key])
     }
 }
 
+// For how long marks keep a version of the file that closed and ended then, as they are asked.
+pub fn cover_asked(
+    groups: &Groups,
+    asked: &Asked,
+    file: FileId,
+    closed: Moment,
+    ended: Moment,
+) -> Cover
+    ensures { result ≡ cover_asked asked.now groups.now file closed (Some ended) }
+{
+    match asked {
+        Asked::Standing => groups.cover(file, closed, Some(ended)),
+        Asked::Marked(until) => {
+            Cover::until(*until).longer(groups.cover(file, closed, Some(ended)))
+        }
+        Asked::Joined(name) => groups.cover_with(name, file, closed, Some(ended)),
+        Asked::Without(name, mark) => {
+            groups.cover_without(name, *mark, file, closed, Some(ended))
+        }
+    }
+}
+
 // The ripe moment that a version of the file has under the policy while no handle reads it, which closed and ended then, and
-// beside which the next one closed at that moment, while marks are left out; none where others cover it, or where it is never
-// due.
+// beside which the next one closed at that moment, as marks are asked: not before the latest of their ends; none where one keeps
+// it for ever, or where it is never due.
 pub fn near_moment(
     groups: &Groups,
-    left: &Option<Left>,
+    asked: &Asked,
     file: FileId,
     policy: &Policy,
     next_closed: &Option<Moment>,
@@ -75,21 +115,15 @@ pub fn near_moment(
     ended: Moment,
 ) -> Option<Moment>
     ensures { result
-        ≡ near_moment (marked_but left.now groups.now file) (Some policy.now) next_closed.now
+        ≡ near_moment (cover_asked asked.now groups.now file) (Some policy.now) next_closed.now
         closed ended }
 {
-    let is_marked = match left {
-        Some(left) => groups.covering_without(&left.group, left.mark, file, closed, Some(ended)),
-        None => groups.covering(file, closed, Some(ended)),
-    };
-    if is_marked {
-        return None;
-    }
-    ripe(policy, closed, ended, *next_closed)
+    let ripe = ripe(policy, closed, ended, *next_closed)?;
+    cover_asked(groups, asked, file, closed, ended).ripe_past(ripe)
 }
 
-// The ripe moment that the version has while no handle reads it; none where it isn't held, has no end, is marked, or is never
-// due.
+// The ripe moment that the version has while no handle reads it; none where it isn't held, has no end, is marked for ever, or is
+// never due.
 pub fn free_moment(
     files: &Files,
     groups: &Groups,
@@ -106,7 +140,15 @@ pub fn free_moment(
     let ended = stamps.ended?;
     let next_closed = files.next_closing(file, number, meter);
     let closed = stamps.closed;
-    near_moment(groups, &None, file, &policy, &next_closed, closed, ended)
+    near_moment(
+        groups,
+        &Asked::Standing,
+        file,
+        &policy,
+        &next_closed,
+        closed,
+        ended,
+    )
 }
 
 // The keys that come with a version: that of the file's newest held one, which may have ended before or ends now, and its own.

@@ -15,6 +15,7 @@ mod append;
 mod book;
 mod directory;
 mod due;
+mod fate;
 mod file;
 mod group;
 mod keys;

@@ -1,68 +1,84 @@
 //! The keys of versions that were current at marks of groups.
 ghost use Rattle.std.specs.Prelude.{◌≡◌, ◌++◌, [], IfOk, OnOk};
 ghost use Rattle.std.specs.List.{cons_option, filter_map};
-ghost use Rattle.ele_state.specs.Queued.{key_at, keys_at, moment_but};
+ghost use Rattle.ele_state.specs.declared.mark.Asked.TheVariants.{Standing};
+ghost use Rattle.ele_state.specs.Queued.{key_at, keys_at, moment_asked};
 
-use crate::keys::near_moment;
+use crate::keys::{cover_asked, key_unless};
 use crate::rows::Rows;
 use ele_files::{Files, Meter};
 use ele_groups::Groups;
+use ele_policy::ripe;
 use ele_world::{FileId, Key, Moment, Name, NoMemory, Stamps};
 
-// A mark of a group that is left out, or all its marks.
+// Which marks are asked: those that stand, or those that will once groups have changed.
 #[derive(Clone, Copy)]
-pub struct Left {
-    pub group: Name,
-    pub mark: Option<Moment>,
+pub enum Asked {
+    // Those that stand.
+    Standing,
+    // One more too, with that end.
+    Marked(Option<Moment>),
+    // Those that stand once the file is in the group.
+    Joined(Name),
+    // Those but that mark of the group, or all its marks.
+    Without(Name, Option<Moment>),
 }
 
-// The ripe moment that the file's version of these stamps has while marks are left out; none where a handle reads it, where
-// other marks cover it, where it has no end, or is never due.
-fn moment_but(
+// The ripe moments that the file's version of these stamps has now, and as marks are asked; none where a handle reads it, where
+// it has no end, or is never due.
+fn moments_at(
     files: &Files,
     groups: &Groups,
-    left: &Option<Left>,
+    asked: &Asked,
     file: FileId,
     stamps: &Stamps,
-) -> Option<Moment>
-    ensures { result ≡ moment_but left.now groups.now files.now file stamps.now.number
+) -> (Option<Moment>, Option<Moment>)
+    ensures was { result.0 ≡ moment_asked Standing groups.now files.now file stamps.now.number
+        stamps.now.closed stamps.now.ended }
+    ensures then { result.1 ≡ moment_asked asked.now groups.now files.now file stamps.now.number
         stamps.now.closed stamps.now.ended }
 {
     if files.is_open(file, stamps.number) {
-        return None;
+        return (None, None);
     }
-    let ended = stamps.ended?;
-    let policy = files.policy_of(file)?;
+    let Some(ended) = stamps.ended else {
+        return (None, None);
+    };
+    let Some(policy) = files.policy_of(file) else {
+        return (None, None);
+    };
     let next_closed = files.next_closing(file, stamps.number, &mut Meter::new());
-    near_moment(
-        groups,
-        left,
-        file,
-        &policy,
-        &next_closed,
-        stamps.closed,
-        ended,
+    let closed = stamps.closed;
+    let Some(ripe) = ripe(&policy, closed, ended, next_closed) else {
+        return (None, None);
+    };
+    (
+        cover_asked(groups, &Asked::Standing, file, closed, ended).ripe_past(ripe),
+        cover_asked(groups, asked, file, closed, ended).ripe_past(ripe),
     )
 }
 
-// The key of the file's version that was current at the mark, while marks are left out.
-#[tactic(auto, using(crate::proofs::Words::nat_tests, crate::proofs::Marked::key_told))]
-fn key_at(
+// The keys that come and go, as marks are asked, of the file's version that was current at the mark.
+#[tactic(auto, using(crate::proofs::Words::nat_tests, crate::proofs::Marked::key_told, crate::proofs::Marked::key_untold))]
+fn keys_of(
     files: &Files,
     groups: &Groups,
-    left: &Option<Left>,
+    asked: &Asked,
     file: FileId,
     mark: Moment,
-) -> Option<Key>
-    ensures { result ≡ key_at left.now groups.now files.now file mark }
+) -> (Option<Key>, Option<Key>)
+    ensures come { result.0 ≡ key_at asked.now Standing groups.now files.now file mark }
+    ensures gone { result.1 ≡ key_at Standing asked.now groups.now files.now file mark }
 {
-    let stamps = files.version_at(file, mark, &mut Meter::new())?;
-    let ripe = moment_but(files, groups, left, file, &stamps)?;
-    Some(Key {
-        ripe,
-        file,
-        number: stamps.number,
-    })
+    let Some(stamps) = files.version_at(file, mark, &mut Meter::new()) else {
+        return (None, None);
+    };
+    let (was, then) = moments_at(files, groups, asked, file, &stamps);
+    let number = stamps.number;
+    (
+        key_unless(file, number, &then, &was),
+        key_unless(file, number, &was, &then),
+    )
 }
 
 // Adds the key, if there is one.
@@ -75,38 +91,45 @@ pub fn add_key(keys: &mut Vec<Key>, key: Option<Key>) -> Result<(), NoMemory>
     Ok(())
 }
 
-// Adds the keys of the file's versions that were current at the marks.
+// Adds the keys that come and go of the file's versions that were current at the marks.
 fn add_keys(
-    keys: &mut Vec<Key>,
+    come: &mut Vec<Key>,
+    gone: &mut Vec<Key>,
     rows: &Rows,
-    left: &Option<Left>,
+    asked: &Asked,
     file: FileId,
     marks: &[Moment],
 ) -> Result<(), NoMemory>
-    ensures { OnOk result (keys.new.items ≡ keys.old.items
-        ++ filter_map (key_at left.now rows.now.groups rows.now.files file) marks.now) }
+    ensures come { OnOk result (come.new.items ≡ come.old.items
+        ++ filter_map (key_at asked.now Standing rows.now.groups rows.now.files file) marks.now) }
+    ensures gone { OnOk result (gone.new.items ≡ gone.old.items
+        ++ filter_map (key_at Standing asked.now rows.now.groups rows.now.files file) marks.now) }
 {
     for mark in marks {
-        let key = key_at(&rows.files, &rows.groups, left, file, *mark);
-        add_key(keys, key)?;
+        let (comes, goes) = keys_of(&rows.files, &rows.groups, asked, file, *mark);
+        add_key(come, comes)?;
+        add_key(gone, goes)?;
     }
     Ok(())
 }
 
-// The keys of the versions of these files that were current at these marks, while marks are left out. One version may have its
-// key there more than once.
+// The keys that come and those that go, as marks are asked, of the versions of these files that were current at these marks. One
+// version may have its key there more than once.
 pub fn keys_at(
     rows: &Rows,
-    left: &Option<Left>,
+    asked: &Asked,
     files: &[FileId],
     marks: &[Moment],
-) -> Result<Vec<Key>, NoMemory>
-    ensures { IfOk result (λ keys. keys.items
-        ≡ keys_at left.now rows.now.groups rows.now.files files.now marks.now) }
+) -> Result<(Vec<Key>, Vec<Key>), NoMemory>
+    ensures come { IfOk result (λ keys. keys.0.items
+        ≡ keys_at asked.now Standing rows.now.groups rows.now.files files.now marks.now) }
+    ensures gone { IfOk result (λ keys. keys.1.items
+        ≡ keys_at Standing asked.now rows.now.groups rows.now.files files.now marks.now) }
 {
-    let mut keys = Vec::new(rows.alloc);
+    let mut come = Vec::new(rows.alloc);
+    let mut gone = Vec::new(rows.alloc);
     for file in files {
-        add_keys(&mut keys, rows, left, *file, marks)?;
+        add_keys(&mut come, &mut gone, rows, asked, *file, marks)?;
     }
-    Ok(keys)
+    Ok((come, gone))
 }

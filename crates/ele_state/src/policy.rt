@@ -4,15 +4,15 @@ ghost use Rattle.std.specs.List.{AllByRecursion, filter_map};
 ghost use Rattle.ele_policy.specs.Policy.{IsPolicy};
 ghost use Rattle.ele_world.specs.Change.{PutUnder, after_change};
 ghost use Rattle.ele_world.specs.World.{next_of};
-ghost use Rattle.ele_state.specs.Queued.{IsTold, key_under, key_unless, unread_under};
+ghost use Rattle.ele_state.specs.Queued.{IsTold, key_under, unread_under};
 
 use crate::State;
-use crate::keys::{near_moment, put_all, take_all};
-use crate::mark::add_key;
+use crate::keys::{key_unless, near_moment, put_all, take_all};
+use crate::mark::{Asked, add_key};
 use ele_files::{Files, Meter};
 use ele_groups::Groups;
 use ele_policy::Policy;
-use ele_world::{FileId, Key, Moment, NoMemory, Stamps, VersionNo};
+use ele_world::{FileId, Key, Moment, NoMemory, Stamps};
 use std::alloc::Global;
 
 impl State {
@@ -45,24 +45,6 @@ impl State {
     }
 }
 
-// The key of the file's version with that number and moment, unless the moment is the other one.
-fn key_unless(
-    file: FileId,
-    number: VersionNo,
-    moment: &Option<Moment>,
-    other: &Option<Moment>,
-) -> Option<Key>
-    ensures { result ≡ key_unless file number moment.now other.now }
-{
-    let Some(ripe) = *moment else {
-        return None;
-    };
-    if *other == Some(ripe) {
-        return None;
-    }
-    Some(Key { ripe, file, number })
-}
-
 // The ripe moments that the file's version of these stamps has under the one policy and under the other; none where a handle
 // reads it.
 #[tactic(auto, using(crate::proofs::Words::nat_tests, crate::proofs::Governed::under_told))]
@@ -89,8 +71,8 @@ fn moments_of(
     let next = files.next_closing(file, stamps.number, &mut Meter::new());
     let closed = stamps.closed;
     (
-        near_moment(groups, &None, file, one, &next, closed, ended),
-        near_moment(groups, &None, file, other, &next, closed, ended),
+        near_moment(groups, &Asked::Standing, file, one, &next, closed, ended),
+        near_moment(groups, &Asked::Standing, file, other, &next, closed, ended),
     )
 }
 

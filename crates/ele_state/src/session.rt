@@ -12,7 +12,7 @@ ghost use Rattle.ele_world.specs.declared.rows.Reads.TheVariants.{Draft, Version
 ghost use Rattle.ele_state.specs.Inside.{world_of, IsTracked, IsSound};
 
 use crate::State;
-use crate::append::{Source, append};
+use crate::append::{Source, append, standing};
 use crate::book::{blocks, follow_blocks};
 use crate::file::drop_idle;
 use crate::keys::{free_moment, put, take};
@@ -191,7 +191,8 @@ fn finish(
     ensures tracked { IsTracked rows.new }
 {
     let bytes = draft_bytes(&rows.files, file);
-    let number = append(rows, file, Source::Draft(handle, opened), bytes)?;
+    let standing = standing(&rows.files, file, &mut rows.meter);
+    let number = append(rows, file, &standing, Source::Draft(handle, opened), bytes)?;
     Ok(Some(number))
 }
 

@@ -95,8 +95,9 @@ impl State {
             (version_cells self.old.world file stamps.now.number))) }
         ensures err { OnErr result (self.new.world ≡ self.old.world) }
     {
+        let standing = standing(&self.rows.files, file, &mut self.rows.meter);
         let source = Source::Version(stamps.number);
-        append(&mut self.rows, file, source, stamps.length)
+        append(&mut self.rows, file, &standing, source, stamps.length)
     }
 
     /// A file without a live name and without a draft has a name again, and a version with the content of its last one; the
@@ -129,7 +130,8 @@ impl State {
         self.rows
             .names
             .add(directory, name, Target::File(file), self.rows.moment)?;
-        match append(&mut self.rows, file, Source::Version(last), bytes) {
+        let source = Source::Version(last);
+        match append(&mut self.rows, file, &standing, source, bytes) {
             Ok(number) => {
                 self.rows.made.names += 1;
                 Ok(number)

@@ -8,17 +8,23 @@ use Rattle.std.proofs.lemmas.List.{append-nil}
 use Rattle.ele_printer.specs.Front.{AppendsFront}
 use Rattle.ele_printer.specs.Printed.{line_text}
 use Rattle.ele_runs.specs.Fault.{number_of, name_of}
-use Rattle.ele_runs.specs.Lines.{whole_lines}
-use Rattle.ele_history.specs.Past.{Past}
-use Rattle.ele_runs.specs.Running.{RanToTheEnd, RanToAReadFault, RanPastABound, RanToAWriteFault}
+use Rattle.std.specs.List.{AllByRecursion}
+use Rattle.ele_runs.specs.Course.{Course}
+use Rattle.ele_runs.specs.LineLength.{line_unless_long}
+use Rattle.ele_runs.specs.Lines.{IsUnbroken, whole_lines}
+use Rattle.ele_runs.specs.Telling.{HasTold, ToldPastABound, ToldToAReadFault, ToldToAWriteFault}
+use Rattle.ele_runs.specs.Told.{cut_told}
+use Rattle.ele_runs.specs.declared.end.RunEnd.{RunEnd}
 use Rattle.ele_runs.specs.declared.fault.ShellFault.{ShellFault}
 use Rattle.ele_runs.specs.declared.fault.ShellFault.TheVariants.{ReadFault, WriteFault, TooManyLines, NoMemory}
 use Rattle.ele_words.specs.Ends.{HasRun, HasWritten, fault_line}
+use Rattle.ele_words.specs.RunEnds.{end_line, shown}
 
 -- what a run says of each of its ends
-pub has_run : (start : Past) (input rest old new : Option (List ℕ)) (r : Result ℕ ShellFault) → IfOk r (λ n. RanToTheEnd start n input rest old new) → (IsErrOf r ReadFault → RanToAReadFault start input rest old new)
-    → (IsErrOf r TooManyLines → RanPastABound start input rest old new) → (IsErrOf r WriteFault → RanToAWriteFault start input old new) → (IsErrOf r NoMemory → Keeps input rest × Keeps old new) → HasRun start input rest old new (result_err r)
-has_run start input rest old new (Ok n) ok read many write memory = (n, ok)
+pub has_run : (start : Course) (input rest old new : Option (List ℕ)) (r : Result RunEnd ShellFault) → IfOk r (λ end. HasTold start input rest old new end.lines end.ended_by)
+    → (IsErrOf r ReadFault → ToldToAReadFault start input rest old new) → (IsErrOf r TooManyLines → ToldPastABound start input rest old new)
+    → (IsErrOf r WriteFault → ToldToAWriteFault start input old new) → (IsErrOf r NoMemory → Keeps input rest × Keeps old new) → HasRun start input rest old new r
+has_run start input rest old new (Ok end) ok read many write memory = ok
 has_run start input rest old new (Err ReadFault) ok read many write memory = read refl
 has_run start input rest old new (Err TooManyLines) ok read many write memory = many refl
 has_run start input rest old new (Err WriteFault) ok read many write memory = write refl
@@ -32,69 +38,89 @@ whole_front : (old new : Option (List ℕ)) (bytes : List ℕ) → Appends old n
 whole_front old new bytes is = record { front = bytes; back = []; parts = sym (append-nil bytes); written = is }
 
 -- the writer holds what it held before it was flushed
-kept : (start : Past) (input rest old mid new : Option (List ℕ)) (fault : Option ShellFault) → HasRun start input rest old mid fault → Keeps mid new → HasRun start input rest old new fault
-kept start input rest old mid new None ran same = (
-  ran.0,
-  record {
-    given = ran.1.given;
-    lines = ran.1.lines;
-    last = ran.1.last;
-    text = ran.1.text;
-    taken = ran.1.taken;
-    at_end = ran.1.at_end;
-    are = ran.1.are;
-    count = ran.1.count;
-    few_lines = ran.1.few_lines;
-    few_bytes = ran.1.few_bytes;
-    output = ran.1.output;
-    written = Appends-kept old mid new ran.1.text ran.1.written same;
-  },
-)
-kept start input rest old mid new (Some ReadFault) ran same =
+kept_told : (start : Course) (n : ℕ) (ended_by : Option (Option (List ℕ))) (input rest old mid new : Option (List ℕ)) → HasTold start input rest old mid n ended_by → Keeps mid new
+    → HasTold start input rest old new n ended_by
+kept_told start n None input rest old mid new ran same = record {
+  given = ran.given;
+  lines = ran.lines;
+  last = ran.last;
+  text = ran.text;
+  course = ran.course;
+  taken = ran.taken;
+  at_end = ran.at_end;
+  are = ran.are;
+  count = ran.count;
+  few_lines = ran.few_lines;
+  few_bytes = ran.few_bytes;
+  told = ran.told;
+  goes_on = ran.goes_on;
+  uncut = ran.uncut;
+  written = Appends-kept old mid new (ran.text ++ cut_told ran.course (line_unless_long ran.last)) ran.written same;
+}
+kept_told start n (Some line) input rest old mid new ran same = record {
+  given = ran.given;
+  lines = ran.lines;
+  line = ran.line;
+  text = ran.text;
+  strict = ran.strict;
+  taken = ran.taken;
+  whole = ran.whole;
+  unbroken = ran.unbroken;
+  count = ran.count;
+  keeps = ran.keeps;
+  by = ran.by;
+  written = Appends-kept old mid new ran.text ran.written same;
+}
+
+kept : (start : Course) (input rest old mid new : Option (List ℕ)) (ended : Result RunEnd ShellFault) → HasRun start input rest old mid ended → Keeps mid new → HasRun start input rest old new ended
+kept start input rest old mid new (Ok end) ran same = kept_told start end.lines end.ended_by input rest old mid new ran same
+kept start input rest old mid new (Err ReadFault) ran same =
     record {
       given = ran.given;
       lines = ran.lines;
       part = ran.part;
       text = ran.text;
-      state = ran.state;
+      course = ran.course;
       taken = ran.taken;
       are = ran.are;
       few_lines = ran.few_lines;
       few_bytes = ran.few_bytes;
-      blocks = ran.blocks;
+      told = ran.told;
+      goes_on = ran.goes_on;
       written = Appends-kept old mid new ran.text ran.written same;
     }
-kept start input rest old mid new (Some TooManyLines) ran same =
+kept start input rest old mid new (Err TooManyLines) ran same =
     record {
       given = ran.given;
       byte = ran.byte;
       lines = ran.lines;
       part = ran.part;
       text = ran.text;
-      state = ran.state;
+      course = ran.course;
       taken = ran.taken;
       are = ran.are;
       few_lines = ran.few_lines;
       few_bytes = ran.few_bytes;
       most = ran.most;
-      blocks = ran.blocks;
+      told = ran.told;
+      goes_on = ran.goes_on;
       written = Appends-kept old mid new ran.text ran.written same;
     }
-kept start input rest old mid new (Some WriteFault) ran same =
+kept start input rest old mid new (Err WriteFault) ran same =
     record {
       lines = ran.lines;
       rest = ran.rest;
       text = ran.text;
-      state = ran.state;
+      course = ran.course;
       input_is = ran.input_is;
       whole = ran.whole;
-      blocks = ran.blocks;
+      told = ran.told;
       written = elim ran.written [
         | inl is ↦ inl (front_kept old mid new _ is same)
         | inr is ↦ inr (is.0, front_kept old mid new _ is.1 same)
       ];
     }
-kept start input rest old mid new (Some NoMemory) ran same = (ran.0, Keeps-trans old mid new ran.1 same)
+kept start input rest old mid new (Err NoMemory) ran same = (ran.0, Keeps-trans old mid new ran.1 same)
 
 -- all of a text was written or a front of it, and then a flush
 pub written_flushed : {A E : Type 0} (old mid new : Option (List ℕ)) (text : List ℕ) (r : Result A E) → OnOk r (Appends old mid text) → OnErr r (AppendsFront old mid text) → Keeps mid new → AppendsFront old new text
@@ -127,61 +153,99 @@ untaken : (input : Option (List ℕ)) → Keeps input (Some (left input))
 untaken None = tt
 untaken (Some xs) = refl
 
+-- what holds of each of two lists holds of each of both
+all_both : {A : Type 0} (P : A → Type 0) (a b : List A) → AllByRecursion P a → AllByRecursion P b → AllByRecursion P (a ++ b)
+all_both P [] b h g = g
+all_both P (x ∷ a) b h g = (h.0, all_both P a b h.1 g)
+
 -- a run that ended in any way has got as far as one whose writer failed
-as_write_fault : (start : Past) (input rest old new : Option (List ℕ)) (fault : Option ShellFault) → HasRun start input rest old new fault → RanToAWriteFault start input old new
-as_write_fault start input rest old new None ran =
+told_write_fault : (start : Course) (n : ℕ) (ended_by : Option (Option (List ℕ))) (input rest old new : Option (List ℕ)) → HasTold start input rest old new n ended_by → ToldToAWriteFault start input old new
+told_write_fault start n None input rest old new ran =
     record {
-      lines = ran.1.lines;
-      rest = ran.1.last;
-      text = ran.1.output.blocks;
-      state = ran.1.output.state;
-      input_is = all_is input rest ran.1.given (whole_lines ran.1.lines) ran.1.last ran.1.taken ran.1.at_end ran.1.are.parts;
-      whole = ran.1.are.whole;
-      blocks = ran.1.output.are;
-      written = inr (ran.1.are.cut, subst (AppendsFront old new) ran.1.output.text_is (whole_front old new ran.1.text ran.1.written));
+      lines = ran.lines;
+      rest = ran.last;
+      text = ran.text;
+      course = ran.course;
+      input_is = all_is input rest ran.given (whole_lines ran.lines) ran.last ran.taken ran.at_end ran.are.parts;
+      whole = ran.are.whole;
+      told = ran.told;
+      written = inr (ran.are.cut, whole_front old new (ran.text ++ cut_told ran.course (line_unless_long ran.last)) ran.written);
     }
-as_write_fault start input rest old new (Some ReadFault) ran =
+told_write_fault start n (Some line) input rest old new ran = elim ran.by [
+  | inl by ↦ record {
+    lines = ran.lines ++ ran.line ∷ [];
+    rest = by.behind ++ left rest;
+    text = ran.text;
+    course = by.course;
+    input_is = taken_is input rest ran.given (whole_lines (ran.lines ++ ran.line ∷ [])) by.behind ran.taken by.parts;
+    whole = all_both IsUnbroken ran.lines (ran.line ∷ []) ran.whole (ran.unbroken, tt);
+    told = by.are;
+    written = inl (whole_front old new ran.text ran.written);
+  }
+  | inr by ↦ record {
+    lines = ran.lines;
+    rest = ran.line;
+    text = by.text;
+    course = by.course;
+    input_is = all_is input rest ran.given (whole_lines ran.lines) ran.line ran.taken by.at_end by.parts;
+    whole = ran.whole;
+    told = by.are;
+    written = inr (ran.unbroken, subst (AppendsFront old new) by.told_is (whole_front old new ran.text ran.written));
+  }
+]
+
+as_write_fault : (start : Course) (input rest old new : Option (List ℕ)) (ended : Result RunEnd ShellFault) → HasRun start input rest old new ended → ToldToAWriteFault start input old new
+as_write_fault start input rest old new (Ok end) ran = told_write_fault start end.lines end.ended_by input rest old new ran
+as_write_fault start input rest old new (Err ReadFault) ran =
     record {
       lines = ran.lines;
       rest = ran.part ++ left rest;
       text = ran.text;
-      state = ran.state;
+      course = ran.course;
       input_is = taken_is input rest ran.given (whole_lines ran.lines) ran.part ran.taken ran.are.parts;
       whole = ran.are.whole;
-      blocks = ran.blocks;
+      told = ran.told;
       written = inl (whole_front old new ran.text ran.written);
     }
-as_write_fault start input rest old new (Some TooManyLines) ran =
+as_write_fault start input rest old new (Err TooManyLines) ran =
     record {
       lines = ran.lines;
       rest = (ran.part ++ ran.byte ∷ []) ++ left rest;
       text = ran.text;
-      state = ran.state;
+      course = ran.course;
       input_is = taken_is input rest (ran.given ++ ran.byte ∷ []) (whole_lines ran.lines) (ran.part ++ ran.byte ∷ []) ran.taken
           (ap (λ (zs : List ℕ). zs ++ ran.byte ∷ []) ran.are.parts ∙ append_assoc (whole_lines ran.lines) ran.part (ran.byte ∷ []));
       whole = ran.are.whole;
-      blocks = ran.blocks;
+      told = ran.told;
       written = inl (whole_front old new ran.text ran.written);
     }
-as_write_fault start input rest old new (Some WriteFault) ran = ran
-as_write_fault start input rest old new (Some NoMemory) ran =
+as_write_fault start input rest old new (Err WriteFault) ran = ran
+as_write_fault start input rest old new (Err NoMemory) ran =
     record {
       lines = [];
       rest = left input;
       text = [];
-      state = start;
+      course = start;
       input_is = untaken input;
       whole = tt;
-      blocks = (refl, refl);
+      told = (refl, refl);
       written = inl (whole_front old new [] (Appends-kept old old new [] (Appends-nil old) ran.1));
     }
 
 -- a run, and then a flush
-pub run_flushed : (start : Past) (input rest old mid new : Option (List ℕ)) (ran : Result ℕ ShellFault) (is_flushed : Bool) (ended : Result ℕ ShellFault) → HasRun start input rest old mid (result_err ran) → Keeps mid new
-    → ended ≡ (if is_flushed then ran else Err WriteFault) → HasRun start input rest old new (result_err ended)
-run_flushed start input rest old mid new ran true ended has same is = rw is (kept start input rest old mid new (result_err ran) has same)
+pub run_flushed : (start : Course) (input rest old mid new : Option (List ℕ)) (ran : Result RunEnd ShellFault) (is_flushed : Bool) (ended : Result RunEnd ShellFault) → HasRun start input rest old mid ran → Keeps mid new
+    → ended ≡ (if is_flushed then ran else Err WriteFault) → HasRun start input rest old new ended
+run_flushed start input rest old mid new ran true ended has same is = rw is (kept start input rest old mid new ran has same)
 run_flushed start input rest old mid new ran false ended has same is =
-    rw is (kept start input rest old mid new (Some WriteFault) (as_write_fault start input rest old mid (result_err ran) has) same)
+    rw is (kept start input rest old mid new (Err WriteFault) (as_write_fault start input rest old mid ran has) same)
+
+-- the line that ended a run was told, or a front of it
+pub end_flushed : {A E : Type 0} (old mid new : Option (List ℕ)) (number : ℕ) (line : Option (List ℕ)) (text : List ℕ) (r : Result A E) → text ≡ shown line
+    → OnOk r (Appends old mid (line_text (codes "elephant: line" ∷ decimal number ∷ codes "ended the run:" ∷ text ∷ [])))
+    → OnErr r (AppendsFront old mid (line_text (codes "elephant: line" ∷ decimal number ∷ codes "ended the run:" ∷ text ∷ []))) → Keeps mid new → AppendsFront old new (end_line number line)
+end_flushed old mid new number line text r is all front same =
+    let told : line_text (codes "elephant: line" ∷ decimal number ∷ codes "ended the run:" ∷ text ∷ []) ≡ end_line number line = rw is refl in
+    subst (AppendsFront old new) told (written_flushed old mid new (line_text (codes "elephant: line" ∷ decimal number ∷ codes "ended the run:" ∷ text ∷ [])) r all front same)
 
 -- all of a text was written
 pub text_flushed : {A : Type 0} (text : List ℕ) (old mid new : Option (List ℕ)) (x : A) (is_flushed : Bool) (ended : Result A ShellFault) → Appends old mid text → Keeps mid new → ended ≡ (if is_flushed then Ok x else Err WriteFault)

@@ -2,25 +2,28 @@
 use Rattle.std.specs.Prelude.{◌≡◌, ℕ, ◌≤◌}
 use Rattle.ele_world.specs.Bounds.{largest_bounds}
 use Rattle.ele_words.specs.declared.asked.Asked.{Asked}
-use Rattle.ele_words.specs.declared.asked.Asked.TheVariants.{Run, Storm, Help, NotUnderstood, NoMemory}
+use Rattle.ele_words.specs.declared.asked.Asked.TheVariants.{Run, Storm, Forecast, Help, NotUnderstood, NoMemory}
 
 -- so many events may be answered: from 1 to 1,000,000,000
 pub record IsEvents (events : ℕ) : Type 0 where
   pub some : 1 ≤ events
   pub within : events ≤ 1000000000
 
--- a run is under the largest limits, but for that of events; a storm has a plan, whose numbers its type keeps
+-- a run is in any manner, under the largest limits but for that of events; a storm has a plan, whose numbers its type keeps, and
+-- a forecast any policy and moments
 abbrev pub IsAsked : Asked → Type 0
-IsAsked (Run limits) = IsEvents limits.events × (limits ≡ record largest_bounds { events = limits.events })
+IsAsked (Run limits manner) = IsEvents limits.events × (limits ≡ record largest_bounds { events = limits.events })
 IsAsked (Storm plan) = Unit {0}
+IsAsked (Forecast ask) = Unit {0}
 IsAsked (Help text) = Unit {0}
 IsAsked (NotUnderstood text) = Unit {0}
 IsAsked NoMemory = Unit {0}
 
--- no run, no storm and no help: words that weren't understood, or no memory to tell them
+-- no run, no storm, no forecast and no help: words that weren't understood, or no memory to tell them
 abbrev pub IsRefusal : Asked → Type 0
-IsRefusal (Run limits) = ⊥
+IsRefusal (Run limits manner) = ⊥
 IsRefusal (Storm plan) = ⊥
+IsRefusal (Forecast ask) = ⊥
 IsRefusal (Help text) = ⊥
 IsRefusal (NotUnderstood text) = Unit {0}
 IsRefusal NoMemory = Unit {0}

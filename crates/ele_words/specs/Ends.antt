@@ -4,23 +4,17 @@ use Rattle.std.specs.Io.KnownBytes.{Appends, Keeps}
 use Rattle.ele_printer.specs.Front.{AppendsFront}
 use Rattle.ele_printer.specs.Printed.{line_text}
 use Rattle.ele_runs.specs.Fault.{number_of, name_of}
-use Rattle.ele_history.specs.Past.{Past, fresh}
-use Rattle.ele_runs.specs.Running.{RanToTheEnd, RanToAReadFault, RanPastABound, RanToAWriteFault}
+use Rattle.ele_history.specs.Past.{fresh}
+use Rattle.ele_runs.specs.Course.{begun}
 use Rattle.ele_runs.specs.declared.fault.ShellFault.{ShellFault}
 use Rattle.ele_runs.specs.declared.fault.ShellFault.TheVariants.{ReadFault, WriteFault, TooManyLines, NoMemory}
 pub use Rattle.ele_words.specs.Status.{fault_line, Tells}
 use Rattle.ele_words.specs.Status.{status_of}
+use Rattle.ele_words.specs.Forecasts.{ForecastEnds}
+pub use Rattle.ele_words.specs.RunEnds.{HasRun, RunEnds}
 use Rattle.ele_words.specs.Storms.{StormEnds}
 use Rattle.ele_words.specs.declared.asked.Asked.{Asked}
 use Rattle.ele_words.specs.declared.asked.Asked.TheVariants as asked
-
--- a run, by the fault that ended it: without one all was read and answered; without memory nothing was read or written
-abbrev pub HasRun : Past → Option (List ℕ) → Option (List ℕ) → Option (List ℕ) → Option (List ℕ) → Option ShellFault → Type 0
-HasRun start input rest old new None = (lines : ℕ) × RanToTheEnd start lines input rest old new
-HasRun start input rest old new (Some ReadFault) = RanToAReadFault start input rest old new
-HasRun start input rest old new (Some TooManyLines) = RanPastABound start input rest old new
-HasRun start input rest old new (Some WriteFault) = RanToAWriteFault start input old new
-HasRun start input rest old new (Some NoMemory) = Keeps input rest × Keeps old new
 
 -- help, by the fault that ended it: all of it was written, or a front
 abbrev pub HasWritten : List ℕ → Option (List ℕ) → Option (List ℕ) → Option ShellFault → Type 0
@@ -39,9 +33,10 @@ pub record Ends (Done : Option ShellFault → Type 0) (before after : Option (Li
 
 -- by what was asked for; words that weren't understood are told with status 2
 abbrev pub EndsWith : Asked → Option (List ℕ) → Option (List ℕ) → Option (List ℕ) → Option (List ℕ) → Option (List ℕ) → Option (List ℕ) → ℕ → Type 0
-EndsWith (asked.Run limits) input rest old new before after status =
-    Ends (HasRun (fresh limits) input rest old new) before after status
+EndsWith (asked.Run limits manner) input rest old new before after status =
+    RunEnds (begun manner (fresh limits)) input rest old new before after status
 EndsWith (asked.Storm plan) input rest old new before after status = Keeps input rest × StormEnds plan old new before after status
+EndsWith (asked.Forecast ask) input rest old new before after status = ForecastEnds ask input rest old new before after status
 EndsWith (asked.Help text) input rest old new before after status =
     Keeps input rest × Ends (HasWritten (string_bytes text) old new) before after status
 EndsWith (asked.NotUnderstood text) input rest old new before after status =

@@ -4,13 +4,17 @@ ghost use Rattle.std.specs.Prelude.{◌≡◌};
 ghost use Rattle.ele_world.specs.Bounds.{largest_bounds};
 ghost use Rattle.ele_words.specs.Asked.{IsEvents, IsAsked, IsRefusal};
 
+mod forecast;
 mod storm;
 
 use clap::error::ErrorKind;
-use clap::{Arg, ArgMatches, Command, Error};
+use clap::{Arg, ArgAction, ArgMatches, Command, Error};
 use ele_moment::read_number;
+use ele_outlook::Ask;
+use ele_runs::Manner;
 use ele_storm::StormPlan;
 use ele_world::Limits;
+use forecast::{asked_forecast, forecast};
 use std::alloc::{AllocError, Global};
 use std::{io, mem};
 use storm::{asked_storm, storm};
@@ -18,11 +22,13 @@ use storm::{asked_storm, storm};
 /// What the words ask for.
 #[derive(Debug, Drop)]
 pub enum Asked {
-    /// A run of the script on standard input, under these limits: from 1 to 1,000,000,000 events,
-    /// and else the largest.
-    Run(Limits),
+    /// A run of the script on standard input in this manner, under these limits: from 1 to
+    /// 1,000,000,000 events, and else the largest.
+    Run(Limits, Manner),
     /// A storm over a fresh core of the largest limits, with an audit behind it.
     Storm(StormPlan),
+    /// A forecast of the closings on standard input.
+    Forecast(Ask),
     /// The help or the version, which end with status 0.
     Help(String),
     /// The words weren't understood, which ends with status 2.
@@ -45,8 +51,22 @@ const EXAMPLE: &str = "Example: elephant run < script
 
 docs/SCRIPT.md tells the language of scripts.";
 
+const STRICT: &str = "Ends the run, with status 5, at the first line that isn't answered by `ok`";
+
+const NUMBERS: &str = "Puts the number of its line in front of each answer";
+
+const REMARKS: &str = "Passes over lines that begin with `#`";
+
 const RUN: &str = "Runs the script on standard input. A line is answered as it comes: \
     whatever whole lines have come are answered before more is read";
+
+// An option that is given or not.
+fn flag<'a>(alloc: Global, name: &'a str, help: &'a str) -> Arg<'a> {
+    Arg::new(alloc, name)
+        .long(name)
+        .help(help)
+        .action(ArgAction::SetTrue)
+}
 
 // The words that the program understands.
 fn command<'a>(alloc: Global) -> Result<Command<'a>, AllocError> {
@@ -55,7 +75,12 @@ fn command<'a>(alloc: Global) -> Result<Command<'a>, AllocError> {
         .value_name("N")
         .help("How many events may be answered, 1 to 1000000000")
         .default_value("1000000");
-    let run = Command::new(alloc, "run").about(RUN).arg(events)?;
+    let run = Command::new(alloc, "run")
+        .about(RUN)
+        .arg(events)?
+        .arg(flag(alloc, "strict", STRICT))?
+        .arg(flag(alloc, "numbers", NUMBERS))?
+        .arg(flag(alloc, "remarks", REMARKS))?;
     Command::new(alloc, "elephant")
         .about("A file system's core that keeps earlier versions")
         .version(VERSION)
@@ -63,7 +88,8 @@ fn command<'a>(alloc: Global) -> Result<Command<'a>, AllocError> {
         .subcommand_required(true)
         .arg_required_else_help(true)
         .subcommand(run)?
-        .subcommand(storm(alloc)?)
+        .subcommand(storm(alloc)?)?
+        .subcommand(forecast(alloc)?)
 }
 
 // A refusal of words in these.
@@ -76,15 +102,15 @@ fn not_understood(alloc: Global, text: &str) -> Asked
     }
 }
 
-// What a run asks for with so many events.
-fn run_with(alloc: Global, events: u64) -> Asked
+// What a run in some manner asks for with so many events.
+fn run_with(alloc: Global, events: u64, manner: Manner) -> Asked
     ensures run { IsEvents events
-        → result ≡ Asked.Run (record largest_bounds { events = events }) }
+        → result ≡ Asked.Run (record largest_bounds { events = events }) manner }
     ensures refused { ¬ IsEvents events → IsRefusal result }
     ensures asked { IsAsked result }
 {
     match Limits::with_events(events) {
-        Some(limits) if events > 0 => Asked::Run(limits),
+        Some(limits) if events > 0 => Asked::Run(limits, manner),
         _ => not_understood(alloc, BAD_EVENTS),
     }
 }
@@ -94,6 +120,15 @@ fn events_in(run: &ArgMatches) -> Option<u64> {
     read_number(run.get_str("events")?.as_bytes())
 }
 
+// In which manner a run is asked for.
+fn manner_in(run: &ArgMatches) -> Manner {
+    Manner {
+        strict: run.get_flag("strict"),
+        numbers: run.get_flag("numbers"),
+        remarks: run.get_flag("remarks"),
+    }
+}
+
 // What words that were understood ask for.
 fn understood(alloc: Global, matches: &ArgMatches) -> Asked
     ensures { IsAsked result }
@@ -101,11 +136,14 @@ fn understood(alloc: Global, matches: &ArgMatches) -> Asked
     if let Some(storm) = matches.subcommand_matches("storm") {
         return asked_storm(alloc, storm);
     }
+    if let Some(forecast) = matches.subcommand_matches("forecast") {
+        return asked_forecast(alloc, forecast);
+    }
     let Some(run) = matches.subcommand_matches("run") else {
         return not_understood(alloc, NO_COMMAND);
     };
     match events_in(run) {
-        Some(events) => run_with(alloc, events),
+        Some(events) => run_with(alloc, events, manner_in(run)),
         None => not_understood(alloc, BAD_EVENTS),
     }
 }

@@ -3,13 +3,16 @@
 ghost use Rattle.std.specs.Prelude.{◌≡◌, Err, is_ok, if◌then◌else◌};
 ghost use Rattle.std.specs.Result.{result_err};
 ghost use Rattle.ele_history.specs.Past.{fresh};
+ghost use Rattle.ele_runs.specs.Course.{begun};
 ghost use Rattle.ele_words.specs.Status.{fault_status, status_of};
 ghost use Rattle.ele_words.specs.Ends.{HasRun, HasWritten, Tells, EndsWith};
+ghost use Rattle.ele_words.specs.RunEnds.{TellsEnd, TellsRun, end_status, run_status, shown};
 
 use crate::asked::Asked;
+use crate::forecasting::run_forecast;
 use crate::storming::run_storm;
-use ele_runs::{ShellFault, run_over};
-use ele_script::{put, write_named};
+use ele_runs::{LineBuffer, Manner, RunEnd, ShellFault, run_in};
+use ele_script::{put, write_named, write_placed};
 use ele_world::{Auditable, Limits, Stepping};
 use std::alloc::Global;
 use std::io;
@@ -31,20 +34,62 @@ pub(crate) fn after_flush<T: Drop>(
     }
 }
 
-// Runs the script that the reader gives under these limits, and flushes what it wrote, however it
-// ended.
+// Runs the script that the reader gives in this manner under these limits, and flushes what it
+// wrote, however it ended.
 fn run_script<C: Stepping, R: Read, W: Write>(
     alloc: Global,
+    manner: Manner,
     limits: Limits,
     reader: &mut R,
     writer: &mut W,
-) -> Result<u64, ShellFault>
-    ensures { HasRun (fresh limits) (R.remaining reader.old) (R.remaining reader.new)
-        (W.contents writer.old) (W.contents writer.new) (result_err result) }
+) -> Result<RunEnd, ShellFault>
+    ensures { HasRun (begun manner (fresh limits)) (R.remaining reader.old) (R.remaining reader.new)
+        (W.contents writer.old) (W.contents writer.new) result }
 {
-    let ran = run_over::<C, R, W>(alloc, reader, writer, limits);
+    let ran = run_in::<C, R, W>(manner, alloc, reader, writer, limits);
     let flushed = writer.flush();
     after_flush(ran, &flushed)
+}
+
+// The text of the line that ended a run.
+fn shown(line: &LineBuffer) -> &[u8]
+    ensures { result.now ≡ shown line.now }
+{
+    match line.line() {
+        Some(text) => text,
+        None => b"more than 8192 bytes",
+    }
+}
+
+// Tells which line ended a strict run, if one did, and the status to end with.
+fn tell_end<E: Write>(end: &RunEnd, errors: &mut E) -> u8
+    ensures status { result ≡ end_status end.now.ended_by }
+    ensures told { TellsEnd end.now.lines end.now.ended_by (E.contents errors.old)
+        (E.contents errors.new) }
+{
+    let Some(line) = &end.ended_by else {
+        return 0;
+    };
+    let _ = write_placed(
+        b"elephant: line",
+        end.lines,
+        b"ended the run:",
+        shown(line),
+        errors,
+    );
+    let _ = errors.flush();
+    5
+}
+
+// Tells how a run ended, and the status to end with.
+fn tell_run<E: Write>(ran: &Result<RunEnd, ShellFault>, errors: &mut E) -> u8
+    ensures status { result ≡ run_status ran.now }
+    ensures told { TellsRun ran.now (E.contents errors.old) (E.contents errors.new) }
+{
+    match ran {
+        Ok(end) => tell_end(end, errors),
+        Err(fault) => tell(Some(*fault), errors),
+    }
 }
 
 /// Writes a text, and flushes it.
@@ -96,11 +141,12 @@ pub fn answer<C: Auditable + Send, T: Threads + Wait + Sync, R: Read, W: Write, 
         (E.contents errors.old) (E.contents errors.new) result }
 {
     match asked {
-        Asked::Run(limits) => {
-            let ran = run_script::<C, R, W>(alloc, *limits, reader, writer);
-            tell(ran.err(), errors)
+        Asked::Run(limits, manner) => {
+            let ran = run_script::<C, R, W>(alloc, *manner, *limits, reader, writer);
+            tell_run(&ran, errors)
         }
         Asked::Storm(plan) => run_storm::<C, T, W, E>(rt, alloc, plan, writer, errors),
+        Asked::Forecast(ask) => run_forecast(alloc, ask, reader, writer, errors),
         Asked::Help(text) => tell(write_text(text.as_str(), writer).err(), errors),
         Asked::NotUnderstood(text) => {
             let _ = put(errors, text.as_bytes());

@@ -4,6 +4,7 @@
 
 mod asked;
 mod ends;
+mod forecasting;
 mod storming;
 
 pub use asked::{Asked, no_words, words};

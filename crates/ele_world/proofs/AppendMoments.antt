@@ -3,7 +3,7 @@
 use Rattle.ele_world.proofs.Basics.{◌≡◌, ℕ, ◌+◌, ◌-◌, ◌<◌, ◌==◌, Bool, true, false, cond, ◌&&◌, ◌||◌, List, [], ◌∷◌, Some, None, is_none, refl, ap, sym, ◌∙◌, arith, find, option_and_then, option_map, unwrap_or, AllByRecursion, option_map_or}
 use Rattle.ele_world.proofs.Basics.{nat_tests, last_passing, last_has, AllLater, insert_before, update_first, later-weaker, all-both, all-insert_before, all-update_first, all-weaker, all-found, found_passes, not_found, find-insert_before}
 use Rattle.ele_world.proofs.Basics.{list_any-update_first, any-found, find-inserted, find-update_other}
-use Rattle.ele_world.proofs.Words.{Cell, IsLawful, VersionRow, ended_at, next_version, with_end, with_version, ripe_of, ripe_at, is_marked, is_newer_of, is_version_of, near_moment, newest_of, next_closing, ArePlaced, AreHeldRead, AreVersions}
+use Rattle.ele_world.proofs.Words.{Cell, IsLawful, VersionRow, ended_at, next_version, with_end, with_version, ripe_of, ripe_at, cover_of, is_newer_of, is_version_of, near_moment, newest_of, next_closing, ArePlaced, AreHeldRead, AreVersions}
 use Rattle.ele_world.proofs.Words.{IsVersion, Readers, Versions, HasParts, World, is_file, is_live, is_open, is_version, is_version_after, next_of, policy_of}
 use Rattle.ele_lists.proofs.Cuts.{any-found as first_passing}
 use Rattle.ele_world.proofs.Closes.{new_found, none_next}
@@ -104,7 +104,7 @@ module _ (w : World) (file opened : ℕ) (cells : List Cell) (k : MayGrow w file
   none_behind = grind (arith, nat_tests, find-insert_before behind (is_newer_of file next) new (with_end w file), none_past w.files w.now (with_end w file) file next ended.each)
 
   -- it has its moment where it ends at once
-  pub next_after : ripe_at appended file next ≡ cond (is_live w file) None (near_moment (is_marked w.groups file) (policy_of w.files file) None w.now w.now)
+  pub next_after : ripe_at appended file next ≡ cond (is_live w file) None (near_moment (cover_of w.groups file) (policy_of w.files file) None w.now w.now)
   next_after = grind (arith, nat_tests, unread_unheld w.versions w.handles file next k.readers (any_none (is_version file next) w.versions none_there), any_none (is_version file next) w.versions none_there, none_there, ripe_at_near appended file next then_ordered, then_ordered, new_found w file k.versions.each opened cells, policies-numbered w.files file file, none_behind)
 
   -- each other version is found as before, but that its file's last one ends
@@ -129,7 +129,7 @@ module _ (w : World) (file opened : ℕ) (cells : List Cell) (k : MayGrow w file
     newest_before = its.before
 
     -- it had a moment if it had ended, without a newer one beside it
-    pub newest_was : ripe_at w file row.number ≡ cond (is_open w.handles file row.number) None (option_and_then (near_moment (is_marked w.groups file) (policy_of w.files file) None row.closed) row.ended)
+    pub newest_was : ripe_at w file row.number ≡ cond (is_open w.handles file row.number) None (option_and_then (near_moment (cover_of w.groups file) (policy_of w.files file) None row.closed) row.ended)
     newest_was = grind (arith, nat_tests, its, ripe_at_near, ordered, not_found)
 
     -- it has an end, and the new one next behind it
@@ -143,7 +143,7 @@ module _ (w : World) (file opened : ℕ) (cells : List Cell) (k : MayGrow w file
     next_behind = grind (arith, nat_tests, its, find-inserted behind (is_newer_of file row.number) new (with_end w file), all-update_first p (IsNoNewer file row.number) (IsNoNewer file row.number) (ended_at w.now) w.versions)
 
     -- and has a moment with the new version beside it
-    pub newest_is : ripe_at appended file row.number ≡ cond (is_open w.handles file row.number) None (near_moment (is_marked w.groups file) (policy_of w.files file) (Some w.now) row.closed (unwrap_or row.ended w.now))
+    pub newest_is : ripe_at appended file row.number ≡ cond (is_open w.handles file row.number) None (near_moment (cover_of w.groups file) (policy_of w.files file) (Some w.now) row.closed (unwrap_or row.ended w.now))
     newest_is = grind (arith, nat_tests, ripe_at_near appended file row.number then_ordered, newest_ended, policies-numbered w.files file file, next_behind)
 
     -- what stands behind an older one is as before

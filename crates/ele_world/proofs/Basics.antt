@@ -10,7 +10,7 @@ pub use Rattle.ele_lists.proofs.Lasts.{last_has}
 pub use Rattle.ele_lists.proofs.Sums.{length-filter_removed, length-split, sum_by-found, sum_by-update_first}
 pub use Rattle.ele_lists.specs.Last.{last_passing, passing}
 pub use Rattle.ele_lists.specs.Lists.{AllLater, insert_before, remove_first, update_first}
-pub use Rattle.std.proofs.Common.{Bool, Err, IfSome, List, None, Ok, Option, Result, Some, [], add-one, ap, append_assoc, arith, cond, drop, eqb, false, filter, find, fold, get_or, inl, inr, is_none, length, length-append, map, nat_lt, not, refl, rules, slice_get, subst, suc, sym, take, tests, true, zero, ℕ, ◌&&◌, ◌*◌, ◌++◌, ◌+◌, ◌-◌, ◌<◌, ◌==◌, ◌^◌, ◌||◌, ◌∙◌, ◌∷◌, ◌≡◌, ◌≢◌, ◌≤◌, ◌⊎◌}
+pub use Rattle.std.proofs.Common.{Bool, Err, IfSome, List, None, Ok, Option, Result, Some, [], add-one, ap, append_assoc, arith, cond, drop, eqb, false, filter, find, fold, get_or, inl, inr, is_none, length, length-append, map, nat_lt, max, not, refl, rules, slice_get, subst, suc, sym, take, tests, true, zero, ℕ, ◌&&◌, ◌*◌, ◌++◌, ◌+◌, ◌-◌, ◌<◌, ◌==◌, ◌^◌, ◌||◌, ◌∙◌, ◌∷◌, ◌≡◌, ◌≢◌, ◌≤◌, ◌⊎◌}
 pub use Rattle.std.proofs.Math.Bool.{and-false}
 pub use Rattle.std.proofs.lemmas.Bool.{cases_lt, false≢true, not-true, true≢false}
 pub use Rattle.std.proofs.lemmas.Bool.Decides.{nat_tests}

@@ -1,7 +1,7 @@
 -- A new file and a file's next version, in a world and in one that lags behind it.
 use Rattle.ele_world.proofs.Basics.{◌≡◌, ◌==◌, ◌<◌, ◌-◌, ◌+◌, ℕ, Bool, true, false, cond, not, ◌&&◌, ◌||◌, List, [], ◌∷◌, None, Some, Option, refl, ap, sym, subst, ◌∙◌, arith, nat_tests, filter, list_any, nat_le, IfSome, option_map_or, unwrap_or, option_and_then, update_first, AllLater}
 use Rattle.ele_world.proofs.Basics.{later-weaker, list_any-append, list_any-insert_before, list_any-update_first, false≢true, all-weaker, not_found}
-use Rattle.ele_world.proofs.Words.{Append, Cell, Change, Files, IsLawful, HasParts, MakeFile, Policy, VersionRow, Versions, World, after_change, ended_at, is_file, is_live_name_of, is_marked, is_open, is_version, is_version_after, near_moment, newest_of, next_of, next_version, numbered_on, policy_of, ripe_at, with_end, with_version, ArePlaced}
+use Rattle.ele_world.proofs.Words.{Cover, Always, Free, Until, cover_of, ripe_past, Append, Cell, Change, Files, IsLawful, HasParts, MakeFile, Policy, VersionRow, Versions, World, after_change, ended_at, is_file, is_live_name_of, is_open, is_version, is_version_after, near_moment, newest_of, next_of, next_version, numbered_on, policy_of, ripe_at, with_end, with_version, ArePlaced}
 use Rattle.ele_policy.specs.Ripe.{alone, ripe_by}
 use Rattle.ele_world.specs.Due.{ripe_of}
 use Rattle.ele_world.specs.Less.{less}
@@ -23,13 +23,20 @@ near_keeps : (policy : Policy) (closed ended nearest at : ℕ) → IsLawful poli
 near_keeps policy closed ended nearest at is None e due = absurd (false≢true due)
 near_keeps policy closed ended nearest at is (Some m) e due = is.ripe_keeps closed ended m nearest e
 
-beside_one : (read : Bool) (marked : ℕ → Option ℕ → Bool) (policy : Option Policy) (closed now : ℕ) (ended : Option ℕ) → IfSome policy IsLawful
-    → option_map_or (λ m. nat_le m now) (cond read None (option_and_then (near_moment marked policy None closed) ended)) false ≡ true
-    → cond read None (near_moment marked policy (Some now) closed (unwrap_or ended now)) ≡ cond read None (option_and_then (near_moment marked policy None closed) ended)
-beside_one true marked policy closed now ended given due = absurd (false≢true due)
-beside_one false marked policy closed now None given due = absurd (false≢true due)
-beside_one false marked None closed now (Some ended) given due = grind (arith, nat_tests, due, false≢true)
-beside_one false marked (Some policy) closed now (Some ended) given due = grind (arith, nat_tests, due, false≢true, near_keeps policy closed ended now now given (ripe_by policy closed (alone None) ended) refl)
+past_due : (c : Cover) (o : Option ℕ) (now : ℕ) → option_map_or (λ m. nat_le m now) (option_and_then (ripe_past c) o) false ≡ true → option_map_or (λ m. nat_le m now) o false ≡ true
+past_due c None now due = absurd (false≢true due)
+past_due Free (Some m) now due = due
+past_due Always (Some m) now due = absurd (false≢true due)
+past_due (Until end) (Some m) now due = grind (arith, nat_tests, due)
+
+beside_one : (read : Bool) (cover : ℕ → Option ℕ → Cover) (policy : Option Policy) (closed now : ℕ) (ended : Option ℕ) → IfSome policy IsLawful
+    → option_map_or (λ m. nat_le m now) (cond read None (option_and_then (near_moment cover policy None closed) ended)) false ≡ true
+    → cond read None (near_moment cover policy (Some now) closed (unwrap_or ended now)) ≡ cond read None (option_and_then (near_moment cover policy None closed) ended)
+beside_one true cover policy closed now ended given due = absurd (false≢true due)
+beside_one false cover policy closed now None given due = absurd (false≢true due)
+beside_one false cover None closed now (Some ended) given due = grind (arith, nat_tests, due, false≢true)
+beside_one false cover (Some policy) closed now (Some ended) given due =
+    ap (option_and_then (ripe_past (cover closed (Some ended)))) (near_keeps policy closed ended now now given (ripe_by policy closed (alone None) ended) refl (past_due (cover closed (Some ended)) (ripe_by policy closed (alone None) ended) now due))
 
 module _ (gone : ℕ → ℕ → Bool) (dropped : ℕ → Bool) (u v : World) (b : Behind gone dropped u v) where
   abbrev behind : World
@@ -113,7 +120,7 @@ module _ (gone : ℕ → ℕ → Bool) (dropped : ℕ → Bool) (u v : World) (b
     newest_stays row is named =
         let was = newest_was v file opened cells may row is in
         newest_is v file opened cells may row is
-        ∙ beside_one (is_open v.handles file row.number) (is_marked v.groups file) (policy_of v.files file) row.closed v.now row.ended (policy_is v.files file (policies_of v b.formed)) (rw was at (sym (is_due_is v file row.number b.formed) ∙ b.due file row.number named))
+        ∙ beside_one (is_open v.handles file row.number) (cover_of v.groups file) (policy_of v.files file) row.closed v.now row.ended (policy_is v.files file (policies_of v b.formed)) (rw was at (sym (is_due_is v file row.number b.formed) ∙ b.due file row.number named))
         ∙ sym was
 
     ripe_stays : (f n : ℕ) → gone f n ≡ true → ripe_at appended f n ≡ ripe_at v f n

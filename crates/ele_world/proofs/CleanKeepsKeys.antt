@@ -38,7 +38,7 @@ module _ (w : World) (before : List VersionRow) (row : VersionRow) (behind : Lis
   unfolding ripe_of is_due_at
   stay =
       let told = all-around (IsLater w first) before row behind (subst (AllByRecursion (IsLater w first)) whole later) in
-      all-weaker (λ x. IsBeside row x × IsLater w first x) (λ x. ripe_of without_row x ≡ ripe_of w x) (before ++ behind) (λ x h. ripe_same (file_view w x.file) (file_view without_row x.file) x refl (due_stays x h.0 h.1))
+      all-weaker (λ x. IsBeside row x × IsLater w first x) (λ x. ripe_of without_row x ≡ ripe_of w x) (before ++ behind) (λ x h. ripe_same (file_view w x.file) (file_view without_row x.file) x refl refl (due_stays x h.0 h.1))
       (all-both (IsBeside row) (IsLater w first) (before ++ behind) (sides w before row behind k whole) (all-append (IsLater w first) before behind told.0 told.2))
 
   others : (file number : ℕ) → is_version file number row ≡ false → ripe_at without_row file number ≡ ripe_at w file number

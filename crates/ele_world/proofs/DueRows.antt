@@ -60,6 +60,6 @@ due_is_free w row at h = grind (arith, nat_tests, false≢true)
 pub due_is_unread : (w : World) (row : VersionRow) (at : ℕ) → is_due_at w row at ≡ true → is_open w.handles row.file row.number ≡ false
 due_is_unread w row at h = grind (arith, nat_tests, due_is_free w row at h, numbers_are w.handles row.file row.number)
 
--- and no mark of a group that has its file covers it
-pub due_is_unmarked : (w : World) (row : VersionRow) (at : ℕ) → is_due_at w row at ≡ true → is_marked w.groups row.file row.closed row.ended ≡ false
-due_is_unmarked w row at h = grind (arith, nat_tests, due_is_free w row at h, marks_tell w.groups row.file row.closed row.ended)
+-- and no mark in force of a group that has its file covers it
+pub due_is_unmarked : (w : World) (row : VersionRow) (at : ℕ) → is_due_at w row at ≡ true → is_marked w.groups row.file row.closed row.ended at ≡ false
+due_is_unmarked w row at h = grind (arith, nat_tests, due_is_free w row at h, marks_tell w.groups row.file row.closed row.ended at)

@@ -1,6 +1,6 @@
 -- What a policy event, a default event and a mark change, and that nothing else changes.
-use Rattle.ele_world.proofs.Basics.{nat_tests, arith, ◌≡◌, ℕ, ◌==◌, Bool, true, false, List, [], ◌∷◌, map, Ok, refl, option_map_or, list_any, update_first, find-update_other, list_any-update_first, all-found}
-use Rattle.ele_world.proofs.Words.{World, Policy, FileRow, DirectoryRow, HasParts, Names, Homes, Directories, Directory, IsDirectoryThere, Govern, PutUnder, AddMark, after_change, directory_in, directory_now, file_now, governed_by, has_directory, has_member, is_directory, is_file, is_group, is_member, members_of, marks, put_under, root, walk_now, GroupRow, step}
+use Rattle.ele_world.proofs.Basics.{nat_tests, arith, ◌≡◌, ℕ, ◌==◌, Bool, Option, true, false, List, [], ◌∷◌, map, Ok, refl, option_map_or, list_any, update_first, find-update_other, list_any-update_first, all-found}
+use Rattle.ele_world.proofs.Words.{World, Policy, FileRow, DirectoryRow, HasParts, Names, Homes, Directories, Directory, IsDirectoryThere, Govern, PutUnder, AddMark, after_change, directory_in, directory_now, file_now, governed_by, has_directory, has_member, is_directory, is_file, is_group, is_member, members_of, marks, put_under, root, walk_now, GroupRow, MarkRow, step}
 use Rattle.ele_world.specs.DefaultGoverns.{GovernsDirectory}
 use Rattle.ele_world.specs.MarkMarks.{MarksMoment}
 use Rattle.ele_world.specs.PolicyGoverns.{GovernsFile}
@@ -59,13 +59,14 @@ default_governs w path policy k = grind (arith, nat_tests, in_all, gives w path 
 has-members : (rows : List GroupRow) (name : List ℕ) (file : ℕ) → list_any (λ member. member == file) (members_of rows name) ≡ has_member rows name file
 has-members rows name file = grind (arith, nat_tests)
 
-marks_moment : (w : World) (name : List ℕ) (mark : ℕ) → MarksMoment w name mark (after_change w (AddMark name mark))
+marks_moment : (w : World) (name : List ℕ) (mark : MarkRow) → MarksMoment w name mark (after_change w (AddMark name mark))
 marks_moment w name mark = record {
-  marked = λ file closed ended. grind (arith, nat_tests, marked_more w.groups name file closed ended mark, has-members w.groups name file);
+  marked = λ file closed ended at. grind (arith, nat_tests, marked_more w.groups name file closed ended at mark, has-members w.groups name file);
   groups = λ other. list_any-update_first (is_group name) (is_group other) (marks mark) w.groups (λ row is. refl);
   members = λ other file. find-update_still (is_group name) (is_group other) (λ found. option_map_or (is_member file) found false) (marks mark) w.groups (λ row. refl) (λ row. refl);
   rest = refl;
 }
 
-pub mark_marks : (w : World) (name : List ℕ) (mark : ℕ) → HasParts w → (step w (asked.Mark name mark)).0 ≡ told.Done → MarksMoment w name mark ((step w (asked.Mark name mark)).1)
-mark_marks w name mark k = grind (arith, nat_tests, in_all, marks_moment w name mark)
+pub mark_marks : (w : World) (name : List ℕ) (mark : ℕ) (until : Option ℕ) → HasParts w → (step w (asked.Mark name mark until)).0 ≡ told.Done
+    → MarksMoment w name (record { at = mark; until = until }) ((step w (asked.Mark name mark until)).1)
+mark_marks w name mark until k = grind (arith, nat_tests, in_all, marks_moment w name (record { at = mark; until = until }))

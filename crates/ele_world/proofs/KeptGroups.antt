@@ -1,12 +1,15 @@
 -- Changes of groups keep a world well formed, and groups stay what they are beside other changes.
 use Rattle.ele_world.proofs.Basics.{nat_tests, ◌≡◌, ℕ, ◌<◌, ◌≤◌, ◌==◌, Bool, false, not, List, [], ◌∷◌, length-append, Some, arith, filter, find, AllByRecursion, bytes_eq, length-map, update_first, all-map, later-filter, later-map, all-none}
 use Rattle.ele_world.proofs.Basics.{all-push, all-remove_first, all-weaker, later-push, later-remove_first, later-update_first, length-remove_first-le, length-update_first}
-use Rattle.ele_world.proofs.Words.{AddMark, AddMember, DropGroup, MakeGroup, RemoveMark, RemoveMember, after_change, adds, forgets, forgotten, is_group, marks, new_group, removes, unmarks, AreGroups, Groups, IsGroup, HasParts, World, next_of}
-use Rattle.ele_world.proofs.Words.{FileRow, GroupRow}
+use Rattle.ele_world.proofs.Words.{AddMark, AddMember, DropGroup, MakeGroup, RemoveMark, RemoveMember, after_change, adds, forgets, forgotten, is_group, is_mark, marks, new_group, removes, unmarks, AreGroups, Groups, IsGroup, HasParts, World, next_of}
+use Rattle.ele_world.proofs.Words.{FileRow, GroupRow, MarkRow}
 use Rattle.ele_world.proofs.May.{MayGroup, MayJoin, MayMark}
 
 abbrev AreTwo : ℕ → ℕ → Type 0
 AreTwo earlier later = (earlier == later) ≡ false
+
+abbrev AreMarksApart : MarkRow → MarkRow → Type 0
+AreMarksApart earlier later = (earlier.at == later.at) ≡ false
 
 abbrev AreNamedApart : GroupRow → GroupRow → Type 0
 AreNamedApart earlier later = bytes_eq earlier.name later.name ≡ false
@@ -52,8 +55,8 @@ remove_member_keeps w name file k = record { holds = λ part. grind (arith, nat_
 
 -- ---- its marks
 
-pub add_mark_keeps : (w : World) (name : List ℕ) (mark : ℕ) → MayMark w name mark → HasParts w → HasParts (after_change w (AddMark name mark))
-add_mark_keeps w name mark may k = record { holds = λ part. grind (arith, nat_tests, k.holds part, groups_edited w name (marks mark), all-push, later-push AreTwo, all-none (λ made. made == mark)) }
+pub add_mark_keeps : (w : World) (name : List ℕ) (mark : MarkRow) → MayMark w name mark → HasParts w → HasParts (after_change w (AddMark name mark))
+add_mark_keeps w name mark may k = record { holds = λ part. grind (arith, nat_tests, k.holds part, groups_edited w name (marks mark), all-push, later-push AreMarksApart, all-none (is_mark mark.at)) }
 
 pub remove_mark_keeps : (w : World) (name : List ℕ) (mark : ℕ) → HasParts w → HasParts (after_change w (RemoveMark name mark))
 remove_mark_keeps w name mark k = record { holds = λ part. grind (arith, nat_tests, k.holds part, groups_edited w name (unmarks mark), all-remove_first, later-remove_first) }

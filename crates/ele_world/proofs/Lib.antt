@@ -22,6 +22,7 @@ pub mod KeptDirectories
 pub mod KeptRevived
 pub mod Keeps
 pub mod Views
+pub mod Covers
 pub mod RipeMoments
 pub mod RemovalOrder
 pub mod DueRows
@@ -84,6 +85,7 @@ pub mod Rising
 pub mod Lives
 pub mod Restores
 pub mod ScanOrder
+pub mod Fates
 pub mod DifferentPlaces
 pub mod SlotsKept
 pub mod Carried

@@ -1,6 +1,6 @@
 -- Which ripe moments change where names come, go or move: with a file's last name that of its last version, and no other.
 use Rattle.ele_world.proofs.Basics.{◌≡◌, ℕ, ◌-◌, true, false, ◌==◌, ◌&&◌, List, Some, None, refl, ap, ◌∙◌, arith, cond, find, option_and_then, nat_tests, find-update_other}
-use Rattle.ele_world.proofs.Words.{ended_at, with_end, after_change, EndFileName, ripe_at, file_view, is_marked, near_moment, next_closing, Versions, HasParts, World, policy_of, next_of, is_live, is_open, is_version}
+use Rattle.ele_world.proofs.Words.{ended_at, with_end, after_change, EndFileName, ripe_at, file_view, cover_of, near_moment, next_closing, Versions, HasParts, World, policy_of, next_of, is_live, is_open, is_version}
 use Rattle.ele_world.specs.Due.{ripe_of}
 use Rattle.ele_world.proofs.Currents.{HasCurrent, last_ends}
 use Rattle.ele_world.proofs.KeptVersions.{ended_versions}
@@ -39,7 +39,7 @@ module _ (w : World) (directory : ℕ) (name : List ℕ) (file : ℕ) where
     no_moment = ripe_at_is w file last ∙ ap (option_and_then (ripe_of w)) current.found ∙ unended (file_view w current.row.file) current.row current.no_end
 
     -- without a newer one beside it
-    pub ended_moment : HasParts w → is_live after file ≡ false → ripe_at after file last ≡ cond (is_open w.handles file last) None (near_moment (is_marked w.groups file) (policy_of w.files file) None current.row.closed w.now)
+    pub ended_moment : HasParts w → is_live after file ≡ false → ripe_at after file last ≡ cond (is_open w.handles file last) None (near_moment (cover_of w.groups file) (policy_of w.files file) None current.row.closed w.now)
     ended_moment k dead =
         let found : find (is_version file last) after.versions ≡ Some (ended_at w.now current.row) = rw dead (last_ends w file current) in
         let next : next_closing after.versions file last ≡ None = rw dead (none_past w.files w.now (with_end w file) file last (ended_versions w file (k.holds Versions)).each (omega arith)) in

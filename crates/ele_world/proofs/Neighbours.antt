@@ -1,15 +1,13 @@
--- A version's ripe moment: none while a handle reads it or it is marked, and else what its policy, its own moments and its next
--- held neighbour tell.
-use Rattle.ele_world.proofs.Basics.{◌≡◌, ℕ, ◌+◌, ◌≤◌, ◌==◌, ◌&&◌, ◌||◌, Bool, true, false, not, cond, List, [], ◌∷◌, Option, Some, None, refl, arith, filter, slice_get, find, option_and_then, IfSome, AllByRecursion, list_any, option_map_or}
+-- A version's ripe moment: none while a handle reads it or it is marked for ever, and else what its policy, its own moments, its
+-- next held neighbour and the ends of marks tell.
+use Rattle.ele_world.proofs.Basics.{◌≡◌, ℕ, ◌+◌, ◌≤◌, ◌==◌, ◌&&◌, ◌||◌, Bool, true, false, not, cond, List, [], ◌∷◌, Option, Some, None, refl, ap, ◌∙◌, arith, filter, slice_get, find, option_and_then, IfSome, AllByRecursion, list_any, option_map_or}
 use Rattle.ele_world.proofs.Basics.{nat_tests, slice_get-map, find-cut, find-filter_both, AllLater, update_first, all-weaker, not_found}
-use Rattle.ele_world.proofs.Words.{Policy, IsLawful, IsNearest, is_due_by, alone, candidates, earliest_of, FileRow, VersionRow, ended_at, ripe_at, FileView, file_view, beside, ripe_in, covers_moment, is_marked, near_moment}
+use Rattle.ele_world.proofs.Words.{Policy, IsLawful, IsNearest, FileRow, VersionRow, ended_at, ripe_at, FileView, file_view, beside, ripe_in, ripe_past, Cover, cover_by, cover_of, near_moment}
 use Rattle.ele_world.proofs.Words.{next_closing, moment_under, free_moment, ArePlaced, AreVersions, IsVersion, Versions, HasParts, World, is_open, is_version, next_of, policy_of}
-use Rattle.ele_policy.specs.Ripe.{ripe_by}
 use Rattle.ele_world.specs.Due.{ripe_of}
-use Rattle.ele_world.proofs.GroupMarks.{marks_tell}
 use Rattle.ele_world.proofs.Readers.{numbers_are}
 use Rattle.ele_world.proofs.RipeAt.{ripe_at_is}
-use Rattle.ele_world.proofs.RipeMoments.{never_due}
+use Rattle.ele_world.proofs.RipeMoments.{ripe_if, ripe_told}
 use Rattle.ele_world.proofs.Views.{IsLife, policies_of, lives_in, view_in, nearest_of}
 
 -- what ripe moments rest on: the policies are lawful, and each file's versions stand in order
@@ -28,32 +26,25 @@ slice_get-filter : {X : Type 0} (p : X → Bool) (xs : List X) → slice_get (fi
 slice_get-filter p [] = refl
 slice_get-filter p (x ∷ xs) = grind (arith, nat_tests, slice_get-filter p xs)
 
--- what a held version's moment is, by what is marked, by whether it is open, and by its file's policy and its end
-abbrev moment_if : (ℕ → Option ℕ → Bool) → Bool → Option Policy → Option ℕ → VersionRow → Option ℕ → Option ℕ
-moment_if marked b policy nearest row ended = cond b None (option_and_then (near_moment marked policy nearest row.closed) ended)
+-- what a held version's moment is, by its cover, by whether it is open, and by its file's policy and its end
+abbrev moment_if : (ℕ → Option ℕ → Cover) → Bool → Option Policy → Option ℕ → VersionRow → Option ℕ → Option ℕ
+moment_if cover b policy nearest row ended = cond b None (option_and_then (near_moment cover policy nearest row.closed) ended)
 
 -- by the marks that a file's view has
-abbrev marked_in : FileView → ℕ → Option ℕ → Bool
-marked_in v closed ended = list_any (covers_moment closed ended) v.marks
+abbrev cover_in : FileView → ℕ → Option ℕ → Cover
+cover_in v closed ended = cover_by closed ended v.marks
 
-ripe_in_near : (v : FileView) (row : VersionRow) (nearest : Option ℕ) → IfSome v.policy IsLawful → IsNearest row.closed nearest (beside v row) → ripe_in v row ≡ moment_if (marked_in v) (list_any (λ number. number == row.number) v.pinned) v.policy nearest row row.ended
-unfolding ripe_by
-ripe_in_near v row nearest governed near = by (list_any (λ number. number == row.number) v.pinned) v.policy row.ended governed where
-  due : Bool → Option Policy → Option ℕ → ℕ → Bool
-  due b p e at = not b && option_map_or (λ policy. option_map_or (λ ended. is_due_by policy row.closed (beside v row) ended at) e false) p false
-
-  marked : (m : Bool) (policy : Policy) (ended : ℕ) → IsLawful policy → earliest_of (due m (Some policy) (Some ended)) (candidates policy ended) ≡ cond m None (ripe_by policy row.closed (alone nearest) ended)
-  marked true policy ended given = never_due (candidates policy ended)
-  marked false policy ended given = given.ripe_nearest row.closed ended nearest (beside v row) near
-
-  by : (b : Bool) (p : Option Policy) (e : Option ℕ) → IfSome p IsLawful
-      → option_and_then (λ policy. option_and_then (λ ended. earliest_of (due (b || marked_in v row.closed e) p e) (candidates policy ended)) e) p ≡ moment_if (marked_in v) b p nearest row e
-  by true (Some policy) (Some ended) given = never_due (candidates policy ended)
-  by false (Some policy) (Some ended) given = marked (marked_in v row.closed (Some ended)) policy ended given
-  by b p e given = grind (arith, nat_tests)
+ripe_in_near : (v : FileView) (row : VersionRow) (nearest : Option ℕ) → IfSome v.policy IsLawful → IsNearest row.closed nearest (beside v row) → ripe_in v row ≡ moment_if (cover_in v) (list_any (λ number. number == row.number) v.pinned) v.policy nearest row row.ended
+ripe_in_near v row nearest governed near = ripe_told v row governed ∙ by (list_any (λ number. number == row.number) v.pinned) v.policy row.ended governed where
+  by : (b : Bool) (p : Option Policy) (e : Option ℕ) → IfSome p IsLawful → ripe_if b v row p e ≡ moment_if (cover_in v) b p nearest row e
+  by true p e given = refl
+  by false None None given = refl
+  by false None (Some ended) given = refl
+  by false (Some policy) None given = refl
+  by false (Some policy) (Some ended) given = ap (option_and_then (ripe_past (cover_by row.closed (Some ended) v.marks))) (given.ripe_nearest row.closed ended nearest (beside v row) near)
 
 ripe_of_near : (w : World) → AreInOrder w.files w.versions → (file number : ℕ) (row : VersionRow) → find (is_version file number) w.versions ≡ Some row
-    → ripe_of w row ≡ moment_if (is_marked w.groups file) (is_open w.handles file number) (policy_of w.files file) (next_closing w.versions file number) row row.ended
+    → ripe_of w row ≡ moment_if (cover_of w.groups file) (is_open w.handles file number) (policy_of w.files file) (next_closing w.versions file number) row row.ended
 unfolding ripe_of
 ripe_of_near w ordered file number row found =
     let cut = find-cut (is_version file number) w.versions row found in
@@ -62,29 +53,25 @@ ripe_of_near w ordered file number row found =
     let its : row.number ≡ number = grind (arith, nat_tests) in
     let view = view_in w row.file ordered.policies ordered.lives ordered.placed in
     let near = nearest_of w cut.before row cut.behind view cut.whole in
-    rw (← own, ← its) (grind (arith, nat_tests, ripe_in_near (file_view w row.file) row (next_closing w.versions row.file row.number) view.governed, near, slice_get-map, slice_get-filter, find-filter_both, numbers_are w.handles row.file row.number, marks_tell w.groups row.file row.closed))
+    rw (← own, ← its) (grind (arith, nat_tests, ripe_in_near (file_view w row.file) row (next_closing w.versions row.file row.number) view.governed, near, slice_get-map, slice_get-filter, find-filter_both, numbers_are w.handles row.file row.number))
 
 pub ripe_at_near : (w : World) (file number : ℕ) → AreInOrder w.files w.versions → ripe_at w file number ≡ cond (is_open w.handles file number) None (free_moment w.groups w.files w.versions file number)
 ripe_at_near w file number ordered = grind (arith, nat_tests, ripe_at_is w file number, ripe_of_near w ordered file number)
 
--- ---- by two tests that mark
+-- ---- by two covers
 
 module _ (versions : List VersionRow) (file number : ℕ) where
   -- whatever is true of the version, if it is held
   abbrev pub IfHeld : (VersionRow → Type 0) → Type 0
   IfHeld P = (row : VersionRow) → find (is_version file number) versions ≡ Some row → P row
 
-  -- where both mark the version alike, so does its moment
-  pub moment_same : (t u : ℕ → Option ℕ → Bool) (policy : Option Policy) → IfHeld (λ row. t row.closed row.ended ≡ u row.closed row.ended) → moment_under t policy versions file number ≡ moment_under u policy versions file number
+  -- where both are the same of the version, so is its moment
+  pub moment_same : (t u : ℕ → Option ℕ → Cover) (policy : Option Policy) → IfHeld (λ row. t row.closed row.ended ≡ u row.closed row.ended) → moment_under t policy versions file number ≡ moment_under u policy versions file number
   moment_same t u policy same = grind (arith, nat_tests)
-
-  -- and where it is marked it has none
-  pub moment_none : (t : ℕ → Option ℕ → Bool) (policy : Option Policy) → IfHeld (λ row. t row.closed row.ended ≡ true) → moment_under t policy versions file number ≡ None
-  moment_none t policy marked = grind (arith, nat_tests)
 
 -- so it is the same in two worlds in which these are
 pub found_moment : (w v : World) (file number : ℕ) → AreInOrder w.files w.versions → AreInOrder v.files v.versions
-    → ((closed : ℕ) (ended : Option ℕ) → is_marked v.groups file closed ended ≡ is_marked w.groups file closed ended)
+    → ((closed : ℕ) (ended : Option ℕ) → cover_of v.groups file closed ended ≡ cover_of w.groups file closed ended)
     → policy_of v.files file ≡ policy_of w.files file → is_open v.handles file number ≡ is_open w.handles file number
     → next_closing v.versions file number ≡ next_closing w.versions file number
     → find (is_version file number) v.versions ≡ find (is_version file number) w.versions → ripe_at v file number ≡ ripe_at w file number

@@ -1,7 +1,7 @@
 -- The ripe moment of a version that is found by its number, and the scan as the moments that have come.
-use Rattle.ele_world.proofs.Basics.{◌≡◌, ℕ, ◌≤◌, Bool, true, false, ◌&&◌, List, [], ◌∷◌, Option, Some, None, refl, ap, ◌∙◌, arith, find, nat_le, option_and_then, AllByRecursion, filter_map, list_any, option_map_or, nat_tests, AllLater, found_passes, find-filter_both}
-use Rattle.ele_world.proofs.Words.{Key, has_key, is_key, is_ripe_by, last_moment, VersionRow, ripe_at, is_moment, FileView, file_view, is_version_of, is_numbered, due_in, ripe_in, IsDueFromRipe, ArePlaced, HasParts, World, is_version}
-use Rattle.ele_world.specs.Due.{is_due, ripe_of}
+use Rattle.ele_world.proofs.Basics.{◌≡◌, ℕ, ◌≤◌, Bool, true, false, ◌&&◌, ◌++◌, List, [], ◌∷◌, Option, Some, None, refl, ap, ◌∙◌, arith, find, nat_le, option_and_then, AllByRecursion, filter_map, list_any, option_map_or, nat_tests, AllLater, found_passes, find-filter_both}
+use Rattle.ele_world.proofs.Words.{Time, after_change, Key, has_key, is_key, is_ripe_by, last_moment, MarkRow, Policy, candidates, earliest_of, ends_over, VersionRow, ripe_at, is_moment, FileView, file_view, is_version_of, is_numbered, due_in, ripe_in, IsDueFromRipe, ArePlaced, HasParts, World, is_version}
+use Rattle.ele_world.specs.Due.{is_due, is_due_at, ripe_of}
 use Rattle.ele_world.specs.FileView.{ripe_numbered}
 use Rattle.ele_world.specs.Scan.{due_key}
 use Rattle.ele_world.proofs.RipeMoments.{earliest_same, ripens}
@@ -25,8 +25,17 @@ is_due_is w file number k = grind (arith, nat_tests, ripe_at_is, ripens w k, now
 
 -- ---- the ripe moment is told by the moments at which the version is due
 
-pub ripe_same : (v u : FileView) (row : VersionRow) → u.policy ≡ v.policy → ((at : ℕ) → at ≤ last_moment → due_in u row at ≡ due_in v row at) → ripe_in u row ≡ ripe_in v row
-ripe_same v u row policy same = grind (arith, nat_tests, earliest_same)
+-- the earliest of the moments that these parts name
+abbrev by_parts : FileView → VersionRow → Option Policy → Option ℕ → List MarkRow → Option ℕ
+by_parts v row p e marks = option_and_then (λ policy. option_and_then (λ ended. earliest_of (due_in v row) (candidates policy ended ++ ends_over row.closed row.ended marks)) e) p
+
+pub ripe_same : (v u : FileView) (row : VersionRow) → u.policy ≡ v.policy → u.marks ≡ v.marks → ((at : ℕ) → at ≤ last_moment → due_in u row at ≡ due_in v row at) → ripe_in u row ≡ ripe_in v row
+ripe_same v u row policy marks same =
+    ap (λ p. by_parts u row p row.ended u.marks) policy ∙ ap (by_parts u row v.policy row.ended) marks ∙ by v.policy row.ended where
+      by : (p : Option Policy) (e : Option ℕ) → by_parts u row p e v.marks ≡ by_parts v row p e v.marks
+      by None e = refl
+      by (Some policy) None = refl
+      by (Some policy) (Some ended) = earliest_same (due_in u row) (due_in v row) same (candidates policy ended ++ ends_over row.closed row.ended v.marks)
 
 -- ---- the keys of the scan
 
@@ -49,8 +58,18 @@ has_due_key : (w : World) (k : Key) (row : VersionRow) → w.now ≤ last_moment
 unfolding due_key
 has_due_key w k row fits from = grind (arith, nat_tests)
 
--- the due rows have just the keys whose moment has come
-pub scan_members : (w : World) → HasParts w → (k : Key) → has_key k (filter_map (due_key w) w.versions) ≡ (is_ripe_by w.now k && is_moment k.ripe (ripe_at w k.file k.number))
-scan_members w formed k =
-    let rows = any-numbered k.file k.number (λ row. is_ripe_by w.now k && is_moment k.ripe (ripe_of w row)) (λ row. option_map_or (is_key k) (due_key w row) false) (λ row. has_due_key w k row (now_of w formed) (ripens w formed row)) w.versions (placed_of w formed) in
+-- the due rows have just the keys whose moment has come: where each row is due from its ripe moment on
+pub scan_members_from : (w : World) → w.now ≤ last_moment → ((row : VersionRow) → IsDueFromRipe w row) → AllLater ArePlaced w.versions → (k : Key)
+    → has_key k (filter_map (due_key w) w.versions) ≡ (is_ripe_by w.now k && is_moment k.ripe (ripe_at w k.file k.number))
+scan_members_from w fits from placed k =
+    let rows = any-numbered k.file k.number (λ row. is_ripe_by w.now k && is_moment k.ripe (ripe_of w row)) (λ row. option_map_or (is_key k) (due_key w row) false) (λ row. has_due_key w k row fits (from row)) w.versions placed in
     grind (arith, nat_tests, any-filter_map (is_key k) (due_key w) w.versions, rows, ripe_at_is)
+
+pub scan_members : (w : World) → HasParts w → (k : Key) → has_key k (filter_map (due_key w) w.versions) ≡ (is_ripe_by w.now k && is_moment k.ripe (ripe_at w k.file k.number))
+scan_members w formed k = scan_members_from w (now_of w formed) (ripens w formed) (placed_of w formed) k
+
+-- the same rows at any other moment: nothing but the moment decides
+pub scan_members_at : (w : World) (at : ℕ) → HasParts w → at ≤ last_moment → (k : Key)
+    → has_key k (filter_map (due_key (after_change w (Time at))) w.versions) ≡ (is_ripe_by at k && is_moment k.ripe (ripe_at w k.file k.number))
+unfolding is_due_at ripe_of
+scan_members_at w at formed fits k = scan_members_from (after_change w (Time at)) fits (λ row. ripens w formed row) (placed_of w formed) k

@@ -26,9 +26,10 @@ pub use Rattle.ele_world.specs.CreateLeads.{LeadsToNew}
 pub use Rattle.ele_world.specs.Due.{is_due_at, kept_rows, ripe_at, ripe_of}
 pub use Rattle.ele_world.specs.Ever.{last_stood}
 pub use Rattle.ele_world.specs.FileUsage.{file_usage}
-pub use Rattle.ele_world.specs.FileView.{FileView, beside, closings, due_in, is_newer, is_numbered, is_protected, is_version_of, numbers_read, ripe_in, ripe_numbered, file_view}
-pub use Rattle.ele_world.specs.GroupRows.{adds, covers_moment, forgets, forgotten, group_named, has_covering, has_group, has_mark, has_member, is_group, is_marked, is_marked_at, is_member, marks, marks_over, new_group, removes, unmarks, with_mark, with_member, without_group, without_mark, without_member}
-pub use Rattle.ele_world.specs.GroupsAsked.{has_covering_without, is_marked_without, marks_of, members_of}
+pub use Rattle.ele_world.specs.FileView.{FileView, beside, closings, due_in, ends_over, is_newer, is_numbered, is_protected, is_version_of, numbers_read, ripe_in, ripe_numbered, file_view}
+pub use Rattle.ele_world.specs.GroupRows.{adds, covers_moment, forgets, forgotten, group_named, has_covering, has_group, has_mark, has_member, is_group, is_in_force, is_mark, is_marked, is_marked_at, is_member, keeps_at, mark_at, marks, marks_over, new_group, removes, unmarks, with_mark, with_member, without_group, without_mark, without_member}
+pub use Rattle.ele_world.specs.Cover.{cover_by, cover_of, cover_until, lasts, longer, ripe_past}
+pub use Rattle.ele_world.specs.GroupsAsked.{cover_with, cover_without, is_left_out, marks_left, marks_of, members_of}
 pub use Rattle.ele_world.specs.HeldStays.{IsSameVersion, StaysSame}
 pub use Rattle.ele_world.specs.LinkLeads.{LeadsToSame}
 pub use Rattle.ele_world.specs.MakeDirLeads.{LeadsToDirectory}
@@ -77,6 +78,9 @@ pub use Rattle.ele_world.specs.declared.rows.DraftRow.{DraftRow}
 pub use Rattle.ele_world.specs.declared.rows.FileRow.{FileRow}
 pub use Rattle.ele_world.specs.declared.rows.GroupRow.{GroupRow}
 pub use Rattle.ele_world.specs.declared.rows.HandleRow.{HandleRow}
+pub use Rattle.ele_world.specs.declared.rows.MarkRow.{MarkRow}
+pub use Rattle.ele_world.specs.declared.cover.Cover.{Cover}
+pub use Rattle.ele_world.specs.declared.cover.Cover.TheVariants.{Always, Free, Until}
 pub use Rattle.ele_world.specs.declared.rows.NameRow.{NameRow}
 pub use Rattle.ele_world.specs.declared.rows.Reads.{Reads}
 pub use Rattle.ele_world.specs.declared.rows.Reads.TheVariants.{Draft, Version}

@@ -3,7 +3,7 @@ use Rattle.std.specs.Prelude.{ℕ, List, codes}
 use Rattle.ele_world.specs.declared.refusal.Which.{Which}
 use Rattle.ele_world.specs.declared.refusal.Which.TheVariants as which
 use Rattle.ele_world.specs.declared.refusal.Refusal.{Refusal}
-use Rattle.ele_world.specs.declared.refusal.Refusal.TheVariants.{ClockBack, ClockEnd, NoEntry, NotDirectory, IsDirectory, Exists, NotEmpty, IntoItself, IsRoot, Future, Forgotten, NoVersion, NoHandle, NotWriter, TooBig, Drafting, NotRestorable, NoGroup, GroupExists, NoMark, MarkExists, NotPast, AlreadyMember, NotMember, Full}
+use Rattle.ele_world.specs.declared.refusal.Refusal.TheVariants.{ClockBack, ClockEnd, NoEntry, NotDirectory, IsDirectory, Exists, NotEmpty, IntoItself, IsRoot, Future, Forgotten, NoVersion, NoHandle, NotWriter, TooBig, Drafting, NotRestorable, NoGroup, GroupExists, NoMark, MarkExists, NotPast, AlreadyMember, NotMember, Full, NotAhead}
 use Rattle.ele_world.specs.declared.refusal.Stop.{Stop}
 use Rattle.ele_world.specs.declared.refusal.Stop.TheVariants.{NoMemory, HistoryFull}
 
@@ -37,6 +37,7 @@ refusal_answer NotPast = (24, codes "NotPast")
 refusal_answer AlreadyMember = (25, codes "AlreadyMember")
 refusal_answer NotMember = (26, codes "NotMember")
 refusal_answer (Full what) = (27, codes "Full")
+refusal_answer NotAhead = (41, codes "NotAhead")
 
 abbrev pub stop_number : Stop → ℕ
 stop_number stop = (stop_answer stop).0

@@ -9,6 +9,7 @@ use Rattle.ele_policy.specs.declared.policy.Policy.{Policy}
 use Rattle.ele_world.specs.declared.rows.DirectoryRow.{DirectoryRow}
 use Rattle.ele_world.specs.declared.rows.DraftRow.{DraftRow}
 use Rattle.ele_world.specs.declared.rows.FileRow.{FileRow}
+use Rattle.ele_world.specs.declared.rows.MarkRow.{MarkRow}
 use Rattle.ele_world.specs.declared.rows.Reads.{Reads}
 use Rattle.ele_world.specs.declared.rows.Target.{Target}
 use Rattle.ele_world.specs.declared.rows.Target.TheVariants.{File, Directory}
@@ -43,7 +44,7 @@ pub data Change : Type 0 where
   DropGroup : (name : List ℕ) → Change
   AddMember : (name : List ℕ) → (file : ℕ) → Change
   RemoveMember : (name : List ℕ) → (file : ℕ) → Change
-  AddMark : (name : List ℕ) → (mark : ℕ) → Change
+  AddMark : (name : List ℕ) → (mark : MarkRow) → Change
   RemoveMark : (name : List ℕ) → (mark : ℕ) → Change
 
 -- ---- directories, files and names

@@ -1,5 +1,5 @@
 -- One file as its policy sees it: all that the fate of its versions depends on.
-use Rattle.std.specs.Prelude.{ℕ, ◌==◌, nat_lt, Bool, false, not, ◌&&◌, ◌||◌, List, Option, Some, None, filter, find, map, option_and_then, if◌then◌else◌}
+use Rattle.std.specs.Prelude.{ℕ, ◌==◌, nat_lt, Bool, false, not, ◌&&◌, ◌||◌, ◌++◌, List, Option, Some, None, filter, find, map, option_and_then, if◌then◌else◌}
 use Rattle.std.specs.List.{list_any, filter_map}
 use Rattle.std.specs.Option.{option_map_or}
 use Rattle.ele_policy.specs.declared.policy.Policy.{Policy}
@@ -8,17 +8,18 @@ use Rattle.ele_world.specs.declared.rows.HandleRow.{HandleRow}
 use Rattle.ele_world.specs.declared.rows.Reads.{Reads}
 use Rattle.ele_world.specs.declared.rows.Reads.TheVariants.{Draft, Version}
 use Rattle.ele_world.specs.declared.rows.VersionRow.{VersionRow}
-use Rattle.ele_world.specs.GroupRows.{covers_moment, marks_over}
+use Rattle.ele_world.specs.declared.rows.MarkRow.{MarkRow}
+use Rattle.ele_world.specs.GroupRows.{covers_moment, keeps_at, marks_over}
 use Rattle.ele_world.specs.World.{World, policy_of, is_live}
 
 -- its policy, if the file is there; its held versions by number; whether it is live; the numbers of the versions that handles
--- read; and the moments at which groups that have it were marked
+-- read; and the marks of groups that have it
 pub record FileView : Type 0 where
   pub policy : Option Policy
   pub rows : List VersionRow
   pub live : Bool
   pub pinned : List ℕ
-  pub marks : List ℕ
+  pub marks : List MarkRow
 
 abbrev pub is_version_of : ℕ → VersionRow → Bool
 is_version_of file row = row.file == file
@@ -51,9 +52,9 @@ closings rows = map (λ row. row.closed) rows
 abbrev pub beside : FileView → VersionRow → Beside
 beside v row = record { newer = closings (filter (is_newer row) v.rows); live = v.live }
 
--- the version is open, as a handle reads it, or marked: it was current at one of the marks; so it is at each moment alike
+-- the version is open, as a handle reads it, or marked: it was current at one of the marks that are in force at the moment
 abbrev pub is_protected : FileView → VersionRow → ℕ → Bool
-is_protected v row at = list_any (λ number. number == row.number) v.pinned || list_any (covers_moment row.closed row.ended) v.marks
+is_protected v row at = list_any (λ number. number == row.number) v.pinned || list_any (keeps_at row.closed row.ended at) v.marks
 
 -- the version has ended at that moment or before it, isn't protected then, and the file's policy lets it go
 abbrev pub due_in : FileView → VersionRow → ℕ → Bool
@@ -61,10 +62,15 @@ due_in v row at =
     not (is_protected v row at)
     && option_map_or (λ policy. option_map_or (λ ended. is_due_by policy row.closed (beside v row) ended at) row.ended false) v.policy false
 
--- the earliest of the moments that the policy names, none past the last one, at which the version is due
+-- when those of the marks end that cover, if they do
+abbrev pub ends_over : ℕ → Option ℕ → List MarkRow → List ℕ
+ends_over closed ended marks = filter_map (λ mark. mark.until) (filter (λ mark. covers_moment closed ended mark.at) marks)
+
+-- the earliest of the moments that the policy names and of the ends of marks that cover, none past the last moment, at which the
+-- version is due
 abbrev pub ripe_in : FileView → VersionRow → Option ℕ
 ripe_in v row =
-    option_and_then (λ policy. option_and_then (λ ended. earliest_of (due_in v row) (candidates policy ended)) row.ended) v.policy
+    option_and_then (λ policy. option_and_then (λ ended. earliest_of (due_in v row) (candidates policy ended ++ ends_over row.closed row.ended v.marks)) row.ended) v.policy
 
 abbrev pub is_numbered : ℕ → VersionRow → Bool
 is_numbered number row = row.number == number

@@ -2,7 +2,8 @@
 use Rattle.std.specs.Prelude.{◌≡◌, ℕ, Bool, false, List, Option, Some}
 use Rattle.std.specs.Str.{bytes_eq}
 use Rattle.ele_world.specs.declared.rows.GroupRow.{GroupRow}
-use Rattle.ele_world.specs.GroupRows.{group_named, has_mark, is_member}
+use Rattle.ele_world.specs.declared.rows.MarkRow.{MarkRow}
+use Rattle.ele_world.specs.GroupRows.{group_named, is_member, mark_at}
 use Rattle.ele_world.specs.World.{World}
 
 pub record ChangesGroup (before : World) (name : List ℕ) (is : Option GroupRow → Type 0) (after : World) : Type 0 where
@@ -10,11 +11,11 @@ pub record ChangesGroup (before : World) (name : List ℕ) (is : Option GroupRow
   pub others : (other : List ℕ) → bytes_eq name other ≡ false → group_named after.groups other ≡ group_named before.groups other
   pub rest : after ≡ record before { groups = after.groups; made = after.made }
 
--- the group that was there has just these files and marks
-pub record IsGroupOf (was : Option GroupRow) (members marks : GroupRow → ℕ → Bool) (is : Option GroupRow) : Type 0 where
+-- the group that was there has just these files, and at each moment the mark that is told
+pub record IsGroupOf (was : Option GroupRow) (members : GroupRow → ℕ → Bool) (marks : GroupRow → ℕ → Option MarkRow) (is : Option GroupRow) : Type 0 where
   pub row : GroupRow
   pub later : GroupRow
   pub found : was ≡ Some row
   pub changed : is ≡ Some later
   pub member : (file : ℕ) → is_member file later ≡ members row file
-  pub mark : (moment : ℕ) → has_mark moment later ≡ marks row moment
+  pub mark : (moment : ℕ) → mark_at moment later ≡ marks row moment

@@ -5,6 +5,7 @@ pub mod World
 pub mod Walk
 pub mod NameRows
 pub mod GroupRows
+pub mod Cover
 pub mod GroupsAsked
 pub mod WalkAt
 pub mod FileView
@@ -13,6 +14,8 @@ pub mod Tagged
 pub mod Told
 pub mod Due
 pub mod Scan
+pub mod Fate
+pub mod FateTells
 pub mod Usage
 pub mod FileUsage
 pub mod Change

@@ -1,11 +1,13 @@
 -- What each change needs, so that it leaves a well-formed world.
-use Rattle.std.specs.Prelude.{◌≡◌, ℕ, ◌+◌, ◌<◌, ◌≤◌, true, false, List, length, Some, is_some, is_none, find}
+use Rattle.std.specs.Prelude.{◌≡◌, ℕ, ◌+◌, ◌<◌, ◌≤◌, nat_le, true, false, List, length, Some, is_some, is_none, find}
 use Rattle.std.specs.List.{list_any}
+use Rattle.std.specs.Option.{option_map_or}
 use Rattle.ele_content.specs.declared.cell.Cell.{Cell}
 use Rattle.ele_content.specs.Content.{longest_content}
 use Rattle.ele_moment.specs.Last.{last_moment}
 use Rattle.ele_policy.specs.Policy.{IsPolicy}
 use Rattle.ele_policy.specs.declared.policy.Policy.{Policy}
+use Rattle.ele_world.specs.declared.rows.MarkRow.{MarkRow}
 use Rattle.ele_world.specs.declared.rows.Reads.{Reads}
 use Rattle.ele_world.specs.declared.rows.Target.{Target}
 use Rattle.ele_world.specs.declared.rows.Target.TheVariants.{File, Directory}
@@ -105,11 +107,12 @@ pub record MayJoin (w : World) (name : List ℕ) (file : ℕ) : Type 0 where
   pub room : w.made.members < w.limits.members
   pub free : has_member w.groups name file ≡ false
 
--- the moment has passed, and the group isn't marked at it yet
-pub record MayMark (w : World) (name : List ℕ) (mark : ℕ) : Type 0 where
-  pub past : mark < w.now
+-- the mark's moment has passed, and the group isn't marked at it yet; its end is to come, if it has one
+pub record MayMark (w : World) (name : List ℕ) (mark : MarkRow) : Type 0 where
+  pub past : mark.at < w.now
+  pub ahead : option_map_or (λ end. nat_le end w.now) mark.until false ≡ false
   pub room : w.made.marks < w.limits.marks
-  pub free : is_marked_at w.groups name mark ≡ false
+  pub free : is_marked_at w.groups name mark.at ≡ false
 
 -- the change
 abbrev pub May : World → Change → Type 0

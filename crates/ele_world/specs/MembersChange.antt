@@ -3,7 +3,7 @@ use Rattle.std.specs.Prelude.{◌≡◌, ℕ, ◌==◌, ◌&&◌, ◌||◌, not,
 use Rattle.ele_world.specs.declared.event.Event.TheVariants.{GroupAdd, GroupRemove}
 use Rattle.ele_world.specs.declared.reply.Reply.TheVariants.{Done}
 use Rattle.ele_world.specs.GroupChanges.{ChangesGroup, IsGroupOf}
-use Rattle.ele_world.specs.GroupRows.{group_named, has_mark, is_member}
+use Rattle.ele_world.specs.GroupRows.{group_named, is_member, mark_at}
 use Rattle.ele_world.specs.Step.{step}
 use Rattle.ele_world.specs.Walk.{file_now}
 use Rattle.ele_world.specs.WellFormed.{IsWellFormed}
@@ -13,10 +13,10 @@ abbrev pub MemberComes : Type 0
 MemberComes =
     (w : World) (name : List ℕ) (path : List (List ℕ)) (file : ℕ) → IsWellFormed w → file_now w.names path ≡ Ok file
     → (step w (GroupAdd name path)).0 ≡ Done
-    → ChangesGroup w name (IsGroupOf (group_named w.groups name) (λ row other. is_member other row || (file == other)) (λ row mark. has_mark mark row)) ((step w (GroupAdd name path)).1)
+    → ChangesGroup w name (IsGroupOf (group_named w.groups name) (λ row other. is_member other row || (file == other)) (λ row moment. mark_at moment row)) ((step w (GroupAdd name path)).1)
 
 abbrev pub MemberGoes : Type 0
 MemberGoes =
     (w : World) (name : List ℕ) (path : List (List ℕ)) (file : ℕ) → IsWellFormed w → file_now w.names path ≡ Ok file
     → (step w (GroupRemove name path)).0 ≡ Done
-    → ChangesGroup w name (IsGroupOf (group_named w.groups name) (λ row other. is_member other row && not (file == other)) (λ row mark. has_mark mark row)) ((step w (GroupRemove name path)).1)
+    → ChangesGroup w name (IsGroupOf (group_named w.groups name) (λ row other. is_member other row && not (file == other)) (λ row moment. mark_at moment row)) ((step w (GroupRemove name path)).1)

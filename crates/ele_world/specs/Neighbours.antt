@@ -1,15 +1,16 @@
 -- The held versions next to one of a file, and the ripe moment that they tell. No public clause that a reader of the core needs
 -- cites this module: `ele_files` finds such neighbours.
-use Rattle.std.specs.Prelude.{ℕ, ◌==◌, nat_lt, Bool, false, ◌&&◌, List, Option, Some, None, find, option_and_then, if◌then◌else◌}
+use Rattle.std.specs.Prelude.{ℕ, ◌==◌, nat_lt, Bool, false, ◌&&◌, List, Option, Some, find, option_and_then}
 use Rattle.std.specs.Option.{option_map, option_map_or}
 use Rattle.ele_lists.specs.Last.{last_passing}
 use Rattle.ele_policy.specs.declared.policy.Policy.{Policy}
 use Rattle.ele_policy.specs.Ripe.{alone, ripe_by}
+use Rattle.ele_world.specs.declared.cover.Cover.{Cover}
 use Rattle.ele_world.specs.declared.rows.FileRow.{FileRow}
 use Rattle.ele_world.specs.declared.rows.GroupRow.{GroupRow}
 use Rattle.ele_world.specs.declared.rows.VersionRow.{VersionRow}
+use Rattle.ele_world.specs.Cover.{cover_of, ripe_past}
 use Rattle.ele_world.specs.FileView.{is_version_of}
-use Rattle.ele_world.specs.GroupRows.{is_marked}
 use Rattle.ele_world.specs.World.{is_version, policy_of}
 
 -- whether it is this moment, if there is one
@@ -28,17 +29,17 @@ next_closing versions file number = option_map (λ row. row.closed) (find (is_ne
 abbrev pub newest_of : List VersionRow → ℕ → Option VersionRow
 newest_of versions file = last_passing (is_version_of file) versions
 
--- by the policy and the nearest newer closing, when a version ripens that closed and ended then and that no handle reads; never
--- if it is marked by the test, which is asked for what was current from the one moment until the other
-abbrev pub near_moment : (ℕ → Option ℕ → Bool) → Option Policy → Option ℕ → ℕ → ℕ → Option ℕ
-near_moment is_marked policy nearest closed ended =
-    if is_marked closed (Some ended) then None else option_and_then (λ p. ripe_by p closed (alone nearest) ended) policy
+-- by the policy and the nearest newer closing, when a version ripens that closed and ended then and that no handle reads; not
+-- before the end of the cover, which is asked for what was current from the one moment until the other
+abbrev pub near_moment : (ℕ → Option ℕ → Cover) → Option Policy → Option ℕ → ℕ → ℕ → Option ℕ
+near_moment cover policy nearest closed ended =
+    option_and_then (λ p. option_and_then (ripe_past (cover closed (Some ended))) (ripe_by p closed (alone nearest) ended)) policy
 
 -- the same of the file's version with that number under the policy, if it is held and has ended
-abbrev pub moment_under : (ℕ → Option ℕ → Bool) → Option Policy → List VersionRow → ℕ → ℕ → Option ℕ
-moment_under is_marked policy versions file number =
-    option_and_then (λ row. option_and_then (near_moment is_marked policy (next_closing versions file number) row.closed) row.ended) (find (is_version file number) versions)
+abbrev pub moment_under : (ℕ → Option ℕ → Cover) → Option Policy → List VersionRow → ℕ → ℕ → Option ℕ
+moment_under cover policy versions file number =
+    option_and_then (λ row. option_and_then (near_moment cover policy (next_closing versions file number) row.closed) row.ended) (find (is_version file number) versions)
 
 -- and under the policy and the marks that the file has
 abbrev pub free_moment : List GroupRow → List FileRow → List VersionRow → ℕ → ℕ → Option ℕ
-free_moment groups files versions file number = moment_under (is_marked groups file) (policy_of files file) versions file number
+free_moment groups files versions file number = moment_under (cover_of groups file) (policy_of files file) versions file number

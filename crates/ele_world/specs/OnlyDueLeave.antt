@@ -10,12 +10,12 @@ use Rattle.ele_world.specs.Step.{step}
 use Rattle.ele_world.specs.WellFormed.{IsWellFormed}
 use Rattle.ele_world.specs.World.{World, is_held, is_open}
 
--- it leaves by a clean; it is due, no handle reads it, and no mark of a group that has its file covers it
+-- it leaves by a clean; it is due, no handle reads it, and no mark in force of a group that has its file covers it
 pub record LeavesAsDue (w : World) (event : Event) (row : VersionRow) : Type 0 where
   pub clean : event ≡ CleanOne
   pub due : is_due_at w row w.now ≡ true
   pub unread : is_open w.handles row.file row.number ≡ false
-  pub unmarked : is_marked w.groups row.file row.closed row.ended ≡ false
+  pub unmarked : is_marked w.groups row.file row.closed row.ended w.now ≡ false
 
 -- after the event the version is still held, or it was such a one
 abbrev pub StaysOrWasDue : World → Event → VersionRow → Type 0

@@ -18,6 +18,6 @@ is_plain (GroupMake name) = false
 is_plain (GroupDrop name) = false
 is_plain (GroupAdd name path) = false
 is_plain (GroupRemove name path) = false
-is_plain (Mark name mark) = false
+is_plain (Mark name mark until) = false
 is_plain (Unmark name mark) = false
 is_plain event = true

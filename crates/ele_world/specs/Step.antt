@@ -1,5 +1,5 @@
 -- What each event answers, and the world that it leaves: its checks in their order, then its reply, and its changes.
-use Rattle.std.specs.Prelude.{ℕ, ◌+◌, ◌==◌, nat_lt, nat_le, Bool, not, List, [], ◌∷◌, Option, Some, None, is_some, find, filter, map, length}
+use Rattle.std.specs.Prelude.{ℕ, ◌+◌, ◌==◌, nat_lt, nat_le, Bool, false, not, List, [], ◌∷◌, Option, Some, None, is_some, find, filter, map, length}
 use Rattle.std.specs.List.{list_any}
 use Rattle.std.specs.Option.{option_map_or}
 use Rattle.ele_content.specs.declared.cell.Cell.{Cell}
@@ -10,7 +10,7 @@ use Rattle.ele_time_path.specs.declared.tagged.Tag.TheVariants as tag
 use Rattle.ele_world.specs.declared.event.Event.{Event}
 use Rattle.ele_world.specs.declared.event.Event.TheVariants.{Clock, Tick, MakeDir, RemoveDir, Create, Link, Unlink, Rename, Undelete, OpenWrite, OpenRead, Write, Truncate, Close, Revert, SetPolicy, SetDefault, GroupMake, GroupDrop, GroupAdd, GroupRemove, Mark, Unmark, CleanOne, Read, Stat, Versions, List as ListNames, Restorable, Due, UsageAll, GroupsAll}
 use Rattle.ele_world.specs.declared.event.Source.TheVariants.{Tagged, Of}
-use Rattle.ele_world.specs.declared.refusal.Refusal.TheVariants.{ClockBack, ClockEnd, Exists, NotEmpty, IntoItself, TooBig, Drafting, NotRestorable, NoGroup, GroupExists, NoMark, MarkExists, NotPast, AlreadyMember, NotMember, Full}
+use Rattle.ele_world.specs.declared.refusal.Refusal.TheVariants.{ClockBack, ClockEnd, Exists, NotEmpty, IntoItself, TooBig, Drafting, NotRestorable, NoGroup, GroupExists, NoMark, MarkExists, NotPast, NotAhead, AlreadyMember, NotMember, Full}
 use Rattle.ele_world.specs.declared.refusal.Which.TheVariants as which
 use Rattle.ele_world.specs.declared.reply.Reply.{Reply}
 use Rattle.ele_world.specs.declared.reply.Reply.TheVariants.{Done, Nothing, Now, Directory, File, Handle, Version, Closed, Removed, Bytes, Rows, NameList, RestoreList, DueList, UsageList, GroupList}
@@ -188,13 +188,14 @@ plan w (GroupRemove name path) =
     (Need (file_now w.names path) (λ file.
     Unless (not (has_member w.groups name file)) NotMember
     (Make Done (RemoveMember name file ∷ []))))
--- the group is marked at a moment that has passed
-plan w (Mark name mark) =
+-- the group is marked at a moment that has passed, until one that is to come, if an end is named
+plan w (Mark name mark until) =
     Unless (not (has_group w.groups name)) NoGroup
     (Unless (nat_le w.now mark) NotPast
+    (Unless (option_map_or (λ end. nat_le end w.now) until false) NotAhead
     (Unless (is_marked_at w.groups name mark) MarkExists
     (Unless (nat_le w.limits.marks w.made.marks) (Full which.Marks)
-    (Make Done (AddMark name mark ∷ [])))))
+    (Make Done (AddMark name (record { at = mark; until = until }) ∷ []))))))
 -- the group is marked no longer at the moment
 plan w (Unmark name mark) =
     Unless (not (has_group w.groups name)) NoGroup

@@ -187,12 +187,14 @@ IsOfLive names row = row.ended ≡ None → list_any (is_live_name_of row.file) 
 abbrev pub HaveEnded : World → Type 0
 HaveEnded w = AllByRecursion (IsOfLive w.names) w.versions
 
--- a group's files are there, and none is in it twice; its marks have passed, and none stands twice
+-- a group's files are there, and none is in it twice; its marks' moments have passed, each before the
+-- mark's end, and none stands twice
 pub record IsGroup (files : List FileRow) (now : ℕ) (row : GroupRow) : Type 0 where
   pub there : AllByRecursion (λ member. 0 < next_of files member) row.members
   pub apart : AllLater (λ earlier later. (earlier == later) ≡ false) row.members
-  pub past : AllByRecursion (λ mark. mark < now) row.marks
-  pub once : AllLater (λ earlier later. (earlier == later) ≡ false) row.marks
+  pub past : AllByRecursion (λ mark. mark.at < now) row.marks
+  pub lasting : AllByRecursion (λ mark. IfSome mark.until (λ end. mark.at < end)) row.marks
+  pub once : AllLater (λ earlier later. (earlier.at == later.at) ≡ false) row.marks
 
 -- no two groups have one name, and each was counted
 pub record AreGroups (made : ℕ) (files : List FileRow) (now : ℕ) (rows : List GroupRow) : Type 0 where

@@ -59,8 +59,9 @@ pub enum Event {
     GroupAdd(Name, Path),
     /// The group loses the file at the path.
     GroupRemove(Name, Path),
-    /// The group is marked at the moment, which has passed: what was current then of its files isn't removed.
-    Mark(Name, Moment),
+    /// The group is marked at the moment, which has passed: what was current then of its files isn't removed before the mark
+    /// ends, which it does at the second moment, if there is one.
+    Mark(Name, Moment, Option<Moment>),
     /// The group loses the mark.
     Unmark(Name, Moment),
     /// The first due version is removed.

@@ -28,6 +28,7 @@ ghost use Rattle.ele_world.specs.RipeMoments.{DueFromRipe, RipeIsAnswered};
 ghost use Rattle.ele_world.specs.UsageFits.{UsageFits};
 
 pub mod effects;
+pub mod fate;
 pub mod groups;
 pub mod lists;
 pub mod past;

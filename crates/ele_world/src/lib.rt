@@ -5,8 +5,10 @@
 mod auditable;
 mod audits;
 mod copy;
+mod cover;
 mod entry;
 mod event;
+mod fate;
 mod flat;
 pub mod laws;
 mod limits;
@@ -23,6 +25,7 @@ mod sums;
 
 pub use auditable::Auditable;
 pub use audits::audit;
+pub use cover::Cover;
 pub use ele_content::Cell;
 pub use ele_due::Key;
 pub use ele_lists::{ByteList, ListOf};
@@ -32,6 +35,7 @@ pub use ele_time_path::{Path, PathAt, Tag, TaggedPath};
 pub use ele_usage::Usage;
 pub use entry::Entry;
 pub use event::{Event, Source};
+pub use fate::{Cause, Fate};
 pub use flat::Flat;
 pub use limits::{Counts, Limits};
 pub use list::{DeadNameList, GroupList, KeyList, NameList, StampsList};
@@ -39,7 +43,7 @@ pub use pass::PassEnd;
 pub use refusal::{Refusal, Stop, Which};
 pub use reply::Reply;
 pub use rows::{
-    DeadName, DirectoryRow, DraftRow, FileRow, FileStat, GroupRow, HandleRow, NameRow, Reads,
-    Stamps, Target, VersionRow,
+    DeadName, DirectoryRow, DraftRow, FileRow, FileStat, GroupRow, HandleRow, MarkRow, NameRow,
+    Reads, Stamps, Target, VersionRow,
 };
 pub use stepping::Stepping;

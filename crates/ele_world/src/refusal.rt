@@ -88,6 +88,8 @@ pub enum Refusal {
     NotMember,
     /// A limit is reached.
     Full(Which),
+    /// The end is not later than now.
+    NotAhead,
 }
 
 /// Why a command was not run: it stands in no history, and nothing has changed.
@@ -128,6 +130,7 @@ impl Refusal {
             Refusal::AlreadyMember => 25,
             Refusal::NotMember => 26,
             Refusal::Full(_) => 27,
+            Refusal::NotAhead => 41,
         }
     }
 
@@ -161,6 +164,7 @@ impl Refusal {
             Refusal::AlreadyMember => "AlreadyMember",
             Refusal::NotMember => "NotMember",
             Refusal::Full(_) => "Full",
+            Refusal::NotAhead => "NotAhead",
         }
     }
 }

@@ -106,10 +106,18 @@ pub struct HandleRow {
     pub reads: Reads,
 }
 
-/// A group: its files in order of adding, and the moments at which it was marked in order of making.
+/// A mark of a group: the moment at which it was marked, and the moment at which the mark ends, if it does. It is in force
+/// before that one, and stays listed when it has ended.
+#[derive(Clone, Copy, Debug, PartialEq, Eq)]
+pub struct MarkRow {
+    pub at: Moment,
+    pub until: Option<Moment>,
+}
+
+/// A group: its files in order of adding, and its marks in order of making.
 #[derive(Debug, Drop, PartialEq, Eq)]
 pub struct GroupRow {
     pub name: Name,
     pub members: ListOf<FileId>,
-    pub marks: ListOf<Moment>,
+    pub marks: ListOf<MarkRow>,
 }

@@ -1,19 +1,22 @@
 //! The scan: the keys of the versions that are due, found by a look at every row.
-ghost use Rattle.std.specs.Prelude.{◌≡◌, ◌||◌, Bool, IfOk, OnOk, OnErr, filter, fold, []};
+ghost use Rattle.std.specs.Prelude.{◌≡◌, if◌then◌else◌, Bool, IfOk, OnOk, OnErr, filter, fold, [], ◌∷◌};
 ghost use Rattle.std.specs.List.{cons_option};
 ghost use Rattle.std.specs.BTreeSet.{insert_key};
 ghost use Rattle.ele_policy.specs.Ripe.{ripe_by};
 ghost use Rattle.ele_world.specs.Due.{ripe_of};
 ghost use Rattle.ele_world.specs.FileView.{closings};
-ghost use Rattle.ele_world.specs.GroupRows.{covers_moment, has_covering, is_marked, is_member};
+ghost use Rattle.ele_world.specs.declared.cover.Cover.TheVariants.{Free};
+ghost use Rattle.ele_world.specs.Cover.{cover_by, cover_of};
+ghost use Rattle.ele_world.specs.GroupRows.{covers_moment, is_member};
 ghost use Rattle.ele_world.specs.Neighbours.{is_newer_of};
 ghost use Rattle.ele_world.specs.RipeMoments.{IsDueFromRipe};
 ghost use Rattle.ele_world.specs.Scan.{key_cmp, due_key, scan};
 ghost use Rattle.ele_world.specs.World.{World, is_open, policy_of, reads_version};
 
+use crate::cover::Cover;
 use crate::flat::Flat;
 use crate::list::KeyList;
-use crate::rows::{FileRow, GroupRow, HandleRow, Reads, VersionRow};
+use crate::rows::{FileRow, GroupRow, HandleRow, MarkRow, Reads, VersionRow};
 use ele_due::Key;
 use ele_lists::ListOf;
 use ele_moment::{FileId, Moment, NoMemory, VersionNo};
@@ -61,30 +64,51 @@ fn covers_moment(closed: Moment, ended: Option<Moment>, mark: Moment) -> bool
     closed <= mark && ended.is_none_or(|end| mark < end)
 }
 
-/// Whether some mark of the group covers.
-fn has_covering(group: &GroupRow, closed: Moment, ended: Option<Moment>) -> bool
-    ensures { result ≡ has_covering closed ended group.now }
+/// For how long the mark keeps what it covers.
+fn mark_cover(mark: &MarkRow, closed: Moment, ended: &Option<Moment>) -> Cover
+    ensures { result ≡ cover_by closed ended.now (mark.now ∷ []) }
 {
-    group
-        .marks
-        .as_slice()
-        .iter()
-        .any(|mark| covers_moment(closed, ended, *mark))
+    if covers_moment(closed, *ended, mark.at) {
+        Cover::until(mark.until)
+    } else {
+        Cover::Free
+    }
 }
 
-/// Whether some group that has the file has a mark that covers.
-fn is_marked(groups: &[GroupRow], file: FileId, closed: Moment, ended: Option<Moment>) -> bool
-    ensures { result ≡ is_marked groups.now file closed ended }
+/// For how long the group's marks keep.
+#[tactic(auto, using(crate::proofs::Covers::cover_more))]
+fn group_cover(group: &GroupRow, closed: Moment, ended: &Option<Moment>) -> Cover
+    ensures { result ≡ cover_by closed ended.now group.now.marks }
 {
-    groups.iter().any(|group| is_member(group, file) && has_covering(group, closed, ended))
+    let mut cover = Cover::Free;
+    for mark in group.marks.as_slice() {
+        cover = cover.longer(mark_cover(mark, closed, ended));
+    }
+    cover
 }
 
-/// Whether a handle reads the version, or a mark covers it.
-fn is_protected(handles: &[HandleRow], groups: &[GroupRow], row: &VersionRow) -> bool
-    ensures { result ≡ (is_open handles.now row.now.file row.now.number
-        || is_marked groups.now row.now.file row.now.closed row.now.ended) }
+/// For how long the group's marks keep, if it has the file.
+fn member_cover(group: &GroupRow, file: FileId, closed: Moment, ended: &Option<Moment>) -> Cover
+    ensures { result
+        ≡ (if is_member file group.now then cover_by closed ended.now group.now.marks else Free) }
 {
-    is_open(handles, row.file, row.number) || is_marked(groups, row.file, row.closed, row.ended)
+    if is_member(group, file) {
+        group_cover(group, closed, ended)
+    } else {
+        Cover::Free
+    }
+}
+
+/// For how long marks of groups that have the file keep.
+#[tactic(auto, using(crate::proofs::Covers::cover_of_more))]
+fn cover_of(groups: &[GroupRow], file: FileId, closed: Moment, ended: &Option<Moment>) -> Cover
+    ensures { result ≡ cover_of groups.now file closed ended.now }
+{
+    let mut cover = Cover::Free;
+    for group in groups {
+        cover = cover.longer(member_cover(group, file, closed, ended));
+    }
+    cover
 }
 
 /// Whether the other version is a newer one of the row's file.
@@ -151,17 +175,20 @@ fn ripe_of(
     ensures { IfOk result (λ ripe. (w : World) → w.files ≡ files.now → w.versions ≡ versions.now
         → w.handles ≡ handles.now → w.groups ≡ groups.now → (ripe ≡ ripe_of w row.now) × IsDueFromRipe w row.now) }
 {
-    if is_protected(handles, groups, row) {
-        return Ok(None);
-    }
     let Some(policy) = policy_of(files, row.file) else {
         return Ok(None);
     };
+    policy.is_given();
+    if is_open(handles, row.file, row.number) {
+        return Ok(None);
+    }
     let Some(ended) = row.ended else {
         return Ok(None);
     };
-    policy.is_given();
-    ripe_by(&policy, versions, row, ended, alloc)
+    let Some(ripe) = ripe_by(&policy, versions, row, ended, alloc)? else {
+        return Ok(None);
+    };
+    Ok(cover_of(groups, row.file, row.closed, &row.ended).ripe_past(ripe))
 }
 
 /// The version's key, if it is due at the moment.

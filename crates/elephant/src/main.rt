@@ -1,5 +1,6 @@
 //! The program `elephant`: `elephant run` reads a script from standard input and writes its answers
-//! to standard output; `elephant storm` lets many threads call one core, and audits it.
+//! to standard output; `elephant storm` lets many threads call one core, and audits it; `elephant
+//! forecast` tells what becomes of the versions of a file that closed at the moments that it reads.
 #![tactic(auto)]
 
 ghost use Rattle.ele_words.specs.Asked.{IsAsked};

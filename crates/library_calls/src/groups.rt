@@ -2,6 +2,7 @@
 use crate::rooms::moment;
 use ele_groups::Groups;
 use ele_moment::{FileId, Name};
+use ele_world::Cover;
 use std::test::Fail;
 
 #[test]
@@ -11,8 +12,8 @@ fn a_mark_covers_what_was_current_then(rt: HostRuntime) -> Result<(), Fail> {
     let mut groups = Groups::new(rt.alloc());
     groups.make(&group)?;
     groups.add(&group, FileId(1))?;
-    groups.mark(&group, mark)?;
-    assert!(rt; groups.covering(FileId(1), mark, Some(moment(6)?)));
-    assert!(rt; !groups.covering(FileId(1), mark, Some(mark)));
+    groups.mark(&group, mark, None)?;
+    assert!(rt; groups.cover(FileId(1), mark, Some(moment(6)?)) == Cover::Always);
+    assert!(rt; groups.cover(FileId(1), mark, Some(mark)) == Cover::Free);
     Ok(())
 }

@@ -6,6 +6,8 @@ mod cores;
 #[cfg(test)]
 mod crowd;
 #[cfg(test)]
+mod fates;
+#[cfg(test)]
 mod groups;
 #[cfg(test)]
 mod maps;

@@ -6,6 +6,8 @@
 #[cfg(test)]
 mod ends;
 #[cfg(test)]
+mod forecasts;
+#[cfg(test)]
 mod histories;
 #[cfg(test)]
 mod lines;

@@ -1,4 +1,5 @@
 //! What the program writes, and how it ends.
+use ele_runs::Manner;
 use ele_storm::StormPlan;
 use ele_words::{Asked, answer};
 use ele_world::Limits;
@@ -70,7 +71,7 @@ fn make_late(alloc: Global, fails: bool) -> Late {
 fn an_empty_script_ends_well(rt: HostRuntime) {
     let mut writer = make_late(rt.alloc(), false);
     let mut errors = Vec::<u8>::new(rt.alloc());
-    let asked = Asked::Run(Limits::largest());
+    let asked = Asked::Run(Limits::largest(), Manner::plain());
     let mut reader = b"".as_slice();
     let status = do_over_empty(
         &rt,
@@ -89,7 +90,7 @@ fn an_empty_script_ends_well(rt: HostRuntime) {
 fn a_run_that_ends_early_is_flushed_and_told(rt: HostRuntime) -> Result<(), Fail> {
     let mut writer = make_late(rt.alloc(), false);
     let mut errors = Vec::<u8>::new(rt.alloc());
-    let asked = Asked::Run(Limits::largest());
+    let asked = Asked::Run(Limits::largest(), Manner::plain());
     let mut reader = Broken(b"tick 5\n");
     let status = do_over_empty(
         &rt,
@@ -109,7 +110,7 @@ fn a_run_that_ends_early_is_flushed_and_told(rt: HostRuntime) -> Result<(), Fail
 fn a_flush_that_fails_is_told(rt: HostRuntime) -> Result<(), Fail> {
     let mut writer = make_late(rt.alloc(), true);
     let mut errors = Vec::<u8>::new(rt.alloc());
-    let asked = Asked::Run(Limits::largest());
+    let asked = Asked::Run(Limits::largest(), Manner::plain());
     let mut reader = b"tick 5\n".as_slice();
     let status = do_over_empty(
         &rt,

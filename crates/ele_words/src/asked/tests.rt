@@ -1,5 +1,6 @@
 //! The program's words.
 use super::*;
+use ele_policy::Policy;
 use std::test::Fail;
 
 fn asked_by(alloc: Global, texts: &[&str]) -> Result<Asked, Fail> {
@@ -13,7 +14,7 @@ fn asked_by(alloc: Global, texts: &[&str]) -> Result<Asked, Fail> {
 // The limit of events of a run that the words ask for.
 fn events_of(alloc: Global, texts: &[&str]) -> Result<Option<u64>, Fail> {
     match asked_by(alloc, texts)? {
-        Asked::Run(limits) => Ok(Some(limits.events())),
+        Asked::Run(limits, _) => Ok(Some(limits.events())),
         _ => Ok(None),
     }
 }
@@ -33,6 +34,40 @@ fn a_run_has_a_limit_of_events(rt: HostRuntime) -> Result<(), Fail> {
     assert_eq!(rt;
         events_of(alloc, &["elephant", "run", "--events", "1000000000"])?,
         Some(1_000_000_000)
+    );
+    Ok(())
+}
+
+// The manner of a run that the words ask for.
+fn manner_of(alloc: Global, texts: &[&str]) -> Result<Option<Manner>, Fail> {
+    match asked_by(alloc, texts)? {
+        Asked::Run(_, manner) => Ok(Some(manner)),
+        _ => Ok(None),
+    }
+}
+
+#[test]
+fn a_run_has_a_manner(rt: HostRuntime) -> Result<(), Fail> {
+    let alloc = rt.alloc();
+    let plain = Manner::plain();
+    assert_eq!(rt; manner_of(alloc, &["elephant", "run"])?, Some(plain));
+    assert_eq!(rt;
+        manner_of(alloc, &["elephant", "run", "--strict"])?,
+        Some(Manner {
+            strict: true,
+            ..plain
+        })
+    );
+    assert_eq!(rt;
+        manner_of(
+            alloc,
+            &["elephant", "run", "--numbers", "--events", "5", "--remarks"]
+        )?,
+        Some(Manner {
+            numbers: true,
+            remarks: true,
+            ..plain
+        })
     );
     Ok(())
 }
@@ -63,9 +98,44 @@ fn a_storm_has_a_plan(rt: HostRuntime) -> Result<(), Fail> {
     Ok(())
 }
 
+// The policy and the moments of a forecast that the words ask for.
+fn ask_of(alloc: Global, texts: &[&str]) -> Result<Option<(Policy, [Option<u64>; 2])>, Fail> {
+    let Asked::Forecast(ask) = asked_by(alloc, texts)? else {
+        return Ok(None);
+    };
+    let moments = ask.moments.as_slice();
+    let first = moments.first().map(|at| at.seconds());
+    let last = moments.last().map(|at| at.seconds());
+    Ok(Some((ask.policy, [first, last])))
+}
+
+#[test]
+fn a_forecast_has_a_policy_and_moments(rt: HostRuntime) -> Result<(), Fail> {
+    let alloc = rt.alloc();
+    assert_eq!(rt;
+        ask_of(alloc, &["elephant", "forecast", "--policy", "one"])?,
+        Some((Policy::One, [None, None]))
+    );
+    assert_eq!(rt;
+        ask_of(
+            alloc,
+            &[
+                "elephant",
+                "forecast",
+                "--at",
+                "5",
+                "--policy=all",
+                "--at=1970-01-01T00:00:09Z"
+            ]
+        )?,
+        Some((Policy::All, [Some(5), Some(9)]))
+    );
+    Ok(())
+}
+
 #[test]
 fn other_words_are_not_understood(rt: HostRuntime) -> Result<(), Fail> {
-    let wrong: [&[&str]; 17] = [
+    let wrong: [&[&str]; 24] = [
         &["elephant"],
         &["elephant", "storm", "now"],
         &["elephant", "storm", "--events", "5"],
@@ -75,6 +145,11 @@ fn other_words_are_not_understood(rt: HostRuntime) -> Result<(), Fail> {
         &["elephant", "storm", "--historians", "17"],
         &["elephant", "storm", "--rounds", "1001"],
         &["elephant", "storm", "--rounds="],
+        &["elephant", "forecast"],
+        &["elephant", "forecast", "--policy", "none"],
+        &["elephant", "forecast", "--policy", "safe:0"],
+        &["elephant", "forecast", "--policy", "one", "--at", "now"],
+        &["elephant", "forecast", "--policy", "one", "5"],
         &["elephant", "run", "script"],
         &["elephant", "run", "--events"],
         &["elephant", "run", "--events", "0"],
@@ -83,6 +158,8 @@ fn other_words_are_not_understood(rt: HostRuntime) -> Result<(), Fail> {
         &["elephant", "run", "--events", "+5"],
         &["elephant", "run", "--events="],
         &["elephant", "run", "--rounds", "5"],
+        &["elephant", "run", "--strict", "--strict"],
+        &["elephant", "storm", "--strict"],
     ];
     for texts in wrong {
         match asked_by(rt.alloc(), texts)? {

@@ -1,17 +1,15 @@
-use Rattle.ele_runs.proofs.Ends.{ran_to_the_end}
+use Rattle.ele_runs.specs.declared.fault.ShellFault.TheVariants.{ReadFault, TooManyLines, WriteFault}
+use Rattle.ele_runs.proofs.Plain.{as_run, ran_past_a_bound, ran_to_a_read_fault, ran_to_a_write_fault, ran_to_the_end}
 use Rattle.ele_runs.proofs.script.run_over.Goals as goal
 
-pub returns-clause-ok : goal.returns-clause-ok
-returns-clause-ok g c = ran_to_the_end _ _ _ _ _ c.run_printed.result (rw c.in_ok-keeper.ensures at c.run_printed.ensures)
+pub returns-in-Ok-clause-ok : goal.returns-in-Ok-clause-ok
+returns-in-Ok-clause-ok g c = ran_to_the_end _ _ c.in-Ok.ran.ended_by _ _ _ _ (rw c.plain.ensures at c.in-Ok.ensures.ok)
 
-pub returns-clause-read_fault : goal.returns-clause-read_fault
-returns-clause-read_fault g c = λ is. rw is at (rw c.in_ok-keeper.ensures at c.run_printed.ensures)
+pub returns-in-Err-clause-read_fault : goal.returns-in-Err-clause-read_fault
+returns-in-Err-clause-read_fault g c = λ is. ran_to_a_read_fault _ _ _ _ _ (rw c.plain.ensures at (c.in-Err.ensures.read_fault (as_run c.in-Err.fault ReadFault is)))
 
-pub returns-clause-too_many_lines : goal.returns-clause-too_many_lines
-returns-clause-too_many_lines g c = λ is. rw is at (rw c.in_ok-keeper.ensures at c.run_printed.ensures)
+pub returns-in-Err-clause-too_many_lines : goal.returns-in-Err-clause-too_many_lines
+returns-in-Err-clause-too_many_lines g c = λ is. ran_past_a_bound _ _ _ _ _ (rw c.plain.ensures at (c.in-Err.ensures.too_many_lines (as_run c.in-Err.fault TooManyLines is)))
 
-pub returns-clause-write_fault : goal.returns-clause-write_fault
-returns-clause-write_fault g c = λ is. rw is at (rw c.in_ok-keeper.ensures at c.run_printed.ensures)
-
-pub returns-clause-no_memory : goal.returns-clause-no_memory
-returns-clause-no_memory g c = λ is. absurd (rw is at c.run_printed.ensures)
+pub returns-in-Err-clause-write_fault : goal.returns-in-Err-clause-write_fault
+returns-in-Err-clause-write_fault g c = λ is. ran_to_a_write_fault _ _ _ _ (rw c.plain.ensures at (c.in-Err.ensures.write_fault (as_run c.in-Err.fault WriteFault is)))

@@ -5,8 +5,11 @@ use Rattle.ele_state.proofs.Revived.{held_there, held_long, is_there, restores, 
 use Rattle.ele_state.specs.declared.append.Source.TheVariants.{Version}
 use Rattle.ele_state.proofs.State.bring_back.Goals as goal
 
+pub standing-standing-requires-clause-there : goal.standing-standing-requires-clause-there
+standing-standing-requires-clause-there c = held_there c.self.inside.rows c.args.file c.args.stamps.now c.self.invariant.sound (rw (← c.self.view_is) at c.requires.held)
+
 pub append-requires-clause-roomy : goal.append-requires-clause-roomy
-append-requires-clause-roomy c = roomy c.self.inside.rows c.self.invariant.sound
+append-requires-clause-roomy c = let r = roomy c.self.inside.rows c.self.invariant.sound in record { made = r.made; sums = r.sums }
 
 pub append-requires-clause-there : goal.append-requires-clause-there
 append-requires-clause-there c = held_there c.self.inside.rows c.args.file c.args.stamps.now c.self.invariant.sound (rw (← c.self.view_is) at c.requires.held)

@@ -1,19 +1,20 @@
 use Rattle.ele_state.proofs.Words.{IsQueued, World, arith, refl, subst, sym, world_of}
 use Rattle.ele_state.proofs.Appended.{refused, taken_back}
 use Rattle.ele_state.proofs.ClosedSums.{added_fits, version_fits}
-use Rattle.ele_state.proofs.Grown.{grown_owed, grown_queue, grown_world, grows}
+use Rattle.ele_state.proofs.Grown.{grown_owed_by, grown_queue, grown_world, grows}
 use Rattle.ele_state.proofs.append.append.Goals as goal
 
-pub add_version-requires : goal.add_version-requires
-add_version-requires c = version_fits c.args.rows.now c.requires.tracked c.requires.roomy c.args.bytes c.blocks-before.result c.requires.short c.blocks-before.ensures.value c.blocks-before.ensures.bound
+pub add-requires : goal.add-requires
+add-requires c = rw c.one_version.ensures (version_fits c.args.rows.now c.requires.tracked c.requires.roomy c.args.bytes c.blocks-before.result c.requires.short c.blocks-before.ensures.value c.blocks-before.ensures.bound c.kind-kind.result)
 
-pub follow_blocks-requires-clause-owed : goal.follow_blocks-requires-clause-owed
-follow_blocks-requires-clause-owed c =
-    grown_owed c.args.rows.now c.args.file c.requires.tracked c.args.source c.put_version-made.new.files c.add_version.new.book c.args.bytes c.blocks-before.result
-    (c.in-Ok.ensures.ok (world_of c.args.rows.now) refl (sym c.is_live-is_live.ensures)) c.requires.bytes c.blocks-before.ensures.value c.add_version.ensures
+pub settle_blocks-requires-clause-owed : goal.settle_blocks-requires-clause-owed
+settle_blocks-requires-clause-owed c =
+    let after = c.in-Ok.ensures.ok (world_of c.args.rows.now) refl (sym c.is_live-is_live.ensures) in
+    rw c.kind-kind.ensures (grown_owed_by c.args.rows.now c.args.file c.requires.tracked c.args.source c.put_version-made.new.files c.add.new.self c.args.bytes c.blocks-before.result c.args.standing.now.policy c.requires.stands.policy
+    after c.requires.bytes c.blocks-before.ensures.value (rw (c.kind-kind.ensures, c.one_version.ensures) at c.add.ensures.each))
 
-pub follow_blocks-requires-clause-fits : goal.follow_blocks-requires-clause-fits
-follow_blocks-requires-clause-fits c = added_fits c.args.rows.now c.put_version-made.new.files c.args.file c.add_version.new.book c.args.bytes c.requires.roomy c.requires.short c.add_version.ensures
+pub settle_blocks-requires-clause-fits : goal.settle_blocks-requires-clause-fits
+settle_blocks-requires-clause-fits c = added_fits c.args.rows.now c.kind-kind.result c.add.new.self c.args.bytes c.requires.roomy c.requires.short (rw c.one_version.ensures at c.add.ensures.each)
 
 pub returns-clause-ok : goal.returns-clause-ok
 returns-clause-ok c = grown_world c.args.rows.now c.args.file c.requires.tracked c.args.source c.put_version-made.new.files (c.in-Ok.ensures.ok (world_of c.args.rows.now) refl (sym c.is_live-is_live.ensures))
@@ -21,7 +22,7 @@ returns-clause-ok c = grown_world c.args.rows.now c.args.file c.requires.tracked
 pub returns-clause-tracked : goal.returns-clause-tracked
 returns-clause-tracked c = record {
   queue = subst (λ (v : World). IsQueued v c.put.new.queue) (sym (returns-clause-ok c)) (grown_queue c.args.rows.now c.args.file c.requires.tracked c.args.source c.put.new.queue c.is_live-is_live.result c.new_keys-keys.result c.requires.source c.is_live-is_live.ensures c.new_keys-keys.ensures c.in_ok-put.ensures.ok);
-  book = c.follow_blocks.ensures;
+  book = c.settle_blocks.ensures;
   bounds = c.requires.tracked.bounds;
 }
 

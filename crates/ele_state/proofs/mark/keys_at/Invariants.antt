@@ -1,5 +1,7 @@
-use Rattle.ele_state.proofs.Words.{◌≡◌, take, keys_at}
+use Rattle.ele_state.proofs.Words.{◌≡◌, Standing, take, keys_at}
 use Rattle.ele_state.proofs.mark.keys_at.Given as goal
 
 abbrev pub invariant-loop-file : goal.invariant-loop-file
-invariant-loop-file l = l.keys.items ≡ keys_at l.left l.rows.groups l.rows.files (take l.file-index l.files) l.marks
+invariant-loop-file l =
+    (l.come.items ≡ keys_at l.asked Standing l.rows.groups l.rows.files (take l.file-index l.files) l.marks)
+    × (l.gone.items ≡ keys_at Standing l.asked l.rows.groups l.rows.files (take l.file-index l.files) l.marks)

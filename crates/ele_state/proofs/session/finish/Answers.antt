@@ -8,8 +8,11 @@ use Rattle.ele_state.specs.declared.append.Source.TheVariants.{Draft}
 pub draft_bytes-bytes-requires : goal.draft_bytes-bytes-requires
 draft_bytes-bytes-requires c = drafted (world_of c.args.rows.now) c.args.handle c.args.file c.requires.reads c.args.opened c.requires.changed
 
+pub standing-standing-requires-clause-there : goal.standing-standing-requires-clause-there
+standing-standing-requires-clause-there c = file_there (world_of c.args.rows.now) c.args.handle c.args.file c.requires.reads c.args.opened c.requires.changed c.requires.sound.formed
+
 pub append-requires-clause-roomy : goal.append-requires-clause-roomy
-append-requires-clause-roomy c = roomy c.args.rows.now c.requires.sound
+append-requires-clause-roomy c = let r = roomy c.args.rows.now c.requires.sound in record { made = r.made; sums = r.sums }
 
 pub append-requires-clause-there : goal.append-requires-clause-there
 append-requires-clause-there c = file_there (world_of c.args.rows.now) c.args.handle c.args.file c.requires.reads c.args.opened c.requires.changed c.requires.sound.formed

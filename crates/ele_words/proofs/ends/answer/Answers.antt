@@ -6,21 +6,24 @@ use Rattle.ele_words.proofs.ends.answer.Goals as goal
 pub returns-in-Run : goal.returns-in-Run
 returns-in-Run g c =
     rw c.in-Run.is (record {
-      fault = c.err.result;
-      done = rw c.err.ensures.value c.run_script-ran.ensures;
-      status_is = c.tell.ensures.status;
-      told = c.tell.ensures.told;
+      ended = c.run_script-ran.result;
+      done = c.run_script-ran.ensures;
+      status_is = c.tell_run.ensures.status;
+      told = c.tell_run.ensures.told;
     })
+
+pub returns-in-Forecast : goal.returns-in-Forecast
+returns-in-Forecast g c = rw c.in-Forecast.is c.run_forecast.ensures
 
 pub returns-in-Help : goal.returns-in-Help
 returns-in-Help g c =
     rw c.in-Help.is (
       Keeps-refl _,
       record {
-        fault = c.err-in-Help.result;
-        done = rw c.err-in-Help.ensures.value (rw c.as_str.ensures.value at c.write_text.ensures);
-        status_is = c.tell-in-Help.ensures.status;
-        told = c.tell-in-Help.ensures.told;
+        fault = c.err.result;
+        done = rw c.err.ensures.value (rw c.as_str.ensures.value at c.write_text.ensures);
+        status_is = c.tell.ensures.status;
+        told = c.tell.ensures.told;
       },
     )
 

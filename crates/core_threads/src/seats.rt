@@ -1,0 +1,153 @@
+//! Seats of one history, called in turn by one thread.
+ghost use Rattle.std.specs.Prelude.{◌≡◌, IfOk};
+
+use ele_core::Core;
+use ele_history::History;
+use ele_script::read_event;
+use ele_shared::{Seat, Shared};
+use ele_world::{ByteList, Event, FileId, Handle, Limits, NoMemory, Reply, Stepping, Stop};
+use std::alloc::Global;
+use std::sync::Wait;
+use std::test::Fail;
+
+/// What a call is answered.
+pub type Answer = Result<Reply, Stop>;
+
+/// What four calls are answered, how many events a seat is told then, and how many the closed
+/// history has.
+type Filled = ([Answer; 4], [u64; 2]);
+
+/// How many events each of three seats is told, which of four attempts are answered, and how many
+/// events a seat is told then.
+type Attempts = ([u64; 3], [bool; 4], u64);
+
+/// A fresh history that takes so many events.
+fn fresh<C: Stepping>(alloc: Global, events: u64) -> Result<History<C>, NoMemory> {
+    match Limits::with_events(events) {
+        Some(limits) => History::new(alloc, limits),
+        None => Err(NoMemory),
+    }
+}
+
+/// The history, shared among two seats, and the last of them.
+fn share<C: Stepping>(alloc: Global, history: History<C>) -> Result<(Shared<C>, Seat<C>), NoMemory>
+    ensures { IfOk result (λ made. made.1.object ≡ made.0) }
+{
+    let Ok((shared, mut seats)) = Shared::new(alloc, history, 2) else {
+        return Err(NoMemory);
+    };
+    let Some(seat) = seats.pop() else {
+        unreachable!()
+    };
+    Ok((shared, seat))
+}
+
+/// A fresh history that takes so many events, shared, a seat of it, and one that is split off.
+pub fn opened<C: Stepping>(
+    alloc: Global,
+    events: u64,
+) -> Result<(Shared<C>, Seat<C>, Seat<C>), Fail>
+    ensures { IfOk result (λ made. (made.1.object ≡ made.0) × (made.2.object ≡ made.0)) }
+{
+    let (shared, mut one) = share(alloc, fresh(alloc, events)?)?;
+    let other = shared.split(&mut one)?;
+    Ok((shared, one, other))
+}
+
+/// What the line's event is answered.
+pub fn ask<C: Stepping, R: Wait>(
+    rt: &R,
+    alloc: Global,
+    shared: &Shared<C>,
+    seat: &mut Seat<C>,
+    line: &str,
+) -> Result<Answer, Fail>
+    requires { seat.old.object ≡ shared.now }
+    ensures { seat.new.object ≡ seat.old.object }
+{
+    let event = read_event(alloc, line.as_bytes())?;
+    Ok(shared.call(rt, seat, event))
+}
+
+/// What a history of three events answers three calls of one seat and one of another; how many
+/// events this one is told, and how many the closed history has.
+fn fill<C: Stepping, R: Wait>(rt: &R, alloc: Global, joins: bool) -> Result<Filled, Fail> {
+    let (shared, mut one, mut other) = opened::<C>(alloc, 3)?;
+    let answers = [
+        ask(rt, alloc, &shared, &mut one, "create /f")?,
+        ask(rt, alloc, &shared, &mut one, "open write /f")?,
+        ask(rt, alloc, &shared, &mut one, "write 1 0 61")?,
+        ask(rt, alloc, &shared, &mut other, "usage")?,
+    ];
+    if joins {
+        shared.join(&mut other, one);
+    }
+    let told = shared.published(&mut other);
+    Ok((answers, [told, shared.close(other)?.count()]))
+}
+
+/// How many events the seats of a fresh history are told, and one that is split off; which of four
+/// attempts of the first one are answered; and how many events the second one is told then, which
+/// never called.
+fn attempt_four<C: Stepping>(alloc: Global) -> Result<Attempts, Fail> {
+    let (shared, mut one, mut other) = opened::<C>(alloc, 1_000)?;
+    let mut third = shared.split(&mut one)?;
+    let fresh = [
+        shared.published(&mut one),
+        shared.published(&mut other),
+        shared.published(&mut third),
+    ];
+    let answered = [
+        shared.try_call(&mut one, Event::UsageAll).is_ok(),
+        shared.try_call(&mut one, Event::UsageAll).is_ok(),
+        shared.try_call(&mut one, Event::UsageAll).is_ok(),
+        shared.try_call(&mut one, Event::UsageAll).is_ok(),
+    ];
+    Ok((fresh, answered, shared.published(&mut other)))
+}
+
+/// What a seat that is split off reads of a file that the other one wrote.
+fn read_by_another<C: Stepping, R: Wait>(rt: &R, alloc: Global) -> Result<Answer, Fail> {
+    let (shared, mut one, _other) = opened::<C>(alloc, 1_000)?;
+    ask(rt, alloc, &shared, &mut one, "create /f")??;
+    ask(rt, alloc, &shared, &mut one, "open write /f")??;
+    ask(rt, alloc, &shared, &mut one, "write 1 0 6162")??;
+    ask(rt, alloc, &shared, &mut one, "close 1")??;
+    let mut third = shared.split(&mut one)?;
+    ask(rt, alloc, &shared, &mut third, "read /f")
+}
+
+/// What seats are told that one thread calls in turn: those of a full history, without a join and
+/// with one, those that make attempts, and one that reads.
+fn call_in_turn<C: Stepping, R: Wait>(
+    rt: &R,
+    alloc: Global,
+) -> Result<(Filled, Filled, Attempts, Answer), Fail> {
+    Ok((
+        fill::<C, R>(rt, alloc, false)?,
+        fill::<C, R>(rt, alloc, true)?,
+        attempt_four::<C>(alloc)?,
+        read_by_another::<C, R>(rt, alloc)?,
+    ))
+}
+
+/// What a history of three events answers four calls.
+fn three_answers() -> [Answer; 4] {
+    [
+        Ok(Reply::File(FileId(1))),
+        Ok(Reply::Handle(Handle(1))),
+        Ok(Reply::Done),
+        Err(Stop::HistoryFull),
+    ]
+}
+
+#[test]
+fn seats_are_answered_in_turn(rt: HostRuntime) -> Result<(), Fail> {
+    let (full, joined, attempts, read) = call_in_turn::<Core, _>(&rt, rt.alloc())?;
+    assert_eq!(rt; full, (three_answers(), [3, 3]));
+    assert_eq!(rt; joined, (three_answers(), [3, 3]));
+    assert_eq!(rt; attempts, ([0, 0, 0], [true; 4], 4));
+    let bytes = ByteList::from_vec(Vec::from_slice(rt.alloc(), b"ab")?);
+    assert_eq!(rt; read, Ok(Reply::Bytes(bytes)));
+    Ok(())
+}

@@ -1,0 +1,33 @@
+//! What becomes of a held version, and which versions will be due. Neither call changes anything.
+ghost use Rattle.std.specs.Prelude.{◌≡◌, false, IfOk, IfSome, IfNone};
+ghost use Rattle.ele_world.specs.Change.{Time, after_change};
+ghost use Rattle.ele_world.specs.Fate.{HasFate};
+ghost use Rattle.ele_world.specs.Scan.{scan};
+ghost use Rattle.ele_world.specs.World.{is_held};
+
+use crate::Core;
+use ele_world::{Fate, FileId, KeyList, Moment, NoMemory, VersionNo};
+
+impl Core {
+    /// What becomes of the version, and why: the first of these that holds. It has no end; a handle reads it; a mark in force
+    /// covers it; its policy keeps it, until a moment or for good; or it is due, since a moment. None where the version isn't
+    /// held. It takes no memory. A version has one fate and no other (`one_fate` of `ele_world::laws::fate`), and is told to be
+    /// due just where the scan has its key (`due_fate`).
+    pub fn fate(&self, file: FileId, number: VersionNo) -> Option<Fate>
+        ensures some { IfSome result (HasFate self.now.world file number) }
+        ensures none { IfNone result (is_held self.now.world file number ≡ false) }
+    {
+        self.state.fate(file, number)
+    }
+
+    /// The keys of the versions that are due at the moment if until then nothing comes but the clock, in the order in which they
+    /// would be removed. Of a moment before now: the keys of those that are due now and were ripe by then.
+    ///
+    /// `NoMemory` where memory is refused.
+    pub fn due_by(&self, moment: Moment) -> Result<KeyList, NoMemory>
+        ensures { IfOk result
+            (λ keys. keys ≡ scan (after_change self.now.world (Time moment))) }
+    {
+        self.state.due_by(moment)
+    }
+}

@@ -1,0 +1,126 @@
+-- The lines of an input, and the closings that they spell.
+use Rattle.std.proofs.Common.{◌≡◌, ◌≢◌, ℕ, zero, suc, ◌+◌, ◌-◌, ◌<◌, ◌≤◌, ◌==◌, Bool, true, false, List, [], ◌∷◌, ◌++◌, length, take, drop, get_or, Option, Some, None, Result, Ok, Err, refl, sym, ap, subst, ◌∙◌, arith, append_assoc}
+use Rattle.std.proofs.lemmas.Bool.{ne_eqb, eq-eqb, eqb-true}
+use Rattle.std.proofs.lemmas.List.{append-nil, drop_more, length-append, length-take-le, take-append-drop}
+use Rattle.std.proofs.lemmas.List.Elements.{All-nil, All-cons}
+use Rattle.std.proofs.lemmas.List.Splits.{length-slice_split, slice_split_at, slice_split_none}
+use Rattle.std.proofs.KnownBytes.{Consumes-trans}
+use Rattle.std.specs.Io.KnownBytes.{Consumes}
+use Rattle.std.specs.List.{All, AllZip, slice_split}
+use Rattle.memchr.specs.Find.{IsFirstByte, is_byte}
+use Rattle.ele_lists.specs.Lists.{AllLater}
+use Rattle.ele_moment.specs.Spelled.{SpellsMoment}
+use Rattle.ele_outlook.specs.Input.{SpellClosings, IsBad, IsFirstBad, lines_of, without_empty_last}
+use Rattle.ele_outlook.specs.Reading.{FailsToAdd, ReadSoFar, Reads}
+use Rattle.ele_outlook.specs.declared.fault.ForecastFault.{ForecastFault}
+use Rattle.ele_outlook.specs.declared.fault.ForecastFault.TheVariants.{ReadFault, BadInput, WriteFault, NoMemory}
+
+abbrev is_feed : ℕ → Bool
+is_feed byte = byte == 10
+
+abbrev IsPlain : List ℕ → Type 0
+IsPlain line = All (λ byte. is_feed byte ≡ false) line
+
+-- no line feed stands in what is searched in vain
+plain_all : (xs : List ℕ) → IsFirstByte (is_byte 10) xs None → IsPlain xs
+plain_all [] h = All-nil (λ byte. is_feed byte ≡ false)
+plain_all (x ∷ xs) h =
+    All-cons (λ byte. is_feed byte ≡ false) x xs (ne_eqb x 10 (λ e. h 0 (omega arith) (omega arith) (eq-eqb x 10 e)))
+    (plain_all xs (λ k low high is. h (suc k) (omega arith) (omega (arith, high)) is))
+
+-- nor before the first that is found
+plain_before : (xs : List ℕ) (n : ℕ) → ((k : ℕ) → k < n → (get_or xs k 0 == 10) ≡ true → ⊥) → IsPlain (take n xs)
+plain_before xs zero h = All-nil (λ byte. is_feed byte ≡ false)
+plain_before [] (suc n) h = All-nil (λ byte. is_feed byte ≡ false)
+plain_before (x ∷ xs) (suc n) h =
+    All-cons (λ byte. is_feed byte ≡ false) x (take n xs) (ne_eqb x 10 (λ e. h 0 (omega arith) (eq-eqb x 10 e))) (plain_before xs n (λ k lt is. h (suc k) (omega (arith, lt)) is))
+
+-- a line feed is found at this place
+cut_at : (left : List ℕ) (at : ℕ) → IsFirstByte (is_byte 10) left (Some at) → left ≡ take at left ++ 10 ∷ drop (at + 1) left
+cut_at left at h =
+    sym (take-append-drop at left)
+    ∙ ap (λ (w : List ℕ). take at left ++ w) (drop_more left at 0 h.0.high ∙ ap (λ (b : ℕ). b ∷ drop (at + 1) left) (eqb-true (get_or left at 0) 10 h.1))
+
+parts_more : (line : List ℕ) (parts : List (List ℕ)) → 0 < length parts → without_empty_last (line ∷ parts) ≡ line ∷ without_empty_last parts
+parts_more line [] some = absurd (omega (arith, some))
+parts_more [] (next ∷ parts) some = refl
+parts_more (byte ∷ line) (next ∷ parts) some = refl
+
+-- the line before the first line feed, and those behind it
+pub first_line : (rest : List ℕ) (at : ℕ) → IsFirstByte (is_byte 10) rest (Some at) → lines_of rest ≡ take at rest ∷ lines_of (drop (at + 1) rest)
+first_line rest at h =
+    let line = take at rest in
+    let more = drop (at + 1) rest in
+    ap lines_of (cut_at rest at h)
+    ∙ ap without_empty_last (slice_split_at is_feed line 10 more (plain_before rest at (λ k lt is. h.0.before k (omega arith) lt is)) refl)
+    ∙ parts_more line (slice_split is_feed more) (omega (arith, length-slice_split is_feed more))
+
+-- without a line feed it is one line, or none
+pub only_line : (rest : List ℕ) → IsFirstByte (is_byte 10) rest None → 0 < length rest → lines_of rest ≡ rest ∷ []
+only_line [] h some = absurd (omega (arith, some))
+only_line (byte ∷ bytes) h some = ap without_empty_last (slice_split_none is_feed (byte ∷ bytes) (plain_all (byte ∷ bytes) h))
+
+pub no_line : (rest : List ℕ) → length rest ≡ 0 → lines_of rest ≡ []
+no_line [] none = refl
+no_line (byte ∷ bytes) none = absurd (omega (arith, none))
+
+pub read_none : (input : List ℕ) → ReadSoFar input input []
+read_none input = record { done = []; lines = refl; spelled = tt }
+
+zip_push : (words : List (List ℕ)) (closings : List ℕ) (word : List ℕ) (closing : ℕ) → AllZip SpellsMoment words closings → SpellsMoment word closing → AllZip SpellsMoment (words ++ word ∷ []) (closings ++ closing ∷ [])
+zip_push [] [] word closing all is = (is, tt)
+zip_push (w ∷ words) (c ∷ closings) word closing all is = (all.0, zip_push words closings word closing all.1 is)
+zip_push words closings word closing all is = grind arith
+
+zip_length : (words : List (List ℕ)) (closings : List ℕ) → AllZip SpellsMoment words closings → length words ≡ length closings
+zip_length [] [] all = refl
+zip_length (w ∷ words) (c ∷ closings) all = ap suc (zip_length words closings all.1)
+zip_length words closings all = grind arith
+
+-- one more line
+pub read_more : {input rest closings new : List ℕ} (line behind : List ℕ) → ReadSoFar input rest closings → lines_of rest ≡ line ∷ lines_of behind
+    → (closing : ℕ) → SpellsMoment line closing → new ≡ closings ++ closing ∷ [] → ReadSoFar input behind new
+read_more {input} {rest} {closings} {new} line behind far cut closing is new_is =
+    record {
+      done = far.done ++ line ∷ [];
+      lines = far.lines ∙ ap (λ (ls : List (List ℕ)). far.done ++ ls) cut ∙ sym (append_assoc far.done (line ∷ []) (lines_of behind));
+      spelled = rw new_is (zip_push far.done closings line closing far.spelled is);
+    }
+
+-- all lines
+pub read_all : {input rest closings : List ℕ} → ReadSoFar input rest closings → lines_of rest ≡ [] → AllLater ◌≤◌ closings → SpellClosings (lines_of input) closings
+read_all {input} {rest} {closings} far none rise =
+    let all : lines_of input ≡ far.done = far.lines ∙ ap (λ (ls : List (List ℕ)). far.done ++ ls) none ∙ append-nil far.done in
+    record { spelled = subst (λ (ls : List (List ℕ)). AllZip SpellsMoment ls closings) (sym all) far.spelled; rise = rise }
+
+-- an input with a line isn't empty
+not_empty : (input : List ℕ) (before : List (List ℕ)) (line : List ℕ) (behind : List (List ℕ)) → lines_of input ≡ before ++ line ∷ behind → input ≢ []
+not_empty [] [] line behind e = λ is. absurd cc
+not_empty [] (first ∷ before) line behind e = λ is. absurd cc
+not_empty (byte ∷ bytes) before line behind e = λ is. absurd cc
+
+-- the next line is bad, or there is no memory for it
+pub read_bad : {input rest closings : List ℕ} (line : List ℕ) (behind : List (List ℕ)) (fault : ForecastFault) → ReadSoFar input rest closings → lines_of rest ≡ line ∷ behind
+    → FailsToAdd line closings fault → Reads input (Err fault)
+read_bad {input = input} {closings = closings} line behind (BadInput number why) far cut bad =
+    record {
+      before = far.done;
+      line = line;
+      behind = behind;
+      closings = closings;
+      lines = far.lines ∙ ap (λ (ls : List (List ℕ)). far.done ++ ls) cut;
+      number_is = bad.0 ∙ ap (λ (n : ℕ). n + 1) (sym (zip_length far.done closings far.spelled));
+      spell = record { spelled = far.spelled; rise = bad.1 };
+      bad = bad.2;
+    }
+read_bad {input = input} line behind NoMemory far cut bad = not_empty input far.done line behind (far.lines ∙ ap (λ (ls : List (List ℕ)). far.done ++ ls) cut)
+read_bad line behind ReadFault far cut bad = absurd bad
+read_bad line behind WriteFault far cut bad = absurd bad
+
+-- some bytes more were given
+pub more_given : (input mid rest : Option (List ℕ)) (xs piece : List ℕ) (count : ℕ) → 0 < count → count ≤ length piece → Consumes input mid xs → Consumes mid rest (take count piece)
+    → (given : List ℕ) × (given ≢ []) × Consumes input rest given
+more_given input mid rest xs piece count some fits far more =
+    let n = length-append xs (take count piece) in
+    let m = length-take-le count piece fits in
+    (xs ++ take count piece, λ e. let none : length (xs ++ take count piece) ≡ 0 = ap length e in omega (arith, some, n, m, none), Consumes-trans input mid rest xs (take count piece) far more)

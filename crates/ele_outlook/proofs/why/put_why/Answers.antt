@@ -1,0 +1,14 @@
+use Rattle.std.specs.Prelude.{codes}
+use Rattle.ele_outlook.specs.Why.{length_words}
+use Rattle.ele_outlook.proofs.Known.{fronted, puts_as}
+use Rattle.ele_outlook.proofs.why.put_why.Goals as goal
+
+pub returns-in-AtOnce : goal.returns-in-AtOnce
+returns-in-AtOnce g c = rw c.in-AtOnce.is c.put_word-in-AtOnce.ensures
+
+pub returns-in-Age : goal.returns-in-Age
+returns-in-Age g c =
+    rw c.in-Age.is (puts_as _ _ _ _ c.put_length.result (fronted (codes "ended for") (length_words _)) (rw c.seconds.ensures.value at c.put_length.ensures))
+
+pub returns-in-Displaced : goal.returns-in-Displaced
+returns-in-Displaced g c = rw c.in-Displaced.is (rw (c.by.view_is, c.width_at.ensures) at c.put_displaced.ensures)

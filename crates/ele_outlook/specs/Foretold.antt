@@ -1,0 +1,31 @@
+-- A forecast from the bytes that are read to those that are written, by how it ends.
+use Rattle.std.specs.Prelude.{◌≡◌, ◌≢◌, ℕ, List, [], Option, Result, Ok, Err, ◌⊎◌}
+use Rattle.std.specs.Io.KnownBytes.{Appends, Consumes, IsAtEnd, Keeps}
+use Rattle.ele_printer.specs.Front.{AppendsFront}
+use Rattle.ele_outlook.specs.Input.{IsFirstBad, SpellClosings, lines_of}
+use Rattle.ele_outlook.specs.Table.{IsTable}
+use Rattle.ele_outlook.specs.declared.ask.Ask.{Ask}
+use Rattle.ele_outlook.specs.declared.fault.ForecastFault.{ForecastFault}
+use Rattle.ele_outlook.specs.declared.fault.ForecastFault.TheVariants.{ReadFault, BadInput, WriteFault, NoMemory}
+
+-- the text tells of the closings that the input spells
+pub record IsToldOf (ask : Ask) (input text : List ℕ) : Type 0 where
+  pub closings : List ℕ
+  pub spell : SpellClosings (lines_of input) closings
+  pub table : IsTable ask.policy closings ask.moments.items text
+
+-- its table was written, all or a front of it, or nothing was; memory is asked for only where bytes were given or a moment is
+-- asked about
+abbrev pub Tells : {A : Type 0} → Ask → List ℕ → Option (List ℕ) → Option (List ℕ) → Result A ForecastFault → Type 0
+Tells ask given old new (Ok _) = (text : List ℕ) × IsToldOf ask given text × Appends old new text
+Tells ask given old new (Err (BadInput number why)) = IsFirstBad given number why × Keeps old new
+Tells ask given old new (Err WriteFault) = (text : List ℕ) × IsToldOf ask given text × AppendsFront old new text
+Tells ask given old new (Err ReadFault) = Keeps old new
+Tells ask given old new (Err NoMemory) = ((given ≢ []) ⊎ (ask.moments.items ≢ [])) × Keeps old new
+
+-- bytes were read, all that there were unless the reader failed or memory was wanting, and what they spell was told
+pub record Foretells {A : Type 0} (ask : Ask) (input rest old new : Option (List ℕ)) (result : Result A ForecastFault) : Type 0 where
+  pub given : List ℕ
+  pub taken : Consumes input rest given
+  pub at_end : result ≢ Err ReadFault → result ≢ Err NoMemory → IsAtEnd rest
+  pub told : Tells ask given old new result

@@ -1,0 +1,60 @@
+-- What reading and telling come to, part by part. No public clause cites this module.
+use Rattle.std.specs.Prelude.{◌≡◌, ◌≢◌, ◌≤◌, ℕ, ◌+◌, List, [], ◌∷◌, ◌++◌, length, Option, Result, Ok, Err, ◌⊎◌}
+use Rattle.std.specs.List.{AllZip}
+use Rattle.std.specs.Io.KnownBytes.{Appends, Consumes, Keeps}
+use Rattle.ele_lists.specs.Lists.{AllLater}
+use Rattle.ele_moment.specs.Spelled.{SpellsMoment}
+use Rattle.ele_printer.specs.Front.{AppendsFront}
+use Rattle.ele_outlook.specs.Input.{IsBad, IsFirstBad, SpellClosings, lines_of}
+use Rattle.ele_outlook.specs.Table.{IsTable}
+use Rattle.ele_outlook.specs.declared.ask.Ask.{Ask}
+use Rattle.ele_outlook.specs.declared.fault.ForecastFault.{ForecastFault}
+use Rattle.ele_outlook.specs.declared.fault.ForecastFault.TheVariants.{ReadFault, BadInput, WriteFault, NoMemory}
+
+-- bytes were read, some if memory was wanting for them
+abbrev pub GivesUp : Option (List ℕ) → Option (List ℕ) → ForecastFault → Type 0
+GivesUp input rest ReadFault = (given : List ℕ) × Consumes input rest given
+GivesUp input rest NoMemory = (given : List ℕ) × (given ≢ []) × Consumes input rest given
+GivesUp input rest (BadInput number why) = ⊥
+GivesUp input rest WriteFault = ⊥
+
+-- these lines were read, and spell these closings
+pub record ReadSoFar (input rest closings : List ℕ) : Type 0 where
+  pub done : List (List ℕ)
+  pub lines : lines_of input ≡ done ++ lines_of rest
+  pub spelled : AllZip SpellsMoment done closings
+
+-- a line behind those of these closings is bad, or there was no memory for its closing
+abbrev pub FailsToAdd : List ℕ → List ℕ → ForecastFault → Type 0
+FailsToAdd line closings (BadInput number why) = (number ≡ length closings + 1) × AllLater ◌≤◌ closings × IsBad closings line why
+FailsToAdd line closings NoMemory = Unit {0}
+FailsToAdd line closings ReadFault = ⊥
+FailsToAdd line closings WriteFault = ⊥
+
+-- the closing of a line was added to those of the lines before
+abbrev pub Adds : {A : Type 0} → List ℕ → List ℕ → List ℕ → Result A ForecastFault → Type 0
+Adds line old new (Ok _) = (closing : ℕ) × SpellsMoment line closing × (new ≡ old ++ closing ∷ [])
+Adds line old new (Err fault) = FailsToAdd line old fault
+
+-- the closings of all lines, or the first bad one; memory is asked for only where there is one
+abbrev pub Reads : List ℕ → Result (List ℕ) ForecastFault → Type 0
+Reads input (Ok closings) = SpellClosings (lines_of input) closings
+Reads input (Err (BadInput number why)) = IsFirstBad input number why
+Reads input (Err NoMemory) = input ≢ []
+Reads input (Err ReadFault) = ⊥
+Reads input (Err WriteFault) = ⊥
+
+-- a text was written, or a front of it
+abbrev pub Writes : {A E : Type 0} → List ℕ → Option (List ℕ) → Option (List ℕ) → Result A E → Type 0
+Writes text old new (Ok _) = Appends old new text
+Writes text old new (Err _) = AppendsFront old new text
+
+-- what becomes of the versions of these closings was told
+abbrev pub TellsClosings : {A : Type 0} → Ask → List ℕ → Option (List ℕ) → Option (List ℕ) → Result A ForecastFault → Type 0
+TellsClosings ask closings old new (Ok _) =
+    (text : List ℕ) × IsTable ask.policy closings ask.moments.items text × Appends old new text
+TellsClosings ask closings old new (Err WriteFault) =
+    (text : List ℕ) × IsTable ask.policy closings ask.moments.items text × AppendsFront old new text
+TellsClosings ask closings old new (Err NoMemory) = ((closings ≢ []) ⊎ (ask.moments.items ≢ [])) × Keeps old new
+TellsClosings ask closings old new (Err (BadInput number why)) = ⊥
+TellsClosings ask closings old new (Err ReadFault) = ⊥

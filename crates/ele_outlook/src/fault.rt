@@ -1,0 +1,87 @@
+//! Why a forecast ends early. A contract sees each fault as itself.
+ghost use Rattle.std.specs.Prelude.{◌≡◌, OnOk, OnErr};
+ghost use Rattle.std.specs.Io.KnownBytes.{Appends};
+ghost use Rattle.ele_printer.specs.Front.{AppendsFront};
+ghost use Rattle.ele_printer.specs.Prints.{Prints};
+ghost use Rattle.ele_outlook.specs.Input.{bad_text, bad_word};
+
+use ele_printer::{Printer, WriteFault, put_line};
+use itoa::Buffer;
+use std::io::Write;
+use thiserror::Error;
+
+/// What is wrong with a line.
+#[derive(Clone, Copy, Debug, PartialEq, Eq, Error)]
+pub enum BadLine {
+    /// It spells no moment.
+    #[error("not a moment")]
+    NotMoment,
+    /// Its moment comes before that of the line ahead.
+    #[error("before the closing ahead of it")]
+    Falls,
+}
+
+/// Why a forecast ended early.
+#[derive(Clone, Copy, Debug, PartialEq, Eq, Error)]
+pub enum ForecastFault {
+    /// The reader failed.
+    #[error("the input can't be read")]
+    ReadFault,
+    /// The line of that number is the first that is no closing; the first line is 1.
+    #[error("line {0}: {1}")]
+    BadInput(u64, BadLine),
+    /// The writer failed, or took no byte of some.
+    #[error("the output can't be written")]
+    WriteFault,
+    /// There was no memory for the closings, or for what is told of them.
+    #[error("out of memory")]
+    NoMemory,
+}
+
+impl From<WriteFault> for ForecastFault {
+    ghost use Rattle.std.specs.Prelude.{◌≡◌};
+    ghost use Rattle.ele_outlook.specs.declared.fault.ForecastFault.TheVariants as fault;
+
+    ghost from_gives = { λ _ made. made ≡ fault.WriteFault };
+
+    fn from(_failed: WriteFault) -> ForecastFault {
+        ForecastFault::WriteFault
+    }
+}
+
+impl BadLine {
+    // What is told of it.
+    fn word(self) -> &'static str
+        ensures { result.now ≡ bad_word self }
+    {
+        match self {
+            BadLine::NotMoment => "is not a moment",
+            BadLine::Falls => "comes before the line ahead of it",
+        }
+    }
+}
+
+/// Writes the line that tells of a bad line. At a fault of the writer it took a front of that line.
+pub fn write_bad_line<W: Write>(number: u64, why: BadLine, writer: &mut W) -> Result<(), WriteFault>
+    ensures ok { OnOk result (Appends (W.contents writer.old) (W.contents writer.new)
+        (bad_text number why)) }
+    ensures err { OnErr result (AppendsFront (W.contents writer.old) (W.contents writer.new)
+        (bad_text number why)) }
+{
+    let mut printer = Printer::new(writer);
+    put_bad_line(number, why, &mut printer)?;
+    printer.hand_over()
+}
+
+// Puts the line that tells of a bad line.
+fn put_bad_line<W: Write>(
+    number: u64,
+    why: BadLine,
+    printer: &mut Printer<'_, W>,
+) -> Result<(), WriteFault>
+    ensures { Prints W.contents printer.old printer.new (bad_text number why) result }
+{
+    let mut digits = Buffer::new();
+    let number = digits.format(number).as_bytes();
+    put_line(b"elephant: line", &[number, why.word().as_bytes()], printer)
+}

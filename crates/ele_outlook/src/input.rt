@@ -1,0 +1,114 @@
+//! The closings that an input spells, a moment a line. A contract sees the input as its bytes, and
+//! these as their lines.
+ghost use Rattle.std.specs.Prelude.{◌≡◌, ◌≤◌, ◌<◌, ◌+◌, ℕ, List, None, OnOk, IfErr, IfOk, drop, length, take};
+ghost use Rattle.std.specs.Io.KnownBytes.{Consumes, IsAtEnd};
+ghost use Rattle.memchr.specs.Find.{IsFirstByte, is_byte};
+ghost use Rattle.ele_lists.specs.Lists.{AllLater};
+ghost use Rattle.ele_outlook.specs.Reading.{Adds, GivesUp, ReadSoFar, Reads};
+
+use crate::fault::{BadLine, ForecastFault};
+use ele_forecast::{Closings, NotClosed};
+use ele_moment::Moment;
+use memchr::memchr;
+use std::alloc::Global;
+use std::io::{ErrorKind, Read};
+
+/// So many bytes are read at a time, at most.
+const PIECE: usize = 8192;
+
+/// All bytes of the reader. What is only interrupted is read again.
+pub(crate) fn read_input<R: Read>(alloc: Global, reader: &mut R) -> Result<Vec<u8>, ForecastFault>
+    ensures ok { IfOk result (λ input. Consumes (R.remaining reader.old) (R.remaining reader.new)
+        input.items) }
+    ensures end { OnOk result (IsAtEnd (R.remaining reader.new)) }
+    ensures err { IfErr result (GivesUp (R.remaining reader.old) (R.remaining reader.new)) }
+{
+    let mut input = Vec::new(alloc);
+    let mut piece = [0; PIECE];
+    'pieces: for _ in 0..u64::MAX {
+        match reader.read(&mut piece) {
+            Ok(0) => return Ok(input),
+            Ok(count) => {
+                if input.extend_from_slice(&piece[..count]).is_err() {
+                    return Err(ForecastFault::NoMemory);
+                }
+            }
+            Err(error) => {
+                if error.kind() != ErrorKind::Interrupted {
+                    return Err(ForecastFault::ReadFault);
+                }
+            }
+        }
+    }
+    Err(ForecastFault::ReadFault)
+}
+
+/// The closings that the lines of an input spell, or the first line that is none.
+pub(crate) fn read_closings(alloc: Global, input: &[u8]) -> Result<Closings, ForecastFault>
+    ensures { Reads input.now result }
+{
+    let mut closings = Closings::new(alloc);
+    let mut rest = input;
+    'lines: while let Some(at) = line_end(rest) {
+        let (line, behind) = cut_line(rest, at);
+        add_line(line, &mut closings)?;
+        rest = behind;
+    }
+    add_last(rest, closings)
+}
+
+// Adds the closing that the last line spells, which has no line feed; none stands there if no bytes
+// do.
+fn add_last(rest: &[u8], mut closings: Closings) -> Result<Closings, ForecastFault>
+    requires { IsFirstByte (is_byte 10) rest.now None }
+    ensures { (input : List ℕ) → ReadSoFar input rest.now closings → Reads input result }
+{
+    if rest.is_empty() {
+        closings.rise();
+        return Ok(closings);
+    }
+    add_line(rest, &mut closings)?;
+    closings.rise();
+    Ok(closings)
+}
+
+// Where the first line feed stands.
+fn line_end(bytes: &[u8]) -> Option<usize>
+    ensures { IsFirstByte (is_byte 10) bytes.now result }
+{
+    memchr(b'\n', bytes)
+}
+
+// The line that ends at that place, and what stands behind its line feed.
+fn cut_line(rest: &[u8], at: usize) -> (&[u8], &[u8])
+    requires { at < length rest.now }
+    ensures line { result.0.now ≡ take at rest.now }
+    ensures behind { result.1.now ≡ drop (at + 1) rest.now }
+{
+    let (line, behind) = rest.split_at(at);
+    (line, behind.split_at(1).1)
+}
+
+// Adds the closing that the next line spells.
+fn add_line(line: &[u8], closings: &mut Closings) -> Result<(), ForecastFault>
+    ensures { Adds line.now closings.old closings.new result }
+{
+    let number = number_of_next(closings);
+    let Ok(moment) = Moment::read(line) else {
+        return Err(ForecastFault::BadInput(number, BadLine::NotMoment));
+    };
+    match closings.push(moment) {
+        Ok(()) => Ok(()),
+        Err(NotClosed::Falls) => Err(ForecastFault::BadInput(number, BadLine::Falls)),
+        Err(NotClosed::NoMemory) => Err(ForecastFault::NoMemory),
+    }
+}
+
+// The number of the line behind those of these closings.
+fn number_of_next(closings: &Closings) -> u64
+    ensures number { result ≡ length closings.now + 1 }
+    ensures rises { AllLater ◌≤◌ closings.now }
+{
+    closings.rise();
+    closings.len() as u64 + 1
+}

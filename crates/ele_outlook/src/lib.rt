@@ -1,0 +1,19 @@
+//! The forecast as a program tells it: the closings of a file are read, a line each, and what
+//! becomes of its versions is told as a table. A contract sees an input as its lines, what is told
+//! as the forecasts of the definitions, and a reader and a writer as the bytes that they are known
+//! to hold.
+#![tactic(auto)]
+
+mod ask;
+mod fault;
+mod input;
+mod row;
+mod staying;
+mod table;
+mod telling;
+mod unit;
+mod why;
+
+pub use ask::Ask;
+pub use fault::{BadLine, ForecastFault, write_bad_line};
+pub use telling::foretell;

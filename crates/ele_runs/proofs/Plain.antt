@@ -1,0 +1,118 @@
+-- What is told in the plain manner is what the lines are answered.
+use Rattle.ele_runs.proofs.Basics.{◌≡◌, ℕ, ◌+◌, List, [], ◌∷◌, ◌++◌, Option, Some, None, Result, Ok, Err, ◌⊎◌, inl, inr, refl, sym, ap, subst, ◌∙◌}
+use Rattle.ele_runs.proofs.Courses.{manner_stays}
+use Rattle.ele_runs.proofs.Words.{AppendsFront, AreBlocks, AreTold, Course, IsBlock, IsTold, IsUnbroken, Past, begun, cut_block, cut_told, front_of, heard, line_unless_long, plain}
+use Rattle.ele_runs.specs.Running.{RanPastABound, RanToAReadFault, RanToAWriteFault, RanToTheEnd}
+use Rattle.ele_runs.specs.Telling.{HasTold, ToldPastABound, ToldToAReadFault, ToldToAWriteFault, ToldToTheEnd}
+use Rattle.std.specs.Prelude.{IsErrOf}
+use Rattle.ele_runs.specs.declared.end.RunEnd.{RunEnd}
+use Rattle.ele_runs.specs.declared.fault.ShellFault.{ShellFault}
+use Rattle.ele_runs.specs.declared.manner.Manner.{Manner}
+
+-- no number stands in front
+none_in_front : (number : ℕ) (line : Option (List ℕ)) → front_of plain number line ≡ []
+none_in_front number None = refl
+none_in_front number (Some []) = refl
+none_in_front number (Some (byte ∷ bytes)) = refl
+
+bare : (manner : Manner) (number : ℕ) (line : Option (List ℕ)) (block : List ℕ) → manner ≡ plain → front_of manner number line ++ block ≡ block
+bare manner number line block is = ap (λ (m : Manner). front_of m number line ++ block) is ∙ ap (λ (w : List ℕ). w ++ block) (none_in_front number line)
+
+is_block : (before after : Course) (line : Option (List ℕ)) (told : List ℕ) → before.manner ≡ plain → IsTold before line told after → IsBlock before.past line told after.past
+is_block before after line told manner is =
+    let all : heard before.manner line ≡ line = ap (λ (m : Manner). heard m line) manner in
+    let text : told ≡ is.block = is.told_is ∙ bare before.manner (before.number + 1) (heard before.manner line) is.block manner in
+    let past : after.past ≡ is.past = ap (λ (c : Course). c.past) is.after_is in
+    rw (text, past) (subst (λ (l : Option (List ℕ)). IsBlock before.past l is.block is.past) all is.is)
+
+are_blocks : (before after : Course) (lines : List (List ℕ)) (text : List ℕ) → before.manner ≡ plain → AreTold before lines text after → AreBlocks before.past lines text after.past
+are_blocks before after [] text manner are = (are.0, ap (λ (c : Course). c.past) are.1)
+are_blocks before after (line ∷ lines) text manner (told, rest, between, is, more, parts) =
+    (told, rest, between.past, is_block before between (line_unless_long line) told manner is, are_blocks between after lines rest (ap (λ (c : Course). c.manner) is.after_is ∙ manner) more, parts)
+
+-- a fault that ended a run in some manner
+pub as_run : (fault told : ShellFault) → IsErrOf {T = ℕ} (Err fault) told → IsErrOf {T = RunEnd} (Err fault) told
+as_run fault told is = let same : fault ≡ told = cc in ap (λ (f : ShellFault). Err f) same
+
+-- from the beginning
+module _ (start : Past) where
+  blocks_of : (lines : List (List ℕ)) (text : List ℕ) (course : Course) → AreTold (begun plain start) lines text course → AreBlocks start lines text course.past
+  blocks_of lines text course are = are_blocks (begun plain start) course lines text refl are
+
+  cut_of : (lines : List (List ℕ)) (text : List ℕ) (course : Course) (last : List ℕ) → AreTold (begun plain start) lines text course
+      → cut_told course (line_unless_long last) ≡ cut_block (line_unless_long last)
+  cut_of lines text course last are =
+      bare course.manner (course.number + 1) (line_unless_long last) (cut_block (line_unless_long last)) (manner_stays (begun plain start) course lines text are)
+
+  to_the_end : (n : ℕ) (input rest old new : Option (List ℕ)) → ToldToTheEnd (begun plain start) n input rest old new → RanToTheEnd start n input rest old new
+  to_the_end n input rest old new ran = record {
+    given = ran.given;
+    lines = ran.lines;
+    last = ran.last;
+    text = ran.text ++ cut_told ran.course (line_unless_long ran.last);
+    taken = ran.taken;
+    at_end = ran.at_end;
+    are = ran.are;
+    count = ran.count;
+    few_lines = ran.few_lines;
+    few_bytes = ran.few_bytes;
+    output = record {
+      blocks = ran.text;
+      state = ran.course.past;
+      are = blocks_of ran.lines ran.text ran.course ran.told;
+      text_is = ap (λ (w : List ℕ). ran.text ++ w) (cut_of ran.lines ran.text ran.course ran.last ran.told);
+    };
+    written = ran.written;
+  }
+
+  -- a plain run has no last line that ends it
+  pub ran_to_the_end : (n : ℕ) (ended_by : Option (Option (List ℕ))) (input rest old new : Option (List ℕ)) → HasTold (begun plain start) input rest old new n ended_by → RanToTheEnd start n input rest old new
+  ran_to_the_end n None input rest old new ran = to_the_end n input rest old new ran
+  ran_to_the_end n (Some kept) input rest old new ran = absurd (let never = ran.strict in cc)
+
+  pub ran_to_a_read_fault : (input rest old new : Option (List ℕ)) → ToldToAReadFault (begun plain start) input rest old new → RanToAReadFault start input rest old new
+  ran_to_a_read_fault input rest old new ran = record {
+    given = ran.given;
+    lines = ran.lines;
+    part = ran.part;
+    text = ran.text;
+    state = ran.course.past;
+    taken = ran.taken;
+    are = ran.are;
+    few_lines = ran.few_lines;
+    few_bytes = ran.few_bytes;
+    blocks = blocks_of ran.lines ran.text ran.course ran.told;
+    written = ran.written;
+  }
+
+  pub ran_past_a_bound : (input rest old new : Option (List ℕ)) → ToldPastABound (begun plain start) input rest old new → RanPastABound start input rest old new
+  ran_past_a_bound input rest old new ran = record {
+    given = ran.given;
+    byte = ran.byte;
+    lines = ran.lines;
+    part = ran.part;
+    text = ran.text;
+    state = ran.course.past;
+    taken = ran.taken;
+    are = ran.are;
+    few_lines = ran.few_lines;
+    few_bytes = ran.few_bytes;
+    most = ran.most;
+    blocks = blocks_of ran.lines ran.text ran.course ran.told;
+    written = ran.written;
+  }
+
+  pub ran_to_a_write_fault : (input old new : Option (List ℕ)) → ToldToAWriteFault (begun plain start) input old new → RanToAWriteFault start input old new
+  ran_to_a_write_fault input old new ran = record {
+    lines = ran.lines;
+    rest = ran.rest;
+    text = ran.text;
+    state = ran.course.past;
+    input_is = ran.input_is;
+    whole = ran.whole;
+    blocks = blocks_of ran.lines ran.text ran.course ran.told;
+    written = elim ran.written [
+      | inl is ↦ inl is
+      | inr is ↦ inr (is.0, subst (λ (w : List ℕ). AppendsFront old new (ran.text ++ w)) (cut_of ran.lines ran.text ran.course ran.rest ran.told) is.1)
+    ];
+  }

@@ -1,0 +1,12 @@
+use Rattle.ele_runs.proofs.Basics.{Err, ap}
+use Rattle.ele_runs.proofs.Blocks.{hears_event, hears_fault, hears_trim}
+use Rattle.ele_runs.proofs.said.hear.Goals as goal
+
+pub returns-in-Ok-Event : goal.returns-in-Ok-Event
+returns-in-Ok-Event g c = hears_event _ _ _ c.in-Ok-Event.event _ (rw (← c.in-Ok-Event.field-0-is) c.in-Ok-Event.ensures.found) c.hear_event.ensures
+
+pub returns-in-Ok-Trim : goal.returns-in-Ok-Trim
+returns-in-Ok-Trim g c = hears_trim _ _ _ _ (rw (← c.in-Ok-Trim.field-0-is) c.in-Ok-Trim.ensures.found) c.hear_trim.ensures
+
+pub returns-in_default : goal.returns-in_default
+returns-in_default g c = hears_fault _ _ _ c.in-Err.ensures.fault c.in_default.not-NoMemory

@@ -1,0 +1,12 @@
+use Rattle.ele_runs.proofs.Basics.{sym, ◌∙◌}
+use Rattle.ele_runs.proofs.Blocks.{kept_heard, kept_long, kept_silent}
+use Rattle.ele_runs.proofs.said.hear_kept.Goals as goal
+
+pub returns-in_default : goal.returns-in_default
+returns-in_default g c = rw c.in_default.is (kept_long _ _)
+
+pub returns-then-is_silent : goal.returns-then-is_silent
+returns-then-is_silent g c = rw c.in-Some.is (kept_silent _ _ _ (sym c.is_silent.ensures ∙ c.if-is_silent.true))
+
+pub returns : goal.returns
+returns g c = rw c.in-Some.is (kept_heard _ _ _ _ _ (sym c.is_silent.ensures ∙ c.if-is_silent.false) c.hear.ensures)

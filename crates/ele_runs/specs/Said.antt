@@ -1,0 +1,78 @@
+-- What a line was answered, before it is told. No public clause cites this module.
+use Rattle.std.specs.Prelude.{◌≡◌, ℕ, ◌+◌, ◌-◌, ◌==◌, Bool, true, ◌&&◌, List, [], ◌∷◌, ◌++◌, decimal, length, Option, Some, Result, Ok, Err, slice_get, if◌then◌else◌}
+use Rattle.ele_history.specs.Past.{Past, trimmed}
+use Rattle.ele_history.specs.Reply.{MayReply}
+use Rattle.ele_runs.specs.Answer.{Answer}
+use Rattle.ele_runs.specs.Answer as answer
+use Rattle.ele_runs.specs.Block.{IsBlock, IsText, MayAnswer}
+use Rattle.ele_runs.specs.Course.{Course, gone_on}
+use Rattle.ele_runs.specs.Manner.{front_of, heard}
+use Rattle.ele_runs.specs.declared.manner.Manner.{Manner}
+use Rattle.ele_runs.specs.declared.said.Said.{Said}
+use Rattle.ele_runs.specs.declared.said.Said.TheVariants.{Nothing, Bad, Stopped, Replied, Passed, History, Trimmed}
+use Rattle.ele_world.specs.declared.entry.Entry.{Entry}
+use Rattle.ele_world.specs.declared.event.Event.{Event}
+use Rattle.ele_world.specs.declared.refusal.Stop.{Stop}
+use Rattle.ele_world.specs.declared.refusal.Stop.TheVariants.{NoMemory}
+use Rattle.ele_world.specs.declared.reply.Reply.{Reply}
+
+-- the answer that is meant, where it left this history
+abbrev pub Means : Past → Said → Answer → Type 0
+Means after Nothing said = ⊥
+Means after (Bad fault) said = said ≡ answer.Bad fault
+Means after (Stopped stop) said = said ≡ answer.Reply (Err stop)
+Means after Replied said =
+    (entry : Entry) × (Some entry ≡ slice_get after.entries (length after.entries - 1)) × (said ≡ answer.Reply (Ok entry.reply))
+Means after (Passed end) said = said ≡ answer.Pass end
+Means after History said = said ≡ answer.History after.folded after.entries
+Means after (Trimmed count) said = said ≡ answer.Trimmed count
+
+-- a line that is run was answered so
+pub record Hears (before : Past) (line : List ℕ) (said : Said) (after : Past) : Type 0 where
+  pub answer : Answer
+  pub may : MayAnswer before line answer after
+  pub means : Means after said answer
+
+-- the text of what is meant
+abbrev pub IsSaidText : Past → Said → List ℕ → Type 0
+IsSaidText after Nothing text = text ≡ []
+IsSaidText after said text = (answer : Answer) × Means after said answer × IsText answer text
+
+-- it has one
+abbrev pub HasText : Past → Said → Type 0
+HasText after said = (text : List ℕ) × IsSaidText after said text
+
+-- what stands in front of that
+abbrev pub said_front : Manner → ℕ → Said → List ℕ
+said_front manner number Nothing = []
+said_front manner number said = if manner.numbers then decimal number ++ 32 ∷ [] else []
+
+-- a line as it is kept was heard, and answered so
+pub record HearsKept (manner : Manner) (before : Past) (line : Option (List ℕ)) (said : Said) (after : Past) : Type 0 where
+  pub has_text : HasText after said
+  pub block : (text : List ℕ) → IsSaidText after said text → IsBlock before (heard manner line) text after
+  pub front : (number : ℕ) → said_front manner number said ≡ front_of manner number (heard manner line)
+
+-- the next line was heard, and answered so
+pub record HearsNext (before : Course) (line : Option (List ℕ)) (said : Said) (after : Course) : Type 0 where
+  pub kept : HearsKept before.manner before.past line said after.past
+  pub manner : after.manner ≡ before.manner
+  pub number : after.number ≡ before.number + 1
+  pub after_is : (text : List ℕ) → IsSaidText after.past said text → after ≡ gone_on before after.past text
+
+-- what is meant is what the event is answered
+pub record Replies (before : Past) (event : Event) (said : Said) (after : Past) : Type 0 where
+  pub reply : Result Reply Stop
+  pub may : MayReply before event reply after
+  pub means : Means after said (answer.Reply reply)
+
+-- or what a trim is: how many entries it folded, or a stop for memory, which leaves the history
+abbrev pub Trims : Past → Said → Past → Type 0
+Trims before (Trimmed count) after = (count ≡ length before.entries) × (after ≡ trimmed before)
+Trims before (Stopped stop) after = (stop ≡ NoMemory) × (after ≡ before)
+Trims before said after = ⊥
+
+-- a line gets no answer: an empty one, or a remark that is passed over
+abbrev pub is_silent : Manner → List ℕ → Bool
+is_silent manner [] = true
+is_silent manner (byte ∷ bytes) = manner.remarks && (byte == 35)

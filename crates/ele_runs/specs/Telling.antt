@@ -1,0 +1,123 @@
+-- What a run in some manner has read and written when it ends.
+use Rattle.std.specs.Prelude.{◌≡◌, ◌≢◌, ℕ, ◌+◌, ◌≤◌, Bool, true, false, List, [], ◌∷◌, ◌++◌, length, Option, Some, None, Result, Ok, Err, ◌⊎◌}
+use Rattle.std.specs.List.{AllByRecursion}
+use Rattle.std.specs.Io.KnownBytes.{Appends, Consumes, Keeps, IsAtEnd}
+use Rattle.ele_printer.specs.Front.{AppendsFront}
+use Rattle.ele_runs.specs.declared.end.RunEnd.{RunEnd}
+use Rattle.ele_runs.specs.declared.fault.ShellFault.{ShellFault}
+use Rattle.ele_runs.specs.declared.fault.ShellFault.TheVariants.{ReadFault, WriteFault, TooManyLines, NoMemory}
+use Rattle.ele_runs.specs.Bounds.{most_lines, most_bytes}
+use Rattle.ele_runs.specs.Course.{Course}
+use Rattle.ele_runs.specs.LineLength.{line_unless_long}
+use Rattle.ele_runs.specs.Lines.{IsUnbroken, AreLines, whole_lines, line_count}
+use Rattle.ele_runs.specs.Running.{AreMost}
+use Rattle.ele_runs.specs.Told.{AreTold, cut_told}
+
+-- all input was read, n lines within the bounds; what is told for them was written, and none of them ended the run
+pub record ToldToTheEnd (start : Course) (n : ℕ) (input rest old new : Option (List ℕ)) : Type 0 where
+  pub given : List ℕ
+  pub lines : List (List ℕ)
+  pub last : List ℕ
+  pub text : List ℕ
+  pub course : Course
+  pub taken : Consumes input rest given
+  pub at_end : IsAtEnd rest
+  pub are : AreLines given lines last
+  pub count : n ≡ line_count lines last
+  pub few_lines : n ≤ most_lines
+  pub few_bytes : length given ≤ most_bytes
+  pub told : AreTold start lines text course
+  pub goes_on : course.ended ≡ false
+  pub uncut : start.manner.strict ≡ true → last ≡ []
+  pub written : Appends old new (text ++ cut_told course (line_unless_long last))
+
+-- the whole line behind these ended the run, whatever of the input was read behind it
+pub record EndsWhole (start : Course) (given : List ℕ) (lines : List (List ℕ)) (line told : List ℕ) : Type 0 where
+  pub behind : List ℕ
+  pub course : Course
+  pub parts : given ≡ whole_lines (lines ++ line ∷ []) ++ behind
+  pub are : AreTold start (lines ++ line ∷ []) told course
+  pub ended : course.ended ≡ true
+
+-- a last line without its line feed ended it, which is never run
+pub record EndsCut (start : Course) (given : List ℕ) (rest : Option (List ℕ)) (lines : List (List ℕ)) (line told : List ℕ) : Type 0 where
+  pub text : List ℕ
+  pub course : Course
+  pub parts : given ≡ whole_lines lines ++ line
+  pub at_end : IsAtEnd rest
+  pub some : line ≢ []
+  pub are : AreTold start lines text course
+  pub goes_on : course.ended ≡ false
+  pub told_is : told ≡ text ++ cut_told course (line_unless_long line)
+
+-- a strict run was ended by its n-th line, and what is told for the lines up to that one was written
+pub record ToldToAnEnd (start : Course) (n : ℕ) (kept : Option (List ℕ)) (input rest old new : Option (List ℕ)) : Type 0 where
+  pub given : List ℕ
+  pub lines : List (List ℕ)
+  pub line : List ℕ
+  pub text : List ℕ
+  pub strict : start.manner.strict ≡ true
+  pub taken : Consumes input rest given
+  pub whole : AllByRecursion IsUnbroken lines
+  pub unbroken : IsUnbroken line
+  pub count : n ≡ length lines + 1
+  pub keeps : kept ≡ line_unless_long line
+  pub by : EndsWhole start given lines line text ⊎ EndsCut start given rest lines line text
+  pub written : Appends old new text
+
+-- whole lines were read, and bytes of one more, all within the bounds; what is told for the whole lines was written
+pub record ToldToAReadFault (start : Course) (input rest old new : Option (List ℕ)) : Type 0 where
+  pub given : List ℕ
+  pub lines : List (List ℕ)
+  pub part : List ℕ
+  pub text : List ℕ
+  pub course : Course
+  pub taken : Consumes input rest given
+  pub are : AreLines given lines part
+  pub few_lines : length lines ≤ most_lines
+  pub few_bytes : length given ≤ most_bytes
+  pub told : AreTold start lines text course
+  pub goes_on : course.ended ≡ false
+  pub written : Appends old new text
+
+-- as much as a script may be was read, and a byte more; what is told for the whole lines within it was written
+pub record ToldPastABound (start : Course) (input rest old new : Option (List ℕ)) : Type 0 where
+  pub given : List ℕ
+  pub byte : ℕ
+  pub lines : List (List ℕ)
+  pub part : List ℕ
+  pub text : List ℕ
+  pub course : Course
+  pub taken : Consumes input rest (given ++ byte ∷ [])
+  pub are : AreLines given lines part
+  pub few_lines : length lines ≤ most_lines
+  pub few_bytes : length given ≤ most_bytes
+  pub most : AreMost given lines part
+  pub told : AreTold start lines text course
+  pub goes_on : course.ended ≡ false
+  pub written : Appends old new text
+
+-- the input begins with these whole lines, and a front of what is told for them was written; where the rest is a last
+-- line without its line feed, the front may reach into what is told for it
+pub record ToldToAWriteFault (start : Course) (input old new : Option (List ℕ)) : Type 0 where
+  pub lines : List (List ℕ)
+  pub rest : List ℕ
+  pub text : List ℕ
+  pub course : Course
+  pub input_is : Keeps input (Some (whole_lines lines ++ rest))
+  pub whole : AllByRecursion IsUnbroken lines
+  pub told : AreTold start lines text course
+  pub written : AppendsFront old new text ⊎ (IsUnbroken rest × AppendsFront old new (text ++ cut_told course (line_unless_long rest)))
+
+-- what a run has done that no fault ended: all lines, or up to the one that ended it
+abbrev pub HasTold : Course → Option (List ℕ) → Option (List ℕ) → Option (List ℕ) → Option (List ℕ) → ℕ → Option (Option (List ℕ)) → Type 0
+HasTold start input rest old new n None = ToldToTheEnd start n input rest old new
+HasTold start input rest old new n (Some kept) = ToldToAnEnd start n kept input rest old new
+
+-- what a run has done, by how it ends
+abbrev pub Tells : Course → Option (List ℕ) → Option (List ℕ) → Option (List ℕ) → Option (List ℕ) → Result RunEnd ShellFault → Type 0
+Tells start input rest old new (Ok ran) = HasTold start input rest old new ran.lines ran.ended_by
+Tells start input rest old new (Err ReadFault) = ToldToAReadFault start input rest old new
+Tells start input rest old new (Err TooManyLines) = ToldPastABound start input rest old new
+Tells start input rest old new (Err WriteFault) = ToldToAWriteFault start input old new
+Tells start input rest old new (Err NoMemory) = ⊥

@@ -1,0 +1,28 @@
+-- What is written for a script, in the manner of the run.
+use Rattle.std.specs.Prelude.{◌≡◌, ℕ, ◌+◌, false, List, [], ◌∷◌, ◌++◌, Option}
+use Rattle.ele_history.specs.Past.{Past}
+use Rattle.ele_runs.specs.Block.{IsBlock, cut_block}
+use Rattle.ele_runs.specs.Course.{Course, gone_on}
+use Rattle.ele_runs.specs.LineLength.{line_unless_long}
+use Rattle.ele_runs.specs.Manner.{front_of, heard}
+
+-- what is told for the next line: the block of what is heard of it, with the line's number in front where lines are
+-- numbered; no line is heard behind one that ended the run
+pub record IsTold (before : Course) (line : Option (List ℕ)) (told : List ℕ) (after : Course) : Type 0 where
+  pub block : List ℕ
+  pub past : Past
+  pub goes_on : before.ended ≡ false
+  pub is : IsBlock before.past (heard before.manner line) block past
+  pub told_is : told ≡ front_of before.manner (before.number + 1) (heard before.manner line) ++ block
+  pub after_is : after ≡ gone_on before past block
+
+-- what is told for whole lines, one after another
+abbrev pub AreTold : Course → List (List ℕ) → List ℕ → Course → Type 0
+AreTold before [] text after = (text ≡ []) × (after ≡ before)
+AreTold before (line ∷ lines) text after =
+    (told rest : List ℕ) × (between : Course)
+    × IsTold before (line_unless_long line) told between × AreTold between lines rest after × (text ≡ told ++ rest)
+
+-- and for a last line without its line feed behind them, which is never run, also where it is a remark
+abbrev pub cut_told : Course → Option (List ℕ) → List ℕ
+cut_told course last = front_of course.manner (course.number + 1) last ++ cut_block last

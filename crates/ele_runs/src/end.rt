@@ -1,0 +1,13 @@
+//! How a run ended that no fault ended.
+//! A contract sees how many lines were heard, and the line that ended a strict run, if one did.
+use crate::line_buffer::LineBuffer;
+
+/// How a run ended that no fault ended.
+#[derive(Drop)]
+pub struct RunEnd {
+    /// How many lines there were, up to the one that ended the run; a last one without its line
+    /// feed counts too.
+    pub lines: u64,
+    /// The line that ended a strict run: it was answered `no`, `bad` or `stop`.
+    pub ended_by: Option<LineBuffer>,
+}

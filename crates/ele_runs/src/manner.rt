@@ -1,0 +1,30 @@
+//! The manner in which a run tells its answers.
+//! A contract sees it as its options.
+ghost use Rattle.std.specs.Prelude.{◌≡◌};
+ghost use Rattle.ele_runs.specs.Manner.{plain};
+
+/// In which manner a run tells its answers. Each option changes this alone: what a line is answered
+/// is never changed by one.
+#[derive(Clone, Copy, Debug, PartialEq, Eq)]
+pub struct Manner {
+    /// The run ends at the first line that is answered `no`, `bad` or `stop`.
+    pub strict: bool,
+    /// The line's number and a space stand in front of each block. All lines of the input count,
+    /// empty ones and remarks too.
+    pub numbers: bool,
+    /// A line that begins with `#` is a remark, and gets no answer.
+    pub remarks: bool,
+}
+
+impl Manner {
+    /// Without any option.
+    pub fn plain() -> Manner
+        ensures { result ≡ plain }
+    {
+        Manner {
+            strict: false,
+            numbers: false,
+            remarks: false,
+        }
+    }
+}

@@ -1,0 +1,171 @@
+//! What a line is answered, and the text of it.
+//! A contract sees the answer that is meant, beside the history that it left.
+ghost use Rattle.std.specs.Prelude.{◌≡◌, List, ℕ};
+ghost use Rattle.std.specs.Option.{option_map};
+ghost use Rattle.ele_printer.specs.Prints.{Prints};
+ghost use Rattle.ele_runs.specs.Manner.{is_well};
+ghost use Rattle.ele_runs.specs.Said.{HasText, Hears, HearsKept, IsSaidText, Replies, Trims, is_silent, said_front};
+
+use crate::manner::Manner;
+use ele_history::History;
+use ele_printer::{put_history, put_in_front, put_trimmed};
+use ele_script::{
+    Line, LineFault, Printer, WriteFault, put_answer, put_fault, put_pass, put_stop, read_line,
+};
+use ele_world::{Event, PassEnd, Reply, Stepping, Stop};
+use std::alloc::Global;
+use std::io::Write;
+
+/// What a line was answered. What the history has isn't held twice.
+#[derive(Clone, Copy)]
+pub(crate) enum Said {
+    /// Nothing, as an empty line is, or a remark that is passed over.
+    Nothing,
+    /// That it is no command.
+    Bad(LineFault),
+    /// That its event was stopped, or its trim, or the reading of it.
+    Stopped(Stop),
+    /// The reply of the history's last entry.
+    Replied,
+    /// How its pass ended.
+    Passed(PassEnd),
+    /// The history.
+    History,
+    /// How many entries its trim folded.
+    Trimmed(u64),
+}
+
+/// Hears a line as it is kept, and answers it.
+pub(crate) fn hear_kept<C: Stepping>(
+    alloc: Global,
+    manner: Manner,
+    line: Option<&[u8]>,
+    history: &mut History<C>,
+) -> Said
+    ensures { HearsKept manner history.old (option_map (λ line. line.now) line.entry) result
+        history.new }
+{
+    let Some(line) = line else {
+        return Said::Bad(LineFault::LineTooLong);
+    };
+    if is_silent(manner, line) {
+        return Said::Nothing;
+    }
+    hear(alloc, line, history)
+}
+
+// Whether a line gets no answer: an empty one, or a remark that is passed over.
+fn is_silent(manner: Manner, line: &[u8]) -> bool
+    ensures { result ≡ is_silent manner line.now }
+{
+    match line.first() {
+        Some(first) => manner.remarks && *first == b'#',
+        None => true,
+    }
+}
+
+// Answers a line that is neither empty nor too long. Whatever a line may ask for is done here.
+fn hear<C: Stepping>(alloc: Global, line: &[u8], history: &mut History<C>) -> Said
+    ensures { Hears history.old line.now result history.new }
+{
+    match read_line(alloc, line) {
+        Ok(Line::Event(event)) => hear_event(event, history),
+        Ok(Line::Pass(budget)) => Said::Passed(history.pass(budget)),
+        Ok(Line::History) => Said::History,
+        Ok(Line::Trim) => hear_trim(history),
+        Err(fault) => match fault {
+            LineFault::NoMemory => Said::Stopped(Stop::NoMemory),
+            _ => Said::Bad(fault),
+        },
+    }
+}
+
+// Answers an event, whose reply stands in the history then, or the stop in its place, which leaves
+// the history.
+fn hear_event<C: Stepping>(event: Event, history: &mut History<C>) -> Said
+    ensures { Replies history.old event result history.new }
+{
+    match history.record(event) {
+        Ok(()) => Said::Replied,
+        Err(stop) => Said::Stopped(stop),
+    }
+}
+
+// Folds the history.
+fn hear_trim<C: Stepping>(history: &mut History<C>) -> Said
+    ensures { Trims history.old result history.new }
+{
+    match history.trim() {
+        Ok(count) => Said::Trimmed(count),
+        Err(_) => Said::Stopped(Stop::NoMemory),
+    }
+}
+
+impl Said {
+    /// Whether it is told by `ok`, or not at all.
+    pub(crate) fn is_well<C: Stepping>(&self, history: &History<C>) -> bool
+        ensures { (text : List ℕ) → IsSaidText history.now self.now text → result ≡ is_well text }
+    {
+        match self {
+            Said::Bad(_) | Said::Stopped(_) | Said::Passed(PassEnd::Stopped(_, _)) => false,
+            Said::Replied => match history.last() {
+                Some(entry) => !matches!(entry.reply, Reply::Refused(_)),
+                None => true,
+            },
+            _ => true,
+        }
+    }
+
+    /// Puts the line's number in front, where lines are numbered and there is something to tell.
+    pub(crate) fn put_front<W: Write>(
+        &self,
+        manner: Manner,
+        number: u64,
+        printer: &mut Printer<'_, W>,
+    ) -> Result<(), WriteFault>
+        ensures { Prints W.contents printer.old printer.new (said_front manner number self.now)
+            result }
+    {
+        match self {
+            Said::Nothing => Ok(()),
+            _ if manner.numbers => put_in_front(number, printer),
+            _ => Ok(()),
+        }
+    }
+
+    /// Puts its text.
+    pub(crate) fn put<C: Stepping, W: Write>(
+        &self,
+        history: &History<C>,
+        printer: &mut Printer<'_, W>,
+    ) -> Result<(), WriteFault>
+        requires { HasText history.now self.now }
+        ensures { (text : List ℕ) × IsSaidText history.now self.now text
+            × Prints W.contents printer.old printer.new text result }
+    {
+        match self {
+            Said::Nothing => Ok(()),
+            Said::Bad(fault) => put_fault(*fault, printer),
+            Said::Stopped(stop) => put_stop(*stop, printer),
+            Said::Replied => put_last(history, printer),
+            Said::Passed(end) => put_pass(end, printer),
+            Said::History => put_history(history.folded(), history.entries(), printer),
+            Said::Trimmed(count) => put_trimmed(*count, printer),
+        }
+    }
+}
+
+// Puts the reply of the last entry.
+fn put_last<C: Stepping, W: Write>(
+    history: &History<C>,
+    printer: &mut Printer<'_, W>,
+) -> Result<(), WriteFault>
+    requires { HasText history.now Said.Replied }
+    ensures { (text : List ℕ) × IsSaidText history.now Said.Replied text
+        × Prints W.contents printer.old printer.new text result }
+{
+    match history.last() {
+        Some(entry) => put_answer(&entry.reply, printer),
+        None => unreachable!(),
+    }
+}

@@ -1,0 +1,266 @@
+-- What becomes of a held version: by the groups that have its file, and by what its policy alone makes of it.
+use Rattle.ele_state.proofs.Words.{◌≡◌, ℕ, ◌<◌, ◌≤◌, ◌&&◌, Bool, true, false, List, [], ◌∷◌, Option, Some, None, IfSome, refl, ap, sym, subst, ◌∙◌, arith, nat_tests, nat_le, find, slice_get, take, length, list_any, option_map, option_map_or, AllByRecursion, AllLater, all-found, found_passes, bytes_eq-Decides, IsSound, IsTold, Rows, world_of, Held, Policy, GroupRow, Stamps, VersionRow, Versions, HasParts, World, alone, Cover, MarkRow, cover_of, ripe_past, option_and_then, file_view, is_open, is_version, policy_of, ripe_at, stamps_of, in_order_of, ripe_at_is, ripe_at_near}
+use Rattle.ele_world.proofs.Basics.{zero, suc}
+use Rattle.ele_world.proofs.Words.{IsVersion, Now}
+use Rattle.std.specs.Str.{bytes_eq}
+use Rattle.ele_policy.specs.Ladder.{shares}
+use Rattle.ele_policy.specs.Ripe.{ripe_by}
+use Rattle.ele_groups.specs.Rows.{row_of}
+use Rattle.ele_state.specs.Fated.{IsFreeCause, IsFreeFate, MarksBy, closing_of}
+use Rattle.ele_world.proofs.Fates.{displaced_by, newer_found, protected_told}
+use Rattle.ele_world.proofs.RipeMoments.{ripens}
+use Rattle.ele_world.specs.Due.{is_due_at, ripe_of}
+use Rattle.ele_world.specs.Fate.{HasFate, IsCause, IsFate, IsMarkedBy}
+use Rattle.ele_world.specs.FileView.{is_newer, is_protected}
+use Rattle.ele_world.specs.GroupRows.{group_named, has_covering, has_member, is_marked, is_member, keeps_at}
+use Rattle.ele_world.specs.Neighbours.{is_newer_of}
+use Rattle.ele_world.specs.World.{is_held}
+use Rattle.ele_world.specs.declared.fate.Cause.{Cause}
+use Rattle.ele_world.specs.declared.fate.Cause.TheVariants.{AtOnce, Age, Displaced}
+use Rattle.ele_world.specs.declared.fate.Fate.{Fate}
+use Rattle.ele_world.specs.declared.fate.Fate.TheVariants.{Current, Open, Marked, Kept, Due}
+
+-- ---- the groups that have the file
+
+abbrev AreNamedApart : List GroupRow → Type 0
+AreNamedApart rows = AllLater (λ (earlier : GroupRow) later. bytes_eq earlier.name later.name ≡ false) rows
+
+own_name : (name : List ℕ) → bytes_eq name name ≡ true
+own_name name = (bytes_eq-Decides name name).1 refl
+
+found_any : {X : Type 0} (p : X → Bool) (xs : List X) → find p xs ≡ None → list_any p xs ≡ false
+found_any p [] none = refl
+found_any {X} p (x ∷ xs) none = grind (arith, nat_tests, found_any p xs)
+
+passed_any : {X : Type 0} (p : X → Bool) (xs : List X) (x : X) → find p xs ≡ Some x → list_any p xs ≡ true
+passed_any p [] x found = absurd (cc)
+passed_any {X} p (y ∷ ys) x found = grind (arith, nat_tests, passed_any p ys x)
+
+all_at : {X : Type 0} (P : X → Type 0) (xs : List X) (place : ℕ) (x : X) → slice_get xs place ≡ Some x → AllByRecursion P xs → P x
+all_at P [] place x is all = absurd (cc)
+all_at P (y ∷ ys) zero x is all = let same : y ≡ x = cc in subst P same all.0
+all_at P (y ∷ ys) (suc place) x is all = all_at P ys place x is all.1
+
+-- no name stands twice, so the group at a place is the one of its name
+named_at : (rows : List GroupRow) (place : ℕ) (row : GroupRow) → AreNamedApart rows → slice_get rows place ≡ Some row → group_named rows row.name ≡ Some row
+named_at [] place row apart is = absurd (cc)
+named_at (x ∷ xs) zero row apart is = let same : x ≡ row = cc in rw (← same, own_name x.name) refl
+named_at (x ∷ xs) (suc place) row apart is = rw (all_at (λ (later : GroupRow). bytes_eq x.name later.name ≡ false) xs place row is apart.0) (named_at xs place row apart.1 is)
+
+module _ (rows : List GroupRow) (place : ℕ) (name files : List ℕ) (marks : List MarkRow) (file closed : ℕ) (ended : Option ℕ) (now : ℕ) (apart : AreNamedApart rows) (at : slice_get rows place ≡ Some (row_of name files marks)) where
+  member_is : has_member rows name file ≡ is_member file (row_of name files marks)
+  member_is = ap (λ (o : Option GroupRow). option_map_or (is_member file) o false) (named_at rows place (row_of name files marks) apart at)
+
+  abbrev Unmarked : Type 0
+  Unmarked = IfSome (slice_get rows place) (λ group. (is_member file group && has_covering closed ended now group) ≡ false)
+
+  pub no_member : has_member rows name file ≡ false → Unmarked
+  no_member is = let none : is_member file (row_of name files marks) ≡ false = sym member_is ∙ is in rw (at, none) refl
+
+  pub no_mark : find (keeps_at closed ended now) marks ≡ None → Unmarked
+  no_mark is = let none = found_any (keeps_at closed ended now) marks is in rw (at, none) (grind (arith, nat_tests))
+
+  pub its_mark : (mark : MarkRow) → has_member rows name file ≡ true → find (keeps_at closed ended now) marks ≡ Some mark → IfSome (slice_get rows place) (MarksBy file closed ended now name mark)
+  its_mark mark is found = rw at (let by : MarksBy file closed ended now name mark (row_of name files marks) = record { member = sym member_is ∙ is; named = refl; first = found } in by)
+
+-- ---- the first of them that has a mark
+
+abbrev pub is_marking : ℕ → ℕ → Option ℕ → ℕ → GroupRow → Bool
+is_marking file closed ended now group = is_member file group && has_covering closed ended now group
+
+first_at : {X : Type 0} (p : X → Bool) (xs : List X) (place : ℕ) (x : X) → AllByRecursion (λ y. p y ≡ false) (take place xs) → slice_get xs place ≡ Some x → p x ≡ true → find p xs ≡ Some x
+first_at p [] place x none is passes = absurd (cc)
+first_at p (y ∷ ys) zero x none is passes = let same : y ≡ x = cc in rw (same, passes) refl
+first_at p (y ∷ ys) (suc place) x none is passes = rw none.0 (first_at p ys place x none.1 is passes)
+
+-- with one more
+pub all_more : {X : Type 0} (P : X → Type 0) (xs : List X) (place : ℕ) → AllByRecursion P (take place xs) → IfSome (slice_get xs place) P → AllByRecursion P (take (suc place) xs)
+all_more P [] place all is = tt
+all_more P (x ∷ xs) zero all is = (is, tt)
+all_more P (x ∷ xs) (suc place) all is = (all.0, all_more P xs place all.1 is)
+
+-- and with all
+pub none_all : {X : Type 0} (p : X → Bool) (xs : List X) (place : ℕ) → length xs ≤ place → AllByRecursion (λ x. p x ≡ false) (take place xs) → list_any p xs ≡ false
+none_all p [] place past all = refl
+none_all p (x ∷ xs) zero past all = absurd (omega arith)
+none_all p (x ∷ xs) (suc place) past all = rw all.0 (none_all p xs place (omega arith) all.1)
+
+none_past : {X : Type 0} (xs : List X) (place : ℕ) → slice_get xs place ≡ None → place < length xs → ⊥
+none_past [] place none within = omega arith
+none_past (x ∷ xs) zero none within = cc
+none_past (x ∷ xs) (suc place) none within = none_past xs place none (omega arith)
+
+module _ (rows : List GroupRow) (place file closed : ℕ) (ended : Option ℕ) (now : ℕ) where
+  pub marked_first : (name : List ℕ) (mark : MarkRow) → AllByRecursion (λ g. is_marking file closed ended now g ≡ false) (take place rows) → place < length rows
+      → IfSome (slice_get rows place) (MarksBy file closed ended now name mark) → IsMarkedBy rows file closed ended now name mark
+  marked_first name mark none within its = by (slice_get rows place) refl its where
+    by : (o : Option GroupRow) → slice_get rows place ≡ o → IfSome o (MarksBy file closed ended now name mark) → IsMarkedBy rows file closed ended now name mark
+    by None is its = absurd (none_past rows place is within)
+    by (Some group) is its = record {
+      group = group;
+      first_group = first_at (is_marking file closed ended now) rows place group none is (rw (its.member, passed_any (keeps_at closed ended now) group.marks mark its.first) refl);
+      named = its.named;
+      first_mark = its.first;
+    }
+
+-- ---- the version of those stamps
+
+module _ (w : World) (k : HasParts w) (row : VersionRow) where
+  pub governed : (file number : ℕ) → find (is_version file number) w.versions ≡ Some row → policy_of w.files row.file ≡ None → ⊥
+  governed file number found none =
+      let is = all-found (is_version file number) (IsVersion w.files w.now) w.versions row found (k.holds Versions).each in
+      let there = is.numbered in
+      grind (arith, nat_tests)
+
+  module _ (found : find (is_version row.file row.number) w.versions ≡ Some row) (policy : Policy) (ended : ℕ) (ends : row.ended ≡ Some ended) (unread : is_open w.handles row.file row.number ≡ false) (unmarked : is_marked w.groups row.file row.closed row.ended w.now ≡ false) (filed : policy_of w.files row.file ≡ Some policy) where
+    abbrev next_row : Option VersionRow
+    next_row = find (is_newer_of row.file row.number) w.versions
+
+    closing_told : (o : Option VersionRow) → option_map (λ (r : VersionRow). r.closed) o ≡ closing_of (option_map stamps_of o)
+    closing_told None = refl
+    closing_told (Some r) = refl
+
+    abbrev cover : Cover
+    cover = cover_of w.groups row.file row.closed (Some ended)
+
+    ripe_told : ripe_of w row ≡ option_and_then (ripe_past cover) (ripe_by policy row.closed (alone (closing_of (option_map stamps_of next_row))) ended)
+    ripe_told =
+        let own : ripe_at w row.file row.number ≡ ripe_of w row = ripe_at_is w row.file row.number ∙ rw found refl in
+        let near : ripe_at w row.file row.number ≡ option_and_then (ripe_past cover) (ripe_by policy row.closed (alone (option_map (λ (r : VersionRow). r.closed) next_row)) ended) =
+        ripe_at_near w row.file row.number (in_order_of w k) ∙ grind (arith, nat_tests, found, ends, unread, filed) in
+        sym own ∙ near ∙ ap (λ (o : Option ℕ). option_and_then (ripe_past cover) (ripe_by policy row.closed (alone o) ended)) (closing_told next_row)
+
+    unprotected : is_protected (file_view w row.file) row w.now ≡ false
+    unprotected = protected_told w row w.now ∙ grind (arith, nat_tests, unread, unmarked)
+
+    due_told : is_due_at w row w.now ≡ option_map_or (λ m. nat_le m w.now) (ripe_of w row) false
+    due_told = ripens w k row w.now (k.holds Now)
+
+    stamps_found : (o : Option VersionRow) (stamps : Stamps) → option_map stamps_of o ≡ Some stamps → (next : VersionRow) × (o ≡ Some next) × (stamps_of next ≡ stamps)
+    stamps_found None stamps is = absurd (cc)
+    stamps_found (Some next) stamps is = (next, refl, cc)
+
+    cause_is : (since : ℕ) (cause : Cause) → IsFreeCause policy row.closed ended (option_map stamps_of next_row) since cause → IsCause (file_view w row.file) row since cause
+    cause_is since AtOnce is = filed ∙ ap Some is
+    cause_is since (Age seconds) is = filed ∙ ap Some is
+    cause_is since (Displaced level by) is =
+        let next = stamps_found next_row is.stamps is.next_is in
+        let found : find (is_newer row) (file_view w row.file).rows ≡ Some next.0 = sym (newer_found w row) ∙ next.1 in
+        let closed : next.0.closed ≡ is.stamps.closed = ap (λ (s : Stamps). s.closed) next.2 in
+        let same : shares row.closed next.0.closed is.rung ≡ true = rw closed is.same_span in
+        let number : next.0.number ≡ by = ap (λ (s : Stamps). s.number) next.2 ∙ is.by_is in
+        record {
+          rungs = is.rungs;
+          ladder = filed ∙ ap Some is.ladder;
+          reached = rw (filed, is.ladder, ends) (ap Some (sym is.level_is));
+          rung = is.rung;
+          at_level = is.at_level;
+          by_is = displaced_by (file_view w row.file).rows row next.0 is.rung found same ∙ ap Some number;
+        }
+
+    pub free_is : (next : Option Stamps) (fate : Fate) → next ≡ option_map stamps_of next_row → IsFreeFate cover policy row.closed ended next w.now fate → IsFate w row fate
+    free_is next Current next_is is = absurd is
+    free_is next Open next_is is = absurd is
+    free_is next (Marked name mark) next_is is = absurd is
+    free_is next (Kept until level) next_is is =
+        let own = let P : Option Stamps → Type 0 = λ n. IsFreeFate cover policy row.closed ended n w.now (Kept until level) in subst P next_is is in
+        let ripe : until ≡ ripe_of w row = own.0 ∙ sym ripe_told in
+        record {
+          has_ended = rw ends refl;
+          unprotected = unprotected;
+          not_due = due_told ∙ ap (λ (o : Option ℕ). option_map_or (λ m. nat_le m w.now) o false) (sym ripe) ∙ own.1;
+          until_is = ripe;
+          level_is = own.2 ∙ rw (filed, ends) refl;
+        }
+    free_is next (Due since cause) next_is is =
+        let own = let P : Option Stamps → Type 0 = λ n. IsFreeFate cover policy row.closed ended n w.now (Due since cause) in subst P next_is is in
+        let ripe : ripe_of w row ≡ Some since = ripe_told ∙ own.0 in
+        record {
+          due = due_told ∙ ap (λ (o : Option ℕ). option_map_or (λ m. nat_le m w.now) o false) ripe ∙ own.1;
+          ripe = ripe;
+          why = cause_is since cause own.2;
+        }
+
+-- ---- by what is told of it
+
+-- the row of those stamps, under its own file and number
+pub record IsRow (h : Held) (file : ℕ) (stamps : Stamps) : Type 0 where
+  pub row : VersionRow
+  pub found : find (is_version file stamps.number) h.versions ≡ Some row
+  pub filed : row.file ≡ file
+  pub told : stamps_of row ≡ stamps
+
+pub row_told : (h : Held) (file : ℕ) (stamps : Stamps) → IsTold h file stamps → IsRow h file stamps
+row_told h file stamps told = by (find (is_version file stamps.number) h.versions) refl told where
+  by : (o : Option VersionRow) → find (is_version file stamps.number) h.versions ≡ o → option_map stamps_of o ≡ Some stamps → IsRow h file stamps
+  by None found is = absurd (cc)
+  by (Some row) found is = record { row = row; found = found; filed = grind (arith, nat_tests, found_passes (is_version file stamps.number) h.versions row found); told = cc }
+
+module _ (rows : Rows) (file : ℕ) (stamps : Stamps) (told : IsTold rows.files file stamps) where
+  abbrev FateIs : Fate → Type 0
+  FateIs fate = HasFate (world_of rows) file stamps.number fate
+
+  pub fate_current : stamps.ended ≡ None → FateIs Current
+  fate_current none =
+      let its = row_told rows.files file stamps told in
+      record { row = its.row; held = its.found; is = ap (λ (s : Stamps). s.ended) its.told ∙ none }
+
+  module _ (ended : ℕ) (ends : stamps.ended ≡ Some ended) where
+    its_end : (its : IsRow rows.files file stamps) → its.row.ended ≡ Some ended
+    its_end its = ap (λ (s : Stamps). s.ended) its.told ∙ ends
+
+    pub fate_open : is_open rows.files.handles file stamps.number ≡ true → FateIs Open
+    fate_open opened =
+        let its = row_told rows.files file stamps told in
+        let number : its.row.number ≡ stamps.number = ap (λ (s : Stamps). s.number) its.told in
+        record { row = its.row; held = its.found; is = (rw (its_end its) refl, rw (its.filed, number) opened) }
+
+    module _ (unread : is_open rows.files.handles file stamps.number ≡ false) where
+      pub fate_marked : (name : List ℕ) (mark : MarkRow) → IsMarkedBy rows.groups file stamps.closed (Some ended) rows.moment name mark → FateIs (Marked name mark)
+      fate_marked name mark marked =
+          let its = row_told rows.files file stamps told in
+          let number : its.row.number ≡ stamps.number = ap (λ (s : Stamps). s.number) its.told in
+          let closed : its.row.closed ≡ stamps.closed = ap (λ (s : Stamps). s.closed) its.told in
+          let ended_is : its.row.ended ≡ stamps.ended = ap (λ (s : Stamps). s.ended) its.told in
+          let own : IsMarkedBy rows.groups its.row.file its.row.closed its.row.ended rows.moment name mark = rw (its.filed, closed, ended_is, ends) marked in
+          record { row = its.row; held = its.found; is = (rw (its_end its) refl, rw (its.filed, number) unread, own) }
+
+      pub fate_free : IsSound rows → is_marked rows.groups file stamps.closed (Some ended) rows.moment ≡ false → (policy : Policy) → policy_of rows.files.files file ≡ Some policy
+          → (next : Option Stamps) → next ≡ option_map stamps_of (find (is_newer_of file stamps.number) rows.files.versions)
+          → (fate : Fate) → IsFreeFate (cover_of rows.groups file stamps.closed (Some ended)) policy stamps.closed ended next rows.moment fate → FateIs fate
+      fate_free sound unmarked policy filed next next_is fate is =
+          let its = row_told rows.files file stamps told in
+          let number : its.row.number ≡ stamps.number = ap (λ (s : Stamps). s.number) its.told in
+          let closed : its.row.closed ≡ stamps.closed = ap (λ (s : Stamps). s.closed) its.told in
+          let ended_is : its.row.ended ≡ stamps.ended = ap (λ (s : Stamps). s.ended) its.told in
+          let w = world_of rows in
+          record { row = its.row; held = its.found; is = free_is w sound.formed its.row (rw (its.filed, number) its.found) policy ended (its_end its) (rw (its.filed, number) unread) (rw (its.filed, closed, ended_is, ends) unmarked) (rw its.filed filed) next fate (rw (its.filed, number) next_is) (rw (its.filed, closed) is) }
+
+      pub fate_ungoverned : IsSound rows → policy_of rows.files.files file ≡ None → ⊥
+      fate_ungoverned sound none =
+          let its = row_told rows.files file stamps told in
+          governed (world_of rows) sound.formed its.row file stamps.number its.found (rw its.filed none)
+
+-- what isn't found isn't held
+pub not_held : (rows : Rows) (file number : ℕ) → option_map stamps_of (find (is_version file number) rows.files.versions) ≡ None → is_held (world_of rows) file number ≡ false
+not_held rows file number none = found_any (is_version file number) rows.files.versions (by (find (is_version file number) rows.files.versions) none) where
+  by : (o : Option VersionRow) → option_map stamps_of o ≡ None → o ≡ None
+  by None is = refl
+  by (Some row) is = absurd (cc)
+
+-- the stamps that are found under a number have it
+module _ (rows : Rows) (file number : ℕ) (stamps : Stamps) (found : Some stamps ≡ option_map stamps_of (find (is_version file number) rows.files.versions)) where
+  its_number : stamps.number ≡ number
+  its_number = by (find (is_version file number) rows.files.versions) refl (sym found) where
+    by : (o : Option VersionRow) → find (is_version file number) rows.files.versions ≡ o → option_map stamps_of o ≡ Some stamps → stamps.number ≡ number
+    by None is told = absurd (cc)
+    by (Some row) is told =
+        let same : stamps_of row ≡ stamps = cc in
+        let own : row.number ≡ number = grind (arith, nat_tests, found_passes (is_version file number) rows.files.versions row is) in
+        sym (ap (λ (s : Stamps). s.number) same) ∙ own
+
+  pub told_here : IsTold rows.files file stamps
+  told_here = let P : ℕ → Type 0 = λ n. option_map stamps_of (find (is_version file n) rows.files.versions) ≡ Some stamps in subst P (sym its_number) (sym found)
+
+  pub fate_here : (fate : Fate) → HasFate (world_of rows) file stamps.number fate → HasFate (world_of rows) file number fate
+  fate_here fate has = let P : ℕ → Type 0 = λ n. HasFate (world_of rows) file n fate in subst P its_number has

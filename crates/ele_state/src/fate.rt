@@ -1,0 +1,216 @@
+//! What becomes of a held version, and which versions will be due.
+ghost use Rattle.std.specs.Prelude.{◌≡◌, ◌&&◌, ◌<◌, true, false, Some, IfOk, IfSome, IfNone, find, length, option_and_then, slice_get};
+ghost use Rattle.std.specs.Str.{bytes_eq};
+ghost use Rattle.ele_lists.specs.Lists.{AllLater};
+ghost use Rattle.ele_policy.specs.Ripe.{alone, is_due_by};
+ghost use Rattle.ele_world.specs.Change.{Time, after_change};
+ghost use Rattle.ele_world.specs.Fate.{HasFate, IsMarkedBy, level_reached};
+ghost use Rattle.ele_world.specs.Cover.{ripe_past};
+ghost use Rattle.ele_world.specs.GroupRows.{has_covering, is_marked, is_member, keeps_at};
+ghost use Rattle.ele_world.specs.Scan.{scan};
+ghost use Rattle.ele_world.specs.World.{is_held, is_open};
+ghost use Rattle.ele_state.specs.Fated.{IsFreeCause, IsFreeFate, MarksBy, closing_of};
+ghost use Rattle.ele_state.specs.Inside.{world_of, IsSound};
+ghost use Rattle.ele_state.specs.Queued.{IsTold};
+
+use crate::State;
+use crate::rows::Rows;
+use ele_files::Meter;
+use ele_groups::Groups;
+use ele_policy::ripe;
+use ele_world::{
+    Cause, Cover, Fate, FileId, KeyList, ListOf, MarkRow, Moment, Name, NoMemory, Policy, Stamps,
+    VersionNo,
+};
+
+// Whether the mark covers what was current from the one moment until the other, and is in force.
+fn keeps_at(closed: Moment, ended: Moment, now: Moment, mark: &MarkRow) -> bool
+    ensures { result ≡ keeps_at closed (Some ended) now mark.now }
+{
+    closed <= mark.at && mark.at < ended && mark.until.is_none_or(|end| now < end)
+}
+
+// The first of the marks that does.
+fn first_keeping(marks: &[MarkRow], closed: Moment, ended: Moment, now: Moment) -> Option<MarkRow>
+    ensures { result ≡ find (keeps_at closed (Some ended) now) marks.now }
+{
+    marks
+        .iter()
+        .copied()
+        .find(|mark| keeps_at(closed, ended, now, mark))
+}
+
+// The name and the first covering mark of the group at that place, if it has the file and one.
+fn mark_at(
+    groups: &Groups,
+    place: usize,
+    file: FileId,
+    closed: Moment,
+    ended: Moment,
+    now: Moment,
+) -> Option<(Name, MarkRow)>
+    requires named { AllLater
+        (λ earlier later. bytes_eq earlier.name later.name ≡ false) groups.now }
+    ensures some { IfSome result (λ by. IfSome (slice_get groups.now place)
+        (MarksBy file closed (Some ended) now by.0 by.1)) }
+    ensures none { IfNone result (IfSome (slice_get groups.now place)
+        (λ group. (is_member file group && has_covering closed (Some ended) now group) ≡ false)) }
+{
+    let (name, _files, marks) = groups.group(place)?;
+    if !groups.is_member(name, file) {
+        return None;
+    }
+    let mark = first_keeping(marks, closed, ended, now)?;
+    Some((*name, mark))
+}
+
+// The first group, in order of making, that has the file and a mark that covers and is in force, by its name, and the first such
+// mark.
+#[tactic(auto, using(ele_world::proofs::GroupMarks::marked_lasts))]
+fn first_mark(
+    groups: &Groups,
+    file: FileId,
+    closed: Moment,
+    ended: Moment,
+    now: Moment,
+) -> Option<(Name, MarkRow)>
+    requires named { AllLater
+        (λ earlier later. bytes_eq earlier.name later.name ≡ false) groups.now }
+    ensures some { IfSome result
+        (λ by. IsMarkedBy groups.now file closed (Some ended) now by.0 by.1) }
+    ensures none { IfNone result (is_marked groups.now file closed (Some ended) now ≡ false) }
+{
+    // This looks at the file's groups alone, and most versions aren't marked.
+    if !groups.cover(file, closed, Some(ended)).lasts(now) {
+        return None;
+    }
+    for place in 0..groups.len() {
+        if let Some((name, mark)) = mark_at(groups, place, file, closed, ended, now) {
+            return Some((name, mark));
+        }
+    }
+    None
+}
+
+// When the version of these stamps closed.
+fn closing_of(next: &Option<Stamps>) -> Option<Moment>
+    ensures { result ≡ closing_of next.now }
+{
+    match next {
+        Some(stamps) => Some(stamps.closed),
+        None => None,
+    }
+}
+
+// The level that a version has reached at the moment which ended then; none without a ladder.
+fn level_reached(policy: &Policy, ended: Moment, at: Moment) -> Option<usize>
+    ensures { result ≡ level_reached (Some policy.now) (Some ended) at }
+{
+    match policy {
+        Policy::Landmarks(ladder) => {
+            Some(ladder.level(at.seconds().saturating_sub(ended.seconds())))
+        }
+        _ => None,
+    }
+}
+
+// Why the policy lets a version go at the moment, beside that next one.
+fn cause(
+    policy: &Policy,
+    closed: Moment,
+    ended: Moment,
+    next: &Option<Stamps>,
+    since: Moment,
+) -> Cause
+    requires { is_due_by policy.now closed (alone (closing_of next.now)) ended since ≡ true }
+    ensures { IsFreeCause policy.now closed ended next.now since result }
+{
+    match policy {
+        Policy::One => Cause::AtOnce,
+        Policy::All => unreachable!(),
+        Policy::Safe(interval) => Cause::Age(*interval),
+        Policy::Landmarks(ladder) => {
+            let Some(next) = next else { unreachable!() };
+            let level = ladder.level(since.seconds().saturating_sub(ended.seconds()));
+            let by = next.number;
+            Cause::Displaced { level, by }
+        }
+    }
+}
+
+// The moment, or the end of the cover where that is later.
+fn ripe_past(cover: Cover, ripe: Option<Moment>) -> Option<Moment>
+    ensures { result ≡ option_and_then (ripe_past cover) ripe }
+{
+    cover.ripe_past(ripe?)
+}
+
+// What the policy makes at the moment of a version that closed and ended then, beside that next one, and that marks keep no more.
+fn free_fate(
+    cover: Cover,
+    policy: &Policy,
+    closed: Moment,
+    ended: Moment,
+    next: &Option<Stamps>,
+    now: Moment,
+) -> Fate
+    ensures { IsFreeFate cover policy.now closed ended next.now now result }
+{
+    policy.is_given();
+    let until = ripe_past(cover, ripe(policy, closed, ended, closing_of(next)));
+    if let Some(since) = until {
+        if since <= now {
+            let cause = cause(policy, closed, ended, next, since);
+            return Fate::Due { since, cause };
+        }
+    }
+    let level = level_reached(policy, ended, now);
+    Fate::Kept { until, level }
+}
+
+// What becomes of the file's held version of these stamps.
+fn fate_of(rows: &Rows, file: FileId, stamps: &Stamps) -> Fate
+    requires sound { IsSound rows.now }
+    requires held { IsTold rows.now.files file stamps.now }
+    ensures { HasFate (world_of rows.now) file stamps.now.number result }
+{
+    let (number, closed) = (stamps.number, stamps.closed);
+    let Some(ended) = stamps.ended else {
+        return Fate::Current;
+    };
+    if rows.files.is_open(file, number) {
+        return Fate::Open;
+    }
+    let now = rows.moment;
+    if let Some((group, mark)) = first_mark(&rows.groups, file, closed, ended, now) {
+        return Fate::Marked { group, mark };
+    }
+    let cover = rows.groups.cover(file, closed, Some(ended));
+    let Some(policy) = rows.files.policy_of(file) else {
+        unreachable!()
+    };
+    let next = rows.files.next_held(file, number, &mut Meter::new());
+    free_fate(cover, &policy, closed, ended, &next, now)
+}
+
+impl State {
+    /// What becomes of the version, and why; none where it isn't held. It takes no memory.
+    pub fn fate(&self, file: FileId, number: VersionNo) -> Option<Fate>
+        ensures some { IfSome result (HasFate self.now.world file number) }
+        ensures none { IfNone result (is_held self.now.world file number ≡ false) }
+    {
+        let stamps = self.rows.files.stamps(file, number, &mut Meter::new())?;
+        Some(fate_of(&self.rows, file, &stamps))
+    }
+
+    /// The keys of the versions that are due at the moment if until then nothing comes but the clock, in the order in which they
+    /// would be removed. Of a moment before now: the keys of those due now that were ripe by then.
+    ///
+    /// `NoMemory` where memory is refused.
+    pub fn due_by(&self, moment: Moment) -> Result<KeyList, NoMemory>
+        ensures { IfOk result
+            (λ keys. keys ≡ scan (after_change self.now.world (Time moment))) }
+    {
+        Ok(ListOf::from_vec(self.rows.queue.until(moment)?))
+    }
+}

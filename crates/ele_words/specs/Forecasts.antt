@@ -1,0 +1,35 @@
+-- How the program ends after a forecast: what its reader and its two writers hold then, and with which status.
+use Rattle.std.specs.Prelude.{◌≡◌, ℕ, List, Option, Result, Ok, Err}
+use Rattle.std.specs.Io.KnownBytes.{Keeps}
+use Rattle.ele_printer.specs.Front.{AppendsFront}
+use Rattle.ele_runs.specs.declared.fault.ShellFault.TheVariants as shell
+use Rattle.ele_outlook.specs.Foretold.{Foretells}
+use Rattle.ele_outlook.specs.Input.{bad_text}
+use Rattle.ele_outlook.specs.declared.ask.Ask.{Ask}
+use Rattle.ele_outlook.specs.declared.fault.ForecastFault.{ForecastFault}
+use Rattle.ele_outlook.specs.declared.fault.ForecastFault.TheVariants.{ReadFault, BadInput, WriteFault, NoMemory}
+use Rattle.ele_words.specs.Status.{fault_line}
+
+abbrev pub forecast_status : ForecastFault → ℕ
+forecast_status ReadFault = 1
+forecast_status (BadInput number why) = 2
+forecast_status WriteFault = 1
+forecast_status NoMemory = 3
+
+-- the line that tells a fault of a forecast
+abbrev pub forecast_line : ForecastFault → List ℕ
+forecast_line ReadFault = fault_line shell.ReadFault
+forecast_line (BadInput number why) = bad_text number why
+forecast_line WriteFault = fault_line shell.WriteFault
+forecast_line NoMemory = fault_line shell.NoMemory
+
+-- a forecast without a fault ends with status 0; a fault was told, and has its status
+abbrev pub TellsForecast : {A : Type 0} → Result A ForecastFault → Option (List ℕ) → Option (List ℕ) → ℕ → Type 0
+TellsForecast (Ok _) before after status = Keeps before after × (status ≡ 0)
+TellsForecast (Err fault) before after status = AppendsFront before after (forecast_line fault) × (status ≡ forecast_status fault)
+
+-- the closings that were read were told, up to a fault or to the end
+pub record ForecastEnds (ask : Ask) (input rest old new before after : Option (List ℕ)) (status : ℕ) : Type 0 where
+  pub ended : Result (Unit {0}) ForecastFault
+  pub foretold : Foretells ask input rest old new ended
+  pub told : TellsForecast ended before after status

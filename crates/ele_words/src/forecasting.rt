@@ -1,0 +1,56 @@
+//! A forecast as the program tells it: a table at a writer, and a fault at another.
+//! A contract sees what was read, what both hold then, and the status.
+ghost use Rattle.std.specs.Prelude.{◌≡◌};
+ghost use Rattle.ele_printer.specs.Front.{AppendsFront};
+ghost use Rattle.ele_outlook.specs.Input.{bad_text};
+ghost use Rattle.ele_words.specs.Forecasts.{ForecastEnds, forecast_line, forecast_status};
+
+use crate::ends::tell;
+use ele_outlook::{Ask, BadLine, ForecastFault, foretell, write_bad_line};
+use ele_runs::ShellFault;
+use std::alloc::Global;
+use std::io::{Read, Write};
+
+/// Tells what becomes of the versions of the closings that the reader gives. The result is the
+/// status that the program ends with.
+pub(crate) fn run_forecast<R: Read, W: Write, E: Write>(
+    alloc: Global,
+    ask: &Ask,
+    reader: &mut R,
+    writer: &mut W,
+    errors: &mut E,
+) -> u8
+    ensures { ForecastEnds ask.now (R.remaining reader.old) (R.remaining reader.new)
+        (W.contents writer.old) (W.contents writer.new)
+        (E.contents errors.old) (E.contents errors.new) result }
+{
+    match foretell(alloc, ask, reader, writer) {
+        Ok(()) => 0,
+        Err(fault) => tell_fault(fault, errors),
+    }
+}
+
+// Tells the fault of a forecast, and answers the status to end with.
+fn tell_fault<E: Write>(fault: ForecastFault, errors: &mut E) -> u8
+    ensures status { result ≡ forecast_status fault }
+    ensures told { AppendsFront (E.contents errors.old) (E.contents errors.new)
+        (forecast_line fault) }
+{
+    match fault {
+        ForecastFault::ReadFault => tell(Some(ShellFault::ReadFault), errors),
+        ForecastFault::BadInput(number, why) => tell_bad_line(number, why, errors),
+        ForecastFault::WriteFault => tell(Some(ShellFault::WriteFault), errors),
+        ForecastFault::NoMemory => tell(Some(ShellFault::NoMemory), errors),
+    }
+}
+
+// Tells a bad line, and answers the status to end with.
+fn tell_bad_line<E: Write>(number: u64, why: BadLine, errors: &mut E) -> u8
+    ensures status { result ≡ 2 }
+    ensures told { AppendsFront (E.contents errors.old) (E.contents errors.new)
+        (bad_text number why) }
+{
+    let _ = write_bad_line(number, why, errors);
+    let _ = errors.flush();
+    2
+}

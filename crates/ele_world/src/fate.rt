@@ -1,0 +1,43 @@
+//! What becomes of a held version, and why. A contract sees plain data.
+use crate::rows::MarkRow;
+use ele_moment::{Moment, Name, VersionNo};
+use ele_policy::Interval;
+
+/// Why a version is due.
+#[derive(Clone, Copy, Debug, PartialEq, Eq)]
+pub enum Cause {
+    /// Its policy keeps no version that has ended.
+    AtOnce,
+    /// It has been ended for that long.
+    Age(Interval),
+    /// At that level of the ladder, the first of which is 1, that newer version closed in the same span: the nearest held one
+    /// that did. The level is the one that the version had reached as it became due.
+    Displaced { level: usize, by: VersionNo },
+}
+
+/// What becomes of a version that is held: why it stays, or from when on it may be removed. The first line that fits is the
+/// answer.
+#[derive(Clone, Copy, Debug, PartialEq, Eq)]
+pub enum Fate {
+    /// It has no end.
+    Current,
+    /// A handle reads it.
+    Open,
+    /// It was current at that mark of that group, which has its file, and the mark is in force: of all such groups the one that
+    /// was made first, and of its marks that cover the version and are in force the one that was made first.
+    Marked {
+        group: Name,
+        mark: MarkRow,
+    },
+    /// Its policy keeps it: until the moment, if nothing but the clock comes; without one, to the last moment. Under a ladder
+    /// with the level that its age has reached, 0 before the first.
+    Kept {
+        until: Option<Moment>,
+        level: Option<usize>,
+    },
+    /// It is due since that moment, and a clean may remove it.
+    Due {
+        since: Moment,
+        cause: Cause,
+    },
+}

@@ -1,0 +1,159 @@
+//! What the program tells of closings, and how it ends.
+use crate::ends::{Full, SlowReader, SlowWriter};
+use ele_moment::Moment;
+use ele_outlook::Ask;
+use ele_policy::{Ladder, Policy};
+use ele_words::{Asked, answer};
+use empty_world::EmptyWorld;
+use std::alloc::Global;
+use std::io::{Read, Write};
+use std::sync::Wait;
+use std::test::Fail;
+use std::thread::Threads;
+
+// Twelve closings. 2026-01-01 begins one of the spans of seven days, which are counted from 1970.
+const CLOSINGS: &[u8] = b"2026-01-01T08:00:00Z
+2026-01-01T08:30:00Z
+2026-01-01T09:10:00Z
+2026-01-01T17:45:00Z
+2026-01-02T09:00:00Z
+2026-01-02T09:59:59Z
+2026-01-02T10:00:00Z
+2026-01-07T23:59:59Z
+2026-01-08T00:00:00Z
+2026-01-20T12:00:00Z
+2026-01-20T12:00:00Z
+2026-02-10T06:00:00Z
+";
+
+// What becomes of them under the standard ladder: a version is due a day after its end if the next
+// one closed in its hour, seven days after it if in its day, and thirty days after it if in its seven
+// days, and else never.
+const TABLE: &[u8] = b"version closed ended due why
+1 2026-01-01T08:00:00Z 2026-01-01T08:30:00Z 2026-01-02T08:30:00Z version 2 closed in the same hour
+2 2026-01-01T08:30:00Z 2026-01-01T09:10:00Z 2026-01-08T09:10:00Z version 3 closed in the same day
+3 2026-01-01T09:10:00Z 2026-01-01T17:45:00Z 2026-01-08T17:45:00Z version 4 closed in the same day
+4 2026-01-01T17:45:00Z 2026-01-02T09:00:00Z 2026-02-01T09:00:00Z version 5 closed in the same 7 days
+5 2026-01-02T09:00:00Z 2026-01-02T09:59:59Z 2026-01-03T09:59:59Z version 6 closed in the same hour
+6 2026-01-02T09:59:59Z 2026-01-02T10:00:00Z 2026-01-09T10:00:00Z version 7 closed in the same day
+7 2026-01-02T10:00:00Z 2026-01-07T23:59:59Z 2026-02-06T23:59:59Z version 8 closed in the same 7 days
+8 2026-01-07T23:59:59Z 2026-01-08T00:00:00Z - kept as a landmark
+9 2026-01-08T00:00:00Z 2026-01-20T12:00:00Z - kept as a landmark
+10 2026-01-20T12:00:00Z 2026-01-20T12:00:00Z 2026-01-21T12:00:00Z version 11 closed in the same hour
+11 2026-01-20T12:00:00Z 2026-02-10T06:00:00Z - kept as a landmark
+12 2026-02-10T06:00:00Z - - current
+at 2026-01-02T12:00:00Z stay 6: 2 3 4 5 6 7
+at 2026-01-09T10:00:00Z stay 4: 4 7 8 9
+at 2026-02-10T06:00:00Z stay 4: 8 9 11 12
+";
+
+// A forecast under that policy, at the moments that these words spell.
+fn ask_about(alloc: Global, policy: Policy, words: &[&[u8]]) -> Result<Asked, Fail> {
+    let mut moments = Vec::new(alloc);
+    for word in words {
+        moments.push(Moment::read(word).map_err(|_| "not a moment")?)?;
+    }
+    Ok(Asked::Forecast(Ask { policy, moments }))
+}
+
+// What the program does, over a world that it doesn't ask.
+fn foretell<T: Threads + Wait + Sync, R: Read, W: Write>(
+    rt: &T,
+    alloc: Global,
+    asked: &Asked,
+    reader: &mut R,
+    writer: &mut W,
+    errors: &mut Vec<u8>,
+) -> u8 {
+    answer::<EmptyWorld, T, R, W, Vec<u8>>(rt, alloc, asked, reader, writer, errors)
+}
+
+#[test]
+fn twelve_closings_are_told_under_the_standard_ladder(rt: HostRuntime) -> Result<(), Fail> {
+    let asked = ask_about(
+        rt.alloc(),
+        Policy::Landmarks(Ladder::standard()),
+        &[
+            b"2026-01-02T12:00:00Z",
+            b"2026-01-09T10:00:00Z",
+            b"1770703200",
+        ],
+    )?;
+    let mut reader = SlowReader::new(CLOSINGS, false);
+    let mut writer = SlowWriter::new(rt.alloc(), 2_000, Full::Fails);
+    let mut errors = Vec::new(rt.alloc());
+    let status = foretell(
+        &rt,
+        rt.alloc(),
+        &asked,
+        &mut reader,
+        &mut writer,
+        &mut errors,
+    );
+    assert_eq!(rt; status, 0);
+    assert_eq!(rt; writer.taken.as_slice(), TABLE);
+    assert!(rt; errors.is_empty());
+    Ok(())
+}
+
+#[test]
+fn the_first_bad_line_is_told(rt: HostRuntime) -> Result<(), Fail> {
+    let cases: [(&[u8], &[u8]); 4] = [
+        (
+            b"5\n5\n4\nx\n",
+            b"elephant: line 3 comes before the line ahead of it\n",
+        ),
+        (b"5\n\n", b"elephant: line 2 is not a moment\n"),
+        (b"05", b"elephant: line 1 is not a moment\n"),
+        (b"5\r\n", b"elephant: line 1 is not a moment\n"),
+    ];
+    let asked = ask_about(rt.alloc(), Policy::One, &[])?;
+    for (input, told) in cases {
+        let mut reader = input;
+        let mut writer = Vec::<u8>::new(rt.alloc());
+        let mut errors = Vec::new(rt.alloc());
+        let status = foretell(
+            &rt,
+            rt.alloc(),
+            &asked,
+            &mut reader,
+            &mut writer,
+            &mut errors,
+        );
+        assert_eq!(rt; status, 2);
+        assert_eq!(rt; errors.as_slice(), told);
+        assert!(rt; writer.is_empty());
+    }
+    Ok(())
+}
+
+#[test]
+fn ends_that_fail_end_a_forecast(rt: HostRuntime) -> Result<(), Fail> {
+    let asked = ask_about(rt.alloc(), Policy::All, &[])?;
+    let mut reader = SlowReader::new(b"5\n", true);
+    let mut writer = Vec::<u8>::new(rt.alloc());
+    let mut errors = Vec::new(rt.alloc());
+    let unread = foretell(
+        &rt,
+        rt.alloc(),
+        &asked,
+        &mut reader,
+        &mut writer,
+        &mut errors,
+    );
+    assert_eq!(rt; unread, 1);
+    assert!(rt; writer.is_empty());
+    let mut whole = SlowReader::new(b"5", false);
+    let mut full = SlowWriter::new(rt.alloc(), 30, Full::TakesNothing);
+    let unwritten = foretell(&rt, rt.alloc(), &asked, &mut whole, &mut full, &mut errors);
+    assert_eq!(rt; unwritten, 1);
+    assert_eq!(rt;
+        full.taken.as_slice(),
+        b"version closed ended due why\n1".as_slice()
+    );
+    assert_eq!(rt;
+        errors.as_slice(),
+        b"elephant: 34 ReadFault\nelephant: 35 WriteFault\n".as_slice()
+    );
+    Ok(())
+}
