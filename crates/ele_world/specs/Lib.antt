@@ -1,6 +1,8 @@
 pub mod Bounds
 pub mod Limits
+pub mod LimitNumbers
 pub mod Answers
+pub mod AnswerText
 pub mod World
 pub mod Walk
 pub mod NameRows

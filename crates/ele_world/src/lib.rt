@@ -37,7 +37,7 @@ pub use entry::Entry;
 pub use event::{Event, Source};
 pub use fate::{Cause, Fate};
 pub use flat::Flat;
-pub use limits::{Counts, Limits};
+pub use limits::{Counts, LimitNumbers, Limits};
 pub use list::{DeadNameList, GroupList, KeyList, NameList, StampsList};
 pub use pass::PassEnd;
 pub use refusal::{Refusal, Stop, Which};
