@@ -59,6 +59,7 @@ pub mod CleanKeepsKeys
 pub mod Pass
 pub mod NewPlaces
 pub mod Whole
+pub mod Why
 pub mod AnyDueLeave
 pub mod IdleLeave
 pub mod Less
