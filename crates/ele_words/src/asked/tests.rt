@@ -172,9 +172,10 @@ fn other_words_are_not_understood(rt: HostRuntime) -> Result<(), Fail> {
 
 #[test]
 fn help_is_given_to_those_who_ask(rt: HostRuntime) -> Result<(), Fail> {
-    let asking: [&[&str]; 3] = [
+    let asking: [&[&str]; 4] = [
         &["elephant", "--help"],
         &["elephant", "help"],
+        &["elephant", "help", "script"],
         &["elephant", "run", "--help"],
     ];
     for texts in asking {
