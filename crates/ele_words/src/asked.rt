@@ -57,6 +57,9 @@ const NUMBERS: &str = "Puts the number of its line in front of each answer";
 
 const REMARKS: &str = "Passes over lines that begin with `#`";
 
+const EXPLAIN: &str =
+    "Answers `why T` and `ahead M` too: why a version is held or due, and what will be due by then";
+
 const RUN: &str = "Runs the script on standard input. A line is answered as it comes: \
     whatever whole lines have come are answered before more is read";
 
@@ -80,7 +83,8 @@ fn command<'a>(alloc: Global) -> Result<Command<'a>, AllocError> {
         .arg(events)?
         .arg(flag(alloc, "strict", STRICT))?
         .arg(flag(alloc, "numbers", NUMBERS))?
-        .arg(flag(alloc, "remarks", REMARKS))?;
+        .arg(flag(alloc, "remarks", REMARKS))?
+        .arg(flag(alloc, "explain", EXPLAIN))?;
     Command::new(alloc, "elephant")
         .about("A file system's core that keeps earlier versions")
         .version(VERSION)
@@ -126,6 +130,7 @@ fn manner_in(run: &ArgMatches) -> Manner {
         strict: run.get_flag("strict"),
         numbers: run.get_flag("numbers"),
         remarks: run.get_flag("remarks"),
+        explain: run.get_flag("explain"),
     }
 }
 
