@@ -16,6 +16,7 @@ mod answer;
 mod clean;
 mod clock;
 mod directory;
+mod explaining;
 mod fate;
 mod group;
 mod halt;

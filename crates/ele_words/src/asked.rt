@@ -72,6 +72,9 @@ const NUMBERS: &str = "Puts the number of its line in front of each answer";
 
 const REMARKS: &str = "Passes over lines that begin with `#`";
 
+const EXPLAIN: &str =
+    "Answers `why T` and `ahead M` too: why a version is held or due, and what will be due by then";
+
 const RUN: &str = "Runs the script on standard input. A line is answered as it comes: \
     whatever whole lines have come are answered before more is read";
 
@@ -98,7 +101,8 @@ fn command<'a>(alloc: Global) -> Result<Command<'a>, AllocError> {
         .arg(file)?
         .arg(flag(alloc, "strict", STRICT))?
         .arg(flag(alloc, "numbers", NUMBERS))?
-        .arg(flag(alloc, "remarks", REMARKS))?;
+        .arg(flag(alloc, "remarks", REMARKS))?
+        .arg(flag(alloc, "explain", EXPLAIN))?;
     let script = Command::new(alloc, "script")
         .about(SCRIPT)
         .after_help(COMMANDS);
@@ -158,6 +162,7 @@ fn manner_in(run: &ArgMatches) -> Manner {
         strict: run.get_flag("strict"),
         numbers: run.get_flag("numbers"),
         remarks: run.get_flag("remarks"),
+        explain: run.get_flag("explain"),
     }
 }
 

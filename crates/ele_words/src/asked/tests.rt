@@ -59,6 +59,13 @@ fn a_run_has_a_manner(rt: HostRuntime) -> Result<(), Fail> {
         })
     );
     assert_eq!(rt;
+        manner_of(alloc, &["elephant", "run", "--explain"])?,
+        Some(Manner {
+            explain: true,
+            ..plain
+        })
+    );
+    assert_eq!(rt;
         manner_of(
             alloc,
             &["elephant", "run", "--numbers", "--events", "5", "--remarks"]
