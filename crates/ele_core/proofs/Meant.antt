@@ -3,7 +3,7 @@ use Rattle.ele_content.specs.Content.{content_of}
 use Rattle.ele_lists.specs.Lists.{AllLater}
 use Rattle.ele_state.specs.Told.{found_of}
 use Rattle.ele_time_path.specs.declared.tagged.TaggedPath.{TaggedPath}
-use Rattle.ele_world.proofs.Basics.{◌≡◌, ◌∙◌, ℕ, Bool, List, Result, Ok, Some, refl, sym, ap, subst, all-found, arith, nat_tests, find, found_passes, option_map}
+use Rattle.ele_world.proofs.Basics.{◌≡◌, ◌∙◌, ℕ, Bool, List, Result, Ok, Err, Some, refl, sym, ap, subst, all-found, arith, nat_tests, find, found_passes, option_map}
 use Rattle.ele_world.proofs.Meant.{is_at, is_meant, made_of, numbered_found}
 use Rattle.ele_world.proofs.Versions.{IsFound, all_found}
 use Rattle.ele_world.specs.WellFormed.{ArePlaced, IsWellFormed}
@@ -11,10 +11,13 @@ use Rattle.ele_world.specs.declared.event.Event.TheVariants.{Read}
 use Rattle.ele_world.specs.declared.event.Source.TheVariants.{Tagged}
 use Rattle.ele_time_path.specs.declared.tagged.Tag.{Tag}
 use Rattle.ele_time_path.specs.declared.tagged.Tag.TheVariants as tag
+use Rattle.ele_world.specs.Fate.{HasFate}
 use Rattle.ele_world.specs.Step.{step, version_cells}
 use Rattle.ele_world.specs.Tagged.{version_at, version_meant}
 use Rattle.ele_world.specs.Told.{file_stat, stamps_of}
 use Rattle.ele_world.specs.World.{World, is_version, policy_for}
+use Rattle.ele_world.specs.Why.{MeansFate}
+use Rattle.ele_world.specs.declared.fate.Fate.{Fate}
 use Rattle.ele_world.specs.declared.refusal.Refusal.{Refusal}
 use Rattle.ele_world.specs.declared.reply.Reply.TheVariants.{Bytes, FileStat}
 use Rattle.ele_world.specs.declared.rows.Stamps.{Stamps}
@@ -69,3 +72,17 @@ found_itself versions passes row placed found = all-found passes (IsFound versio
 -- so what is read of it are its bytes
 pub read_is : (w : World) (tagged : TaggedPath) (found : ℕ × Stamps) (bytes : List ℕ) → IsWellFormed w → Ok found ≡ found_of (version_at w tagged) → bytes ≡ content_of (version_cells w found.0 found.1.number) → (Bytes bytes, w) ≡ step w (Read (Tagged tagged))
 read_is w tagged found bytes formed h is = grind (arith, nat_tests, told_row, is_at, found_itself, formed.versions)
+
+-- and what becomes of it is its fate
+pub fate_is : (w : World) (tagged : TaggedPath) (found : ℕ × Stamps) (fate : Fate) → Ok found ≡ found_of (version_at w tagged) → HasFate w found.0 found.1.number fate → MeansFate w tagged fate
+fate_is w tagged found fate h has =
+    let told = told_row w tagged found h in
+    record { row = told.row; means = told.meant; has = subst (λ (f : ℕ × Stamps). HasFate w f.0 f.1.number fate) told.is has }
+
+-- or none is meant
+refused_as : (found : Result VersionRow Refusal) (refusal : Refusal) → Err refusal ≡ found_of found → found ≡ Err refusal
+refused_as (Ok row) refusal h = absurd cc
+refused_as (Err why) refusal h = let same : why ≡ refusal = cc in ap (λ (r : Refusal). Err r) same
+
+pub fate_refused : (w : World) (tagged : TaggedPath) (refusal : Refusal) → Err refusal ≡ found_of (version_at w tagged) → version_at w tagged ≡ Err refusal
+fate_refused w tagged refusal h = refused_as (version_at w tagged) refusal h

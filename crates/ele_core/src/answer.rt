@@ -51,8 +51,26 @@ fn done(_unit: ()) -> Reply
 }
 
 impl Core {
-    // What the event answers, and its change.
+    // What the event answers, and its change. Those of the clock and of the queue come most often, and are answered without the
+    // room on the stack that the others take.
     pub(crate) fn answer(&mut self, event: &Event) -> Result<Reply, Halt>
+        requires { self.old.rows_read ≡ 0 }
+        ensures does { Does (λ reply. reply) self.old.world event.now result self.new.world }
+        ensures event { IsEvent event.now }
+        ensures ready { takes_no_memory event.now ≡ true → result ≢ Err halt.NoMemory }
+        ensures read { IfOk result (λ reply. IsRead event.now reply self.new.rows_read) }
+        ensures refused { OnErr result ((reply : Reply) → IsRead event.now reply self.new.rows_read) }
+    {
+        match event {
+            Event::Clock(to) => Ok(Reply::Now(self.clock(*to)?)),
+            Event::Due => Ok(Reply::DueList(self.due()?)),
+            _ => self.answer_any(event),
+        }
+    }
+
+    // The same of any event.
+    #[inline(never)]
+    fn answer_any(&mut self, event: &Event) -> Result<Reply, Halt>
         requires { self.old.rows_read ≡ 0 }
         ensures does { Does (λ reply. reply) self.old.world event.now result self.new.world }
         ensures event { IsEvent event.now }

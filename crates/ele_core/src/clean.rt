@@ -13,6 +13,7 @@ use ele_world::{Key, PassEnd};
 
 impl Core {
     /// The first due version is removed; the answer is its key. It takes no memory.
+    #[inline(never)]
     pub fn clean_one(&mut self) -> Option<Key>
         ensures step { (removed result, self.new.world) ≡ clean_step self.old.world }
         ensures read { CleanReads (removed result) self.new.rows_read }

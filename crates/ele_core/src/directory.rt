@@ -11,6 +11,7 @@ use ele_world::{DirId, Path, Policy, Refusal, Target, Which};
 impl Core {
     /// A directory is made at the path, with the policy of the one that it stands in. Refused: `IsRoot`, `NoEntry`,
     /// `NotDirectory`, `Exists`, `Full`.
+    #[inline(never)]
     pub fn make_dir(&mut self, path: &Path) -> Result<DirId, Halt>
         ensures { Does Directory self.old.world (event.MakeDir path.now) result self.new.world }
     {
@@ -21,6 +22,7 @@ impl Core {
     }
 
     /// The name of the directory at the path dies. Refused: `IsRoot`, `NoEntry`, `NotDirectory`, `NotEmpty`.
+    #[inline(never)]
     pub fn remove_dir(&mut self, path: &Path) -> Result<(), Refusal>
         ensures { DoesAtOnce done self.old.world (event.RemoveDir path.now) result self.new.world }
     {
@@ -34,6 +36,7 @@ impl Core {
     }
 
     /// Files that are made in the directory at the path from now on get the policy. Refused: `NoEntry`, `NotDirectory`.
+    #[inline(never)]
     pub fn set_default(&mut self, path: &Path, policy: Policy) -> Result<(), Refusal>
         ensures does { DoesAtOnce done
             self.old.world (event.SetDefault path.now policy) result self.new.world }

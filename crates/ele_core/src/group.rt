@@ -20,6 +20,7 @@ fn has_ended(until: &Option<Moment>, now: Moment) -> bool
 
 impl Core {
     /// A group of that name is made, without files and marks. Refused: `GroupExists`, `Full`.
+    #[inline(never)]
     pub fn make_group(&mut self, name: &Name) -> Result<(), Halt>
         ensures { Does done self.old.world (event.GroupMake name.now) result self.new.world }
     {
@@ -29,6 +30,7 @@ impl Core {
     }
 
     /// The group goes, and its marks with it. Refused: `NoGroup`.
+    #[inline(never)]
     pub fn drop_group(&mut self, name: &Name) -> Result<(), Halt>
         ensures { Does done self.old.world (event.GroupDrop name.now) result self.new.world }
     {
@@ -37,6 +39,7 @@ impl Core {
     }
 
     /// The group gets the file at the path. Refused: `NoGroup`, as `open_write`, `AlreadyMember`, `Full`.
+    #[inline(never)]
     pub fn add_to_group(&mut self, name: &Name, path: &Path) -> Result<(), Halt>
         ensures { Does done
             self.old.world (event.GroupAdd name.now path.now) result self.new.world }
@@ -49,6 +52,7 @@ impl Core {
     }
 
     /// The group loses the file at the path. Refused: `NoGroup`, `NoEntry`, `NotDirectory`, `IsDirectory`, `NotMember`.
+    #[inline(never)]
     pub fn remove_from_group(&mut self, name: &Name, path: &Path) -> Result<(), Halt>
         ensures { Does done
             self.old.world (event.GroupRemove name.now path.now) result self.new.world }
@@ -61,6 +65,7 @@ impl Core {
 
     /// The group is marked at the moment, which has passed, until the mark's end, which is to come, if one is named. Refused:
     /// `NoGroup`, `NotPast`, `NotAhead`, `MarkExists`, `Full`.
+    #[inline(never)]
     pub fn mark(&mut self, name: &Name, moment: Moment, until: &Option<Moment>) -> Result<(), Halt>
         ensures { Does done
             self.old.world (event.Mark name.now moment until.now) result self.new.world }
@@ -79,6 +84,7 @@ impl Core {
     }
 
     /// The group loses the mark. Refused: `NoGroup`, `NoMark`.
+    #[inline(never)]
     pub fn unmark(&mut self, name: &Name, moment: Moment) -> Result<(), Halt>
         ensures { Does done self.old.world (event.Unmark name.now moment) result self.new.world }
     {

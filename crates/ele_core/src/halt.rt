@@ -1,10 +1,14 @@
 //! Why an event isn't done.
 //! A contract sees the variants.
-ghost use Rattle.std.specs.Prelude.{◌≡◌, OnOk, IfErr, OnErr, true, false};
+ghost use Rattle.std.specs.Prelude.{◌≡◌, OnOk, IfErr, OnErr, Some, true, false};
+ghost use Rattle.ele_core.specs.HaltText.{halt_text};
 
-use ele_world::{NoMemory, Refusal};
+use ele_world::{NoMemory, Refusal, Stop};
+use std::error::Error;
+use std::fmt;
 
-/// Why an event isn't done. The world is as it was.
+/// Why an event isn't done. The world is as it was. It is displayed as scripts print it behind `no` or `stop`: `8 Exists`,
+/// `1 NoMemory`.
 #[derive(Clone, Copy, Debug, PartialEq, Eq)]
 pub enum Halt {
     /// The world refuses it.
@@ -34,6 +38,22 @@ impl From<NoMemory> for Halt {
         Halt::NoMemory
     }
 }
+
+impl fmt::Display for Halt {
+    ghost output = { λ halt. Some (halt_text halt) };
+
+    fn fmt<W: fmt::Write>(&self, f: &mut fmt::Formatter<W>) -> fmt::Result {
+        match self {
+            Halt::Refused(refusal) => write!(f, "{refusal}"),
+            Halt::NoMemory => {
+                let stop = Stop::NoMemory;
+                write!(f, "{stop}")
+            }
+        }
+    }
+}
+
+impl Error for Halt {}
 
 // Refused where the test holds.
 pub fn unless(test: bool, refusal: Refusal) -> Result<(), Refusal>

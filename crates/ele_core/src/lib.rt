@@ -16,6 +16,7 @@ mod answer;
 mod clean;
 mod clock;
 mod directory;
+mod explaining;
 mod fate;
 mod group;
 mod halt;
@@ -28,13 +29,16 @@ mod version;
 
 pub use crate::halt::Halt;
 pub use crate::question::Stat;
+pub use ele_moment::{BadMoment, BadName};
+pub use ele_policy::{BadLadder, Interval};
 use ele_state::{Meter, State};
+pub use ele_time_path::{PathAtFault, PathFault};
 pub use ele_world::{
     ByteList, Cause, Cell, Counts, DeadName, DeadNameList, DirId, DirectoryRow, DraftRow, Event,
     Fate, FileId, FileRow, FileStat, Flat, GroupList, GroupRow, Handle, HandleRow, Key, KeyList,
-    Kind, Ladder, Limits, ListOf, MarkRow, Moment, Name, NameList, NameRow, NoMemory, PassEnd,
-    Path, PathAt, Policy, Reads, Refusal, Reply, Source, Stamps, StampsList, Stop, Tag, TaggedPath,
-    Target, Usage, VersionNo, VersionRow, Which,
+    Kind, Ladder, LimitNumbers, Limits, ListOf, MarkRow, Moment, Name, NameList, NameRow, NoMemory,
+    PassEnd, Path, PathAt, Policy, Reads, Refusal, Reply, Source, Stamps, StampsList, Stop, Tag,
+    TaggedPath, Target, Usage, VersionNo, VersionRow, Which, laws, schedule,
 };
 use std::alloc::Global;
 use std::marker::Model;

@@ -10,6 +10,7 @@ use ele_world::{FileId, Path, Refusal, Target, VersionNo, Which};
 
 impl Core {
     /// A file is made at the path, with an empty first version. Refused: `IsRoot`, `NoEntry`, `NotDirectory`, `Exists`, `Full`.
+    #[inline(never)]
     pub fn create(&mut self, path: &Path) -> Result<FileId, Halt>
         ensures { Does File self.old.world (event.Create path.now) result self.new.world }
     {
@@ -21,6 +22,7 @@ impl Core {
     }
 
     /// The file at the first path gets the second path as another name. Refused: as `open_write` of the first, and as `create`.
+    #[inline(never)]
     pub fn link(&mut self, from: &Path, to: &Path) -> Result<(), Halt>
         ensures { Does done self.old.world (event.Link from.now to.now) result self.new.world }
     {
@@ -32,6 +34,7 @@ impl Core {
 
     /// The name of the file at the path dies; with the last one its current version ends. Refused: `IsRoot`, `NoEntry`,
     /// `NotDirectory`, `IsDirectory`.
+    #[inline(never)]
     pub fn unlink(&mut self, path: &Path) -> Result<(), Halt>
         ensures { Does done self.old.world (event.Unlink path.now) result self.new.world }
     {
@@ -45,6 +48,7 @@ impl Core {
 
     /// What stands at the first path has the second path as its name from now on. Refused: `IsRoot`, `NoEntry`, `NotDirectory`,
     /// `IntoItself`, `Exists`, `Full`.
+    #[inline(never)]
     pub fn rename(&mut self, from: &Path, to: &Path) -> Result<(), Halt>
         ensures { Does done self.old.world (event.Rename from.now to.now) result self.new.world }
     {
@@ -58,6 +62,7 @@ impl Core {
 
     /// The dead name at the path stands again for what it last stood for; a file that had no live name gets a version with the
     /// content of its last one, and the answer is its number. Refused: as `create`, `NotRestorable`, `Drafting`.
+    #[inline(never)]
     pub fn undelete(&mut self, path: &Path) -> Result<Option<VersionNo>, Halt>
         ensures { Does revived self.old.world (event.Undelete path.now) result self.new.world }
     {

@@ -53,6 +53,7 @@ impl Core {
 
     /// The bytes of the version that the path and its tag mean, or of what the handle reads. Refused: `Future`, `NoEntry`,
     /// `NotDirectory`, `IsDirectory`, `NoVersion`, `Forgotten`; `NoHandle`.
+    #[inline(never)]
     pub fn read(&self, source: &Source) -> Result<ByteList, Halt>
         ensures { Does Bytes self.now.world (event.Read source.now) result self.now.world }
     {
@@ -95,6 +96,7 @@ impl Core {
 
     /// What the path and its tag mean, when it was made, how long it is, and its policy. Refused: `Future`, `NoEntry`,
     /// `NotDirectory`, `NoVersion`, `Forgotten`, and `IsDirectory` for a number.
+    #[inline(never)]
     pub fn stat(&self, tagged: &TaggedPath) -> Result<Stat, Refusal>
         ensures { DoesAtOnce stat_told self.now.world (event.Stat tagged.now) result self.now.world }
     {
@@ -106,6 +108,7 @@ impl Core {
 
     /// The versions that are held of the file that the path names, or named at its moment. Refused: `Future`, `NoEntry`,
     /// `NotDirectory`, `IsDirectory`.
+    #[inline(never)]
     pub fn versions(&self, at: &PathAt) -> Result<StampsList, Halt>
         ensures { Does Rows self.now.world (event.Versions at.now) result self.now.world }
     {
@@ -116,6 +119,7 @@ impl Core {
 
     /// The names that stand in the directory that the path names, or stood there at its moment. Refused: `Future`, `NoEntry`,
     /// `NotDirectory`.
+    #[inline(never)]
     pub fn list(&self, at: &PathAt) -> Result<NameList, Halt>
         ensures { Does NameList self.now.world (event.List at.now) result self.now.world }
     {
@@ -128,6 +132,7 @@ impl Core {
     /// All groups with their files and marks, in order of making.
     ///
     /// `NoMemory` where memory is refused.
+    #[inline(never)]
     pub fn groups(&self) -> Result<GroupList, NoMemory>
         ensures { IfOk result (λ groups. groups ≡ self.now.world.groups) }
     {
@@ -144,6 +149,7 @@ impl Core {
     /// The names that may come back, by directory and then by the bytes of the name.
     ///
     /// `NoMemory` where memory is refused.
+    #[inline(never)]
     pub fn restorable(&self) -> Result<DeadNameList, NoMemory>
         ensures { IfOk result (λ names. names ≡ restorable self.now.world) }
     {

@@ -22,6 +22,7 @@ fn is_too_long(offset: u64, length: u64) -> bool
 
 impl Core {
     /// A handle is opened by which the file at the path is written. Refused: `NoEntry`, `NotDirectory`, `IsDirectory`, `Full`.
+    #[inline(never)]
     pub fn open_write(&mut self, path: &Path) -> Result<Handle, Halt>
         ensures { Does reply.Handle self.old.world (event.OpenWrite path.now) result self.new.world }
     {
@@ -36,6 +37,7 @@ impl Core {
     }
 
     /// A handle is opened by which the version is read that the path and its tag mean. Refused: as `stat`, and `Full`.
+    #[inline(never)]
     pub fn open_read(&mut self, tagged: &TaggedPath) -> Result<Handle, Halt>
         ensures { Does reply.Handle self.old.world (event.OpenRead tagged.now) result self.new.world }
     {
@@ -47,6 +49,7 @@ impl Core {
     }
 
     /// The bytes are written through the handle, from that offset on. Refused: `NoHandle`, `NotWriter`, `TooBig`.
+    #[inline(never)]
     pub fn write(&mut self, handle: Handle, offset: u64, bytes: &ByteList) -> Result<(), Halt>
         ensures { Does done
             self.old.world (event.Write handle offset bytes.now) result self.new.world }
@@ -61,6 +64,7 @@ impl Core {
     }
 
     /// The draft under the handle gets so many bytes. Refused: `NoHandle`, `NotWriter`, `TooBig`.
+    #[inline(never)]
     pub fn truncate(&mut self, handle: Handle, size: u64) -> Result<(), Halt>
         ensures { Does done self.old.world (event.Truncate handle size) result self.new.world }
     {
@@ -71,6 +75,7 @@ impl Core {
 
     /// Closes the handle; the last one of a changed draft makes it the file's next version, and the answer is its number.
     /// Refused: `NoHandle`.
+    #[inline(never)]
     pub fn close(&mut self, handle: Handle) -> Result<Option<VersionNo>, Halt>
         ensures { Does reply.Closed self.old.world (event.Close handle) result self.new.world }
     {

@@ -12,6 +12,7 @@ use ele_world::{Path, Policy, Refusal, Tag, VersionNo, Which};
 impl Core {
     /// The file at the path gets a version more, with the content of the one with that number; the answer is the new one's
     /// number. Refused: as `open_write`, `NoVersion`, `Forgotten`, `Drafting`.
+    #[inline(never)]
     pub fn revert(&mut self, path: &Path, number: VersionNo) -> Result<VersionNo, Halt>
         ensures { Does Version self.old.world (event.Revert path.now number) result self.new.world }
     {
@@ -28,6 +29,7 @@ impl Core {
     }
 
     /// The file at the path has the policy from now on, with all its versions. Refused: `NoEntry`, `NotDirectory`, `IsDirectory`.
+    #[inline(never)]
     pub fn set_policy(&mut self, path: &Path, policy: Policy) -> Result<(), Halt>
         ensures does { Does done
             self.old.world (event.SetPolicy path.now policy) result self.new.world }

@@ -16,6 +16,6 @@ unfoldable pub use Rattle.std.specs.List.{IsDistinct}
 pub use Rattle.std.specs.Map.{keys_of, lookup, remove_entry, set_value, values_of}
 pub use Rattle.std.specs.Option.{MatchOption, option_map, option_map_or}
 pub use Rattle.std.specs.Ordering.{is_gt, nat_cmp}
-pub use Rattle.std.specs.Prelude.{IsSome, Err, Ok, OnErr, OnOk, Result, filter, find, max, min, nat_le, nat_lt}
+pub use Rattle.std.specs.Prelude.{IsSome, Err, Ok, OnErr, OnOk, Result, filter, find, max, min, nat_le, nat_lt, suc, zero}
 pub use Rattle.std.specs.Str.{bytes_eq}
 pub use Rattle.std.specs.declared.cmp.Ordering.TheVariants.{Less}

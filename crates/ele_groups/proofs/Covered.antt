@@ -1,6 +1,6 @@
 -- For how long marks keep, some of a group left out, one group after another.
-use Rattle.ele_groups.proofs.Basics.{◌≡◌, ℕ, Bool, true, false, ◌&&◌, ◌||◌, ◌+◌, ◌<◌, ◌==◌, ◌++◌, not, List, [], ◌∷◌, Option, Some, None, refl, sym, ◌∙◌, arith, length, get_or, take, take_more, filter, flat_map, list_any, list_any-append, AllByRecursion, values_of, option_map_or, bytes_eq, bytes_eq-Decides, nat_tests, false≢true}
-use Rattle.ele_groups.proofs.Words.{Cover, Free, GroupRow, MarkRow, Memberships, AreKept, Except, cover_but, cover_by, has, is_group, is_left_out, is_member, longer, marks_but, marks_left, names_of, row_at, row_cover}
+use Rattle.ele_groups.proofs.Basics.{◌≡◌, ℕ, suc, zero, Bool, true, false, ◌&&◌, ◌||◌, ◌+◌, ◌<◌, ◌==◌, ◌++◌, not, List, [], ◌∷◌, Option, Some, None, refl, sym, ◌∙◌, arith, length, get_or, take, take_more, filter, list_any, list_any-append, AllByRecursion, values_of, option_map_or, bytes_eq, bytes_eq-Decides, nat_tests, false≢true}
+use Rattle.ele_groups.proofs.Words.{Always, Cover, Free, GroupRow, MarkRow, Memberships, AreKept, Except, cover_but, cover_by, has, is_group, is_member, longer, marks_but, marks_left, names_of, row_at, row_cover}
 use Rattle.ele_groups.proofs.Named.{Entries, any_value, no_value, none_any, same_name}
 use Rattle.ele_world.proofs.Covers.{exceeds, exceeds_by, exceeds_longer, exceeds_same, reaches}
 use Rattle.ele_world.proofs.GroupMarks.{any_over}
@@ -28,6 +28,9 @@ pub none_out : (name : List ℕ) (left : Option ℕ) (closed : ℕ) (ended : Opt
 none_out name left closed ended row other = rw other (rw (all_stand row.marks) refl)
 
 -- ---- of all
+
+longer_always : (a b c : Cover) → (b ≡ Always → c ≡ Always) → longer a b ≡ Always → longer a c ≡ Always
+longer_always a b c still always = grind (arith, still, always)
 
 module _ (except : Option Except) (file closed : ℕ) (ended : Option ℕ) (es : Entries) where
   module _ (d : Cover) where
@@ -76,6 +79,13 @@ module _ (except : Option Except) (file closed : ℕ) (ended : Option ℕ) (es :
   pub names_more : (names : List (List ℕ)) (i : ℕ) (name : List ℕ) → i < length names → name ≡ get_or names i name → at_names (take (i + 1) names) ≡ longer (at_names (take i names)) (at_name name)
   names_more names i name lt is = exceeds_same _ _ (λ d. rw (take_more names i name lt, ← is)
       (exceeds_names d (take i names ++ name ∷ []) ∙ grind (arith, nat_tests, list_any-append, exceeds_longer (at_names (take i names)) (at_name name) d, exceeds_at d name, exceeds_names d (take i names))))
+
+  -- nothing is longer than for ever
+  pub stays_always : (names : List (List ℕ)) (i : ℕ) → at_names (take i names) ≡ Always → at_names names ≡ Always
+  stays_always [] zero always = absurd cc
+  stays_always [] (suc i) always = absurd cc
+  stays_always (name ∷ names) zero always = absurd cc
+  stays_always (name ∷ names) (suc i) always = longer_always (at_name name) (at_names (take i names)) (at_names names) (stays_always names i) always
 
   -- all names of the file give its cover
   module _ (memberships : Memberships) (kept : AreKept es memberships) where

@@ -15,7 +15,7 @@ use ele_world::Cover;
 use indexmap::IndexMap;
 
 /// For how long marks of groups that have the file keep, those aside that are left out. It looks at
-/// the file's groups alone.
+/// the file's groups alone, and at none behind one that keeps for ever.
 pub fn cover(
     rows: &IndexMap<Name, Group>,
     memberships: &Memberships,
@@ -29,6 +29,9 @@ pub fn cover(
     let mut cover = Cover::Free;
     for name in memberships.of(file) {
         cover = cover.longer(cover_at(rows, name, span));
+        if let Cover::Always = cover {
+            return Cover::Always;
+        }
     }
     cover
 }

@@ -2,9 +2,10 @@
 //! A contract sees them as the list of their rows in order of making.
 ghost use Rattle.std.specs.Prelude.{◌≡◌, ◌<◌, [], Some, None, false, length, filter, slice_get, IsTrue, IfSome, IfNone, IfOk, IfErr, OnOk, OnErr};
 ghost use Rattle.std.specs.Map.{values_of};
-ghost use Rattle.std.specs.Option.{option_copied};
+ghost use Rattle.std.specs.Option.{option_copied, option_map_or};
 ghost use Rattle.ele_world.specs.GroupRows.{group_named, has_group, has_member, is_marked_at, is_member, with_group, without_group, with_member, without_member, with_mark, without_mark, forgotten};
-ghost use Rattle.ele_world.specs.Cover.{cover_of};
+ghost use Rattle.ele_world.specs.Cover.{cover_by, cover_of};
+ghost use Rattle.ele_world.specs.declared.cover.Cover.TheVariants.{Free};
 ghost use Rattle.ele_world.specs.GroupsAsked.{members_of, marks_of, cover_with, cover_without};
 ghost use Rattle.ele_groups.specs.Faults.{make_fault, drop_fault, add_fault, remove_fault, mark_fault, unmark_fault, Fails, answer_of};
 ghost use Rattle.ele_groups.specs.Rows.{row_of};
@@ -181,6 +182,20 @@ impl Groups {
             except,
         };
         cover(&self.rows, &self.memberships, file, &span)
+    }
+
+    /// For how long the marks of the group of that name keep what was current from `closed` until
+    /// `ended`, or still is, of a file that it has. It takes no memory.
+    pub fn cover_by_group(&self, name: &Name, closed: Moment, ended: Option<Moment>) -> Cover
+        ensures { result ≡ option_map_or (λ row. cover_by closed ended row.marks)
+            (group_named self.now name.now) Free }
+    {
+        let span = Span {
+            closed,
+            ended,
+            except: None,
+        };
+        cover_at(&self.rows, name, &span)
     }
 
     /// For how long they would, with the file in that group too. It takes no memory.

@@ -42,6 +42,10 @@ pub last_word : (first last : List ℕ) (words : List (List ℕ)) → line_text 
 last_word first last [] = append_assoc first (32 ∷ last) (10 ∷ [])
 last_word first last (word ∷ words) = grind (arith, nat_tests, append_assoc, last_word word last words)
 
+-- the line of what a mark keeps, in its parts
+pub marked_parts : (group : List ℕ) (mark : MarkRow) → line_text (codes "ok why" ∷ codes "marked" ∷ group ∷ mark_word mark ∷ []) ≡ join_with_byte 32 (codes "ok why" ∷ codes "marked" ∷ group ∷ []) ++ ((32 ∷ mark_word mark) ++ 10 ∷ [])
+marked_parts group mark = last_word (codes "ok why") (mark_word mark) (codes "marked" ∷ group ∷ [])
+
 -- at a place, what stands there is next
 pub here : {A : Type 0} (line : A → List ℕ) (xs : List A) (i : ℕ) (d : A) → i < length xs → flat_map line (drop i xs) ≡ line (get_or xs i d) ++ flat_map line (drop (i + 1) xs)
 here {A} line xs i d lt = ap (λ (ys : List A). flat_map line ys) (drop_more xs i d lt)

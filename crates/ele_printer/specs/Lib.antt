@@ -9,3 +9,4 @@ pub mod Printed
 pub mod Prints
 pub mod PutsParts
 pub mod Value
+pub mod Why

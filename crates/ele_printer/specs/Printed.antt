@@ -5,10 +5,9 @@ use Rattle.std.specs.List.{flat_map, join_with_byte}
 use Rattle.std.specs.Io.KnownBytes.{Appends}
 use Rattle.std.specs.Option.{option_map_or}
 use Rattle.ele_moment.specs.Spelled.{SpellsTimestamp}
-use Rattle.ele_world.specs.Answers.{refusal_number, refusal_name, stop_number, stop_name, which_word}
+use Rattle.ele_world.specs.AnswerText.{refusal_words, stop_words, pass_words}
 use Rattle.ele_due.specs.declared.key.Key.{Key}
 use Rattle.ele_world.specs.declared.refusal.Refusal.{Refusal}
-use Rattle.ele_world.specs.declared.refusal.Refusal.TheVariants as refusal
 use Rattle.ele_world.specs.declared.refusal.Stop.{Stop}
 use Rattle.ele_world.specs.declared.reply.Reply.{Reply}
 use Rattle.ele_world.specs.declared.reply.Reply.TheVariants.{Done, Nothing, Now, Directory, File, Handle, Version, Closed, Removed, Bytes, FileStat, DirStat, Rows, NameList, RestoreList, DueList, UsageList, GroupList, Refused}
@@ -24,7 +23,6 @@ use Rattle.ele_world.specs.declared.rows.Target.{Target}
 use Rattle.ele_world.specs.declared.rows.Target.TheVariants as target
 use Rattle.ele_usage.specs.declared.usage.Usage.{Usage}
 use Rattle.ele_world.specs.declared.pass.PassEnd.{PassEnd}
-use Rattle.ele_world.specs.declared.pass.PassEnd.TheVariants.{Finished, Budget, Stopped}
 use Rattle.hex.specs.Hex.{encode_lower}
 use Rattle.ele_printer.specs.Front.{AppendsFront}
 use Rattle.ele_printer.specs.LineFault.{fault_number, fault_name}
@@ -38,17 +36,9 @@ line_text words = join_with_byte 32 words ++ 10 ∷ []
 abbrev pub key_words : Key → List (List ℕ)
 key_words key = decimal key.ripe ∷ decimal key.file ∷ decimal key.number ∷ []
 
--- what follows the name of a refusal
-abbrev pub refusal_details : Refusal → List (List ℕ)
-refusal_details (refusal.Forgotten (Some before)) = decimal before ∷ []
-refusal_details (refusal.Forgotten None) = codes "-" ∷ []
-refusal_details (refusal.Full which) = which_word which ∷ []
-refusal_details other = []
-
--- the text of a refusal: its number, its name, and what follows
+-- the text of a refusal
 abbrev pub refusal_text : Refusal → List ℕ
-refusal_text why =
-    line_text (codes "no" ∷ decimal (refusal_number why) ∷ refusal_name why ∷ refusal_details why)
+refusal_text why = line_text (codes "no" ∷ refusal_words why)
 
 -- the text of a closing, with the version that it made, if it made one
 abbrev pub closed_text : Option ℕ → List ℕ
@@ -184,21 +174,18 @@ IsReplyText (UsageList usages) text = text ≡ usage_text usages
 IsReplyText (GroupList groups) text = text ≡ groups_text groups
 IsReplyText (Refused why) text = text ≡ refusal_text why
 
--- the text of a stop: its number and its name
+-- the text of a stop
 abbrev pub stop_text : Stop → List ℕ
-stop_text stop = line_text (codes "stop" ∷ decimal (stop_number stop) ∷ stop_name stop ∷ [])
+stop_text stop = line_text (codes "stop" ∷ stop_words stop)
 
 -- the text is that of a reply, or of the stop in its place
 abbrev pub IsAnswerText : Result Reply Stop → List ℕ → Type 0
 IsAnswerText (Ok reply) text = IsReplyText reply text
 IsAnswerText (Err stop) text = text ≡ stop_text stop
 
--- the text of the end of a pass: how it ended, and how many it removed
+-- the text of the end of a pass
 abbrev pub pass_text : PassEnd → List ℕ
-pass_text (Finished removed) = line_text (codes "ok pass finished" ∷ decimal removed ∷ [])
-pass_text (Budget removed) = line_text (codes "ok pass budget" ∷ decimal removed ∷ [])
-pass_text (Stopped stop removed) =
-    line_text (codes "stop" ∷ decimal (stop_number stop) ∷ stop_name stop ∷ codes "removed" ∷ decimal removed ∷ [])
+pass_text end = line_text (pass_words end)
 
 -- the text of a bad line: the number and the name of its fault
 abbrev pub bad_text : LineFault → List ℕ

@@ -64,8 +64,8 @@ fn put_marks<W: Write>(marks: &[MarkRow], printer: &mut Printer<'_, W>) -> Resul
     Ok(())
 }
 
-// Puts what stands before a mark, and its moment, and behind a slash its end, if it has one.
-fn put_mark<W: Write>(
+/// Puts what stands before a mark, and its moment, and behind a slash its end, if it has one.
+pub(crate) fn put_mark<W: Write>(
     before: &[u8],
     mark: &MarkRow,
     printer: &mut Printer<'_, W>,

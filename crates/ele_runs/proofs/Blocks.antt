@@ -1,6 +1,8 @@
 -- The answer to a line, and its block.
 use Rattle.ele_runs.proofs.Basics.{◌≡◌, ◌≢◌, ℕ, ◌<◌, ◌≤◌, ◌+◌, Bool, true, false, List, [], ◌∷◌, length, Option, Some, None, Result, Ok, Err, ◌⊎◌, inl, inr, refl, sym, ap, subst, append_assoc, arith, nat_tests, ◌++◌, ◌-◌, ◌==◌, ◌∙◌, IsErr, length-append, slice_get}
 use Rattle.std.specs.Prelude.{not, ◌&&◌, if◌then◌else◌}
+use Rattle.std.specs.Option.{option_and_then}
+use Rattle.ele_world.specs.World.{World}
 use Rattle.ele_runs.proofs.Words.{Reply, Stop, HistoryFull, AppendsFront, Course, Outlet, Takes, TakesFront, Puts, HasRoom, recorded, MayReply, MayAnswer, as_entry, as_read, as_trim, IsBlock, IsTold, cut_block, cut_told, front_of, gone_on, heard, is_well, MayPass, Past, trimmed, PutsBlock, reply_to, world_of}
 use Rattle.ele_world.specs.declared.entry.Entry.{Entry}
 use Rattle.ele_world.specs.declared.event.Event.{Event}
@@ -8,10 +10,14 @@ use Rattle.ele_world.specs.declared.refusal.Refusal.{Refusal}
 use Rattle.ele_world.specs.declared.refusal.Stop.TheVariants.{NoMemory}
 use Rattle.ele_world.specs.declared.reply.Reply.TheVariants as reply
 use Rattle.ele_script.specs.Spells.{Asks, AsksEvent}
+use Rattle.ele_script.specs.Question.{ReadsQuestion, asked_in}
+use Rattle.ele_script.specs.Value.{WordKind}
+use Rattle.ele_script.specs.declared.question.Question.{Question}
 use Rattle.ele_script.specs.FirstFault.{IsFirstFault}
 use Rattle.ele_script.specs.Memory.{TakesMemory}
 use Rattle.ele_printer.specs.HistoryText.{history_text, trimmed_text}
 use Rattle.ele_printer.specs.Printed.{IsReplyText, stop_text, pass_text, bad_text}
+use Rattle.ele_printer.specs.Why.{ahead_text, why_text}
 use Rattle.ele_script.specs.Words.{words_of}
 use Rattle.ele_printer.specs.declared.fault.LineFault.{LineFault}
 use Rattle.ele_printer.specs.declared.fault.LineFault.TheVariants as fault
@@ -21,11 +27,15 @@ use Rattle.ele_runs.specs.Answer as answer
 use Rattle.ele_world.specs.declared.pass.PassEnd.{PassEnd}
 use Rattle.ele_world.specs.declared.pass.PassEnd.TheVariants as ends
 use Rattle.ele_runs.specs.Block.{IsText}
-use Rattle.ele_runs.specs.Said.{Hears, HearsKept, HearsNext, HasText, IsSaidText, Means, Replies, Trims, is_silent, said_front}
+use Rattle.ele_runs.specs.Explained.{IsBlockOf, IsExplained, asked_by}
+use Rattle.ele_runs.specs.Explained as explained
+use Rattle.ele_runs.specs.Said.{AsksBy, Explains, Hears, HearsKept, HearsNext, HasText, IsSaidText, Means, Replies, Trims, is_silent, said_front}
 use Rattle.ele_runs.specs.declared.end.RunEnd.{RunEnd}
 use Rattle.ele_runs.specs.declared.manner.Manner.{Manner}
 use Rattle.ele_runs.specs.declared.said.Said.{Said}
-use Rattle.ele_runs.specs.declared.said.Said.TheVariants.{Nothing, Bad, Stopped, Replied, Passed, History, Trimmed}
+use Rattle.ele_runs.specs.declared.said.Said.TheVariants.{Nothing, Bad, Stopped, Replied, Passed, History, Trimmed, Why, Ahead}
+use Rattle.ele_world.specs.declared.fate.Fate.{Fate}
+use Rattle.ele_world.specs.declared.fate.Fate.TheVariants as fate
 use Rattle.ele_runs.specs.Written.{WritesLast}
 use Rattle.ele_runs.proofs.InTime.{IsInTime, asked_in_time, some_text, told_in_time}
 use Rattle.ele_runs.proofs.Joins.{front_behind, front_then, takes_nil, takes_then}
@@ -91,6 +101,8 @@ one_meaning after (Stopped s) a b m n = m ∙ sym n
 one_meaning after (Passed e) a b m n = m ∙ sym n
 one_meaning after History a b m n = m ∙ sym n
 one_meaning after (Trimmed c) a b m n = m ∙ sym n
+one_meaning after (Why t) a b m n = absurd m
+one_meaning after (Ahead t) a b m n = absurd m
 
 -- its text is what is told
 said_text : (after : Past) (said : Said) (text : List ℕ) (a : Answer) → Means after said a → IsSaidText after said text → IsText a text
@@ -101,6 +113,8 @@ said_text after (Stopped s) text a means is = subst (λ (b : Answer). IsText b t
 said_text after (Passed e) text a means is = subst (λ (b : Answer). IsText b text) (one_meaning after (Passed e) is.0 a is.1 means) is.2
 said_text after History text a means is = subst (λ (b : Answer). IsText b text) (one_meaning after History is.0 a is.1 means) is.2
 said_text after (Trimmed c) text a means is = subst (λ (b : Answer). IsText b text) (one_meaning after (Trimmed c) is.0 a is.1 means) is.2
+said_text after (Why t) text a means is = absurd means
+said_text after (Ahead t) text a means is = absurd means
 
 -- an answer has a text
 answer_text : (before after : Past) (line : List ℕ) (said : Answer) → MayAnswer before line said after → (text : List ℕ) × IsText said text
@@ -120,27 +134,43 @@ has_text after (Stopped s) a means text = (text.0, (a, means, text.1))
 has_text after (Passed e) a means text = (text.0, (a, means, text.1))
 has_text after History a means text = (text.0, (a, means, text.1))
 has_text after (Trimmed c) a means text = (text.0, (a, means, text.1))
+has_text after (Why t) a means text = absurd means
+has_text after (Ahead t) a means text = absurd means
 
 front_run : (manner : Manner) (number byte : ℕ) (bytes : List ℕ) (after : Past) (said : Said) (a : Answer) → Means after said a
     → said_front manner number said ≡ front_of manner number (Some (byte ∷ bytes))
 front_run manner number byte bytes after Nothing a means = absurd means
+front_run manner number byte bytes after (Why t) a means = absurd means
+front_run manner number byte bytes after (Ahead t) a means = absurd means
 front_run manner number byte bytes after said a means = refl
+
+-- what is heard of a line is answered, by what is asked to be explained
+as_heard : (manner : Manner) (before after : Past) (line heard_of : Option (List ℕ)) (asked : Option (WordKind × List ℕ)) (text : List ℕ) → heard manner line ≡ heard_of → asked_by manner heard_of ≡ asked
+    → IsBlockOf asked before heard_of text after → IsBlockOf (asked_by manner (heard manner line)) before (heard manner line) text after
+as_heard manner before after line heard_of asked text same asks is =
+    subst (λ (l : Option (List ℕ)). IsBlockOf (asked_by manner l) before l text after) (sym same)
+    (subst (λ (a : Option (WordKind × List ℕ)). IsBlockOf a before heard_of text after) (sym asks) is)
 
 -- a line that is run
 kept_run : (manner : Manner) (before after : Past) (line : List ℕ) (said : Said) → 1 ≤ length line → heard manner (Some line) ≡ Some line
-    → Hears before line said after → HearsKept manner before (Some line) said after
-kept_run manner before after [] said some same hears = absurd (omega (arith, some))
-kept_run manner before after (byte ∷ bytes) said some same hears = record {
+    → asked_by manner (Some line) ≡ None → Hears before line said after → HearsKept manner before (Some line) said after
+kept_run manner before after [] said some same none hears = absurd (omega (arith, some))
+kept_run manner before after (byte ∷ bytes) said some same none hears = record {
   has_text = has_text after said hears.answer hears.means (answer_text before after (byte ∷ bytes) hears.answer hears.may);
-  block = λ text is. subst (λ (l : Option (List ℕ)). IsBlock before l text after) (sym same) (hears.answer, hears.may, said_text after said text hears.answer hears.means is);
+  block = λ text is. as_heard manner before after (Some (byte ∷ bytes)) (Some (byte ∷ bytes)) None text same none (hears.answer, hears.may, said_text after said text hears.answer hears.means is);
   front = λ number. front_run manner number byte bytes after said hears.answer hears.means ∙ ap (front_of manner number) (sym same);
 }
+
+-- what asks for no explanation asks for none in any manner
+never_asks : (explains : Bool) (line : Option (List ℕ)) → option_and_then asked_in line ≡ None → (if explains then option_and_then asked_in line else None) ≡ None
+never_asks true line none = none
+never_asks false line none = refl
 
 -- one of which nothing is heard
 kept_none : (manner : Manner) (past : Past) (line : Option (List ℕ)) → heard manner line ≡ Some [] → HearsKept manner past line Nothing past
 kept_none manner past line same = record {
   has_text = ([], refl);
-  block = λ text is. subst (λ (l : Option (List ℕ)). IsBlock past l text past) (sym same) (is, refl);
+  block = λ text is. as_heard manner past past line (Some []) None text same (never_asks manner.explain (Some []) refl) (is, refl);
   front = λ number. ap (front_of manner number) (sym same);
 }
 
@@ -171,14 +201,49 @@ some_line manner (byte ∷ bytes) is = omega arith
 pub kept_silent : (manner : Manner) (past : Past) (line : List ℕ) → is_silent manner line ≡ true → HearsKept manner past (Some line) Nothing past
 kept_silent manner past line is = kept_none manner past (Some line) (heard_none manner line is)
 
-pub kept_heard : (manner : Manner) (before after : Past) (line : List ℕ) (said : Said) → is_silent manner line ≡ false → Hears before line said after → HearsKept manner before (Some line) said after
-kept_heard manner before after line said is hears = kept_run manner before after line said (some_line manner line is) (heard_all manner line is) hears
+pub kept_heard : (manner : Manner) (before after : Past) (line : List ℕ) (said : Said) → is_silent manner line ≡ false → asked_by manner (Some line) ≡ None → Hears before line said after
+    → HearsKept manner before (Some line) said after
+kept_heard manner before after line said is none hears = kept_run manner before after line said (some_line manner line is) (heard_all manner line is) none hears
+
+-- a line that asks for an explanation
+explained_text : (past : Past) (kind : WordKind) (word : List ℕ) (said : Said) (text : List ℕ) → Explains (world_of past) said kind word → IsSaidText past said text → IsExplained (world_of past) kind word text
+explained_text past kind word (Why told) text ex is = explained.why ex.0 told ex.1 ex.2 ex.3 is
+explained_text past kind word (Ahead told) text ex is = explained.ahead ex.0 told ex.1 ex.2 ex.3 is
+explained_text past kind word (Bad f) text ex is = explained.bad f ex (said_text past (Bad f) text (answer.Bad f) refl is)
+explained_text past kind word (Stopped s) text ex is = explained.stopped (said_text past (Stopped s) text (answer.Reply (Err s)) refl is ∙ ap stop_text ex)
+explained_text past kind word said text ex is = absurd ex
+
+explained_has : (past : Past) (kind : WordKind) (word : List ℕ) (said : Said) → Explains (world_of past) said kind word → HasText past said
+explained_has past kind word (Why told) ex = (why_text told, refl)
+explained_has past kind word (Ahead told) ex = (ahead_text told, refl)
+explained_has past kind word (Bad f) ex = (bad_text f, (answer.Bad f, refl, refl))
+explained_has past kind word (Stopped s) ex = (stop_text s, (answer.Reply (Err s), refl, refl))
+explained_has past kind word said ex = absurd ex
+
+explained_front : (w : World) (kind : WordKind) (word : List ℕ) (said : Said) (manner : Manner) (number byte : ℕ) (bytes : List ℕ) → Explains w said kind word
+    → said_front manner number said ≡ front_of manner number (Some (byte ∷ bytes))
+explained_front w kind word Nothing manner number byte bytes ex = absurd ex
+explained_front w kind word said manner number byte bytes ex = refl
+
+kept_explained : (manner : Manner) (past : Past) (line : List ℕ) (kind : WordKind) (word : List ℕ) (said : Said) → 1 ≤ length line → heard manner (Some line) ≡ Some line
+    → asked_by manner (Some line) ≡ Some (kind, word) → Explains (world_of past) said kind word → HearsKept manner past (Some line) said past
+kept_explained manner past [] kind word said some same asks ex = absurd (omega (arith, some))
+kept_explained manner past (byte ∷ bytes) kind word said some same asks ex = record {
+  has_text = explained_has past kind word said ex;
+  block = λ text is. as_heard manner past past (Some (byte ∷ bytes)) (Some (byte ∷ bytes)) (Some (kind, word)) text same asks (explained_text past kind word said text ex is, refl);
+  front = λ number. explained_front (world_of past) kind word said manner number byte bytes ex ∙ ap (front_of manner number) (sym same);
+}
+
+pub kept_asked : (manner : Manner) (past : Past) (line : List ℕ) (read : Result Question LineFault) (said : Said) → is_silent manner line ≡ false → AsksBy manner line read
+    → ((kind : WordKind) (word : List ℕ) → ReadsQuestion read kind word → Explains (world_of past) said kind word) → HearsKept manner past (Some line) said past
+kept_asked manner past line read said is asks explains =
+    kept_explained manner past line asks.kind asks.word said (some_line manner line is) (heard_all manner line is) asks.asks (explains asks.kind asks.word asks.reads)
 
 -- and one that is too long
 pub kept_long : (manner : Manner) (past : Past) → HearsKept manner past None (Bad fault.LineTooLong) past
 kept_long manner past = record {
   has_text = (bad_text fault.LineTooLong, (answer.Bad fault.LineTooLong, refl, refl));
-  block = λ text is. subst (λ (l : Option (List ℕ)). IsBlock past l text past) (sym (long_heard manner)) (said_text past (Bad fault.LineTooLong) text (answer.Bad fault.LineTooLong) refl is, refl);
+  block = λ text is. as_heard manner past past None None None text (long_heard manner) (never_asks manner.explain None refl) (said_text past (Bad fault.LineTooLong) text (answer.Bad fault.LineTooLong) refl is, refl);
   front = λ number. ap (front_of manner number) (sym (long_heard manner));
 }
 
@@ -202,6 +267,18 @@ is_fine after (Passed (ends.Stopped s n)) = false
 is_fine after (Passed end) = true
 is_fine after History = true
 is_fine after (Trimmed c) = true
+is_fine after (Why (Ok f)) = true
+is_fine after (Why (Err r)) = false
+is_fine after (Ahead (Ok keys)) = true
+is_fine after (Ahead (Err r)) = false
+
+-- what becomes of a version is told by `ok`
+well_why : (told : Fate) → is_well (why_text (Ok told)) ≡ true
+well_why fate.Current = refl
+well_why fate.Open = refl
+well_why (fate.Marked group mark) = refl
+well_why (fate.Kept until level) = refl
+well_why (fate.Due since cause) = refl
 
 -- and whatever else is said by what it is
 pub well_said : (after : Past) (said : Said) (text : List ℕ) → said ≢ Replied → IsSaidText after said text → is_well text ≡ is_fine after said
@@ -214,6 +291,10 @@ well_said after (Passed (ends.Budget n)) text other is = rw (said_text after (Pa
 well_said after (Passed (ends.Stopped s n)) text other is = rw (said_text after (Passed (ends.Stopped s n)) text (answer.Pass (ends.Stopped s n)) refl is) refl
 well_said after History text other is = rw (said_text after History text (answer.History after.folded after.entries) refl is) refl
 well_said after (Trimmed c) text other is = rw (said_text after (Trimmed c) text (answer.Trimmed c) refl is) refl
+well_said after (Why (Ok f)) text other is = rw is (well_why f)
+well_said after (Why (Err r)) text other is = rw is refl
+well_said after (Ahead (Ok keys)) text other is = rw is refl
+well_said after (Ahead (Err r)) text other is = rw is refl
 
 pub well_last : (after : Past) (entry : Entry) (text : List ℕ) → Some entry ≡ slice_get after.entries (length after.entries - 1) → IsSaidText after Replied text
     → is_well text ≡ not (is_refused entry.reply)

@@ -1,6 +1,7 @@
 mod Words
 mod Basics
 pub mod Asked
+pub mod Asks
 pub mod Blocks
 pub mod Courses
 pub mod Ends

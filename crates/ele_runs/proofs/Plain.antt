@@ -2,6 +2,7 @@
 use Rattle.ele_runs.proofs.Basics.{◌≡◌, ℕ, ◌+◌, List, [], ◌∷◌, ◌++◌, Option, Some, None, Result, Ok, Err, ◌⊎◌, inl, inr, refl, sym, ap, subst, ◌∙◌}
 use Rattle.ele_runs.proofs.Courses.{manner_stays}
 use Rattle.ele_runs.proofs.Words.{AppendsFront, AreBlocks, AreTold, Course, IsBlock, IsTold, IsUnbroken, Past, begun, cut_block, cut_told, front_of, heard, line_unless_long, plain}
+use Rattle.ele_runs.specs.Explained.{IsBlockOf, asked_by}
 use Rattle.ele_runs.specs.Running.{RanPastABound, RanToAReadFault, RanToAWriteFault, RanToTheEnd}
 use Rattle.ele_runs.specs.Telling.{HasTold, ToldPastABound, ToldToAReadFault, ToldToAWriteFault, ToldToTheEnd}
 use Rattle.std.specs.Prelude.{IsErrOf}
@@ -20,10 +21,9 @@ bare manner number line block is = ap (λ (m : Manner). front_of m number line +
 
 is_block : (before after : Course) (line : Option (List ℕ)) (told : List ℕ) → before.manner ≡ plain → IsTold before line told after → IsBlock before.past line told after.past
 is_block before after line told manner is =
-    let all : heard before.manner line ≡ line = ap (λ (m : Manner). heard m line) manner in
     let text : told ≡ is.block = is.told_is ∙ bare before.manner (before.number + 1) (heard before.manner line) is.block manner in
     let past : after.past ≡ is.past = ap (λ (c : Course). c.past) is.after_is in
-    rw (text, past) (subst (λ (l : Option (List ℕ)). IsBlock before.past l is.block is.past) all is.is)
+    rw (text, past) (subst (λ (m : Manner). IsBlockOf (asked_by m (heard m line)) before.past (heard m line) is.block is.past) manner is.is)
 
 are_blocks : (before after : Course) (lines : List (List ℕ)) (text : List ℕ) → before.manner ≡ plain → AreTold before lines text after → AreBlocks before.past lines text after.past
 are_blocks before after [] text manner are = (are.0, ap (λ (c : Course). c.past) are.1)

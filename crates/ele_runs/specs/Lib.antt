@@ -2,6 +2,7 @@ pub mod Answer
 pub mod Block
 pub mod Bounds
 pub mod Course
+pub mod Explained
 pub mod Fault
 pub mod FrontOfOutput
 pub mod LineLength

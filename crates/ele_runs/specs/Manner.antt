@@ -4,7 +4,7 @@ use Rattle.ele_runs.specs.declared.manner.Manner.{Manner}
 
 -- without any option
 abbrev pub plain : Manner
-plain = record { strict = false; numbers = false; remarks = false }
+plain = record { strict = false; numbers = false; remarks = false; explain = false }
 
 -- a remark begins with `#` (35)
 abbrev pub is_remark : Option (List ℕ) → Bool

@@ -2,21 +2,33 @@
 use Rattle.std.specs.Prelude.{◌≡◌, ℕ, ◌+◌, ◌-◌, ◌==◌, Bool, true, ◌&&◌, List, [], ◌∷◌, ◌++◌, decimal, length, Option, Some, Result, Ok, Err, slice_get, if◌then◌else◌}
 use Rattle.ele_history.specs.Past.{Past, trimmed}
 use Rattle.ele_history.specs.Reply.{MayReply}
+use Rattle.ele_moment.specs.Spelled.{SpellsMoment}
+use Rattle.ele_printer.specs.Why.{ahead_text, why_text}
 use Rattle.ele_runs.specs.Answer.{Answer}
 use Rattle.ele_runs.specs.Answer as answer
-use Rattle.ele_runs.specs.Block.{IsBlock, IsText, MayAnswer}
+use Rattle.ele_runs.specs.Block.{IsText, MayAnswer}
 use Rattle.ele_runs.specs.Course.{Course, gone_on}
+use Rattle.ele_runs.specs.Explained.{IsBlockOf, asked_by}
 use Rattle.ele_runs.specs.Manner.{front_of, heard}
 use Rattle.ele_runs.specs.declared.manner.Manner.{Manner}
 use Rattle.ele_runs.specs.declared.said.Said.{Said}
-use Rattle.ele_runs.specs.declared.said.Said.TheVariants.{Nothing, Bad, Stopped, Replied, Passed, History, Trimmed}
+use Rattle.ele_runs.specs.declared.said.Said.TheVariants.{Nothing, Bad, Stopped, Replied, Passed, History, Trimmed, Why, Ahead}
+use Rattle.ele_printer.specs.declared.fault.LineFault.{LineFault}
+use Rattle.ele_script.specs.FirstFault.{IsWordFault}
+use Rattle.ele_script.specs.Question.{ReadsQuestion}
+use Rattle.ele_script.specs.Value.{WordKind, MomentWord, TaggedWord}
+use Rattle.ele_script.specs.declared.question.Question.{Question}
+use Rattle.ele_time_path.specs.Tagged.{SpellsTaggedPath}
+use Rattle.ele_time_path.specs.declared.tagged.TaggedPath.{TaggedPath}
+use Rattle.ele_world.specs.Why.{IsAhead, IsWhy}
+use Rattle.ele_world.specs.World.{World}
 use Rattle.ele_world.specs.declared.entry.Entry.{Entry}
 use Rattle.ele_world.specs.declared.event.Event.{Event}
 use Rattle.ele_world.specs.declared.refusal.Stop.{Stop}
 use Rattle.ele_world.specs.declared.refusal.Stop.TheVariants.{NoMemory}
 use Rattle.ele_world.specs.declared.reply.Reply.{Reply}
 
--- the answer that is meant, where it left this history
+-- the answer that is meant, where it left this history; an explanation is none
 abbrev pub Means : Past → Said → Answer → Type 0
 Means after Nothing said = ⊥
 Means after (Bad fault) said = said ≡ answer.Bad fault
@@ -26,6 +38,8 @@ Means after Replied said =
 Means after (Passed end) said = said ≡ answer.Pass end
 Means after History said = said ≡ answer.History after.folded after.entries
 Means after (Trimmed count) said = said ≡ answer.Trimmed count
+Means after (Why told) said = ⊥
+Means after (Ahead told) said = ⊥
 
 -- a line that is run was answered so
 pub record Hears (before : Past) (line : List ℕ) (said : Said) (after : Past) : Type 0 where
@@ -33,9 +47,11 @@ pub record Hears (before : Past) (line : List ℕ) (said : Said) (after : Past) 
   pub may : MayAnswer before line answer after
   pub means : Means after said answer
 
--- the text of what is meant
+-- the text of what is meant, or of the explanation
 abbrev pub IsSaidText : Past → Said → List ℕ → Type 0
 IsSaidText after Nothing text = text ≡ []
+IsSaidText after (Why told) text = text ≡ why_text told
+IsSaidText after (Ahead told) text = text ≡ ahead_text told
 IsSaidText after said text = (answer : Answer) × Means after said answer × IsText answer text
 
 -- it has one
@@ -50,7 +66,7 @@ said_front manner number said = if manner.numbers then decimal number ++ 32 ∷ 
 -- a line as it is kept was heard, and answered so
 pub record HearsKept (manner : Manner) (before : Past) (line : Option (List ℕ)) (said : Said) (after : Past) : Type 0 where
   pub has_text : HasText after said
-  pub block : (text : List ℕ) → IsSaidText after said text → IsBlock before (heard manner line) text after
+  pub block : (text : List ℕ) → IsSaidText after said text → IsBlockOf (asked_by manner (heard manner line)) before (heard manner line) text after
   pub front : (number : ℕ) → said_front manner number said ≡ front_of manner number (heard manner line)
 
 -- the next line was heard, and answered so
@@ -76,3 +92,18 @@ Trims before said after = ⊥
 abbrev pub is_silent : Manner → List ℕ → Bool
 is_silent manner [] = true
 is_silent manner (byte ∷ bytes) = manner.remarks && (byte == 35)
+
+-- a word of the kind, which asks for an explanation, was answered so
+abbrev pub Explains : World → Said → WordKind → List ℕ → Type 0
+Explains w (Why told) kind word = (tagged : TaggedPath) × (kind ≡ TaggedWord) × SpellsTaggedPath word tagged × IsWhy w tagged told
+Explains w (Ahead told) kind word = (moment : ℕ) × (kind ≡ MomentWord) × SpellsMoment word moment × IsAhead w moment told
+Explains w (Bad fault) kind word = IsWordFault kind word fault
+Explains w (Stopped stop) kind word = stop ≡ NoMemory
+Explains w said kind word = ⊥
+
+-- the line asks for an explanation, if the manner explains, and its word is read so
+pub record AsksBy (manner : Manner) (line : List ℕ) (read : Result Question LineFault) : Type 0 where
+  pub kind : WordKind
+  pub word : List ℕ
+  pub asks : asked_by manner (Some line) ≡ Some (kind, word)
+  pub reads : ReadsQuestion read kind word

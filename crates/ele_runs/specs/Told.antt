@@ -1,8 +1,9 @@
 -- What is written for a script, in the manner of the run.
 use Rattle.std.specs.Prelude.{◌≡◌, ℕ, ◌+◌, false, List, [], ◌∷◌, ◌++◌, Option}
 use Rattle.ele_history.specs.Past.{Past}
-use Rattle.ele_runs.specs.Block.{IsBlock, cut_block}
+use Rattle.ele_runs.specs.Block.{cut_block}
 use Rattle.ele_runs.specs.Course.{Course, gone_on}
+use Rattle.ele_runs.specs.Explained.{IsBlockOf, asked_by}
 use Rattle.ele_runs.specs.LineLength.{line_unless_long}
 use Rattle.ele_runs.specs.Manner.{front_of, heard}
 
@@ -12,7 +13,7 @@ pub record IsTold (before : Course) (line : Option (List ℕ)) (told : List ℕ)
   pub block : List ℕ
   pub past : Past
   pub goes_on : before.ended ≡ false
-  pub is : IsBlock before.past (heard before.manner line) block past
+  pub is : IsBlockOf (asked_by before.manner (heard before.manner line)) before.past (heard before.manner line) block past
   pub told_is : told ≡ front_of before.manner (before.number + 1) (heard before.manner line) ++ block
   pub after_is : after ≡ gone_on before past block
 

@@ -13,14 +13,14 @@ use crate::said::{Said, hear_kept};
 use ele_history::History;
 use ele_moment::NoMemory;
 use ele_script::{Printer, WriteFault};
-use ele_world::{Limits, Stepping};
+use ele_world::{Explaining, Limits};
 use std::alloc::Global;
 use std::io::Write;
 use std::marker::Model;
 
 /// A history, where lines are read, in which manner they are answered, and how many were.
 #[derive(Drop)]
-pub(crate) struct Keeper<C: Stepping> {
+pub(crate) struct Keeper<C: Explaining> {
     alloc: Global,
     history: History<C>,
     manner: Manner,
@@ -28,7 +28,7 @@ pub(crate) struct Keeper<C: Stepping> {
     has_ended: bool,
 }
 
-impl<C: Stepping> Model for Keeper<C> {
+impl<C: Explaining> Model for Keeper<C> {
     ghost use Rattle.ele_runs.specs.Course.{Course};
 
     ghost Value = { Course };
@@ -36,7 +36,7 @@ impl<C: Stepping> Model for Keeper<C> {
     ghost view = { λ k. record { manner = k.manner; past = k.history; number = k.lines; ended = k.has_ended } };
 }
 
-impl<C: Stepping> Keeper<C> {
+impl<C: Explaining> Keeper<C> {
     /// The history of a fresh world, before the first line.
     pub(crate) fn new(alloc: Global, limits: Limits, manner: Manner) -> Result<Keeper<C>, NoMemory>
         ensures { IfOk result (λ keeper. keeper ≡ begun manner (fresh limits)) }

@@ -4,6 +4,7 @@
 #![tactic(auto)]
 
 mod end;
+mod explained;
 mod fault;
 mod keeper;
 pub mod laws;

@@ -17,12 +17,12 @@ use crate::keeper::Keeper;
 use crate::line_buffer::{LineBuffer, kept_line};
 use crate::said::Said;
 use ele_script::{LineFault, Printer, WriteFault, put_fault};
-use ele_world::Stepping;
+use ele_world::Explaining;
 use memchr::memchr;
 use std::io::Write;
 
 // Answers the line that ends with these bytes, and begins a new one, unless that line ended the run.
-fn put_whole<C: Stepping, W: Write>(
+fn put_whole<C: Explaining, W: Write>(
     end: &[u8],
     buffer: &mut LineBuffer,
     keeper: &mut Keeper<C>,
@@ -61,7 +61,7 @@ fn line_end(bytes: &[u8]) -> Option<usize>
 
 /// Answers the lines that end in the piece, and keeps what is behind them, or the line that ended
 /// the run.
-pub(crate) fn answer_piece<C: Stepping, W: Write>(
+pub(crate) fn answer_piece<C: Explaining, W: Write>(
     piece: &[u8],
     buffer: &mut LineBuffer,
     keeper: &mut Keeper<C>,
@@ -86,7 +86,7 @@ pub(crate) fn answer_piece<C: Stepping, W: Write>(
 
 // Puts the fault of a last line without its line feed, with its number in front where lines are
 // numbered.
-fn put_cut_fault<C: Stepping, W: Write>(
+fn put_cut_fault<C: Explaining, W: Write>(
     fault: LineFault,
     keeper: &Keeper<C>,
     printer: &mut Printer<'_, W>,
@@ -102,7 +102,7 @@ fn put_cut_fault<C: Stepping, W: Write>(
 
 // Puts what is told for a last line without its line feed, which is never run, and tells by how much
 // that line counts.
-fn put_cut<C: Stepping, W: Write>(
+fn put_cut<C: Explaining, W: Write>(
     line: Option<&[u8]>,
     keeper: &Keeper<C>,
     printer: &mut Printer<'_, W>,
@@ -124,7 +124,7 @@ fn put_cut<C: Stepping, W: Write>(
 
 /// Writes all that is held and what is told for a last line without its line feed, and tells how the
 /// run ended: that line counts unless it is empty, and ends a strict run then.
-pub(crate) fn finish<C: Stepping, W: Write>(
+pub(crate) fn finish<C: Explaining, W: Write>(
     buffer: LineBuffer,
     keeper: &Keeper<C>,
     printer: &mut Printer<'_, W>,

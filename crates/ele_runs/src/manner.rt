@@ -3,8 +3,8 @@
 ghost use Rattle.std.specs.Prelude.{◌≡◌};
 ghost use Rattle.ele_runs.specs.Manner.{plain};
 
-/// In which manner a run tells its answers. Each option changes this alone: what a line is answered
-/// is never changed by one.
+/// In which manner a run tells its answers. What a line is answered that asks for no explanation is
+/// never changed by an option.
 #[derive(Clone, Copy, Debug, PartialEq, Eq)]
 pub struct Manner {
     /// The run ends at the first line that is answered `no`, `bad` or `stop`.
@@ -14,6 +14,9 @@ pub struct Manner {
     pub numbers: bool,
     /// A line that begins with `#` is a remark, and gets no answer.
     pub remarks: bool,
+    /// The lines `why T` and `ahead M` are answered too, from the world as it is. They stand in no
+    /// history, and change nothing.
+    pub explain: bool,
 }
 
 impl Manner {
@@ -25,6 +28,7 @@ impl Manner {
             strict: false,
             numbers: false,
             remarks: false,
+            explain: false,
         }
     }
 }

@@ -6,18 +6,20 @@ ghost use Rattle.ele_printer.specs.Prints.{Prints};
 ghost use Rattle.ele_runs.specs.Manner.{is_well};
 ghost use Rattle.ele_runs.specs.Said.{HasText, Hears, HearsKept, IsSaidText, Replies, Trims, is_silent, said_front};
 
+use crate::explained::{asked, explain};
 use crate::manner::Manner;
 use ele_history::History;
 use ele_printer::{put_history, put_in_front, put_trimmed};
 use ele_script::{
-    Line, LineFault, Printer, WriteFault, put_answer, put_fault, put_pass, put_stop, read_line,
+    Line, LineFault, Printer, WriteFault, put_ahead, put_answer, put_fault, put_pass, put_stop,
+    put_why, read_line,
 };
-use ele_world::{Event, PassEnd, Reply, Stepping, Stop};
+use ele_world::{Event, Explaining, Fate, KeyList, PassEnd, Refusal, Reply, Stop};
 use std::alloc::Global;
 use std::io::Write;
 
 /// What a line was answered. What the history has isn't held twice.
-#[derive(Clone, Copy)]
+#[derive(Drop)]
 pub(crate) enum Said {
     /// Nothing, as an empty line is, or a remark that is passed over.
     Nothing,
@@ -33,10 +35,14 @@ pub(crate) enum Said {
     History,
     /// How many entries its trim folded.
     Trimmed(u64),
+    /// What becomes of the version that it asks about, or why it means none.
+    Why(Result<Fate, Refusal>),
+    /// What will be due at the moment that it asks about.
+    Ahead(Result<KeyList, Refusal>),
 }
 
 /// Hears a line as it is kept, and answers it.
-pub(crate) fn hear_kept<C: Stepping>(
+pub(crate) fn hear_kept<C: Explaining>(
     alloc: Global,
     manner: Manner,
     line: Option<&[u8]>,
@@ -51,7 +57,10 @@ pub(crate) fn hear_kept<C: Stepping>(
     if is_silent(manner, line) {
         return Said::Nothing;
     }
-    hear(alloc, line, history)
+    match asked(alloc, manner, line) {
+        Some(read) => explain(&read, history),
+        None => hear(alloc, line, history),
+    }
 }
 
 // Whether a line gets no answer: an empty one, or a remark that is passed over.
@@ -64,8 +73,9 @@ fn is_silent(manner: Manner, line: &[u8]) -> bool
     }
 }
 
-// Answers a line that is neither empty nor too long. Whatever a line may ask for is done here.
-fn hear<C: Stepping>(alloc: Global, line: &[u8], history: &mut History<C>) -> Said
+// Answers a line that is neither empty nor too long. Whatever a line may ask for in every manner is
+// done here.
+fn hear<C: Explaining>(alloc: Global, line: &[u8], history: &mut History<C>) -> Said
     ensures { Hears history.old line.now result history.new }
 {
     match read_line(alloc, line) {
@@ -82,7 +92,7 @@ fn hear<C: Stepping>(alloc: Global, line: &[u8], history: &mut History<C>) -> Sa
 
 // Answers an event, whose reply stands in the history then, or the stop in its place, which leaves
 // the history.
-fn hear_event<C: Stepping>(event: Event, history: &mut History<C>) -> Said
+fn hear_event<C: Explaining>(event: Event, history: &mut History<C>) -> Said
     ensures { Replies history.old event result history.new }
 {
     match history.record(event) {
@@ -92,7 +102,7 @@ fn hear_event<C: Stepping>(event: Event, history: &mut History<C>) -> Said
 }
 
 // Folds the history.
-fn hear_trim<C: Stepping>(history: &mut History<C>) -> Said
+fn hear_trim<C: Explaining>(history: &mut History<C>) -> Said
     ensures { Trims history.old result history.new }
 {
     match history.trim() {
@@ -103,11 +113,12 @@ fn hear_trim<C: Stepping>(history: &mut History<C>) -> Said
 
 impl Said {
     /// Whether it is told by `ok`, or not at all.
-    pub(crate) fn is_well<C: Stepping>(&self, history: &History<C>) -> bool
+    pub(crate) fn is_well<C: Explaining>(&self, history: &History<C>) -> bool
         ensures { (text : List ℕ) → IsSaidText history.now self.now text → result ≡ is_well text }
     {
         match self {
             Said::Bad(_) | Said::Stopped(_) | Said::Passed(PassEnd::Stopped(_, _)) => false,
+            Said::Why(Err(_)) | Said::Ahead(Err(_)) => false,
             Said::Replied => match history.last() {
                 Some(entry) => !matches!(entry.reply, Reply::Refused(_)),
                 None => true,
@@ -134,7 +145,7 @@ impl Said {
     }
 
     /// Puts its text.
-    pub(crate) fn put<C: Stepping, W: Write>(
+    pub(crate) fn put<C: Explaining, W: Write>(
         &self,
         history: &History<C>,
         printer: &mut Printer<'_, W>,
@@ -151,12 +162,14 @@ impl Said {
             Said::Passed(end) => put_pass(end, printer),
             Said::History => put_history(history.folded(), history.entries(), printer),
             Said::Trimmed(count) => put_trimmed(*count, printer),
+            Said::Why(told) => put_why(told, printer),
+            Said::Ahead(told) => put_ahead(told, printer),
         }
     }
 }
 
 // Puts the reply of the last entry.
-fn put_last<C: Stepping, W: Write>(
+fn put_last<C: Explaining, W: Write>(
     history: &History<C>,
     printer: &mut Printer<'_, W>,
 ) -> Result<(), WriteFault>

@@ -16,7 +16,7 @@ use crate::lines::{answer_piece, finish};
 use crate::manner::Manner;
 use crate::piece::read_piece;
 use ele_script::Printer;
-use ele_world::{Limits, Stepping};
+use ele_world::{Explaining, Limits};
 use std::alloc::Global;
 use std::io::{Read, Write};
 
@@ -56,7 +56,7 @@ fn most_of(left: u64) -> usize
 }
 
 // How a run ended that this line ended.
-fn ended_by<C: Stepping>(line: LineBuffer, keeper: &Keeper<C>) -> RunEnd
+fn ended_by<C: Explaining>(line: LineBuffer, keeper: &Keeper<C>) -> RunEnd
     ensures lines { result.lines ≡ keeper.now.number }
     ensures line { result.ended_by ≡ Some line }
 {
@@ -69,7 +69,7 @@ fn ended_by<C: Stepping>(line: LineBuffer, keeper: &Keeper<C>) -> RunEnd
 // Reads pieces and answers their lines until the input ends, a line ends the run, a bound is
 // passed, or the reader or the writer fails. No piece is longer than what may still come, so that nothing is read behind the
 // byte that passes a bound.
-fn run_pieces<C: Stepping, R: Read, W: Write>(
+fn run_pieces<C: Explaining, R: Read, W: Write>(
     keeper: &mut Keeper<C>,
     reader: &mut R,
     printer: &mut Printer<'_, W>,
@@ -105,7 +105,7 @@ fn run_pieces<C: Stepping, R: Read, W: Write>(
 
 // Runs the script in pieces, over a printer of its own.
 #[tactic(auto, using(crate::proofs::Ends::told_at))]
-fn run_printed<C: Stepping, R: Read, W: Write>(
+fn run_printed<C: Explaining, R: Read, W: Write>(
     keeper: &mut Keeper<C>,
     reader: &mut R,
     writer: &mut W,
@@ -128,7 +128,7 @@ fn run_printed<C: Stepping, R: Read, W: Write>(
 /// never run as a remark either.
 ///
 /// The errors are those of `run_over`.
-pub fn run_in<C: Stepping, R: Read, W: Write>(
+pub fn run_in<C: Explaining, R: Read, W: Write>(
     manner: Manner,
     alloc: Global,
     reader: &mut R,
@@ -174,7 +174,7 @@ pub fn run_in<C: Stepping, R: Read, W: Write>(
 /// - WriteFault: the writer failed, or took no byte of some.
 /// - TooManyLines: a byte stands behind the 1,000,000th line feed, or behind 8,589,934,592 bytes;
 ///   the replies to the whole lines before are written.
-pub fn run_over<C: Stepping, R: Read, W: Write>(
+pub fn run_over<C: Explaining, R: Read, W: Write>(
     alloc: Global,
     reader: &mut R,
     writer: &mut W,

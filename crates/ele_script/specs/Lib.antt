@@ -15,3 +15,4 @@ pub mod FirstFault
 pub mod OnePolicy
 pub mod PolicyBack
 pub mod Reads
+pub mod Question

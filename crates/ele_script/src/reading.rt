@@ -94,10 +94,10 @@ fn event_in(asked: Result<Line, LineFault>) -> Result<Event, LineFault>
     }
 }
 
-// The words of a line, if it is plain words with one space between each two, and no more than a
-// command may have.
+/// The words of a line, if it is plain words with one space between each two, and no more than a
+/// command may have.
 #[tactic(auto, using(crate::proofs::Words::cut_some, crate::proofs::Words::cut_unplain, crate::proofs::Words::cut_empty, crate::proofs::Words::cut_none, crate::proofs::Words::unworded))]
-fn words_in(line: &[u8]) -> Option<ArrayVec<&[u8], MOST_WORDS>>
+pub(crate) fn words_in(line: &[u8]) -> Option<ArrayVec<&[u8], MOST_WORDS>>
     ensures found { IfSome result
         (λ words. map (λ word. word.now) words.items ≡ words_of line.now) }
     ensures worded { IsSome result → is_worded line.now ≡ true }

@@ -9,7 +9,12 @@ use crate::plays::{Fork, GiveBack, Look, Meet, Publish, Register, Take, Unite};
 use crate::stop::TryStop;
 use ele_world::{Event, Reply, Stepping, Stop};
 use std::sync::Wait;
-use std::thread;
+use std::thread::Parker;
+use std::time::Duration;
+
+// For so many microseconds a seat sleeps between two tries. A turn takes one or two, so that others have some dozens meanwhile,
+// and to sleep and to wake takes little of a processor beside them.
+const PAUSE: u64 = 100;
 
 /// Looks at the word, and so at the history so far.
 pub(crate) fn look<C: Stepping>(board: &Board<C>, place: &mut Place<C>) -> u64
@@ -69,19 +74,20 @@ fn seize<C: Stepping>(board: &Board<C>, place: &mut Place<C>) -> bool
     word % 2 == 0 && take(board, place, word)
 }
 
-// Tries until the seat has the turn, and lets others run between two tries.
+// Tries until the seat has the turn, and sleeps between two tries.
 fn wait<C: Stepping, R: Wait>(rt: &R, board: &Board<C>, place: &mut Place<C>)
     requires mine { IsOf board.now.table_id place.old }
     requires idle { IsIdle place.old.me }
     ensures place { IsSame place.old place.new }
     ensures taken { TakesTurn place.old.me place.new.me }
 {
+    let parker = Parker::new();
     let mut taken = seize(board, place);
     for _ in rt.forever() {
         if taken {
             return;
         }
-        thread::yield_now();
+        parker.park_timeout(rt, Duration::from_micros(PAUSE));
         taken = seize(board, place);
     }
     unreachable!()

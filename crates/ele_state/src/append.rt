@@ -15,7 +15,6 @@ ghost use Rattle.ele_state.specs.Source.{HasSource, IsReady, IsRoomy, appending,
 
 use crate::book::{blocks, one_version, settle_blocks};
 use crate::keys::{NewKeys, near_moment};
-use crate::mark::Asked;
 use crate::rows::Rows;
 use ele_files::{Files, Meter, Standing};
 use ele_groups::Groups;
@@ -51,16 +50,7 @@ fn ripens_alone(groups: &Groups, file: FileId, policy: &Policy, stamps: &Stamps)
         stamps.now.ended) }
 {
     match stamps.ended {
-        Some(ended) => near_moment(
-            groups,
-            &Asked::Standing,
-            file,
-            policy,
-            &None,
-            stamps.closed,
-            ended,
-        )
-        .is_some(),
+        Some(ended) => near_moment(groups, file, policy, &None, stamps.closed, ended).is_some(),
         None => false,
     }
 }
@@ -82,7 +72,6 @@ fn gained_moment(
     }
     near_moment(
         groups,
-        &Asked::Standing,
         file,
         policy,
         &Some(now),
@@ -129,7 +118,7 @@ fn new_keys(
     let own = if is_live {
         None
     } else {
-        near_moment(groups, &Asked::Standing, file, policy, &None, now, now)
+        near_moment(groups, file, policy, &None, now, now)
     };
     let number = standing.next;
     match &standing.newest {
@@ -173,15 +162,7 @@ pub fn end_moment(
     if stamps.ended.is_some() {
         return None;
     }
-    near_moment(
-        groups,
-        &Asked::Standing,
-        file,
-        &standing.policy,
-        &None,
-        stamps.closed,
-        now,
-    )
+    near_moment(groups, file, &standing.policy, &None, stamps.closed, now)
 }
 
 // The file's next version stands in the files.

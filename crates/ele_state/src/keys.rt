@@ -2,15 +2,15 @@
 ghost use Rattle.std.specs.Prelude.{◌≡◌, ◌<◌, ◌≤◌, ◌+◌, ◌^◌, ◌||◌, ◌&&◌, not, false, true, Some, None, OnOk, OnErr};
 ghost use Rattle.ele_due.specs.declared.key.Key.{Key};
 ghost use Rattle.ele_due.specs.HasKey.{has_key};
+ghost use Rattle.ele_world.specs.Cover.{cover_of};
 ghost use Rattle.ele_world.specs.Neighbours.{free_moment, near_moment};
-ghost use Rattle.ele_state.specs.Queued.{IsRekeyed, cover_asked, is_entry, is_new, key_unless};
+ghost use Rattle.ele_state.specs.Queued.{IsRekeyed, is_entry, is_new, key_unless};
 
-use crate::mark::Asked;
 use ele_due::DueQueue;
 use ele_files::{Files, Meter};
 use ele_groups::Groups;
 use ele_policy::{Policy, ripe};
-use ele_world::{Cover, FileId, Key, Moment, NoMemory, VersionNo};
+use ele_world::{FileId, Key, Moment, NoMemory, VersionNo};
 
 // Puts in the key of the version with that moment, if there is one.
 pub fn put(
@@ -80,34 +80,11 @@ pub fn take_all(queue: &mut DueQueue, keys: &[Key])
     }
 }
 
-// For how long marks keep a version of the file that closed and ended then, as they are asked.
-pub fn cover_asked(
-    groups: &Groups,
-    asked: &Asked,
-    file: FileId,
-    closed: Moment,
-    ended: Moment,
-) -> Cover
-    ensures { result ≡ cover_asked asked.now groups.now file closed (Some ended) }
-{
-    match asked {
-        Asked::Standing => groups.cover(file, closed, Some(ended)),
-        Asked::Marked(until) => {
-            Cover::until(*until).longer(groups.cover(file, closed, Some(ended)))
-        }
-        Asked::Joined(name) => groups.cover_with(name, file, closed, Some(ended)),
-        Asked::Without(name, mark) => {
-            groups.cover_without(name, *mark, file, closed, Some(ended))
-        }
-    }
-}
-
 // The ripe moment that a version of the file has under the policy while no handle reads it, which closed and ended then, and
-// beside which the next one closed at that moment, as marks are asked: not before the latest of their ends; none where one keeps
-// it for ever, or where it is never due.
+// beside which the next one closed at that moment: not before the latest end of the marks that cover it; none where one keeps it
+// for ever, or where it is never due.
 pub fn near_moment(
     groups: &Groups,
-    asked: &Asked,
     file: FileId,
     policy: &Policy,
     next_closed: &Option<Moment>,
@@ -115,11 +92,11 @@ pub fn near_moment(
     ended: Moment,
 ) -> Option<Moment>
     ensures { result
-        ≡ near_moment (cover_asked asked.now groups.now file) (Some policy.now) next_closed.now
+        ≡ near_moment (cover_of groups.now file) (Some policy.now) next_closed.now
         closed ended }
 {
     let ripe = ripe(policy, closed, ended, *next_closed)?;
-    cover_asked(groups, asked, file, closed, ended).ripe_past(ripe)
+    groups.cover(file, closed, Some(ended)).ripe_past(ripe)
 }
 
 // The ripe moment that the version has while no handle reads it; none where it isn't held, has no end, is marked for ever, or is
@@ -140,15 +117,7 @@ pub fn free_moment(
     let ended = stamps.ended?;
     let next_closed = files.next_closing(file, number, meter);
     let closed = stamps.closed;
-    near_moment(
-        groups,
-        &Asked::Standing,
-        file,
-        &policy,
-        &next_closed,
-        closed,
-        ended,
-    )
+    near_moment(groups, file, &policy, &next_closed, closed, ended)
 }
 
 // The keys that come with a version: that of the file's newest held one, which may have ended before or ends now, and its own.

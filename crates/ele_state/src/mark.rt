@@ -1,15 +1,16 @@
 //! The keys of versions that were current at marks of groups.
 ghost use Rattle.std.specs.Prelude.{◌≡◌, ◌++◌, [], IfOk, OnOk};
 ghost use Rattle.std.specs.List.{cons_option, filter_map};
+ghost use Rattle.ele_world.specs.Cover.{cover_of};
 ghost use Rattle.ele_state.specs.declared.mark.Asked.TheVariants.{Standing};
-ghost use Rattle.ele_state.specs.Queued.{key_at, keys_at, moment_asked};
+ghost use Rattle.ele_state.specs.Queued.{cover_asked, key_at, keys_at, moment_asked};
 
-use crate::keys::{cover_asked, key_unless};
+use crate::keys::key_unless;
 use crate::rows::Rows;
 use ele_files::{Files, Meter};
 use ele_groups::Groups;
 use ele_policy::ripe;
-use ele_world::{FileId, Key, Moment, Name, NoMemory, Stamps};
+use ele_world::{Cover, FileId, Key, Moment, Name, NoMemory, Stamps};
 
 // Which marks are asked: those that stand, or those that will once groups have changed.
 #[derive(Clone, Copy)]
@@ -22,6 +23,32 @@ pub enum Asked {
     Joined(Name),
     // Those but that mark of the group, or all its marks.
     Without(Name, Option<Moment>),
+}
+
+// For how long marks keep a version of the file that closed and ended then, as they are asked, where those that stand keep it for
+// so long: where marks only come, these aren't looked at again.
+fn cover_asked(
+    groups: &Groups,
+    asked: &Asked,
+    standing: &Cover,
+    file: FileId,
+    closed: Moment,
+    ended: Moment,
+) -> Cover
+    requires { standing.now ≡ cover_of groups.now file closed (Some ended) }
+    ensures { result ≡ cover_asked asked.now groups.now file closed (Some ended) }
+{
+    match asked {
+        Asked::Standing => *standing,
+        Asked::Marked(until) => Cover::until(*until).longer(*standing),
+        Asked::Joined(name) => {
+            let of_group = groups.cover_by_group(name, closed, Some(ended));
+            of_group.longer(*standing)
+        }
+        Asked::Without(name, mark) => {
+            groups.cover_without(name, *mark, file, closed, Some(ended))
+        }
+    }
 }
 
 // The ripe moments that the file's version of these stamps has now, and as marks are asked; none where a handle reads it, where
@@ -52,10 +79,9 @@ fn moments_at(
     let Some(ripe) = ripe(&policy, closed, ended, next_closed) else {
         return (None, None);
     };
-    (
-        cover_asked(groups, &Asked::Standing, file, closed, ended).ripe_past(ripe),
-        cover_asked(groups, asked, file, closed, ended).ripe_past(ripe),
-    )
+    let standing = groups.cover(file, closed, Some(ended));
+    let then = cover_asked(groups, asked, &standing, file, closed, ended);
+    (standing.ripe_past(ripe), then.ripe_past(ripe))
 }
 
 // The keys that come and go, as marks are asked, of the file's version that was current at the mark.

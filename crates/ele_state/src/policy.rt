@@ -8,7 +8,7 @@ ghost use Rattle.ele_state.specs.Queued.{IsTold, key_under, unread_under};
 
 use crate::State;
 use crate::keys::{key_unless, near_moment, put_all, take_all};
-use crate::mark::{Asked, add_key};
+use crate::mark::add_key;
 use ele_files::{Files, Meter};
 use ele_groups::Groups;
 use ele_policy::Policy;
@@ -71,8 +71,8 @@ fn moments_of(
     let next = files.next_closing(file, stamps.number, &mut Meter::new());
     let closed = stamps.closed;
     (
-        near_moment(groups, &Asked::Standing, file, one, &next, closed, ended),
-        near_moment(groups, &Asked::Standing, file, other, &next, closed, ended),
+        near_moment(groups, file, one, &next, closed, ended),
+        near_moment(groups, file, other, &next, closed, ended),
     )
 }
 

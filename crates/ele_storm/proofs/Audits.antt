@@ -9,7 +9,7 @@ use Rattle.ele_shared.specs.Running.{entries_of, has, own_of}
 use Rattle.ele_shared.specs.Seats.{AreNew, IsNew}
 use Rattle.ele_world.specs.Bounds.{Bounds}
 use Rattle.ele_storm.specs.declared.plan.StormPlan.{StormPlan}
-use Rattle.ele_storm.specs.Audited.{IsAudited}
+use Rattle.ele_storm.specs.Audited.{AreOfOne, IsAudited, IsBegun}
 use Rattle.ele_storm.specs.Plan.{storm_events}
 use Rattle.ele_storm.proofs.Halving.{length-entries_of}
 
@@ -28,12 +28,19 @@ own_is_short : (ns : List ℕ) (calls : List Call) → length (own_of ns calls) 
 own_is_short ns [] = omega arith
 own_is_short ns (call ∷ calls) = short_cond (has ns call.by) call calls (own_of ns calls) (own_is_short ns calls)
 
-pub audited : (limits : Bounds) (plan : StormPlan) (events : ℕ) (equal : Bool) (opening after : Past) (first last : Knowledge) → opening ≡ fresh limits → first.own ≡ [] → events ≡ storm_events plan
-    → length last.own ≡ length first.own + events → Closes opening last after → IsTrue equal → IsAudited limits plan events equal
-audited limits plan events equal opening after first last is none count more closes all = record {
-  count = count;
+pub calls_stand : (opening after : Past) (last : Knowledge) → Closes opening last after → AreOfOne opening (length last.own)
+calls_stand opening after last closes = record {
   history = entries_of closes.log;
-  legal = subst (λ (p : Past). IsLegal (world_of p) (entries_of closes.log)) is closes.legal;
-  stand = omega (arith, more, ap length none, ap length closes.own, own_is_short last.numbers closes.log, length-entries_of closes.log);
+  legal = closes.legal;
+  stand = omega (arith, ap length closes.own, own_is_short last.numbers closes.log, length-entries_of closes.log);
+}
+
+pub audited : (limits : Bounds) (plan : StormPlan) (events : ℕ) (equal : Bool) (object : Object) (first last : Knowledge) → IsBegun limits object first → events ≡ storm_events plan
+    → length last.own ≡ length first.own + events → AreOfOne object.opening (length last.own) → IsTrue equal → IsAudited limits plan events equal
+audited limits plan events equal object first last begun count more of all = record {
+  count = count;
+  history = of.history;
+  legal = subst (λ (p : Past). IsLegal (world_of p) of.history) begun.opening of.legal;
+  stand = omega (arith, of.stand, more, ap length begun.own);
   is_equal = all;
 }

@@ -1,6 +1,8 @@
 -- What a storm over a history of its own came to.
-use Rattle.std.specs.Prelude.{◌≡◌, ℕ, ◌≤◌, Bool, List, length, IsTrue}
+use Rattle.std.specs.Prelude.{◌≡◌, ℕ, ◌≤◌, Bool, List, [], length, IsTrue}
 use Rattle.ele_history.specs.Legal.{IsLegal}
+use Rattle.ele_history.specs.Past.{Past, fresh, world_of}
+use Rattle.ele_shared.specs.Knowledge.{Knowledge, Object}
 use Rattle.ele_world.specs.Bounds.{Bounds}
 use Rattle.ele_world.specs.declared.entry.Entry.{Entry}
 use Rattle.ele_world.specs.World.{fresh_world}
@@ -15,3 +17,15 @@ pub record IsAudited (limits : Bounds) (plan : StormPlan) (events : ℕ) (equal 
   pub legal : IsLegal (fresh_world limits) history
   pub stand : events ≤ length history
   pub is_equal : IsTrue equal
+
+-- a fresh history is shared, and its seat has made no call
+pub record IsBegun (limits : Bounds) (object : Object) (seat : Knowledge) : Type 0 where
+  pub opening : object.opening ≡ fresh limits
+  pub of : seat.object ≡ object
+  pub own : seat.own ≡ []
+
+-- so many calls stand in a legal history behind the opening one
+pub record AreOfOne (opening : Past) (calls : ℕ) : Type 0 where
+  pub history : List Entry
+  pub legal : IsLegal (world_of opening) history
+  pub stand : calls ≤ length history

@@ -1,6 +1,6 @@
 //! A storm over a history of its own, with an audit behind it.
-ghost use Rattle.std.specs.Prelude.{◌≡◌, IfOk, IsTrue, []};
-ghost use Rattle.ele_storm.specs.Audited.{IsAudited};
+ghost use Rattle.std.specs.Prelude.{◌≡◌, IfOk, IsTrue, length};
+ghost use Rattle.ele_storm.specs.Audited.{AreOfOne, IsAudited, IsBegun};
 
 use crate::fault::AuditFault;
 use crate::meet::Meet;
@@ -27,19 +27,22 @@ pub fn storm_and_audit<C: Auditable + Send, R: Threads + Wait + Sync, M: Meet + 
 ) -> Result<(u64, bool), AuditFault>
     ensures { IfOk result (λ told. IsAudited limits plan.now told.0 told.1) }
 {
-    let history = History::<C>::new(alloc, limits)?;
-    let (shared, mut seat) = share(alloc, history)?;
+    let (shared, mut seat) = share_fresh::<C>(alloc, limits)?;
     let events = storm(rt, alloc, &shared, &mut seat, plan, meet)?;
-    let history = shared.close(seat)?;
-    let equal = is_equal(history.core())?;
+    let equal = close_and_audit(shared, seat)?;
     Ok((events, equal))
 }
 
-// The history's object, and its seat.
-fn share<C: Stepping>(alloc: Global, history: History<C>) -> Result<(Shared<C>, Seat<C>), NoMemory>
-    ensures { IfOk result (λ made. (made.0.opening ≡ history) × (made.1.object ≡ made.0)
-        × (made.1.own ≡ [])) }
+/// A fresh history of these limits for many threads, and its seat, which has made no call.
+///
+/// `NoMemory` where memory is refused.
+pub fn share_fresh<C: Stepping>(
+    alloc: Global,
+    limits: Limits,
+) -> Result<(Shared<C>, Seat<C>), NoMemory>
+    ensures { IfOk result (λ made. IsBegun limits made.0 made.1) }
 {
+    let history = History::<C>::new(alloc, limits)?;
     let Ok((shared, mut seats)) = Shared::new(alloc, history, 1) else {
         return Err(NoMemory);
     };
@@ -47,6 +50,20 @@ fn share<C: Stepping>(alloc: Global, history: History<C>) -> Result<(Shared<C>, 
         unreachable!()
     };
     Ok((shared, seat))
+}
+
+/// Closes the history, and compares what its core tells with the scans of its rows: answers whether
+/// all was equal. The history is gone then.
+///
+/// `TurnHeld` where a call took the turn and never gave it back, and `NoMemory` where there is none
+/// for the scans.
+pub fn close_and_audit<C: Auditable>(shared: Shared<C>, seat: Seat<C>) -> Result<bool, AuditFault>
+    requires { seat.object ≡ shared }
+    ensures equal { IfOk result (λ equal. IsTrue equal) }
+    ensures calls { IfOk result (λ equal. AreOfOne shared.opening (length seat.own)) }
+{
+    let history = shared.close(seat)?;
+    Ok(is_equal(history.core())?)
 }
 
 // Whether what the core tells is what the scans of its rows give.

@@ -12,7 +12,7 @@ mod plan;
 mod storms;
 mod worker;
 
-pub use audited::storm_and_audit;
+pub use audited::{close_and_audit, share_fresh, storm_and_audit};
 pub use fault::{AuditFault, StormFault};
 pub use flags::Flags;
 pub use meet::{Meet, MeetEnd};

@@ -19,8 +19,9 @@ use std::thread::Threads;
 /// Sets the policy of the root, makes a file for each writer, and then lets all workers work at
 /// once, each in a thread of its own. Answers how many events these were, once all have ended.
 ///
-/// After a fault some of them were run: `NoThread` where a thread was refused, and else the fault of
-/// the worker with the lowest number.
+/// After a fault some of them were run, and it is that of the worker with the lowest number:
+/// `NoThread` of one that wasn't run since a thread was refused. One that waited for such a worker
+/// may be told before, as `Alone`.
 pub fn storm<C: Stepping + Send, R: Threads + Wait + Sync, M: Meet + Sync>(
     rt: &R,
     alloc: Global,

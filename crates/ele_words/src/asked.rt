@@ -5,6 +5,7 @@ ghost use Rattle.ele_world.specs.Bounds.{largest_bounds};
 ghost use Rattle.ele_words.specs.Asked.{IsEvents, IsAsked, IsRefusal};
 
 mod forecast;
+mod script;
 mod storm;
 
 use clap::error::ErrorKind;
@@ -15,6 +16,7 @@ use ele_runs::Manner;
 use ele_storm::StormPlan;
 use ele_world::Limits;
 use forecast::{asked_forecast, forecast};
+use script::COMMANDS;
 use std::alloc::{AllocError, Global};
 use std::{io, mem};
 use storm::{asked_storm, storm};
@@ -43,19 +45,35 @@ const BAD_EVENTS: &str = "error: --events takes a number from 1 to 1000000000, \
 const NO_COMMAND: &str =
     "error: there is no command\n\nFor more information, try 'elephant --help'.\n";
 
+const FILE_GIVEN: &str =
+    "error: the script comes on standard input, as in 'elephant run < FILE'\n\n\
+    For more information, try 'elephant run --help'.\n";
+
 const NO_WORDS: &str = "error: the words can't be read as text\n";
 
 const VERSION: &str = "0.1.0";
 
-const EXAMPLE: &str = "Example: elephant run < script
+const EXAMPLE: &str = "\
+A script is lines, and each is answered as it comes. This one saves a file, and reads it as it was:
 
-docs/SCRIPT.md tells the language of scripts.";
+    create /notes           ok file 1
+    open write /notes       ok handle 1
+    write 1 0 706c616e      ok done
+    close 1                 ok closed version 2
+    read /notes             ok bytes 4 706c616e
+
+'elephant run < FILE' runs the script in FILE, and 'elephant help script' tells all commands.";
+
+const SCRIPT: &str = "Tells the commands of scripts";
 
 const STRICT: &str = "Ends the run, with status 5, at the first line that isn't answered by `ok`";
 
 const NUMBERS: &str = "Puts the number of its line in front of each answer";
 
 const REMARKS: &str = "Passes over lines that begin with `#`";
+
+const EXPLAIN: &str =
+    "Answers `why T` and `ahead M` too: why a version is held or due, and what will be due by then";
 
 const RUN: &str = "Runs the script on standard input. A line is answered as it comes: \
     whatever whole lines have come are answered before more is read";
@@ -75,12 +93,19 @@ fn command<'a>(alloc: Global) -> Result<Command<'a>, AllocError> {
         .value_name("N")
         .help("How many events may be answered, 1 to 1000000000")
         .default_value("1000000");
+    // Whoever gives a file is told how to hand it in.
+    let file = Arg::new(alloc, "file").hide(true);
     let run = Command::new(alloc, "run")
         .about(RUN)
         .arg(events)?
+        .arg(file)?
         .arg(flag(alloc, "strict", STRICT))?
         .arg(flag(alloc, "numbers", NUMBERS))?
-        .arg(flag(alloc, "remarks", REMARKS))?;
+        .arg(flag(alloc, "remarks", REMARKS))?
+        .arg(flag(alloc, "explain", EXPLAIN))?;
+    let script = Command::new(alloc, "script")
+        .about(SCRIPT)
+        .after_help(COMMANDS);
     Command::new(alloc, "elephant")
         .about("A file system's core that keeps earlier versions")
         .version(VERSION)
@@ -89,7 +114,8 @@ fn command<'a>(alloc: Global) -> Result<Command<'a>, AllocError> {
         .arg_required_else_help(true)
         .subcommand(run)?
         .subcommand(storm(alloc)?)?
-        .subcommand(forecast(alloc)?)
+        .subcommand(forecast(alloc)?)?
+        .subcommand(script)
 }
 
 // A refusal of words in these.
@@ -98,6 +124,16 @@ fn not_understood(alloc: Global, text: &str) -> Asked
 {
     match String::from_str(alloc, text) {
         Ok(text) => Asked::NotUnderstood(text),
+        Err(_) => Asked::NoMemory,
+    }
+}
+
+// Help in these words.
+fn help(alloc: Global, text: &str) -> Asked
+    ensures { IsAsked result }
+{
+    match String::from_str(alloc, text) {
+        Ok(text) => Asked::Help(text),
         Err(_) => Asked::NoMemory,
     }
 }
@@ -126,6 +162,7 @@ fn manner_in(run: &ArgMatches) -> Manner {
         strict: run.get_flag("strict"),
         numbers: run.get_flag("numbers"),
         remarks: run.get_flag("remarks"),
+        explain: run.get_flag("explain"),
     }
 }
 
@@ -139,9 +176,15 @@ fn understood(alloc: Global, matches: &ArgMatches) -> Asked
     if let Some(forecast) = matches.subcommand_matches("forecast") {
         return asked_forecast(alloc, forecast);
     }
+    if matches.subcommand_matches("script").is_some() {
+        return help(alloc, COMMANDS);
+    }
     let Some(run) = matches.subcommand_matches("run") else {
         return not_understood(alloc, NO_COMMAND);
     };
+    if run.contains_id("file") {
+        return not_understood(alloc, FILE_GIVEN);
+    }
     match events_in(run) {
         Some(events) => run_with(alloc, events, manner_in(run)),
         None => not_understood(alloc, BAD_EVENTS),

@@ -13,7 +13,7 @@ use crate::forecasting::run_forecast;
 use crate::storming::run_storm;
 use ele_runs::{LineBuffer, Manner, RunEnd, ShellFault, run_in};
 use ele_script::{put, write_named, write_placed};
-use ele_world::{Auditable, Limits, Stepping};
+use ele_world::{Auditable, Explaining, Limits};
 use std::alloc::Global;
 use std::io;
 use std::io::{Read, Write};
@@ -36,7 +36,7 @@ pub(crate) fn after_flush<T: Drop>(
 
 // Runs the script that the reader gives in this manner under these limits, and flushes what it
 // wrote, however it ended.
-fn run_script<C: Stepping, R: Read, W: Write>(
+fn run_script<C: Explaining, R: Read, W: Write>(
     alloc: Global,
     manner: Manner,
     limits: Limits,
@@ -128,14 +128,13 @@ pub(crate) fn tell<E: Write>(fault: Option<ShellFault>, errors: &mut E) -> u8
 
 /// Does what was asked for: answers at the writer, and tells faults and words that weren't
 /// understood at the other. The result is the status that the program ends with.
-pub fn answer<C: Auditable + Send, T: Threads + Wait + Sync, R: Read, W: Write, E: Write>(
-    rt: &T,
-    alloc: Global,
-    asked: &Asked,
-    reader: &mut R,
-    writer: &mut W,
-    errors: &mut E,
-) -> u8
+pub fn answer<
+    C: Auditable + Explaining + Send,
+    T: Threads + Wait + Sync,
+    R: Read,
+    W: Write,
+    E: Write,
+>(rt: &T, alloc: Global, asked: &Asked, reader: &mut R, writer: &mut W, errors: &mut E) -> u8
     ensures { EndsWith asked.now (R.remaining reader.old) (R.remaining reader.new)
         (W.contents writer.old) (W.contents writer.new)
         (E.contents errors.old) (E.contents errors.new) result }

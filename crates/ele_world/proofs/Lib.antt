@@ -1,4 +1,5 @@
 pub mod Basics
+mod Details
 pub mod Words
 pub mod Formed
 pub mod Elements

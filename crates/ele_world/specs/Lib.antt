@@ -1,6 +1,8 @@
 pub mod Bounds
 pub mod Limits
+pub mod LimitNumbers
 pub mod Answers
+pub mod AnswerText
 pub mod World
 pub mod Walk
 pub mod NameRows
@@ -57,6 +59,7 @@ pub mod CleanKeepsKeys
 pub mod Pass
 pub mod NewPlaces
 pub mod Whole
+pub mod Why
 pub mod AnyDueLeave
 pub mod IdleLeave
 pub mod Less

@@ -1,6 +1,7 @@
 //! How much may ever be made.
 ghost use Rattle.std.specs.Prelude.{◌≡◌, ◌≤◌, ◌↔◌, IsSome, IfSome};
 ghost use Rattle.ele_world.specs.Bounds.{Bounds, AreBounds, bounds_of, largest_bounds};
+ghost use Rattle.ele_world.specs.LimitNumbers.{bounds_in};
 
 use std::marker::Model;
 
@@ -49,6 +50,45 @@ impl Model for Limits {
     ghost invariant = { λ l. AreBounds (view_of l) };
 
     ghost inverse = { fields_of };
+}
+
+/// The numbers of limits by their names, of which `Limits::of` makes limits. None of the kinds of things gives its number back
+/// when it goes.
+#[derive(Clone, Copy, Debug, PartialEq, Eq)]
+pub struct LimitNumbers {
+    /// How many replies may ever be given, of which a history keeps each: at most 1,000,000,000.
+    pub events: u64,
+    /// How many files may ever be made: at most 100,000.
+    pub files: u64,
+    /// How many directories may ever be made, without the root: at most 10,000.
+    pub directories: u64,
+    /// How many names may ever be given, by each event that makes one, revives one or renames: at most 200,000.
+    pub names: u64,
+    /// How many versions may ever be made, with the drafts that are open: at most 1,000,000.
+    pub versions: u64,
+    /// How many handles may ever be opened: at most 1,000,000.
+    pub handles: u64,
+    /// How many groups may ever be made: at most 1,000.
+    pub groups: u64,
+    /// How many times files may ever be added to groups: at most 100,000.
+    pub members: u64,
+    /// How many marks may ever be made: at most 10,000.
+    pub marks: u64,
+}
+
+impl LimitNumbers {
+    /// The largest of each.
+    pub const LARGEST: LimitNumbers = LimitNumbers {
+        events: MOST_EVENTS,
+        files: MOST_FILES,
+        directories: MOST_DIRECTORIES,
+        names: MOST_NAMES,
+        versions: MOST_VERSIONS,
+        handles: MOST_HANDLES,
+        groups: MOST_GROUPS,
+        members: MOST_MEMBERS,
+        marks: MOST_MARKS,
+    };
 }
 
 /// How much was ever made.
@@ -108,6 +148,24 @@ impl Limits {
             members,
             marks,
         })
+    }
+
+    /// The limits of these numbers; none where one is above its largest.
+    pub fn of(numbers: LimitNumbers) -> Option<Limits>
+        ensures valid { IsSome result ↔ AreBounds (bounds_in numbers) }
+        ensures value { IfSome result (λ limits. limits ≡ bounds_in numbers) }
+    {
+        Limits::new([
+            numbers.events,
+            numbers.files,
+            numbers.directories,
+            numbers.names,
+            numbers.versions,
+            numbers.handles,
+            numbers.groups,
+            numbers.members,
+            numbers.marks,
+        ])
     }
 
     /// The largest limits.

@@ -1,10 +1,13 @@
 //! Refusals and stops, each with its number and name.
-ghost use Rattle.std.specs.Prelude.{◌≡◌};
+ghost use Rattle.std.specs.Prelude.{◌≡◌, Some};
 ghost use Rattle.ele_world.specs.Answers.{refusal_number, refusal_name, stop_number, stop_name, which_word};
+ghost use Rattle.ele_world.specs.AnswerText.{words_text, refusal_words, stop_words};
 
 use ele_moment::VersionNo;
+use std::error::Error;
+use std::fmt;
 
-/// What a limit counts.
+/// What a limit counts. It is displayed as its word in scripts, `files`.
 #[derive(Clone, Copy, Debug, PartialEq, Eq)]
 pub enum Which {
     Files,
@@ -35,7 +38,8 @@ impl Which {
     }
 }
 
-/// Why a command was refused. The reply stands in the history, and nothing else has changed.
+/// Why a command was refused. The reply stands in the history, and nothing else has changed. It is displayed as scripts print
+/// it behind `no`: `5 NoEntry`, `13 Forgotten 2`, `27 Full files`.
 #[derive(Clone, Copy, Debug, PartialEq, Eq)]
 pub enum Refusal {
     /// The moment is earlier than now.
@@ -92,7 +96,8 @@ pub enum Refusal {
     NotAhead,
 }
 
-/// Why a command was not run: it stands in no history, and nothing has changed.
+/// Why a command was not run: it stands in no history, and nothing has changed. It is displayed as scripts print it behind
+/// `stop`: `1 NoMemory`.
 #[derive(Clone, Copy, Debug, PartialEq, Eq)]
 pub enum Stop {
     NoMemory,
@@ -190,3 +195,40 @@ impl Stop {
         }
     }
 }
+
+impl fmt::Display for Which {
+    ghost output = { λ which. Some (which_word which) };
+
+    fn fmt<W: fmt::Write>(&self, f: &mut fmt::Formatter<W>) -> fmt::Result {
+        f.write_str(self.word())
+    }
+}
+
+impl fmt::Display for Refusal {
+    ghost output = { λ why. Some (words_text (refusal_words why)) };
+
+    fn fmt<W: fmt::Write>(&self, f: &mut fmt::Formatter<W>) -> fmt::Result {
+        let (number, name) = (self.number(), self.name());
+        match self {
+            Refusal::Forgotten(before) => match before {
+                Some(VersionNo(before)) => write!(f, "{number} {name} {before}"),
+                None => write!(f, "{number} {name} -"),
+            },
+            Refusal::Full(which) => write!(f, "{number} {name} {which}"),
+            _ => write!(f, "{number} {name}"),
+        }
+    }
+}
+
+impl Error for Refusal {}
+
+impl fmt::Display for Stop {
+    ghost output = { λ stop. Some (words_text (stop_words stop)) };
+
+    fn fmt<W: fmt::Write>(&self, f: &mut fmt::Formatter<W>) -> fmt::Result {
+        let (number, name) = (self.number(), self.name());
+        write!(f, "{number} {name}")
+    }
+}
+
+impl Error for Stop {}

@@ -7,7 +7,11 @@ ghost use Rattle.ele_words.specs.Asked.{IsAsked};
 
 use ele_core::Core;
 use ele_words::{Asked, answer, no_words, words};
+use std::io::{IsTerminal, Write};
 use std::process::ExitCode;
+
+const GREETING: &str = "elephant: each line is answered as it comes, and Ctrl-D ends the run; \
+    'elephant help script' tells the commands\n";
 
 // What the program's words ask for.
 fn asked_for(rt: &HostRuntime) -> Asked
@@ -22,8 +26,16 @@ fn asked_for(rt: &HostRuntime) -> Asked
     }
 }
 
+// A person at a terminal is told what a run waits for, on standard error alone.
+fn greet(rt: &HostRuntime, asked: &Asked) {
+    if matches!(asked, Asked::Run(_, _)) && rt.stdin().is_terminal() {
+        let _ = rt.stderr().write_all(GREETING.as_bytes());
+    }
+}
+
 fn main(rt: HostRuntime) -> ExitCode {
     let asked = asked_for(&rt);
+    greet(&rt, &asked);
     let mut input = rt.stdin();
     let mut output = rt.stdout();
     let mut errors = rt.stderr();

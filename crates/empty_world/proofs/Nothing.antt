@@ -9,6 +9,7 @@ use Rattle.ele_policy.specs.declared.policy.Policy.{Policy}
 use Rattle.ele_time_path.specs.declared.tagged.Tag.TheVariants as tag
 use Rattle.ele_usage.specs.declared.usage.Usage.{Usage}
 use Rattle.ele_world.specs.Bounds.{Bounds, AreBounds}
+use Rattle.ele_world.specs.Change.{Time, after_change}
 use Rattle.ele_world.specs.Scan.{scan}
 use Rattle.ele_world.specs.AlwaysWellFormed.{FreshIsWellFormed, StepKeepsWellFormed}
 use Rattle.ele_world.specs.Step.{step}
@@ -54,6 +55,10 @@ usage_none w is = rw is.3 refl
 pub nothing_due : (w : World) → IsEmpty w → [] ≡ scan w
 unfolding scan
 nothing_due w is = rw is.3 refl
+
+pub nothing_ahead : (w : World) (moment : ℕ) → IsEmpty w → [] ≡ scan (after_change w (Time moment))
+unfolding scan
+nothing_ahead w moment is = rw is.3 refl
 
 pub nothing_returns : (w : World) → IsEmpty w → [] ≡ restorable w
 unfolding restorable

@@ -15,8 +15,8 @@ use ele_time_path::{Path, Tag, TaggedPath};
 use ele_usage::Usage;
 use ele_world::laws::{fresh_is_well_formed, step_keeps_well_formed};
 use ele_world::{
-    Auditable, Counts, DeadNameList, DirId, DirectoryRow, Event, Flat, KeyList, Limits, ListOf,
-    NoMemory, Refusal, Reply, Stepping,
+    Auditable, Counts, DeadNameList, DirId, DirectoryRow, Event, Explaining, Fate, Flat, KeyList,
+    Limits, ListOf, NoMemory, Refusal, Reply, Stepping,
 };
 use std::alloc::Global;
 use std::marker::Model;
@@ -231,5 +231,25 @@ impl Auditable for EmptyWorld {
             blocks: 0,
         };
         [nothing, nothing, nothing, nothing]
+    }
+}
+
+impl Explaining for EmptyWorld {
+    fn fate_at(&self, tagged: &TaggedPath) -> Result<Fate, Refusal> {
+        if let Tag::At(moment) = tagged.tag() {
+            if self.now.seconds() < moment.seconds() {
+                return Err(Refusal::Future);
+            }
+        }
+        if !tagged.path().names().is_empty() {
+            return Err(Refusal::NoEntry);
+        }
+        Err(Refusal::IsDirectory)
+    }
+
+    #[tactic(auto, using(crate::proofs::Nothing::nothing_ahead))]
+    fn due_by(&self, moment: Moment) -> Result<KeyList, NoMemory> {
+        self.is_empty();
+        Ok(ListOf::new(self.alloc))
     }
 }

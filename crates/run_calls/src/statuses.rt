@@ -203,3 +203,35 @@ fn a_storm_without_memory_is_told(rt: HostRuntime) -> Result<(), Fail> {
     assert!(rt; writer.is_empty());
     Ok(())
 }
+
+// Explanations count as other lines do.
+#[test]
+fn a_refused_why_ends_a_strict_run(rt: HostRuntime) -> Result<(), Fail> {
+    let alloc = rt.alloc();
+    let manner = Manner {
+        strict: true,
+        explain: true,
+        ..Manner::plain()
+    };
+    let mut reader = b"tick 3\nahead 3\nwhy /f\nwhy /\n".as_slice();
+    let mut writer = Vec::new(alloc);
+    let mut errors = Vec::new(alloc);
+    let status = do_over_empty(
+        &rt,
+        alloc,
+        &Asked::Run(Limits::largest(), manner),
+        &mut reader,
+        &mut writer,
+        &mut errors,
+    );
+    assert_eq!(rt; status, 5);
+    assert_eq!(rt;
+        writer.as_slice(),
+        b"ok now 3 1970-01-01T00:00:03Z\nok ahead 0\nno 5 NoEntry\n".as_slice()
+    );
+    assert_eq!(rt;
+        errors.as_slice(),
+        b"elephant: line 3 ended the run: why /f\n".as_slice()
+    );
+    Ok(())
+}

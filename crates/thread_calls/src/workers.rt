@@ -1,37 +1,10 @@
 //! Workers of a storm by themselves, and the flags where they arrive.
-use crate::seats::opened;
-use ele_storm::{Flags, Meet, MeetEnd, StormFault, StormPlan, work};
-use ele_world::Stepping;
+use ele_storm::{Flags, Meet, MeetEnd, StormFault, StormPlan, share_fresh, work};
+use ele_world::{Limits, Stepping};
 use empty_world::EmptyWorld;
 use std::alloc::Global;
 use std::sync::Wait;
 use std::test::Fail;
-
-/// Lets each worker go on.
-#[derive(Drop)]
-struct Open;
-
-impl Meet for Open {
-    fn arrive(&self, _worker: u32) -> MeetEnd {
-        MeetEnd::Met
-    }
-}
-
-/// What the cleaner of a small plan is answered.
-fn clean_twice<C: Stepping, R: Wait>(
-    rt: &R,
-    alloc: Global,
-) -> Result<Result<u64, StormFault>, Fail> {
-    let (shared, mut seat, _other) = opened::<C>(alloc, 1_000)?;
-    let plan = StormPlan::new(1, 1, 2).ok_or("there is such a plan")?;
-    Ok(work(rt, alloc, &shared, &mut seat, &plan, 2, &Open))
-}
-
-#[test]
-fn a_cleaner_has_one_event_a_round(rt: HostRuntime) -> Result<(), Fail> {
-    assert_eq!(rt; clean_twice::<EmptyWorld, _>(&rt, rt.alloc())?, Ok(2));
-    Ok(())
-}
 
 /// What the first of four workers is answered that arrives before the others, and how many events
 /// there are then.
@@ -39,7 +12,7 @@ fn work_first<C: Stepping, R: Wait>(
     rt: &R,
     alloc: Global,
 ) -> Result<(Result<u64, StormFault>, u64), Fail> {
-    let (shared, mut seat, _other) = opened::<C>(alloc, 1_000)?;
+    let (shared, mut seat) = share_fresh::<C>(alloc, Limits::largest())?;
     let plan = StormPlan::new(2, 1, 10).ok_or("there is such a plan")?;
     let flags = Flags::new(alloc, 4, 10_000)?;
     let ended = work(rt, alloc, &shared, &mut seat, &plan, 0, &flags);

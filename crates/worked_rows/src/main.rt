@@ -2,6 +2,8 @@
 #![tactic(auto)]
 
 use anyhow::{Context, Result, anyhow};
+use ele_core::Core;
+use ele_runs::{Manner, run_in};
 use ele_shell::run;
 use ele_world::Limits;
 use std::fs;
@@ -65,6 +67,9 @@ const LIMITED: [(&str, [u64; 9]); 24] = [
     ("each_limit_is_one", [99, 1, 1, 1, 99, 1, 1, 1, 1]),
 ];
 
+/// Scripts under the largest limits whose lines `why` and `ahead` are answered.
+const EXPLAINED: [&str; 2] = ["explained_landmarks", "explained_policies"];
+
 /// What the script prints.
 fn printed(rt: &HostRuntime, name: &str, limits: Limits) -> Result<String> {
     let script = fs::read(rt, format!(in rt.alloc(); "{name}.script")?)?;
@@ -75,10 +80,30 @@ fn printed(rt: &HostRuntime, name: &str, limits: Limits) -> Result<String> {
     }
 }
 
-/// Tells whether the script prints what it is to print; prints both where it doesn't.
-fn compare(rt: &HostRuntime, name: &str, limits: Limits) -> Result<()> {
+/// What the script prints where the run explains.
+fn explained(rt: &HostRuntime, name: &str) -> Result<String> {
+    let script = fs::read(rt, format!(in rt.alloc(); "{name}.script")?)?;
+    let mut text = Vec::new(rt.alloc());
+    let manner = Manner {
+        explain: true,
+        ..Manner::plain()
+    };
+    let mut reader = script.as_slice();
+    match run_in::<Core, _, _>(
+        manner,
+        rt.alloc(),
+        &mut reader,
+        &mut text,
+        Limits::largest(),
+    ) {
+        Ok(_ran) => Ok(String::from_utf8(text)?),
+        Err(fault) => Err(anyhow!("{name}: {fault}")),
+    }
+}
+
+/// Tells whether the script printed what it is to print; prints both where it didn't.
+fn compare(rt: &HostRuntime, name: &str, printed: &String) -> Result<()> {
     let wanted = fs::read_to_string(rt, format!(in rt.alloc(); "{name}.output")?)?;
-    let printed = printed(rt, name, limits)?;
     if printed.as_str() == wanted.as_str() {
         println!(rt; "{name}: as worked")?;
     } else {
@@ -90,11 +115,14 @@ fn compare(rt: &HostRuntime, name: &str, limits: Limits) -> Result<()> {
 fn main(rt: HostRuntime) -> Result<()> {
     let rows = fs::read_to_string(&rt, ROWS)?;
     for name in rows.lines() {
-        compare(&rt, name, Limits::largest())?;
+        compare(&rt, name, &printed(&rt, name, Limits::largest())?)?;
     }
     for (name, numbers) in LIMITED {
         let limits = Limits::new(numbers).context("no limits")?;
-        compare(&rt, name, limits)?;
+        compare(&rt, name, &printed(&rt, name, limits)?)?;
+    }
+    for name in EXPLAINED {
+        compare(&rt, name, &explained(&rt, name)?)?;
     }
     Ok(())
 }

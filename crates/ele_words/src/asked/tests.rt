@@ -59,6 +59,13 @@ fn a_run_has_a_manner(rt: HostRuntime) -> Result<(), Fail> {
         })
     );
     assert_eq!(rt;
+        manner_of(alloc, &["elephant", "run", "--explain"])?,
+        Some(Manner {
+            explain: true,
+            ..plain
+        })
+    );
+    assert_eq!(rt;
         manner_of(
             alloc,
             &["elephant", "run", "--numbers", "--events", "5", "--remarks"]
@@ -172,9 +179,10 @@ fn other_words_are_not_understood(rt: HostRuntime) -> Result<(), Fail> {
 
 #[test]
 fn help_is_given_to_those_who_ask(rt: HostRuntime) -> Result<(), Fail> {
-    let asking: [&[&str]; 3] = [
+    let asking: [&[&str]; 4] = [
         &["elephant", "--help"],
         &["elephant", "help"],
+        &["elephant", "help", "script"],
         &["elephant", "run", "--help"],
     ];
     for texts in asking {

@@ -1,8 +1,7 @@
-use Rattle.std.proofs.Common.{◌∙◌}
 use Rattle.ele_storm.proofs.Audits.{audited}
 use Rattle.ele_storm.proofs.audited.storm_and_audit.Goals as goal
 
 pub returns : goal.returns
 returns g c =
-    audited c.args.limits c.args.plan.now c.in_ok-events.events c.in_ok-equal.equal c.in_ok-shared.shared.opening c.in_ok-history-2.history c.in_ok-shared.seat c.storm.new.seat
-    (c.in_ok-shared.ensures.0 ∙ c.in_ok-history.ensures) c.in_ok-shared.ensures.2 c.in_ok-events.ensures.count c.in_ok-events.ensures.own c.in_ok-history-2.ensures c.in_ok-equal.ensures
+    audited c.args.limits c.args.plan.now c.in_ok-events.events c.in_ok-equal.equal c.in_ok-shared.shared c.in_ok-shared.seat c.storm.new.seat c.in_ok-shared.ensures
+    c.in_ok-events.ensures.count c.in_ok-events.ensures.own c.in_ok-equal.ensures.calls c.in_ok-equal.ensures.equal

@@ -1,4 +1,4 @@
-use Rattle.ele_groups.proofs.Times.{timed_with, timed_still}
+use Rattle.ele_groups.proofs.Times.{timed_with}
 use Rattle.ele_groups.proofs.marks.Marks.add.Goals as goal
 
 pub invariant_of-self-2 : goal.invariant_of-self-2

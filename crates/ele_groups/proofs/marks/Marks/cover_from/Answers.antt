@@ -1,4 +1,4 @@
-use Rattle.ele_groups.proofs.Basics.{nat_tests, arith}
+use Rattle.ele_groups.proofs.Basics.{arith}
 use Rattle.ele_groups.proofs.Times.{between_more}
 use Rattle.ele_groups.proofs.marks.Marks.cover_from.Goals as goal
 

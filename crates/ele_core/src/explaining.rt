@@ -1,0 +1,32 @@
+//! A core tells why a version is held, and which will be due. A contract of what is generic over both sees it as its flat world.
+ghost use Rattle.ele_world.specs.Why.{IsWhy};
+
+use crate::Core;
+use crate::halt::passed;
+use ele_state::Meter;
+use ele_world::{Explaining, Fate, KeyList, Moment, NoMemory, Refusal, TaggedPath};
+
+impl Core {
+    /// What becomes of the version that the path and its tag mean, and why, as `fate` tells it. It takes no memory. Refused:
+    /// `Future`, `NoEntry`, `NotDirectory`, `IsDirectory`, `NoVersion`, `Forgotten`.
+    #[tactic(auto, using(crate::proofs::Meant::fate_is, crate::proofs::Meant::fate_refused))]
+    pub fn fate_at(&self, tagged: &TaggedPath) -> Result<Fate, Refusal>
+        ensures { IsWhy self.now.world tagged.now result }
+    {
+        let (file, stamps) = passed!(self.state.version_at(tagged, &mut Meter::new()));
+        match self.state.fate(file, stamps.number) {
+            Some(fate) => Ok(fate),
+            None => unreachable!(),
+        }
+    }
+}
+
+impl Explaining for Core {
+    fn fate_at(&self, tagged: &TaggedPath) -> Result<Fate, Refusal> {
+        Core::fate_at(self, tagged)
+    }
+
+    fn due_by(&self, moment: Moment) -> Result<KeyList, NoMemory> {
+        Core::due_by(self, moment)
+    }
+}

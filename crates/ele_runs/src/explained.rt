@@ -1,0 +1,62 @@
+//! Lines that ask for an explanation.
+//! A contract sees the world after all entries, and the answer.
+ghost use Rattle.std.specs.Prelude.{◌≡◌, ℕ, List, IfSome, IfNone};
+ghost use Rattle.ele_history.specs.Past.{world_of};
+ghost use Rattle.ele_runs.specs.Explained.{asked_by};
+ghost use Rattle.ele_runs.specs.Said.{AsksBy, Explains};
+ghost use Rattle.ele_moment.specs.Spelled.{SpellsMoment};
+ghost use Rattle.ele_script.specs.Question.{ReadsQuestion};
+ghost use Rattle.ele_script.specs.Value.{WordKind, MomentWord};
+
+use crate::manner::Manner;
+use crate::said::Said;
+use ele_history::History;
+use ele_script::{LineFault, Question, read_question};
+use ele_world::{Explaining, Moment, Refusal, Stop};
+use std::alloc::Global;
+
+/// What the line asks to be explained, if the manner explains.
+#[tactic(auto, using(crate::proofs::Asks::asks_by, crate::proofs::Asks::asks_none, crate::proofs::Asks::never_asked))]
+pub(crate) fn asked(
+    alloc: Global,
+    manner: Manner,
+    line: &[u8],
+) -> Option<Result<Question, LineFault>>
+    ensures some { IfSome result (AsksBy manner line.now) }
+    ensures none { IfNone result (asked_by manner (Some line.now) ≡ None) }
+{
+    if !manner.explain {
+        return None;
+    }
+    read_question(alloc, line)
+}
+
+/// Explains what was asked, from the world as it is.
+pub(crate) fn explain<C: Explaining>(
+    read: &Result<Question, LineFault>,
+    history: &History<C>,
+) -> Said
+    ensures { (kind : WordKind) (word : List ℕ) → ReadsQuestion read.now kind word
+        → Explains (world_of history.now) result kind word }
+{
+    match read {
+        Ok(Question::Why(tagged)) => Said::Why(history.core().fate_at(tagged)),
+        Ok(Question::Ahead(moment)) => ahead(*moment, history.core()),
+        Err(LineFault::NoMemory) => Said::Stopped(Stop::NoMemory),
+        Err(fault) => Said::Bad(*fault),
+    }
+}
+
+// What will be due at the moment.
+fn ahead<C: Explaining>(moment: Moment, core: &C) -> Said
+    ensures { (word : List ℕ) → SpellsMoment word moment
+        → Explains (C.world core.now) result MomentWord word }
+{
+    if moment < core.now() {
+        return Said::Ahead(Err(Refusal::NotAhead));
+    }
+    match core.due_by(moment) {
+        Ok(keys) => Said::Ahead(Ok(keys)),
+        Err(_) => Said::Stopped(Stop::NoMemory),
+    }
+}
