@@ -3,17 +3,20 @@ use Rattle.std.proofs.Common.{◌≡◌, ℕ, suc, ◌+◌, ◌-◌, ◌<◌, �
 use Rattle.std.proofs.KnownBytes.{Appends-kept, Appends-nil, Appends-trans}
 use Rattle.std.proofs.lemmas.List.{append-nil, at_drop_all, drop_more}
 use Rattle.std.specs.Io.KnownBytes.{Appends, Keeps}
-use Rattle.std.specs.List.{flat_map, join_with_byte, range_with_len}
+use Rattle.std.specs.List.{flat_map, fold, join_with_byte, range_with_len}
 use Rattle.std.specs.Prelude.{IsErr, OnErr, OnOk, decimal}
 use Rattle.ele_printer.specs.Front.{AppendsFront}
 use Rattle.ele_printer.specs.Outlet.{HandsOver, Outlet, Puts, Takes, TakesFront}
 use Rattle.ele_printer.specs.Printed.{line_text}
+use Rattle.ele_outlook.specs.Drawing.{tie_from}
+use Rattle.ele_outlook.specs.Mark.{mark_text}
 use Rattle.ele_outlook.specs.Reading.{Writes}
 use Rattle.ele_outlook.specs.Stamp.{stamp_of, stamp_or}
 use Rattle.ele_outlook.specs.Table.{version_line}
 use Rattle.ele_outlook.specs.Why.{spaced, why_words}
 use Rattle.ele_policy.specs.declared.policy.Policy.{Policy}
 use Rattle.ele_forecast.specs.declared.forecast.Forecast.{Forecast}
+use Rattle.ele_outlook.specs.declared.page.Page.{Page}
 
 pub takes_nil : (a : Outlet) → Takes a a []
 takes_nil a = record { same = refl; sent = []; parts = append-nil a.held; written = Appends-nil a.known }
@@ -106,6 +109,26 @@ pub each_none : (line : ℕ → List ℕ) (k n : ℕ) → n ≤ k → flat_map l
 each_none line k n le =
     let e : n - k ≡ 0 = omega (arith, le) in
     ap (λ (m : ℕ). flat_map line (range_with_len k m)) e
+
+-- the numbers behind one and up to another, told by where they begin and end
+pub each_between : (line : ℕ → List ℕ) (a b first behind : ℕ) → first ≡ a + 1 → behind ≡ b + 1 → flat_map line (range_with_len (a + 1) (b - a)) ≡ flat_map line (range_with_len first (behind - first))
+each_between line a b first behind e f =
+    let n : b - a ≡ behind - first = omega (arith, e, f) in
+    ap (λ (m : ℕ). flat_map line (range_with_len (a + 1) m)) n ∙ ap (λ (k : ℕ). flat_map line (range_with_len k (behind - first))) (sym e)
+
+-- at an item of a list, it is taken in
+pub fold_more : {A B : Type 0} (f : B → A → B) (b : B) (xs : List A) (i : ℕ) (x : A) → i < length xs → x ≡ get_or xs i x → fold f b (drop i xs) ≡ fold f (f b x) (drop (i + 1) xs)
+fold_more {A} {B} f b xs i x lt is = ap (λ (ys : List A). fold f b ys) (drop_more xs i x lt) ∙ ap (λ (y : A). fold f (f b y) (drop (i + 1) xs)) (sym is)
+
+-- at the end of a list, nothing is
+pub fold_end : {A B : Type 0} (f : B → A → B) (b : B) (xs : List A) (i : ℕ) → length xs ≤ i → fold f b (drop i xs) ≡ b
+fold_end {A} f b xs i le = at_drop_all (λ (ys : List A). fold f b ys) xs i le
+
+-- a version that ties to none has no tie
+pub no_tie : (a : Outlet) (page : Page) (number : ℕ) (ripe : Option ℕ) (other : Option Forecast) → other ≡ None → Takes a a (flat_map mark_text (tie_from page number ripe other))
+no_tie a page number None other e = takes_nil a
+no_tie a page number (Some ripe) None e = takes_nil a
+no_tie a page number (Some ripe) (Some other) e = absurd cc
 
 -- joined words are the first, and each other with a space in front
 pub joined : (first : List ℕ) (words : List (List ℕ)) → join_with_byte 32 (first ∷ words) ≡ first ++ spaced words

@@ -121,7 +121,11 @@ fn put_count<W: Write>(count: usize, printer: &mut Printer<'_, W>) -> Result<(),
         (join_with_byte 32 (decimal count ∷ codes "versions under" ∷ [])) result }
 {
     let mut digits = Buffer::new();
-    put_words(digits.format(count).as_bytes(), &[b"versions under"], printer)
+    put_words(
+        digits.format(count).as_bytes(),
+        &[b"versions under"],
+        printer,
+    )
 }
 
 // Puts a space and the name of a policy.
@@ -155,12 +159,20 @@ fn put_scale<W: Write>(
     requires small { IsOnPage scale }
     ensures { Prints W.contents printer.old printer.new (scale_drawn page.now scale step) result }
 {
-    let first = page.first.seconds() / step + 1;
-    let behind = page.last.seconds() / step + 1;
+    let first = multiple_behind(page.first, step);
+    let behind = multiple_behind(page.last, step);
     for k in first..behind {
         put_multiple(page, scale, multiple(page, step, k), printer)?;
     }
     Ok(())
+}
+
+// How many times a number of seconds is behind a moment.
+fn multiple_behind(moment: Moment, step: u64) -> u64
+    requires { 0 < step }
+    ensures { result ≡ moment / step + 1 }
+{
+    moment.seconds() / step + 1
 }
 
 // So many times a number of seconds, which is no later than the last moment.

@@ -300,11 +300,7 @@ fn put_seconds<W: Write>(moment: Moment, printer: &mut Printer<'_, W>) -> Result
 }
 
 // Puts an age of a ladder and a width.
-fn put_level<W: Write>(
-    age: u64,
-    width: u64,
-    printer: &mut Printer<'_, W>,
-) -> Result<(), WriteFault>
+fn put_level<W: Write>(age: u64, width: u64, printer: &mut Printer<'_, W>) -> Result<(), WriteFault>
     ensures { Prints W.contents printer.old printer.new
         (join_with_byte 32 (codes "age" ∷ length_words age)
         ++ join_with_byte 32 (codes ", span" ∷ length_words width)) result }

@@ -79,12 +79,7 @@ pub(crate) fn version_marks(page: &Page, forecast: &Forecast) -> [Mark; 5]
 }
 
 /// The marks that tie a version, from its ripe moment on, to the one that displaces it.
-pub(crate) fn tie_marks(
-    page: &Page,
-    number: VersionNo,
-    ripe: Moment,
-    other: &Forecast,
-) -> [Mark; 2]
+pub(crate) fn tie_marks(page: &Page, number: VersionNo, ripe: Moment, other: &Forecast) -> [Mark; 2]
     ensures { result ≡ tie_marks page.now number ripe other.now }
 {
     let x = page.x(ripe);

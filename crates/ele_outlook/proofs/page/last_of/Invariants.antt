@@ -7,4 +7,4 @@ use Rattle.ele_outlook.proofs.page.last_of.Given as goal
 
 -- the others are left
 abbrev pub invariant-loop-forecast : goal.invariant-loop-forecast
-invariant-loop-forecast l = fold (λ (last : ℕ) (told : Forecast). max last (reach_of told)) l.last (drop l.forecast-index l.forecasts) ≡ fold (λ (last : ℕ) (told : Forecast). max last (reach_of told)) l.first l.forecasts
+invariant-loop-forecast l = fold (λ (last : ℕ) (told : Forecast). max last (reach_of told)) l.last (drop l.forecast-index l.forecasts) ≡ fold (λ (last : ℕ) (told : Forecast). max last (reach_of told)) l.fn.first l.forecasts
