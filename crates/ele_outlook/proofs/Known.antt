@@ -1,19 +1,22 @@
 -- What a writer holds and what is held for it, piece after piece.
-use Rattle.std.proofs.Common.{◌≡◌, ℕ, ◌+◌, ◌<◌, ◌≤◌, List, [], ◌∷◌, ◌++◌, length, drop, get_or, map, Option, Some, None, Result, Ok, Err, refl, sym, ap, subst, ◌∙◌, append_assoc}
+use Rattle.std.proofs.Common.{◌≡◌, ℕ, suc, ◌+◌, ◌-◌, ◌<◌, ◌≤◌, List, [], ◌∷◌, ◌++◌, length, drop, get_or, map, Option, Some, None, Result, Ok, Err, refl, sym, ap, subst, ◌∙◌, append_assoc, arith}
 use Rattle.std.proofs.KnownBytes.{Appends-kept, Appends-nil, Appends-trans}
 use Rattle.std.proofs.lemmas.List.{append-nil, at_drop_all, drop_more}
 use Rattle.std.specs.Io.KnownBytes.{Appends, Keeps}
-use Rattle.std.specs.List.{flat_map, join_with_byte}
+use Rattle.std.specs.List.{flat_map, fold, join_with_byte, range_with_len}
 use Rattle.std.specs.Prelude.{IsErr, OnErr, OnOk, decimal}
 use Rattle.ele_printer.specs.Front.{AppendsFront}
 use Rattle.ele_printer.specs.Outlet.{HandsOver, Outlet, Puts, Takes, TakesFront}
 use Rattle.ele_printer.specs.Printed.{line_text}
+use Rattle.ele_outlook.specs.Drawing.{tie_from}
+use Rattle.ele_outlook.specs.Mark.{mark_text}
 use Rattle.ele_outlook.specs.Reading.{Writes}
 use Rattle.ele_outlook.specs.Stamp.{stamp_of, stamp_or}
 use Rattle.ele_outlook.specs.Table.{version_line}
 use Rattle.ele_outlook.specs.Why.{spaced, why_words}
 use Rattle.ele_policy.specs.declared.policy.Policy.{Policy}
 use Rattle.ele_forecast.specs.declared.forecast.Forecast.{Forecast}
+use Rattle.ele_outlook.specs.declared.page.Page.{Page}
 
 pub takes_nil : (a : Outlet) → Takes a a []
 takes_nil a = record { same = refl; sent = []; parts = append-nil a.held; written = Appends-nil a.known }
@@ -83,6 +86,49 @@ list_err line xs i x r lt is s bad p = sent_err _ r s (lines_here line xs i x lt
 -- at the end of a list, all is put
 pub list_done : {A : Type 0} {a b : Outlet} {whole : List ℕ} (line : A → List ℕ) (xs : List A) (i : ℕ) → length xs ≤ i → HasSent a b whole (flat_map line (drop i xs)) → Takes a b whole
 list_done {A} line xs i le s = rw (s.parts ∙ at_drop_all (λ (ys : List A). s.sent ++ flat_map line ys) xs i le ∙ append-nil s.sent) s.written
+
+-- the rest is all of it, told otherwise
+pub sent_as : (a : Outlet) (whole rest : List ℕ) → whole ≡ rest → HasSent a a whole rest
+sent_as a whole rest e = record { sent = []; parts = e; written = takes_nil a }
+
+-- nothing is left
+pub all_sent : {a b : Outlet} {whole rest : List ℕ} → HasSent a b whole rest → rest ≡ [] → Takes a b whole
+all_sent s e = rw (s.parts ∙ ap (λ (r : List ℕ). s.sent ++ r) e ∙ append-nil s.sent) s.written
+
+-- at a place, what stands there is next
+pub here : {A : Type 0} (line : A → List ℕ) (xs : List A) (i : ℕ) (d : A) → i < length xs → flat_map line (drop i xs) ≡ line (get_or xs i d) ++ flat_map line (drop (i + 1) xs)
+here {A} line xs i d lt = ap (λ (ys : List A). flat_map line ys) (drop_more xs i d lt)
+
+-- at a number, it is next
+pub each_more : (line : ℕ → List ℕ) (k n : ℕ) → k < n → flat_map line (range_with_len k (n - k)) ≡ line k ++ flat_map line (range_with_len (k + 1) (n - (k + 1)))
+each_more line k n lt =
+    let e : n - k ≡ suc (n - (k + 1)) = omega (arith, lt) in
+    ap (λ (m : ℕ). flat_map line (range_with_len k m)) e
+
+pub each_none : (line : ℕ → List ℕ) (k n : ℕ) → n ≤ k → flat_map line (range_with_len k (n - k)) ≡ []
+each_none line k n le =
+    let e : n - k ≡ 0 = omega (arith, le) in
+    ap (λ (m : ℕ). flat_map line (range_with_len k m)) e
+
+-- the numbers behind one and up to another, told by where they begin and end
+pub each_between : (line : ℕ → List ℕ) (a b first behind : ℕ) → first ≡ a + 1 → behind ≡ b + 1 → flat_map line (range_with_len (a + 1) (b - a)) ≡ flat_map line (range_with_len first (behind - first))
+each_between line a b first behind e f =
+    let n : b - a ≡ behind - first = omega (arith, e, f) in
+    ap (λ (m : ℕ). flat_map line (range_with_len (a + 1) m)) n ∙ ap (λ (k : ℕ). flat_map line (range_with_len k (behind - first))) (sym e)
+
+-- at an item of a list, it is taken in
+pub fold_more : {A B : Type 0} (f : B → A → B) (b : B) (xs : List A) (i : ℕ) (x : A) → i < length xs → x ≡ get_or xs i x → fold f b (drop i xs) ≡ fold f (f b x) (drop (i + 1) xs)
+fold_more {A} {B} f b xs i x lt is = ap (λ (ys : List A). fold f b ys) (drop_more xs i x lt) ∙ ap (λ (y : A). fold f (f b y) (drop (i + 1) xs)) (sym is)
+
+-- at the end of a list, nothing is
+pub fold_end : {A B : Type 0} (f : B → A → B) (b : B) (xs : List A) (i : ℕ) → length xs ≤ i → fold f b (drop i xs) ≡ b
+fold_end {A} f b xs i le = at_drop_all (λ (ys : List A). fold f b ys) xs i le
+
+-- a version that ties to none has no tie
+pub no_tie : (a : Outlet) (page : Page) (number : ℕ) (ripe : Option ℕ) (other : Option Forecast) → other ≡ None → Takes a a (flat_map mark_text (tie_from page number ripe other))
+no_tie a page number None other e = takes_nil a
+no_tie a page number (Some ripe) None e = takes_nil a
+no_tie a page number (Some ripe) (Some other) e = absurd cc
 
 -- joined words are the first, and each other with a space in front
 pub joined : (first : List ℕ) (words : List (List ℕ)) → join_with_byte 32 (first ∷ words) ≡ first ++ spaced words

@@ -13,7 +13,7 @@ use Rattle.ele_moment.specs.Spelled.{SpellsMoment}
 use Rattle.ele_outlook.specs.Input.{SpellClosings, IsBad, IsFirstBad, lines_of, without_empty_last}
 use Rattle.ele_outlook.specs.Reading.{FailsToAdd, ReadSoFar, Reads}
 use Rattle.ele_outlook.specs.declared.fault.ForecastFault.{ForecastFault}
-use Rattle.ele_outlook.specs.declared.fault.ForecastFault.TheVariants.{ReadFault, BadInput, WriteFault, NoMemory}
+use Rattle.ele_outlook.specs.declared.fault.ForecastFault.TheVariants.{ReadFault, BadInput, TooMany, WriteFault, NoMemory}
 
 abbrev is_feed : ℕ → Bool
 is_feed byte = byte == 10
@@ -115,6 +115,7 @@ read_bad {input = input} {closings = closings} line behind (BadInput number why)
     }
 read_bad {input = input} line behind NoMemory far cut bad = not_empty input far.done line behind (far.lines ∙ ap (λ (ls : List (List ℕ)). far.done ++ ls) cut)
 read_bad line behind ReadFault far cut bad = absurd bad
+read_bad line behind TooMany far cut bad = absurd bad
 read_bad line behind WriteFault far cut bad = absurd bad
 
 -- some bytes more were given

@@ -1,24 +1,26 @@
 -- A forecast from the bytes that are read to those that are written, by how it ends.
-use Rattle.std.specs.Prelude.{◌≡◌, ◌≢◌, ℕ, List, [], Option, Result, Ok, Err, ◌⊎◌}
+use Rattle.std.specs.Prelude.{◌≡◌, ◌≢◌, ℕ, true, length, List, [], Option, Result, Ok, Err, ◌⊎◌}
 use Rattle.std.specs.Io.KnownBytes.{Appends, Consumes, IsAtEnd, Keeps}
 use Rattle.ele_printer.specs.Front.{AppendsFront}
 use Rattle.ele_outlook.specs.Input.{IsFirstBad, SpellClosings, lines_of}
-use Rattle.ele_outlook.specs.Table.{IsTable}
+use Rattle.ele_outlook.specs.Told.{IsTold, are_too_many}
 use Rattle.ele_outlook.specs.declared.ask.Ask.{Ask}
 use Rattle.ele_outlook.specs.declared.fault.ForecastFault.{ForecastFault}
-use Rattle.ele_outlook.specs.declared.fault.ForecastFault.TheVariants.{ReadFault, BadInput, WriteFault, NoMemory}
+use Rattle.ele_outlook.specs.declared.fault.ForecastFault.TheVariants.{ReadFault, BadInput, TooMany, WriteFault, NoMemory}
 
 -- the text tells of the closings that the input spells
 pub record IsToldOf (ask : Ask) (input text : List ℕ) : Type 0 where
   pub closings : List ℕ
   pub spell : SpellClosings (lines_of input) closings
-  pub table : IsTable ask.policy closings ask.moments.items text
+  pub told : IsTold ask.form ask.policy closings ask.moments.items text
 
--- its table was written, all or a front of it, or nothing was; memory is asked for only where bytes were given or a moment is
+-- what is told was written, all or a front of it, or nothing was; memory is asked for only where bytes were given or a moment is
 -- asked about
 abbrev pub Tells : {A : Type 0} → Ask → List ℕ → Option (List ℕ) → Option (List ℕ) → Result A ForecastFault → Type 0
 Tells ask given old new (Ok _) = (text : List ℕ) × IsToldOf ask given text × Appends old new text
 Tells ask given old new (Err (BadInput number why)) = IsFirstBad given number why × Keeps old new
+Tells ask given old new (Err TooMany) =
+    (closings : List ℕ) × SpellClosings (lines_of given) closings × (are_too_many ask.form (length closings) ≡ true) × Keeps old new
 Tells ask given old new (Err WriteFault) = (text : List ℕ) × IsToldOf ask given text × AppendsFront old new text
 Tells ask given old new (Err ReadFault) = Keeps old new
 Tells ask given old new (Err NoMemory) = ((given ≢ []) ⊎ (ask.moments.items ≢ [])) × Keeps old new

@@ -3,4 +3,8 @@ pub mod Reading
 pub mod Stamp
 pub mod Why
 pub mod Table
+pub mod Page
+pub mod Mark
+pub mod Drawing
+pub mod Told
 pub mod Foretold

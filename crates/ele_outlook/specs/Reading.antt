@@ -1,21 +1,22 @@
 -- What reading and telling come to, part by part. No public clause cites this module.
-use Rattle.std.specs.Prelude.{◌≡◌, ◌≢◌, ◌≤◌, ℕ, ◌+◌, List, [], ◌∷◌, ◌++◌, length, Option, Result, Ok, Err, ◌⊎◌}
+use Rattle.std.specs.Prelude.{◌≡◌, ◌≢◌, ◌≤◌, ℕ, true, ◌+◌, List, [], ◌∷◌, ◌++◌, length, Option, Result, Ok, Err, ◌⊎◌}
 use Rattle.std.specs.List.{AllZip}
 use Rattle.std.specs.Io.KnownBytes.{Appends, Consumes, Keeps}
 use Rattle.ele_lists.specs.Lists.{AllLater}
 use Rattle.ele_moment.specs.Spelled.{SpellsMoment}
 use Rattle.ele_printer.specs.Front.{AppendsFront}
 use Rattle.ele_outlook.specs.Input.{IsBad, IsFirstBad, SpellClosings, lines_of}
-use Rattle.ele_outlook.specs.Table.{IsTable}
+use Rattle.ele_outlook.specs.Told.{IsTold, are_too_many}
 use Rattle.ele_outlook.specs.declared.ask.Ask.{Ask}
 use Rattle.ele_outlook.specs.declared.fault.ForecastFault.{ForecastFault}
-use Rattle.ele_outlook.specs.declared.fault.ForecastFault.TheVariants.{ReadFault, BadInput, WriteFault, NoMemory}
+use Rattle.ele_outlook.specs.declared.fault.ForecastFault.TheVariants.{ReadFault, BadInput, TooMany, WriteFault, NoMemory}
 
 -- bytes were read, some if memory was wanting for them
 abbrev pub GivesUp : Option (List ℕ) → Option (List ℕ) → ForecastFault → Type 0
 GivesUp input rest ReadFault = (given : List ℕ) × Consumes input rest given
 GivesUp input rest NoMemory = (given : List ℕ) × (given ≢ []) × Consumes input rest given
 GivesUp input rest (BadInput number why) = ⊥
+GivesUp input rest TooMany = ⊥
 GivesUp input rest WriteFault = ⊥
 
 -- these lines were read, and spell these closings
@@ -29,6 +30,7 @@ abbrev pub FailsToAdd : List ℕ → List ℕ → ForecastFault → Type 0
 FailsToAdd line closings (BadInput number why) = (number ≡ length closings + 1) × AllLater ◌≤◌ closings × IsBad closings line why
 FailsToAdd line closings NoMemory = Unit {0}
 FailsToAdd line closings ReadFault = ⊥
+FailsToAdd line closings TooMany = ⊥
 FailsToAdd line closings WriteFault = ⊥
 
 -- the closing of a line was added to those of the lines before
@@ -42,6 +44,7 @@ Reads input (Ok closings) = SpellClosings (lines_of input) closings
 Reads input (Err (BadInput number why)) = IsFirstBad input number why
 Reads input (Err NoMemory) = input ≢ []
 Reads input (Err ReadFault) = ⊥
+Reads input (Err TooMany) = ⊥
 Reads input (Err WriteFault) = ⊥
 
 -- a text was written, or a front of it
@@ -52,9 +55,10 @@ Writes text old new (Err _) = AppendsFront old new text
 -- what becomes of the versions of these closings was told
 abbrev pub TellsClosings : {A : Type 0} → Ask → List ℕ → Option (List ℕ) → Option (List ℕ) → Result A ForecastFault → Type 0
 TellsClosings ask closings old new (Ok _) =
-    (text : List ℕ) × IsTable ask.policy closings ask.moments.items text × Appends old new text
+    (text : List ℕ) × IsTold ask.form ask.policy closings ask.moments.items text × Appends old new text
 TellsClosings ask closings old new (Err WriteFault) =
-    (text : List ℕ) × IsTable ask.policy closings ask.moments.items text × AppendsFront old new text
+    (text : List ℕ) × IsTold ask.form ask.policy closings ask.moments.items text × AppendsFront old new text
+TellsClosings ask closings old new (Err TooMany) = (are_too_many ask.form (length closings) ≡ true) × Keeps old new
 TellsClosings ask closings old new (Err NoMemory) = ((closings ≢ []) ⊎ (ask.moments.items ≢ [])) × Keeps old new
 TellsClosings ask closings old new (Err (BadInput number why)) = ⊥
 TellsClosings ask closings old new (Err ReadFault) = ⊥

@@ -4,7 +4,6 @@ use Rattle.std.specs.List.{AllByRecursion, flat_map, join_with_byte}
 use Rattle.ele_policy.specs.declared.policy.Policy.{Policy}
 use Rattle.ele_printer.specs.Printed.{line_text}
 use Rattle.ele_forecast.specs.Stays.{AreKept}
-use Rattle.ele_forecast.specs.Tells.{AreForecasts}
 use Rattle.ele_forecast.specs.declared.forecast.Forecast.{Forecast}
 use Rattle.ele_outlook.specs.Stamp.{stamp_of, stamp_or}
 use Rattle.ele_outlook.specs.Why.{why_words}
@@ -34,11 +33,3 @@ table_text policy forecasts stayings = heading ++ (flat_map (version_line policy
 pub record AreStayings (policy : Policy) (closings moments : List ℕ) (stayings : List Staying) : Type 0 where
   pub at : map (λ staying. staying.at) stayings ≡ moments
   pub kept : AllByRecursion (λ staying. AreKept policy closings staying.at staying.numbers.items) stayings
-
--- the text tells what becomes of the versions of a file under the policy that closed at these moments, and which stay at those
-pub record IsTable (policy : Policy) (closings moments text : List ℕ) : Type 0 where
-  pub forecasts : List Forecast
-  pub told : AreForecasts policy closings forecasts
-  pub stayings : List Staying
-  pub stay : AreStayings policy closings moments stayings
-  pub text_is : text ≡ table_text policy forecasts stayings

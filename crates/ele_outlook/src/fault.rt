@@ -30,6 +30,9 @@ pub enum ForecastFault {
     /// The line of that number is the first that is no closing; the first line is 1.
     #[error("line {0}: {1}")]
     BadInput(u64, BadLine),
+    /// There are too many versions for a drawing.
+    #[error("too many versions to draw")]
+    TooMany,
     /// The writer failed, or took no byte of some.
     #[error("the output can't be written")]
     WriteFault,

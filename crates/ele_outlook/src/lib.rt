@@ -1,12 +1,16 @@
 //! The forecast as a program tells it: the closings of a file are read, a line each, and what
-//! becomes of its versions is told as a table. A contract sees an input as its lines, what is told
-//! as the forecasts of the definitions, and a reader and a writer as the bytes that they are known
-//! to hold.
+//! becomes of its versions is told as a table or drawn. A contract sees an input as its lines, what
+//! is told as the forecasts of the definitions, and a reader and a writer as the bytes that they are
+//! known to hold.
 #![tactic(auto)]
 
 mod ask;
+mod drawing;
 mod fault;
 mod input;
+mod mark;
+mod marks;
+mod page;
 mod row;
 mod staying;
 mod table;
@@ -14,6 +18,6 @@ mod telling;
 mod unit;
 mod why;
 
-pub use ask::Ask;
+pub use ask::{Ask, Form};
 pub use fault::{BadLine, ForecastFault, write_bad_line};
 pub use telling::foretell;

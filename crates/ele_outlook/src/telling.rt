@@ -1,14 +1,17 @@
 //! A forecast from the first byte to the last. A contract sees what was read and what was written.
-ghost use Rattle.std.specs.Prelude.{OnOk, OnErr};
+ghost use Rattle.std.specs.Prelude.{◌≡◌, OnOk, OnErr, length};
 ghost use Rattle.std.specs.Io.KnownBytes.{Appends, Keeps};
 ghost use Rattle.ele_printer.specs.Front.{AppendsFront};
+ghost use Rattle.ele_printer.specs.Prints.{Prints};
 ghost use Rattle.ele_outlook.specs.Foretold.{Foretells, Tells};
 ghost use Rattle.ele_outlook.specs.Reading.{TellsClosings, Writes};
-ghost use Rattle.ele_outlook.specs.Table.{table_text};
+ghost use Rattle.ele_outlook.specs.Told.{are_too_many, told_text};
 
-use crate::ask::Ask;
+use crate::ask::{Ask, Form};
+use crate::drawing::put_drawing;
 use crate::fault::ForecastFault;
 use crate::input::{read_closings, read_input};
+use crate::page::MOST;
 use crate::staying::{Staying, staying_at};
 use crate::table::put_table;
 use ele_forecast::{Closings, Forecast};
@@ -18,11 +21,12 @@ use std::alloc::Global;
 use std::io::{Read, Write};
 
 /// Reads the closings of a file to the end of the input, a moment a line, and writes what becomes of
-/// its versions, and which stay at the moments that are asked about, as a table. The writer is
-/// flushed. The last line may lack its line feed. At an error nothing is written, but at a
+/// its versions, and which stay at the moments that are asked about, in the form that is asked for.
+/// The writer is flushed. The last line may lack its line feed. At an error nothing is written, but at a
 /// WriteFault:
 /// - ReadFault: the reader failed. What is only interrupted is read again.
 /// - BadInput: a line spells no moment, or one before that of the line ahead; the first such line.
+/// - TooMany: there are more than 2,000 versions to draw.
 /// - WriteFault: the writer failed, took no byte of some, or wasn't flushed; it took a front.
 /// - NoMemory: there was none for the closings, or for what is told of them.
 pub fn foretell<R: Read, W: Write>(
@@ -61,6 +65,9 @@ fn tell_closings<W: Write>(
     ensures { TellsClosings ask.now closings.now (W.contents writer.old) (W.contents writer.new)
         result }
 {
+    if are_too_many(ask.form, closings.len()) {
+        return Err(ForecastFault::TooMany);
+    }
     let Ok(forecasts) = closings.forecasts(&ask.policy) else {
         return Err(ForecastFault::NoMemory);
     };
@@ -68,7 +75,8 @@ fn tell_closings<W: Write>(
     let Ok(stayings) = staying_at(alloc, &ask.policy, closings, moments) else {
         return Err(ForecastFault::NoMemory);
     };
-    write_table(
+    write_told(
+        ask.form,
         &ask.policy,
         forecasts.as_slice(),
         stayings.as_slice(),
@@ -77,35 +85,64 @@ fn tell_closings<W: Write>(
     Ok(())
 }
 
-// Writes a table, and flushes it.
-fn write_table<W: Write>(
+// Writes what is told, and flushes it.
+fn write_told<W: Write>(
+    form: Form,
     policy: &Policy,
     forecasts: &[Forecast],
     stayings: &[Staying],
     writer: &mut W,
 ) -> Result<(), WriteFault>
-    ensures { Writes (table_text policy.now forecasts.now stayings.now) (W.contents writer.old)
+    ensures { Writes (told_text form policy.now forecasts.now stayings.now) (W.contents writer.old)
         (W.contents writer.new) result }
 {
-    put_whole(policy, forecasts, stayings, writer)?;
+    put_whole(form, policy, forecasts, stayings, writer)?;
     flush(writer)
 }
 
-// Writes a table.
+// Writes what is told.
 fn put_whole<W: Write>(
+    form: Form,
     policy: &Policy,
     forecasts: &[Forecast],
     stayings: &[Staying],
     writer: &mut W,
 ) -> Result<(), WriteFault>
     ensures ok { OnOk result (Appends (W.contents writer.old) (W.contents writer.new)
-        (table_text policy.now forecasts.now stayings.now)) }
+        (told_text form policy.now forecasts.now stayings.now)) }
     ensures err { OnErr result (AppendsFront (W.contents writer.old) (W.contents writer.new)
-        (table_text policy.now forecasts.now stayings.now)) }
+        (told_text form policy.now forecasts.now stayings.now)) }
 {
     let mut printer = Printer::new(writer);
-    put_table(policy, forecasts, stayings, &mut printer)?;
+    put_told(form, policy, forecasts, stayings, &mut printer)?;
     printer.hand_over()
+}
+
+// Puts what is told.
+fn put_told<W: Write>(
+    form: Form,
+    policy: &Policy,
+    forecasts: &[Forecast],
+    stayings: &[Staying],
+    printer: &mut Printer<'_, W>,
+) -> Result<(), WriteFault>
+    ensures { Prints W.contents printer.old printer.new
+        (told_text form policy.now forecasts.now stayings.now) result }
+{
+    match form {
+        Form::Table => put_table(policy, forecasts, stayings, printer),
+        Form::Drawing => put_drawing(policy, forecasts, stayings, printer),
+    }
+}
+
+// Whether there are too many versions for the form.
+fn are_too_many(form: Form, count: usize) -> bool
+    ensures { result ≡ are_too_many form count }
+{
+    match form {
+        Form::Table => false,
+        Form::Drawing => MOST < count as u64,
+    }
 }
 
 // Flushes the writer.

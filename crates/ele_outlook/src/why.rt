@@ -40,8 +40,8 @@ fn never_word(policy: &Policy) -> &'static [u8]
     }
 }
 
-// Puts what stands in front, and a length of time.
-fn put_length<W: Write>(
+/// Puts what stands in front, and a length of time.
+pub(crate) fn put_length<W: Write>(
     front: &[u8],
     seconds: u64,
     printer: &mut Printer<'_, W>,

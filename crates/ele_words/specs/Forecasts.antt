@@ -1,5 +1,5 @@
 -- How the program ends after a forecast: what its reader and its two writers hold then, and with which status.
-use Rattle.std.specs.Prelude.{◌≡◌, ℕ, List, Option, Result, Ok, Err}
+use Rattle.std.specs.Prelude.{◌≡◌, ℕ, List, Option, Result, Ok, Err, codes}
 use Rattle.std.specs.Io.KnownBytes.{Keeps}
 use Rattle.ele_printer.specs.Front.{AppendsFront}
 use Rattle.ele_runs.specs.declared.fault.ShellFault.TheVariants as shell
@@ -7,12 +7,13 @@ use Rattle.ele_outlook.specs.Foretold.{Foretells}
 use Rattle.ele_outlook.specs.Input.{bad_text}
 use Rattle.ele_outlook.specs.declared.ask.Ask.{Ask}
 use Rattle.ele_outlook.specs.declared.fault.ForecastFault.{ForecastFault}
-use Rattle.ele_outlook.specs.declared.fault.ForecastFault.TheVariants.{ReadFault, BadInput, WriteFault, NoMemory}
+use Rattle.ele_outlook.specs.declared.fault.ForecastFault.TheVariants.{ReadFault, BadInput, TooMany, WriteFault, NoMemory}
 use Rattle.ele_words.specs.Status.{fault_line}
 
 abbrev pub forecast_status : ForecastFault → ℕ
 forecast_status ReadFault = 1
 forecast_status (BadInput number why) = 2
+forecast_status TooMany = 2
 forecast_status WriteFault = 1
 forecast_status NoMemory = 3
 
@@ -20,6 +21,7 @@ forecast_status NoMemory = 3
 abbrev pub forecast_line : ForecastFault → List ℕ
 forecast_line ReadFault = fault_line shell.ReadFault
 forecast_line (BadInput number why) = bad_text number why
+forecast_line TooMany = codes "elephant: more than 2000 versions to draw\n"
 forecast_line WriteFault = fault_line shell.WriteFault
 forecast_line NoMemory = fault_line shell.NoMemory
 

@@ -1,12 +1,13 @@
 //! A forecast as the program tells it: a table at a writer, and a fault at another.
 //! A contract sees what was read, what both hold then, and the status.
-ghost use Rattle.std.specs.Prelude.{◌≡◌};
+ghost use Rattle.std.specs.Prelude.{◌≡◌, codes};
 ghost use Rattle.ele_printer.specs.Front.{AppendsFront};
 ghost use Rattle.ele_outlook.specs.Input.{bad_text};
 ghost use Rattle.ele_words.specs.Forecasts.{ForecastEnds, forecast_line, forecast_status};
 
 use crate::ends::tell;
 use ele_outlook::{Ask, BadLine, ForecastFault, foretell, write_bad_line};
+use ele_printer::put;
 use ele_runs::ShellFault;
 use std::alloc::Global;
 use std::io::{Read, Write};
@@ -39,9 +40,21 @@ fn tell_fault<E: Write>(fault: ForecastFault, errors: &mut E) -> u8
     match fault {
         ForecastFault::ReadFault => tell(Some(ShellFault::ReadFault), errors),
         ForecastFault::BadInput(number, why) => tell_bad_line(number, why, errors),
+        ForecastFault::TooMany => tell_too_many(errors),
         ForecastFault::WriteFault => tell(Some(ShellFault::WriteFault), errors),
         ForecastFault::NoMemory => tell(Some(ShellFault::NoMemory), errors),
     }
+}
+
+// Tells that there are too many versions, and answers the status to end with.
+fn tell_too_many<E: Write>(errors: &mut E) -> u8
+    ensures status { result ≡ 2 }
+    ensures told { AppendsFront (E.contents errors.old) (E.contents errors.new)
+        (codes "elephant: more than 2000 versions to draw\n") }
+{
+    let _ = put(errors, b"elephant: more than 2000 versions to draw\n");
+    let _ = errors.flush();
+    2
 }
 
 // Tells a bad line, and answers the status to end with.

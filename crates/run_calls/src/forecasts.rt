@@ -1,7 +1,7 @@
 //! What the program tells of closings, and how it ends.
 use crate::ends::{Full, SlowReader, SlowWriter};
 use ele_moment::Moment;
-use ele_outlook::Ask;
+use ele_outlook::{Ask, Form};
 use ele_policy::{Ladder, Policy};
 use ele_words::{Asked, answer};
 use empty_world::EmptyWorld;
@@ -53,7 +53,11 @@ fn ask_about(alloc: Global, policy: Policy, words: &[&[u8]]) -> Result<Asked, Fa
     for word in words {
         moments.push(Moment::read(word).map_err(|_| "not a moment")?)?;
     }
-    Ok(Asked::Forecast(Ask { policy, moments }))
+    Ok(Asked::Forecast(Ask {
+        policy,
+        moments,
+        form: Form::Table,
+    }))
 }
 
 // What the program does, over a world that it doesn't ask.

@@ -1,10 +1,10 @@
 //! What the words of a forecast ask for.
 ghost use Rattle.ele_words.specs.Asked.{IsAsked};
 
-use crate::asked::{Asked, not_understood};
+use crate::asked::{Asked, flag, not_understood};
 use clap::{Arg, ArgAction, ArgMatches, Command};
 use ele_moment::Moment;
-use ele_outlook::Ask;
+use ele_outlook::{Ask, Form};
 use ele_policy::Policy;
 use ele_script::read_policy;
 use std::alloc::{AllocError, Global};
@@ -17,6 +17,8 @@ const POLICY: &str = "The file's policy: one, all, safe:SECONDS, or landmarks:AG
     in seconds";
 
 const AT: &str = "Tells which versions stay at that moment; may be given several times";
+
+const SVG: &str = "Draws it as SVG, up to 2000 versions, in place of the table";
 
 const BAD_POLICY: &str =
     "error: --policy takes one, all, safe:SECONDS or landmarks:AGE/WIDTH,..\n\n\
@@ -41,7 +43,8 @@ pub(crate) fn forecast<'a>(alloc: Global) -> Result<Command<'a>, AllocError> {
     Command::new(alloc, "forecast")
         .about(FORECAST)
         .arg(policy)?
-        .arg(at)
+        .arg(at)?
+        .arg(flag(alloc, "svg", SVG))
 }
 
 // The policy that stands behind its option, which the words must have.
@@ -49,8 +52,17 @@ fn policy_in(forecast: &ArgMatches) -> Option<Policy> {
     read_policy(forecast.get_str("policy")?.as_bytes()).ok()
 }
 
+// The form in which it is to be told.
+fn form_in(forecast: &ArgMatches) -> Form {
+    if forecast.get_flag("svg") {
+        Form::Drawing
+    } else {
+        Form::Table
+    }
+}
+
 // What a forecast under that policy asks for at the moments that these words spell.
-fn asked_at(alloc: Global, policy: Policy, words: &[&str]) -> Asked
+fn asked_at(alloc: Global, policy: Policy, words: &[&str], form: Form) -> Asked
     ensures { IsAsked result }
 {
     let mut moments = Vec::new(alloc);
@@ -62,7 +74,11 @@ fn asked_at(alloc: Global, policy: Policy, words: &[&str]) -> Asked
             return Asked::NoMemory;
         }
     }
-    Asked::Forecast(Ask { policy, moments })
+    Asked::Forecast(Ask {
+        policy,
+        moments,
+        form,
+    })
 }
 
 /// What the words of a forecast ask for, once they were understood.
@@ -73,7 +89,7 @@ pub(crate) fn asked_forecast(alloc: Global, forecast: &ArgMatches) -> Asked
         return not_understood(alloc, BAD_POLICY);
     };
     match forecast.get_strs("at") {
-        Some(words) => asked_at(alloc, policy, words),
-        None => asked_at(alloc, policy, &[]),
+        Some(words) => asked_at(alloc, policy, words, form_in(forecast)),
+        None => asked_at(alloc, policy, &[], form_in(forecast)),
     }
 }

@@ -1,5 +1,5 @@
 use Rattle.ele_outlook.proofs.Known.{flushed}
-use Rattle.ele_outlook.proofs.telling.write_table.Goals as goal
+use Rattle.ele_outlook.proofs.telling.write_told.Goals as goal
 
 pub returns : goal.returns
 returns g c = flushed _ _ _ _ c.flush.result c.in_ok-put_whole.ensures.ok c.flush.ensures
