@@ -14,7 +14,7 @@ use std::time::Duration;
 
 // For so many microseconds a seat sleeps between two tries. A turn takes one or two, so that others have some dozens meanwhile,
 // and to sleep and to wake takes little of a processor beside them.
-const PAUSE: u64 = 100;
+const PAUSE: u64 = 200;
 
 /// Looks at the word, and so at the history so far.
 pub(crate) fn look<C: Stepping>(board: &Board<C>, place: &mut Place<C>) -> u64
