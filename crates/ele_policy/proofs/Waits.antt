@@ -1,5 +1,5 @@
 -- A policy lets a version go from one age on, which the nearest newer closing tells.
-use Rattle.std.proofs.Common.{◌≡◌, ℕ, ◌+◌, ◌-◌, ◌≤◌, ◌==◌, ◌&&◌, Bool, true, false, cond, List, [], ◌∷◌, ◌++◌, Option, Some, None, refl, ap, sym, subst, ◌∙◌, arith, rules, zero, suc}
+use Rattle.std.proofs.Common.{length-append, ◌≡◌, ℕ, ◌+◌, ◌-◌, ◌≤◌, ◌==◌, ◌&&◌, Bool, true, false, cond, List, [], ◌∷◌, ◌++◌, Option, Some, None, refl, ap, sym, subst, ◌∙◌, arith, rules, zero, suc}
 use Rattle.std.specs.Prelude.{nat_le, find, slice_get, option_and_then, IfSome, IfNone}
 use Rattle.std.specs.List.{list_any}
 use Rattle.std.specs.Option.{option_map, option_map_or}
@@ -13,7 +13,8 @@ use Rattle.ele_policy.specs.declared.policy.Policy.TheVariants.{One, All, Safe, 
 use Rattle.ele_policy.specs.Lawful.{PoliciesAreLawful}
 use Rattle.ele_policy.specs.Ladder.{Rung, ground, climbs, level_of, rung_at, shares}
 use Rattle.ele_policy.specs.Policy.{IsPolicy}
-use Rattle.ele_policy.specs.Ripe.{Beside, IsNearest, alone, lets_go, is_due_by, candidates, earliest_of, ripe_by}
+use Rattle.ele_policy.specs.FloorOf.{floor_of, meets_floor}
+use Rattle.ele_policy.specs.Ripe.{Beside, IsRipe, IsToldBy, alone, lets_go, is_due_by, candidates, earliest_of, ripe_by, ripe_near}
 use Rattle.ele_policy.specs.Wait.{has_newer, wait, in_time, ripe_after}
 use Rattle.ele_policy.proofs.Earliest.{earliest_from, earliest_same, is_candidate, never_due}
 use Rattle.ele_policy.proofs.Nesting.{climbed, nests, nearest_decides, shares_on}
@@ -104,33 +105,33 @@ shared_on a b low high rungs up h = nests low high a b (climbed low high rungs u
 newer_on : (closed : ℕ) (newer : List ℕ) → GoesOn (has_newer closed newer)
 newer_on closed newer low high rungs up h = any-weaker (λ n. shares closed n low) (λ n. shares closed n high) newer (λ n. shared_on closed n low high rungs up) h
 
-pub lets_go_from : (policy : Policy) (closed : ℕ) (beside : Beside) (age : ℕ) → IsPolicy policy → lets_go policy closed beside age ≡ reached (wait policy closed beside.newer) age
+pub lets_go_from : (policy : Policy) (closed : ℕ) (beside : Beside) (age : ℕ) → IsPolicy policy → lets_go policy closed beside age ≡ reached (wait policy closed beside) age
 lets_go_from One closed beside age given = grind (arith, nat_tests)
 lets_go_from All closed beside age given = refl
-lets_go_from (Safe interval) closed beside age given = refl
+lets_go_from (Safe interval floor) closed beside age given = grind (arith, nat_tests)
 lets_go_from (Landmarks rungs) closed beside age given = from_level (has_newer closed beside.newer) (newer_on closed beside.newer) rungs age given.climbing
 
 -- the moment so long after the end is one of those at which the version may become due
-may_wait : (policy : Policy) (closed ended age : ℕ) (newer : List ℕ) → wait policy closed newer ≡ Some age → list_any (λ at. at == ended + age) (candidates policy ended) ≡ true
-may_wait (Landmarks rungs) closed ended age newer is = is_candidate (has_newer closed newer) ended age rungs is
-may_wait policy closed ended age newer is = grind (arith, nat_tests)
+may_wait : (policy : Policy) (closed ended age : ℕ) (beside : Beside) → wait policy closed beside ≡ Some age → list_any (λ at. at == ended + age) (candidates policy ended) ≡ true
+may_wait (Landmarks rungs) closed ended age beside is = is_candidate (has_newer closed beside.newer) ended age rungs is
+may_wait policy closed ended age beside is = grind (arith, nat_tests)
 
-pub ripe_is : (policy : Policy) (closed ended : ℕ) (beside : Beside) → IsPolicy policy → ripe_by policy closed beside ended ≡ ripe_after policy closed ended beside.newer
+pub ripe_is : (policy : Policy) (closed ended : ℕ) (beside : Beside) → IsPolicy policy → ripe_by policy closed beside ended ≡ ripe_after policy closed ended beside
 unfolding ripe_by
 ripe_is policy closed ended beside given =
-    earliest_same (is_due_by policy closed beside ended) (λ at. nat_le ended at && reached (wait policy closed beside.newer) (at - ended))
+    earliest_same (is_due_by policy closed beside ended) (λ at. nat_le ended at && reached (wait policy closed beside) (at - ended))
     (λ at fits. ap (λ b. nat_le ended at && b) (lets_go_from policy closed beside (at - ended) given)) (candidates policy ended)
-    ∙ by (wait policy closed beside.newer) refl where
-      by : (o : Option ℕ) → wait policy closed beside.newer ≡ o → earliest_of (λ at. nat_le ended at && reached o (at - ended)) (candidates policy ended) ≡ option_and_then (λ age. in_time (ended + age)) o
+    ∙ by (wait policy closed beside) refl where
+      by : (o : Option ℕ) → wait policy closed beside ≡ o → earliest_of (λ at. nat_le ended at && reached o (at - ended)) (candidates policy ended) ≡ option_and_then (λ age. in_time (ended + age)) o
       by None is = earliest_same (λ at. nat_le ended at && false) (λ at. false) (λ at fits. grind (arith, nat_tests)) (candidates policy ended) ∙ never_due (candidates policy ended)
       by (Some age) is =
           earliest_same (λ at. nat_le ended at && nat_le age (at - ended)) (nat_le (ended + age)) (λ at fits. grind (arith, nat_tests)) (candidates policy ended)
-          ∙ earliest_from (ended + age) (candidates policy ended) (may_wait policy closed ended age beside.newer is)
+          ∙ earliest_from (ended + age) (candidates policy ended) (may_wait policy closed ended age beside is)
 
 pub due_from : (policy : Policy) (closed ended at : ℕ) (beside : Beside) → IsPolicy policy → at ≤ last_moment → is_due_by policy closed beside ended at ≡ option_map_or (λ m. nat_le m at) (ripe_by policy closed beside ended) false
 due_from policy closed ended at beside given fits =
     ap (λ b. nat_le ended at && b) (lets_go_from policy closed beside (at - ended) given)
-    ∙ by (wait policy closed beside.newer)
+    ∙ by (wait policy closed beside)
     ∙ ap (λ o. option_map_or (λ m. nat_le m at) o false) (sym (ripe_is policy closed ended beside given)) where
       by : (o : Option ℕ) → (nat_le ended at && reached o (at - ended)) ≡ option_map_or (λ m. nat_le m at) (option_and_then (λ age. in_time (ended + age)) o) false
       by None = grind (arith, nat_tests)
@@ -140,59 +141,97 @@ due_from policy closed ended at beside given fits =
 
 lets_go_without : (policy : Policy) (live : Bool) (xs : List ℕ) (gone : ℕ) (ys : List ℕ) (closed age gone_age : ℕ) → IsPolicy policy → gone_age ≤ age → lets_go policy gone (record { newer = ys; live = live }) gone_age ≡ true → lets_go policy closed (record { newer = xs ++ gone ∷ ys; live = live }) age ≡ lets_go policy closed (record { newer = xs ++ ys; live = live }) age
 lets_go_without (Landmarks rungs) live xs gone ys closed age gone_age given longer goes = grind (arith, nat_tests, any-without, any-weaker, shares_on, stays (has_newer gone ys) (newer_on gone ys) rungs gone_age age given.climbing longer goes)
-lets_go_without policy live xs gone ys closed age gone_age given longer goes = grind arith
+lets_go_without policy live xs gone ys closed age gone_age given longer goes = grind (arith, nat_tests, length-append xs ys, length-append xs (gone ∷ ys), goes)
 
 lets_go_fewer : (policy : Policy) (live : Bool) (xs : List ℕ) (more : ℕ) (ys : List ℕ) (closed age : ℕ) → lets_go policy closed (record { newer = xs ++ ys; live = live }) age ≡ true → lets_go policy closed (record { newer = xs ++ more ∷ ys; live = live }) age ≡ true
-lets_go_fewer policy live xs more ys closed age goes = grind (arith, nat_tests, any-with)
+lets_go_fewer policy live xs more ys closed age goes = grind (arith, nat_tests, any-with, length-append xs ys, length-append xs (more ∷ ys))
 
--- ---- told by the nearest newer closing alone
+-- ---- told by the nearest newer closing, and by whether the floor is met
+
+same_found : (f g : Rung → Bool) (rungs : List Rung) → ((rung : Rung) → f rung ≡ g rung) → find f rungs ≡ find g rungs
+same_found f g [] same = refl
+same_found f g (rung ∷ rungs) same = rw (same rung, same_found f g rungs same) refl
+
+-- how long the policy waits, by these
+abbrev pub wait_near : Policy → ℕ → Option ℕ → Bool → Option ℕ
+wait_near (Safe interval floor) closed nearest met = cond met (Some interval) None
+wait_near policy closed nearest met = wait policy closed (alone nearest)
 
 -- the wait is the same
-pub nearest_tells : (policy : Policy) (closed : ℕ) (nearest : Option ℕ) (beside : Beside) → IsNearest closed nearest beside → wait policy closed beside.newer ≡ wait policy closed (alone nearest).newer
-nearest_tells policy closed nearest beside is = by policy nearest beside.newer is.in_order is.first where
-  same_found : (f g : Rung → Bool) (rungs : List Rung) → ((rung : Rung) → f rung ≡ g rung) → find f rungs ≡ find g rungs
-  same_found f g [] same = refl
-  same_found f g (rung ∷ rungs) same = rw (same rung, same_found f g rungs same) refl
-
-  by : (policy : Policy) (nearest : Option ℕ) (newer : List ℕ) → AllLater ◌≤◌ (closed ∷ newer) → slice_get newer 0 ≡ nearest → wait policy closed newer ≡ wait policy closed (alone nearest).newer
-  by (Landmarks rungs) None [] later first = refl
-  by (Landmarks rungs) (Some n) [] later first = absurd cc
-  by (Landmarks rungs) None (x ∷ more) later first = absurd cc
-  by (Landmarks rungs) (Some n) (x ∷ more) later first =
+pub nearest_tells : (policy : Policy) (closed : ℕ) (nearest : Option ℕ) (met : Bool) (beside : Beside) → IsToldBy policy closed nearest met beside → wait policy closed beside ≡ wait_near policy closed nearest met
+nearest_tells (Safe interval floor) closed nearest met beside is = ap (λ b. cond b (Some interval) None) is.floor
+nearest_tells One closed nearest met beside is = refl
+nearest_tells All closed nearest met beside is = refl
+nearest_tells (Landmarks rungs) closed nearest met beside is = by nearest beside.newer is.near.in_order is.near.first where
+  by : (nearest : Option ℕ) (newer : List ℕ) → AllLater ◌≤◌ (closed ∷ newer) → slice_get newer 0 ≡ nearest → option_map (λ (rung : Rung). rung.0) (find (has_newer closed newer) rungs) ≡ wait (Landmarks rungs) closed (alone nearest)
+  by None [] later first = refl
+  by (Some n) [] later first = absurd cc
+  by None (x ∷ more) later first = absurd cc
+  by (Some n) (x ∷ more) later first =
       let same : x ≡ n = cc in
       ap (option_map (λ (rung : Rung). rung.0)) (same_found (has_newer closed (x ∷ more)) (has_newer closed (n ∷ [])) rungs
       (λ rung. grind (arith, nat_tests, nearest_decides rung closed x more later)))
-  by policy nearest newer later first = grind arith
 
-pub ripe_nearest : (policy : Policy) (closed ended : ℕ) (nearest : Option ℕ) (beside : Beside) → IsPolicy policy → IsNearest closed nearest beside → ripe_by policy closed beside ended ≡ ripe_by policy closed (alone nearest) ended
-ripe_nearest policy closed ended nearest beside given is = grind (arith, ripe_is policy closed ended beside given, ripe_is policy closed ended (alone nearest) given, nearest_tells policy closed nearest beside is)
+-- the moment so long after the end
+abbrev after_wait : ℕ → Option ℕ → Option ℕ
+after_wait ended wait_is = option_and_then (λ age. in_time (ended + age)) wait_is
 
--- beside all that the nearest tells of, the version is due from the ripe moment on, or never
-due_nearest : (policy : Policy) (closed ended at : ℕ) (nearest wait_is : Option ℕ) (beside : Beside) → IsPolicy policy → IsNearest closed nearest beside → wait policy closed (alone nearest).newer ≡ wait_is → is_due_by policy closed beside ended at ≡ (nat_le ended at && reached wait_is (at - ended))
-due_nearest policy closed ended at nearest wait_is beside given near is = grind (arith, nat_tests, lets_go_from policy closed beside (at - ended) given, nearest_tells policy closed nearest beside near)
+pub near_is : (policy : Policy) (closed ended : ℕ) (nearest : Option ℕ) (met : Bool) → IsPolicy policy → ripe_near policy closed nearest met ended ≡ after_wait ended (wait_near policy closed nearest met)
+near_is (Safe interval floor) closed ended nearest true given = ripe_is (Safe interval floor) closed ended (alone nearest) given ∙ alone_waits nearest where
+  alone_waits : (nearest : Option ℕ) → ripe_after (Safe interval floor) closed ended (alone nearest) ≡ in_time (ended + interval)
+  alone_waits None = refl
+  alone_waits (Some n) = refl
+near_is (Safe interval floor) closed ended nearest false given = refl
+near_is One closed ended nearest met given = ripe_is One closed ended (alone nearest) given
+near_is All closed ended nearest met given = ripe_is All closed ended (alone nearest) given
+near_is (Landmarks rungs) closed ended nearest met given = ripe_is (Landmarks rungs) closed ended (alone nearest) given
 
-abbrev pub DueFrom : Policy → ℕ → ℕ → Option ℕ → Option ℕ → Type 0
-DueFrom policy closed ended nearest ripe = IfSome ripe (λ m. (beside : Beside) → IsNearest closed nearest beside → (at : ℕ) → is_due_by policy closed beside ended at ≡ nat_le m at)
+pub ripe_nearest : (policy : Policy) (closed ended : ℕ) (nearest : Option ℕ) (met : Bool) (beside : Beside) → IsPolicy policy → IsToldBy policy closed nearest met beside → ripe_by policy closed beside ended ≡ ripe_near policy closed nearest met ended
+ripe_nearest policy closed ended nearest met beside given is =
+    ripe_is policy closed ended beside given ∙ ap (after_wait ended) (nearest_tells policy closed nearest met beside is) ∙ sym (near_is policy closed ended nearest met given)
 
-abbrev pub NeverDue : Policy → ℕ → ℕ → Option ℕ → Option ℕ → Type 0
-NeverDue policy closed ended nearest ripe = IfNone ripe ((beside : Beside) → IsNearest closed nearest beside → (at : ℕ) → at ≤ last_moment → is_due_by policy closed beside ended at ≡ false)
+pub is_ripe : (policy : Policy) (closed ended : ℕ) (nearest : Option ℕ) (met : Bool) (r : Option ℕ) → IsPolicy policy → r ≡ ripe_near policy closed nearest met ended → IsRipe policy closed ended nearest met r
+is_ripe policy closed ended nearest met r given is beside told = is ∙ sym (ripe_nearest policy closed ended nearest met beside given told)
 
-pub ripe_from : (policy : Policy) (closed ended : ℕ) (nearest r : Option ℕ) → IsPolicy policy → r ≡ ripe_by policy closed (alone nearest) ended → DueFrom policy closed ended nearest r
-ripe_from policy closed ended nearest r given told = subst (DueFrom policy closed ended nearest) (sym (told ∙ ripe_is policy closed ended (alone nearest) given)) (by (wait policy closed (alone nearest).newer) refl) where
-  by : (o : Option ℕ) → wait policy closed (alone nearest).newer ≡ o → DueFrom policy closed ended nearest (option_and_then (λ age. in_time (ended + age)) o)
+-- with a floor whether it is met tells all
+ripe_floored : (policy : Policy) (closed ended : ℕ) (one other : Option ℕ) (met : Bool) → IsPolicy policy → 1 ≤ floor_of policy → ripe_near policy closed one met ended ≡ ripe_near policy closed other met ended
+ripe_floored (Safe interval floor) closed ended one other met given some = near_is (Safe interval floor) closed ended one met given ∙ sym (near_is (Safe interval floor) closed ended other met given)
+ripe_floored One closed ended one other met given some = absurd (omega (arith, some))
+ripe_floored All closed ended one other met given some = absurd (omega (arith, some))
+ripe_floored (Landmarks rungs) closed ended one other met given some = absurd (omega (arith, some))
+
+ripe_unmet : (policy : Policy) (closed ended newer : ℕ) (nearest : Option ℕ) (live : Bool) → meets_floor policy live newer ≡ false → ripe_near policy closed nearest false ended ≡ None
+ripe_unmet (Safe interval floor) closed ended newer nearest live unmet = refl
+ripe_unmet One closed ended newer nearest live unmet = grind (arith, nat_tests, unmet)
+ripe_unmet All closed ended newer nearest live unmet = grind (arith, nat_tests, unmet)
+ripe_unmet (Landmarks rungs) closed ended newer nearest live unmet = grind (arith, nat_tests, unmet)
+
+-- beside all that they tell of, the version is due from the ripe moment on, or never
+due_nearest : (policy : Policy) (closed ended at : ℕ) (nearest wait_is : Option ℕ) (met : Bool) (beside : Beside) → IsPolicy policy → IsToldBy policy closed nearest met beside → wait_near policy closed nearest met ≡ wait_is → is_due_by policy closed beside ended at ≡ (nat_le ended at && reached wait_is (at - ended))
+due_nearest policy closed ended at nearest wait_is met beside given told is = ap (λ b. nat_le ended at && b) (lets_go_from policy closed beside (at - ended) given ∙ ap (λ o. reached o (at - ended)) (nearest_tells policy closed nearest met beside told ∙ is))
+
+abbrev pub DueFrom : Policy → ℕ → ℕ → Option ℕ → Bool → Option ℕ → Type 0
+DueFrom policy closed ended nearest met ripe = IfSome ripe (λ m. (beside : Beside) → IsToldBy policy closed nearest met beside → (at : ℕ) → is_due_by policy closed beside ended at ≡ nat_le m at)
+
+abbrev pub NeverDue : Policy → ℕ → ℕ → Option ℕ → Bool → Option ℕ → Type 0
+NeverDue policy closed ended nearest met ripe = IfNone ripe ((beside : Beside) → IsToldBy policy closed nearest met beside → (at : ℕ) → at ≤ last_moment → is_due_by policy closed beside ended at ≡ false)
+
+pub ripe_from : (policy : Policy) (closed ended : ℕ) (nearest : Option ℕ) (met : Bool) (r : Option ℕ) → IsPolicy policy → r ≡ ripe_near policy closed nearest met ended → DueFrom policy closed ended nearest met r
+ripe_from policy closed ended nearest met r given told = subst (DueFrom policy closed ended nearest met) (sym (told ∙ near_is policy closed ended nearest met given)) (by (wait_near policy closed nearest met) refl) where
+  by : (o : Option ℕ) → wait_near policy closed nearest met ≡ o → DueFrom policy closed ended nearest met (option_and_then (λ age. in_time (ended + age)) o)
   by None is = tt
-  by (Some age) is = elim (nat_le (ended + age) last_moment) as (λ b. DueFrom policy closed ended nearest (cond b (Some (ended + age)) None)) [
-    | true ↦ λ beside near at. due_nearest policy closed ended at nearest (Some age) beside given near is ∙ grind (arith, nat_tests)
+  by (Some age) is = elim (nat_le (ended + age) last_moment) as (λ b. DueFrom policy closed ended nearest met (cond b (Some (ended + age)) None)) [
+    | true ↦ λ beside near at. due_nearest policy closed ended at nearest (Some age) met beside given near is ∙ grind (arith, nat_tests)
     | false ↦ tt
   ]
 
-pub ripe_never : (policy : Policy) (closed ended : ℕ) (nearest r : Option ℕ) → IsPolicy policy → r ≡ ripe_by policy closed (alone nearest) ended → NeverDue policy closed ended nearest r
-ripe_never policy closed ended nearest r given told = subst (NeverDue policy closed ended nearest) (sym (told ∙ ripe_is policy closed ended (alone nearest) given)) (by (wait policy closed (alone nearest).newer) refl) where
-  by : (o : Option ℕ) → wait policy closed (alone nearest).newer ≡ o → NeverDue policy closed ended nearest (option_and_then (λ age. in_time (ended + age)) o)
-  by None is = λ beside near at fits. due_nearest policy closed ended at nearest None beside given near is ∙ grind (arith, nat_tests)
-  by (Some age) is = elim (nat_le (ended + age) last_moment) as (λ b. nat_le (ended + age) last_moment ≡ b → NeverDue policy closed ended nearest (cond b (Some (ended + age)) None)) [
+pub ripe_never : (policy : Policy) (closed ended : ℕ) (nearest : Option ℕ) (met : Bool) (r : Option ℕ) → IsPolicy policy → r ≡ ripe_near policy closed nearest met ended → NeverDue policy closed ended nearest met r
+ripe_never policy closed ended nearest met r given told = subst (NeverDue policy closed ended nearest met) (sym (told ∙ near_is policy closed ended nearest met given)) (by (wait_near policy closed nearest met) refl) where
+  by : (o : Option ℕ) → wait_near policy closed nearest met ≡ o → NeverDue policy closed ended nearest met (option_and_then (λ age. in_time (ended + age)) o)
+  by None is = λ beside near at fits. due_nearest policy closed ended at nearest None met beside given near is ∙ grind (arith, nat_tests)
+  by (Some age) is = elim (nat_le (ended + age) last_moment) as (λ b. nat_le (ended + age) last_moment ≡ b → NeverDue policy closed ended nearest met (cond b (Some (ended + age)) None)) [
     | true ↦ λ early. tt
-    | false ↦ λ late beside near at fits. due_nearest policy closed ended at nearest (Some age) beside given near is ∙ grind (arith, nat_tests)
+    | false ↦ λ late beside near at fits. due_nearest policy closed ended at nearest (Some age) met beside given near is ∙ grind (arith, nat_tests)
   ] refl
 
 ripe_keeps : (policy : Policy) (closed ended m nearest : ℕ) → IsPolicy policy → ripe_by policy closed (alone None) ended ≡ Some m → ripe_by policy closed (alone (Some nearest)) ended ≡ Some m
@@ -202,11 +241,11 @@ ripe_keeps policy closed ended m nearest given is =
       none [] = refl
       none (rung ∷ rungs) = none rungs
 
-      by : (policy : Policy) → ripe_after policy closed ended [] ≡ Some m → ripe_after policy closed ended (nearest ∷ []) ≡ Some m
+      by : (policy : Policy) → ripe_after policy closed ended (alone None) ≡ Some m → ripe_after policy closed ended (alone (Some nearest)) ≡ Some m
       by (Landmarks rungs) h = absurd (let no = none rungs in cc)
       by policy h = grind arith
 
 -- ---- so every policy is lawful
 
 pub policies_are_lawful : PoliciesAreLawful
-policies_are_lawful policy given = search (rules, due_from, ripe_nearest, ripe_keeps, lets_go_without, lets_go_fewer)
+policies_are_lawful policy given = search (rules, due_from, ripe_nearest, ripe_keeps, ripe_floored, ripe_unmet, lets_go_without, lets_go_fewer)

@@ -3,8 +3,9 @@ use Rattle.std.specs.Prelude.{◌≡◌, ℕ, ◌≤◌, nat_le, Bool, true, fal
 use Rattle.std.specs.Option.{option_map_or}
 use Rattle.ele_moment.specs.Last.{last_moment}
 use Rattle.ele_policy.specs.declared.policy.Policy.{Policy}
+use Rattle.ele_policy.specs.FloorOf.{floor_of, meets_floor}
 use Rattle.ele_policy.specs.Policy.{IsPolicy}
-use Rattle.ele_policy.specs.Ripe.{Beside, IsNearest, alone, is_due_by, lets_go, ripe_by}
+use Rattle.ele_policy.specs.Ripe.{Beside, IsToldBy, alone, is_due_by, lets_go, ripe_by, ripe_near}
 
 pub record IsLawful (policy : Policy) : Type 0 where
   -- its numbers are such as can be given
@@ -12,9 +13,15 @@ pub record IsLawful (policy : Policy) : Type 0 where
   -- a version is due by it from its ripe moment on, and never without one
   pub due_from : (closed ended at : ℕ) (beside : Beside) → at ≤ last_moment
       → is_due_by policy closed beside ended at ≡ option_map_or (λ m. nat_le m at) (ripe_by policy closed beside ended) false
-  -- the nearest newer closing alone tells the ripe moment
-  pub ripe_nearest : (closed ended : ℕ) (nearest : Option ℕ) (beside : Beside) → IsNearest closed nearest beside
-      → ripe_by policy closed beside ended ≡ ripe_by policy closed (alone nearest) ended
+  -- the nearest newer closing, and whether the floor is met, tell the ripe moment
+  pub ripe_nearest : (closed ended : ℕ) (nearest : Option ℕ) (met : Bool) (beside : Beside) → IsToldBy policy closed nearest met beside
+      → ripe_by policy closed beside ended ≡ ripe_near policy closed nearest met ended
+  -- of a policy with a floor whether that is met alone
+  pub ripe_floored : (closed ended : ℕ) (one other : Option ℕ) (met : Bool) → 1 ≤ floor_of policy
+      → ripe_near policy closed one met ended ≡ ripe_near policy closed other met ended
+  -- where it isn't, there is none
+  pub ripe_unmet : (closed ended newer : ℕ) (nearest : Option ℕ) (live : Bool) → meets_floor policy live newer ≡ false
+      → ripe_near policy closed nearest false ended ≡ None
   -- a version that ripens with no newer one ripens then beside one
   pub ripe_keeps : (closed ended m nearest : ℕ) → ripe_by policy closed (alone None) ended ≡ Some m
       → ripe_by policy closed (alone (Some nearest)) ended ≡ Some m

@@ -1,5 +1,7 @@
 pub mod Interval
 pub mod Ladder
+pub mod Floor
+pub mod FloorOf
 pub mod Policy
 pub mod PolicyText
 pub mod Ripe

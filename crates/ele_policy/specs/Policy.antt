@@ -4,6 +4,7 @@ use Rattle.ele_policy.specs.declared.policy.Kind.{Kind}
 use Rattle.ele_policy.specs.declared.policy.Kind.TheVariants as kind
 use Rattle.ele_policy.specs.declared.policy.Policy.{Policy}
 use Rattle.ele_policy.specs.declared.policy.Policy.TheVariants.{One, All, Safe, Landmarks}
+use Rattle.ele_policy.specs.Floor.{IsFloor}
 use Rattle.ele_policy.specs.Interval.{IsInterval}
 use Rattle.ele_policy.specs.Ladder.{IsLadder}
 
@@ -11,14 +12,14 @@ use Rattle.ele_policy.specs.Ladder.{IsLadder}
 abbrev pub IsPolicy : Policy → Type 0
 IsPolicy One = Unit {0}
 IsPolicy All = Unit {0}
-IsPolicy (Safe interval) = IsInterval interval
+IsPolicy (Safe interval floor) = IsInterval interval × IsFloor floor
 IsPolicy (Landmarks rungs) = IsLadder rungs
 
 -- a policy is of the kind of its name
 abbrev pub kind_of : Policy → Kind
 kind_of One = kind.One
 kind_of All = kind.All
-kind_of (Safe interval) = kind.Safe
+kind_of (Safe interval floor) = kind.Safe
 kind_of (Landmarks rungs) = kind.Landmarks
 
 -- whether the two are one kind

@@ -1,5 +1,5 @@
 -- Policies and their kinds in text.
-use Rattle.std.specs.Prelude.{ℕ, List, ◌∷◌, ◌++◌, map, codes}
+use Rattle.std.specs.Prelude.{ℕ, zero, suc, List, [], ◌∷◌, ◌++◌, map, codes}
 use Rattle.std.specs.Fmt.{decimal}
 use Rattle.std.specs.List.{join_with_byte}
 use Rattle.ele_policy.specs.Ladder.{Rung}
@@ -16,11 +16,16 @@ pair_word pair = decimal pair.0 ++ 47 ∷ decimal pair.1
 abbrev pub ladder_word : List Rung → List ℕ
 ladder_word rungs = join_with_byte 44 (map pair_word rungs)
 
+-- a floor behind the seconds, with a slash between them; none is left out
+abbrev pub floor_word : ℕ → List ℕ
+floor_word zero = []
+floor_word (suc n) = 47 ∷ decimal (suc n)
+
 -- the word of a policy
 abbrev pub policy_word : Policy → List ℕ
 policy_word policy.One = codes "one"
 policy_word policy.All = codes "all"
-policy_word (policy.Safe seconds) = codes "safe:" ++ decimal seconds
+policy_word (policy.Safe seconds floor) = codes "safe:" ++ decimal seconds ++ floor_word floor
 policy_word (policy.Landmarks rungs) = codes "landmarks:" ++ ladder_word rungs
 
 -- the word of a kind

@@ -1,11 +1,12 @@
 -- When a policy lets a version go that has ended.
-use Rattle.std.specs.Prelude.{◌≡◌, ℕ, ◌+◌, ◌-◌, ◌≤◌, min, nat_le, Bool, true, false, ◌&&◌, List, [], ◌∷◌, map, Option, Some, None, slice_get, if◌then◌else◌}
+use Rattle.std.specs.Prelude.{◌≡◌, ℕ, ◌+◌, ◌-◌, ◌≤◌, min, nat_le, Bool, true, false, ◌&&◌, List, [], ◌∷◌, map, length, Option, Some, None, slice_get, if◌then◌else◌}
 use Rattle.std.specs.List.{list_any}
 use Rattle.std.specs.Option.{option_map_or}
 use Rattle.ele_moment.specs.Last.{last_moment}
 use Rattle.ele_lists.specs.Lists.{AllLater}
 use Rattle.ele_policy.specs.declared.policy.Policy.{Policy}
 use Rattle.ele_policy.specs.declared.policy.Policy.TheVariants.{One, All, Safe, Landmarks}
+use Rattle.ele_policy.specs.FloorOf.{meets_floor}
 use Rattle.ele_policy.specs.Ladder.{level_of, rung_at, shares}
 
 -- what stands beside a version in its file: when the newer held ones closed, in order, and whether the file is live
@@ -13,17 +14,17 @@ pub record Beside : Type 0 where
   pub newer : List ℕ
   pub live : Bool
 
--- what is told of a version by its nearest newer one alone
+-- what is told of a version by its nearest newer one alone, and no floor in force
 abbrev pub alone : Option ℕ → Beside
 alone None = record { newer = []; live = false }
 alone (Some nearest) = record { newer = nearest ∷ []; live = false }
 
 -- whether the policy lets a version go that closed then and has been ended for so many seconds: under a ladder one with a newer
--- one in its span, at the level of its age
+-- one in its span, at the level of its age; kept safe, one with enough newer ones beside it
 abbrev pub lets_go : Policy → ℕ → Beside → ℕ → Bool
 lets_go One closed beside age = true
 lets_go All closed beside age = false
-lets_go (Safe interval) closed beside age = nat_le interval age
+lets_go (Safe interval floor) closed beside age = nat_le interval age && meets_floor (Safe interval floor) beside.live (length beside.newer)
 lets_go (Landmarks rungs) closed beside age =
     option_map_or (λ rung. list_any (λ newer. shares closed newer rung) beside.newer) (rung_at rungs (level_of rungs age)) false
 
@@ -35,7 +36,7 @@ is_due_by policy closed beside ended at = nat_le ended at && lets_go policy clos
 abbrev pub candidates : Policy → ℕ → List ℕ
 candidates One ended = ended ∷ []
 candidates All ended = []
-candidates (Safe interval) ended = (ended + interval) ∷ []
+candidates (Safe interval floor) ended = (ended + interval) ∷ []
 candidates (Landmarks rungs) ended = map (λ rung. ended + rung.0) rungs
 
 -- the earliest of the moments at which the test holds, none past the last moment
@@ -53,7 +54,17 @@ pub record IsNearest (closed : ℕ) (nearest : Option ℕ) (beside : Beside) : T
   pub in_order : AllLater ◌≤◌ (closed ∷ beside.newer)
   pub first : slice_get beside.newer 0 ≡ nearest
 
--- the ripe moment, whatever else stands beside the version behind the nearest newer one
-abbrev pub IsRipe : Policy → ℕ → ℕ → Option ℕ → Option ℕ → Type 0
-IsRipe policy closed ended nearest ripe =
-    (beside : Beside) → IsNearest closed nearest beside → ripe ≡ ripe_by policy closed beside ended
+-- the nearest newer closing and whether the floor is met are what they are beside the version
+pub record IsToldBy (policy : Policy) (closed : ℕ) (nearest : Option ℕ) (met : Bool) (beside : Beside) : Type 0 where
+  pub near : IsNearest closed nearest beside
+  pub floor : meets_floor policy beside.live (length beside.newer) ≡ met
+
+-- the ripe moment by these: kept safe, a version has none where its floor isn't met
+abbrev pub ripe_near : Policy → ℕ → Option ℕ → Bool → ℕ → Option ℕ
+ripe_near (Safe interval floor) closed nearest met ended = if met then ripe_by (Safe interval floor) closed (alone nearest) ended else None
+ripe_near policy closed nearest met ended = ripe_by policy closed (alone nearest) ended
+
+-- the ripe moment, whatever else stands beside the version
+abbrev pub IsRipe : Policy → ℕ → ℕ → Option ℕ → Bool → Option ℕ → Type 0
+IsRipe policy closed ended nearest met ripe =
+    (beside : Beside) → IsToldBy policy closed nearest met beside → ripe ≡ ripe_by policy closed beside ended

@@ -2,12 +2,14 @@
 //! plain data, an interval as its seconds, and a ladder as the list of its pairs.
 #![tactic(auto)]
 
+mod floor;
 mod interval;
 mod ladder;
 pub mod laws;
 mod policy;
 mod ripening;
 
+pub use floor::Floor;
 pub use interval::{BadLadder, Interval};
 pub use ladder::Ladder;
 pub use policy::{Kind, Policy};

@@ -1,10 +1,12 @@
 //! The policies of files, and their kinds.
 //! A contract sees both as plain data.
 ghost use Rattle.std.specs.Prelude.{◌≡◌, Some};
+ghost use Rattle.ele_policy.specs.FloorOf.{floor_of, without_floor};
 ghost use Rattle.ele_policy.specs.Lawful.{IsLawful};
 ghost use Rattle.ele_policy.specs.Policy.{kind_of, IsPolicy};
 ghost use Rattle.ele_policy.specs.PolicyText.{kind_word, policy_word};
 
+use crate::floor::Floor;
 use crate::interval::Interval;
 use crate::ladder::Ladder;
 use std::fmt;
@@ -29,8 +31,9 @@ pub enum Policy {
     One,
     /// None is ever due.
     All,
-    /// Each is due once it has been ended for the interval.
-    Safe(Interval),
+    /// Each is due once it has been ended for the interval; while the file is live, only if at least as many newer versions are
+    /// held as the floor says.
+    Safe(Interval, Floor),
     /// One is due once, at the level of its age, a newer one lies in its span.
     Landmarks(Ladder),
 }
@@ -43,8 +46,28 @@ impl Policy {
         match self {
             Policy::One => Kind::One,
             Policy::All => Kind::All,
-            Policy::Safe(_) => Kind::Safe,
+            Policy::Safe(_, _) => Kind::Safe,
             Policy::Landmarks(_) => Kind::Landmarks,
+        }
+    }
+
+    /// The policy's floor: how many newer versions a live file keeps beside one that goes. Only `Safe` has one.
+    pub fn floor(&self) -> Floor
+        ensures { result ≡ floor_of self.now }
+    {
+        match self {
+            Policy::Safe(_, floor) => *floor,
+            Policy::One | Policy::All | Policy::Landmarks(_) => Floor::NONE,
+        }
+    }
+
+    /// The policy with no floor.
+    pub fn without_floor(&self) -> Policy
+        ensures { result ≡ without_floor self.now }
+    {
+        match self {
+            Policy::Safe(interval, _) => Policy::Safe(*interval, Floor::NONE),
+            Policy::One | Policy::All | Policy::Landmarks(_) => *self,
         }
     }
 
@@ -54,8 +77,9 @@ impl Policy {
     {
         match self {
             Policy::One | Policy::All => {}
-            Policy::Safe(interval) => {
+            Policy::Safe(interval, floor) => {
                 interval.seconds();
+                floor.number();
             }
             Policy::Landmarks(ladder) => {
                 ladder.pairs();
@@ -93,9 +117,12 @@ impl fmt::Display for Policy {
         match self {
             Policy::One => f.write_str("one"),
             Policy::All => f.write_str("all"),
-            Policy::Safe(interval) => {
+            Policy::Safe(interval, floor) => {
                 let seconds = interval.seconds();
-                write!(f, "safe:{seconds}")
+                match floor.number() {
+                    0 => write!(f, "safe:{seconds}"),
+                    versions => write!(f, "safe:{seconds}/{versions}"),
+                }
             }
             Policy::Landmarks(ladder) => write!(f, "landmarks:{ladder}"),
         }

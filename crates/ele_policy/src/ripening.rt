@@ -1,75 +1,120 @@
 //! The moment at which a version becomes due.
 //! A contract sees it as seconds, and says at which moments the policy lets the version go.
-ghost use Rattle.std.specs.Prelude.{◌≡◌, ◌≤◌, ℕ, Bool, false, nat_le, IfSome, IfNone};
+ghost use Rattle.std.specs.Prelude.{◌≡◌, ◌≤◌, ℕ, false, nat_le, IfSome, IfNone};
 ghost use Rattle.std.specs.Option.{option_map_or};
 ghost use Rattle.ele_moment.specs.Last.{last_moment};
 ghost use Rattle.ele_policy.specs.Policy.{IsPolicy};
-ghost use Rattle.ele_policy.specs.Ripe.{Beside, IsNearest, IsRipe, alone, is_due_by, ripe_by};
+ghost use Rattle.ele_policy.specs.Ripe.{Beside, IsRipe, IsToldBy, alone, is_due_by, ripe_by, ripe_near};
 ghost use Rattle.ele_policy.specs.Wait.{wait, ripe_after};
 
 use crate::policy::Policy;
 use ele_moment::Moment;
 
 // How many seconds after its end the policy lets a version go that closed then.
-fn wait(policy: &Policy, closed: Moment, newer: &[Moment]) -> Option<u64>
-    ensures { result ≡ wait policy.now closed newer.now }
+fn wait(policy: &Policy, closed: Moment, newer: &[Moment], is_live: bool) -> Option<u64>
+    ensures { result
+        ≡ wait policy.now closed (record { newer = newer.now; live = is_live }) }
 {
     match policy {
         Policy::One => Some(0),
         Policy::All => None,
-        Policy::Safe(interval) => Some(interval.seconds()),
+        Policy::Safe(interval, floor) => {
+            if is_live && (newer.len() as u64) < floor.number() {
+                return None;
+            }
+            Some(interval.seconds())
+        }
         Policy::Landmarks(ladder) => ladder.shared_age(closed, newer),
     }
 }
 
 // The moment that comes so long after the end.
-fn ripe_after(policy: &Policy, closed: Moment, ended: Moment, newer: &[Moment]) -> Option<Moment>
-    ensures value { result ≡ ripe_after policy.now closed ended newer.now }
+fn ripe_after(
+    policy: &Policy,
+    closed: Moment,
+    ended: Moment,
+    newer: &[Moment],
+    is_live: bool,
+) -> Option<Moment>
+    ensures value { result
+        ≡ ripe_after policy.now closed ended (record { newer = newer.now; live = is_live }) }
     ensures given { IsPolicy policy.now }
 {
     policy.is_given();
-    ended.plus(wait(policy, closed, newer)?)
+    ended.plus(wait(policy, closed, newer, is_live)?)
 }
 
 /// The first moment at which the policy lets a version go that closed and ended at these moments,
-/// beside newer held versions of its file that closed at those, in any order. None where that would
-/// be past the last moment. `Landmarks` alone looks at closings.
+/// beside newer held versions of its file, which is live or not, that closed at those, in any order.
+/// None where that would be past the last moment. `Landmarks` alone looks at closings, and `Safe`
+/// at how many they are.
 pub fn ripe_beside(
     policy: &Policy,
     closed: Moment,
     ended: Moment,
     newer: &[Moment],
+    is_live: bool,
 ) -> Option<Moment>
-    ensures value { (live : Bool)
-        → result ≡ ripe_by policy.now closed (record { newer = newer.now; live = live }) ended }
-    ensures due { (live : Bool) (at : ℕ) → at ≤ last_moment
-        → is_due_by policy.now closed (record { newer = newer.now; live = live }) ended at
+    ensures value { result
+        ≡ ripe_by policy.now closed (record { newer = newer.now; live = is_live }) ended }
+    ensures due { (at : ℕ) → at ≤ last_moment
+        → is_due_by policy.now closed (record { newer = newer.now; live = is_live }) ended at
         ≡ option_map_or (λ m. nat_le m at) result false }
 {
-    ripe_after(policy, closed, ended, newer)
+    ripe_after(policy, closed, ended, newer, is_live)
 }
 
-/// The same, told by the closing of the next held version of the file, if there is one, which isn't
-/// before the version's own: whatever stands behind that one, the answer is the same.
-#[tactic(auto, using(crate::proofs::Waits::ripe_from, crate::proofs::Waits::ripe_never))]
-pub fn ripe(
+// The same with no floor in force, told by the nearest newer closing.
+fn ripe_alone(
     policy: &Policy,
     closed: Moment,
     ended: Moment,
     next_closed: Option<Moment>,
 ) -> Option<Moment>
-    ensures value { IsRipe policy.now closed ended next_closed result }
-    ensures near { result ≡ ripe_by policy.now closed (alone next_closed) ended }
+    ensures { result ≡ ripe_by policy.now closed (alone next_closed) ended }
+{
+    match next_closed {
+        Some(next) => ripe_beside(policy, closed, ended, &[next], false),
+        None => ripe_beside(policy, closed, ended, &[], false),
+    }
+}
+
+// The same, told by whether the floor is met too.
+fn ripe_near(
+    policy: &Policy,
+    closed: Moment,
+    ended: Moment,
+    next_closed: Option<Moment>,
+    floor_met: bool,
+) -> Option<Moment>
+    ensures { result ≡ ripe_near policy.now closed next_closed floor_met ended }
+{
+    match policy {
+        Policy::Safe(_, _) if !floor_met => None,
+        _ => ripe_alone(policy, closed, ended, next_closed),
+    }
+}
+
+/// The same, told by the closing of the next held version of the file, if there is one, which isn't
+/// before the version's own, and by whether the floor is met: whatever else stands beside the
+/// version, the answer is the same. `Safe` alone looks at the floor.
+#[tactic(auto, using(crate::proofs::Waits::is_ripe, crate::proofs::Waits::ripe_from, crate::proofs::Waits::ripe_never))]
+pub fn ripe(
+    policy: &Policy,
+    closed: Moment,
+    ended: Moment,
+    next_closed: Option<Moment>,
+    floor_met: bool,
+) -> Option<Moment>
+    ensures value { IsRipe policy.now closed ended next_closed floor_met result }
+    ensures near { result ≡ ripe_near policy.now closed next_closed floor_met ended }
     ensures from_then { IfSome result
-        (λ m. (beside : Beside) → IsNearest closed next_closed beside
+        (λ m. (beside : Beside) → IsToldBy policy.now closed next_closed floor_met beside
         → (at : ℕ) → is_due_by policy.now closed beside ended at ≡ nat_le m at) }
     ensures never { IfNone result
-        ((beside : Beside) → IsNearest closed next_closed beside
+        ((beside : Beside) → IsToldBy policy.now closed next_closed floor_met beside
         → (at : ℕ) → at ≤ last_moment → is_due_by policy.now closed beside ended at ≡ false) }
 {
     policy.is_given();
-    match next_closed {
-        Some(next) => ripe_beside(policy, closed, ended, &[next]),
-        None => ripe_beside(policy, closed, ended, &[]),
-    }
+    ripe_near(policy, closed, ended, next_closed, floor_met)
 }

@@ -1,0 +1,18 @@
+-- Floors: how many newer versions a live file keeps beside one that its policy lets go.
+use Rattle.std.specs.Prelude.{ℕ, nat_le, Bool, not, ◌||◌}
+use Rattle.ele_policy.specs.declared.policy.Policy.{Policy}
+use Rattle.ele_policy.specs.declared.policy.Policy.TheVariants.{Safe}
+
+-- the policy's floor; only Keep Safe has one
+abbrev pub floor_of : Policy → ℕ
+floor_of (Safe interval floor) = floor
+floor_of policy = 0
+
+-- so many newer held versions are enough for it, in a file that is live or not: one without a live name has no floor in force
+abbrev pub meets_floor : Policy → Bool → ℕ → Bool
+meets_floor policy live newer = not live || nat_le (floor_of policy) newer
+
+-- the policy with no floor
+abbrev pub without_floor : Policy → Policy
+without_floor (Safe interval floor) = Safe interval 0
+without_floor policy = policy
