@@ -234,16 +234,17 @@ ripe_never policy closed ended nearest met r given told = subst (NeverDue policy
     | false ↦ λ late beside near at fits. due_nearest policy closed ended at nearest (Some age) met beside given near is ∙ grind (arith, nat_tests)
   ] refl
 
-ripe_keeps : (policy : Policy) (closed ended m nearest : ℕ) → IsPolicy policy → ripe_by policy closed (alone None) ended ≡ Some m → ripe_by policy closed (alone (Some nearest)) ended ≡ Some m
-ripe_keeps policy closed ended m nearest given is =
-    ripe_is policy closed ended (alone (Some nearest)) given ∙ by policy (sym (ripe_is policy closed ended (alone None) given) ∙ is) where
+ripe_keeps : (policy : Policy) (closed ended m nearest : ℕ) (met : Bool) → IsPolicy policy → ripe_near policy closed None met ended ≡ Some m → ripe_near policy closed (Some nearest) true ended ≡ Some m
+ripe_keeps policy closed ended m nearest met given is =
+    near_is policy closed ended (Some nearest) true given ∙ by policy met (sym (near_is policy closed ended None met given) ∙ is) where
       none : (rungs : List Rung) → find (has_newer closed []) rungs ≡ None
       none [] = refl
       none (rung ∷ rungs) = none rungs
 
-      by : (policy : Policy) → ripe_after policy closed ended (alone None) ≡ Some m → ripe_after policy closed ended (alone (Some nearest)) ≡ Some m
-      by (Landmarks rungs) h = absurd (let no = none rungs in cc)
-      by policy h = grind arith
+      by : (policy : Policy) (met : Bool) → after_wait ended (wait_near policy closed None met) ≡ Some m → after_wait ended (wait_near policy closed (Some nearest) true) ≡ Some m
+      by (Landmarks rungs) met h = absurd (let no = none rungs in cc)
+      by (Safe interval floor) false h = absurd cc
+      by policy met h = grind arith
 
 -- ---- so every policy is lawful
 

@@ -5,7 +5,7 @@ use Rattle.ele_moment.specs.Last.{last_moment}
 use Rattle.ele_policy.specs.declared.policy.Policy.{Policy}
 use Rattle.ele_policy.specs.FloorOf.{floor_of, meets_floor}
 use Rattle.ele_policy.specs.Policy.{IsPolicy}
-use Rattle.ele_policy.specs.Ripe.{Beside, IsToldBy, alone, is_due_by, lets_go, ripe_by, ripe_near}
+use Rattle.ele_policy.specs.Ripe.{Beside, IsToldBy, is_due_by, lets_go, ripe_by, ripe_near}
 
 pub record IsLawful (policy : Policy) : Type 0 where
   -- its numbers are such as can be given
@@ -22,9 +22,9 @@ pub record IsLawful (policy : Policy) : Type 0 where
   -- where it isn't, there is none
   pub ripe_unmet : (closed ended newer : ℕ) (nearest : Option ℕ) (live : Bool) → meets_floor policy live newer ≡ false
       → ripe_near policy closed nearest false ended ≡ None
-  -- a version that ripens with no newer one ripens then beside one
-  pub ripe_keeps : (closed ended m nearest : ℕ) → ripe_by policy closed (alone None) ended ≡ Some m
-      → ripe_by policy closed (alone (Some nearest)) ended ≡ Some m
+  -- a version that ripens with no newer one ripens then beside one, which leaves the floor met
+  pub ripe_keeps : (closed ended m nearest : ℕ) (met : Bool) → ripe_near policy closed None met ended ≡ Some m
+      → ripe_near policy closed (Some nearest) true ended ≡ Some m
   -- one that is let go itself may be missing: an older one that has been ended as long goes as before
   pub lets_go_without : (live : Bool) (xs : List ℕ) (gone : ℕ) (ys : List ℕ) (closed age gone_age : ℕ) → gone_age ≤ age
       → lets_go policy gone (record { newer = ys; live = live }) gone_age ≡ true

@@ -7,9 +7,10 @@ pub use Rattle.ele_due.specs.HasKey.{has_key}
 pub use Rattle.ele_due.specs.Key.{is_key, is_ripe_by}
 pub use Rattle.ele_due.specs.declared.key.Key.{Key}
 pub use Rattle.ele_moment.specs.Last.{last_moment}
+pub use Rattle.ele_policy.specs.FloorOf.{floor_of, meets_floor}
 pub use Rattle.ele_policy.specs.Lawful.{IsLawful, PoliciesAreLawful}
 pub use Rattle.ele_policy.specs.Policy.{IsPolicy, is_kind, kind_of}
-pub use Rattle.ele_policy.specs.Ripe.{Beside, IsNearest, alone, candidates, earliest_of, is_due_by, lets_go}
+pub use Rattle.ele_policy.specs.Ripe.{Beside, IsNearest, IsToldBy, candidates, earliest_of, is_due_by, lets_go, ripe_near}
 pub use Rattle.ele_policy.specs.declared.policy.Kind.{Kind}
 pub use Rattle.ele_policy.specs.declared.policy.Policy.{Policy}
 pub use Rattle.ele_policy.specs.declared.policy.Policy.TheVariants.{All, One, Safe}
@@ -35,7 +36,7 @@ pub use Rattle.ele_world.specs.LinkLeads.{LeadsToSame}
 pub use Rattle.ele_world.specs.MakeDirLeads.{LeadsToDirectory}
 pub use Rattle.ele_world.specs.MarkedStays.{IsMarkedHeld, MarkedStays}
 pub use Rattle.ele_world.specs.NameRows.{born_row, covers, dies, is_live_directory, is_live_in, is_name_of_directory, is_named, is_target_directory, last_dead, target_at}
-pub use Rattle.ele_world.specs.Neighbours.{free_moment, is_moment, is_newer_of, moment_under, near_moment, newest_of, next_closing}
+pub use Rattle.ele_world.specs.Neighbours.{floor_in, free_moment, is_moment, is_newer_of, moment_under, near_moment, newer_held, newest_of, next_closing, with_newer}
 pub use Rattle.ele_world.specs.NewPlaces.{different_of, has_slot, is_among, new_places}
 pub use Rattle.ele_world.specs.NoIdleStays.{HasNoIdle, NoIdleStays}
 pub use Rattle.ele_world.specs.NothingChanges.{asks}

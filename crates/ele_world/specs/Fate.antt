@@ -48,9 +48,14 @@ pub record IsDisplaced (v : FileView) (row : VersionRow) (since level by : ℕ) 
   pub at_level : rung_at rungs level ≡ Some rung
   pub by_is : displacing v.rows row rung ≡ Some by
 
+-- the file is kept safe for so many seconds, with whatever floor
+pub record IsSafeFor (v : FileView) (seconds : ℕ) : Type 0 where
+  pub floor : ℕ
+  pub safe : v.policy ≡ Some (Safe seconds floor)
+
 abbrev pub IsCause : FileView → VersionRow → ℕ → Cause → Type 0
 IsCause v row since AtOnce = v.policy ≡ Some One
-IsCause v row since (Age seconds) = v.policy ≡ Some (Safe seconds)
+IsCause v row since (Age seconds) = IsSafeFor v seconds
 IsCause v row since (Displaced level by) = IsDisplaced v row since level by
 
 -- ---- what becomes of it

@@ -27,11 +27,11 @@ World = Flat
 abbrev pub root : ℕ
 root = 0
 
--- at first there is the root alone, whose files are kept safe for a day
+-- at first there is the root alone, whose files are kept safe for a day, with no floor
 abbrev pub fresh_world : Bounds → World
 fresh_world limits = record {
   now = 0;
-  directories = record { id = root; default = Safe 86400 } ∷ [];
+  directories = record { id = root; default = Safe 86400 0 } ∷ [];
   files = [];
   names = [];
   versions = [];
@@ -48,7 +48,7 @@ is_directory id row = row.id == id
 -- the policy that files get that are made in the directory; a well-formed world asks it of directories that are there alone, so
 -- that of none never shows
 abbrev pub default_of : List DirectoryRow → ℕ → Policy
-default_of rows id = option_map_or (λ row. row.default) (find (is_directory id) rows) (Safe 86400)
+default_of rows id = option_map_or (λ row. row.default) (find (is_directory id) rows) (Safe 86400 0)
 
 abbrev pub is_file : ℕ → FileRow → Bool
 is_file id row = row.id == id
@@ -58,7 +58,7 @@ policy_of rows id = option_map (λ row. row.policy) (find (is_file id) rows)
 
 -- the policy that governs the file; likewise
 abbrev pub policy_for : List FileRow → ℕ → Policy
-policy_for rows id = option_map_or (λ row. row.policy) (find (is_file id) rows) (Safe 86400)
+policy_for rows id = option_map_or (λ row. row.policy) (find (is_file id) rows) (Safe 86400 0)
 
 -- the number that the file's next version gets; 0 says that there is no such file, and no path leads to one
 abbrev pub next_of : List FileRow → ℕ → ℕ
