@@ -1,12 +1,13 @@
 -- The scan, one row after another.
 use Rattle.ele_world.proofs.Basics.{nat_tests, arith, ◌≡◌, ℕ, ◌+◌, ◌<◌, ◌≤◌, ◌||◌, Bool, true, false, cond, List, [], ◌∷◌, length, get_or, take, Option, Some, None}
 use Rattle.ele_world.proofs.Basics.{refl, fold, filter, nat_le, option_and_then, filter_map, cons_option, take_more, filter_map-append, fold-append, insert_key, filter-both}
-use Rattle.ele_world.proofs.Words.{Key, last_moment, Policy, IsLawful, VersionRow, FileView, file_view, cover_of, ripe_past, is_version_of, is_newer, closings, is_newer_of, IsDueFromRipe, in_order, key_cmp, key_of, World, is_live, is_open, policy_of}
+use Rattle.ele_world.proofs.Words.{Key, last_moment, Policy, candidates, IsLawful, VersionRow, FileView, file_view, cover_of, ripe_past, is_version_of, is_newer, closings, is_newer_of, IsDueFromRipe, in_order, key_cmp, key_of, World, is_live, is_open, policy_of}
 use Rattle.ele_policy.specs.Ripe.{ripe_by}
 use Rattle.ele_world.specs.Due.{is_due_at, ripe_of}
 use Rattle.ele_world.specs.Scan.{due_key}
 use Rattle.ele_world.proofs.Readers.{numbers_are}
-use Rattle.ele_world.proofs.RipeMoments.{due_from_ripe_of, ripe_told}
+use Rattle.ele_world.specs.LooksAway.{looks_away}
+use Rattle.ele_world.proofs.RipeMoments.{due_from_ripe_of, earliest_same, ripe_told}
 
 -- ---- a row's ripe moment, and that it is due from then on
 
@@ -35,10 +36,16 @@ module _ (w : World) (row : VersionRow) where
 
     -- of one whose file and end are known
     pub ripe-told : (ended : ℕ) (ripe : Option ℕ) → row.ended ≡ Some ended
-        → ((live : Bool) → ripe ≡ ripe_by policy row.closed (record { newer = closings (filter (is_newer_of row.file row.number) w.versions); live = live }) ended)
+        → ripe ≡ ripe_by policy row.closed (record { newer = closings (filter (is_newer_of row.file row.number) w.versions); live = is_live w row.file }) ended
         → IsRipeOf w row (option_and_then (ripe_past (cover_of w.groups row.file row.closed row.ended)) ripe)
     unfolding ripe_of
-    ripe-told ended ripe end is = grind (arith, nat_tests, is (is_live w row.file), filter-both (is_newer row) (is_version_of row.file) w.versions, ripe_told v row, numbers_are w.handles row.file row.number, due_from_ripe_of w row)
+    ripe-told ended ripe end is = grind (arith, nat_tests, is, filter-both (is_newer row) (is_version_of row.file) w.versions, ripe_told v row, numbers_are w.handles row.file row.number, due_from_ripe_of w row)
+
+-- what looks away is told the same beside anything
+pub looks_away_tells : (policy : Policy) (live : Bool) (closed ended : ℕ) (newer : List ℕ) → looks_away policy live ≡ true
+    → ripe_by policy closed (record { newer = []; live = live }) ended ≡ ripe_by policy closed (record { newer = newer; live = live }) ended
+unfolding ripe_by
+looks_away_tells policy live closed ended newer away = earliest_same _ _ (λ at fits. grind (arith, nat_tests, away)) (candidates policy ended)
 
 -- ---- and its key
 

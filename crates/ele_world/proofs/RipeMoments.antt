@@ -162,4 +162,4 @@ unfolding ripe_of
 ripe_is_answered w k = all-split (RipeIsAnswer w) w.versions (λ before row behind whole policy ended answer filed ends free is.
     let v = file_view w row.file in
     let governed : IsLawful policy = subst (λ p. IfSome p IsLawful) filed (view_is w k row.file).governed in
-    free_ripe v row policy ended free governed filed ends ∙ sym (is (beside v row) (nearest_of w before row behind (view_is w k row.file) whole)))
+    free_ripe v row policy ended free governed filed ends ∙ sym (is (beside v row) (record { near = nearest_of w before row behind (view_is w k row.file) whole; floor = refl })))

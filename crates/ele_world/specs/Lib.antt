@@ -12,6 +12,7 @@ pub mod GroupsAsked
 pub mod WalkAt
 pub mod FileView
 pub mod Neighbours
+pub mod LooksAway
 pub mod Tagged
 pub mod Told
 pub mod Due

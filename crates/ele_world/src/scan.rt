@@ -1,9 +1,10 @@
 //! The scan: the keys of the versions that are due, found by a look at every row.
-ghost use Rattle.std.specs.Prelude.{◌≡◌, if◌then◌else◌, Bool, IfOk, OnOk, OnErr, filter, fold, [], ◌∷◌};
-ghost use Rattle.std.specs.List.{cons_option};
+ghost use Rattle.std.specs.Prelude.{◌≡◌, if◌then◌else◌, IfOk, OnOk, OnErr, filter, fold, [], ◌∷◌};
+ghost use Rattle.std.specs.List.{cons_option, list_any};
 ghost use Rattle.std.specs.BTreeSet.{insert_key};
 ghost use Rattle.ele_policy.specs.Ripe.{ripe_by};
 ghost use Rattle.ele_world.specs.Due.{ripe_of};
+ghost use Rattle.ele_world.specs.LooksAway.{looks_away};
 ghost use Rattle.ele_world.specs.FileView.{closings};
 ghost use Rattle.ele_world.specs.declared.cover.Cover.TheVariants.{Free};
 ghost use Rattle.ele_world.specs.Cover.{cover_by, cover_of};
@@ -11,12 +12,12 @@ ghost use Rattle.ele_world.specs.GroupRows.{covers_moment, is_member};
 ghost use Rattle.ele_world.specs.Neighbours.{is_newer_of};
 ghost use Rattle.ele_world.specs.RipeMoments.{IsDueFromRipe};
 ghost use Rattle.ele_world.specs.Scan.{key_cmp, due_key, scan};
-ghost use Rattle.ele_world.specs.World.{World, is_open, policy_of, reads_version};
+ghost use Rattle.ele_world.specs.World.{World, is_live_name_of, is_open, policy_of, reads_version};
 
 use crate::cover::Cover;
 use crate::flat::Flat;
 use crate::list::KeyList;
-use crate::rows::{FileRow, GroupRow, HandleRow, MarkRow, Reads, VersionRow};
+use crate::rows::{FileRow, GroupRow, HandleRow, MarkRow, NameRow, Reads, Target, VersionRow};
 use ele_due::Key;
 use ele_lists::ListOf;
 use ele_moment::{FileId, Moment, NoMemory, VersionNo};
@@ -136,44 +137,62 @@ fn newer_closings(
     )
 }
 
+/// Whether a name of the file has no death.
+fn is_live(names: &[NameRow], file: FileId) -> bool
+    ensures { result ≡ list_any (is_live_name_of file) names.now }
+{
+    names
+        .iter()
+        .any(|row| row.death.is_none() && row.target == Target::File(file))
+}
+
+/// Whether the policy looks at nothing beside a version of a file that is live or not.
+fn looks_away(policy: &Policy, is_live: bool) -> bool
+    ensures { result ≡ looks_away policy.now is_live }
+{
+    match policy {
+        Policy::One | Policy::All => true,
+        Policy::Safe(_, floor) => !is_live || floor.number() == 0,
+        Policy::Landmarks(_) => false,
+    }
+}
+
 /// When the policy lets the version go that ended then. In plain rows, which nobody checked, any
 /// newer one may tell.
-#[tactic(auto, unfolding(ele_policy::specs::Ripe::ripe_by))]
+#[tactic(auto, using(crate::proofs::DueKeys::looks_away_tells))]
 fn ripe_by(
     policy: &Policy,
     versions: &[VersionRow],
     row: &VersionRow,
     ended: Moment,
+    is_live: bool,
     alloc: Global,
 ) -> Result<Option<Moment>, NoMemory>
-    ensures { IfOk result (λ ripe. (live : Bool) → ripe ≡ ripe_by policy.now row.now.closed (record {
+    ensures { IfOk result (λ ripe. ripe ≡ ripe_by policy.now row.now.closed (record {
       newer = closings (filter (is_newer_of row.now.file row.now.number) versions.now);
-      live = live;
+      live = is_live;
     }) ended) }
 {
-    match policy {
-        Policy::Landmarks(_) => {
-            let newer = newer_closings(versions, row, alloc)?;
-            Ok(ripe_beside(policy, row.closed, ended, &newer))
-        }
-        // They look at nothing beside a version.
-        Policy::One | Policy::All | Policy::Safe(_) => {
-            Ok(ripe_beside(policy, row.closed, ended, &[]))
-        }
+    if looks_away(policy, is_live) {
+        return Ok(ripe_beside(policy, row.closed, ended, &[], is_live));
     }
+    let newer = newer_closings(versions, row, alloc)?;
+    Ok(ripe_beside(policy, row.closed, ended, &newer, is_live))
 }
 
 /// The version's ripe moment.
 fn ripe_of(
     files: &[FileRow],
+    names: &[NameRow],
     versions: &[VersionRow],
     handles: &[HandleRow],
     groups: &[GroupRow],
     row: &VersionRow,
     alloc: Global,
 ) -> Result<Option<Moment>, NoMemory>
-    ensures { IfOk result (λ ripe. (w : World) → w.files ≡ files.now → w.versions ≡ versions.now
-        → w.handles ≡ handles.now → w.groups ≡ groups.now → (ripe ≡ ripe_of w row.now) × IsDueFromRipe w row.now) }
+    ensures { IfOk result (λ ripe. (w : World) → w.files ≡ files.now → w.names ≡ names.now
+        → w.versions ≡ versions.now → w.handles ≡ handles.now → w.groups ≡ groups.now
+        → (ripe ≡ ripe_of w row.now) × IsDueFromRipe w row.now) }
 {
     let Some(policy) = policy_of(files, row.file) else {
         return Ok(None);
@@ -185,7 +204,8 @@ fn ripe_of(
     let Some(ended) = row.ended else {
         return Ok(None);
     };
-    let Some(ripe) = ripe_by(&policy, versions, row, ended, alloc)? else {
+    let is_live = is_live(names, row.file);
+    let Some(ripe) = ripe_by(&policy, versions, row, ended, is_live, alloc)? else {
         return Ok(None);
     };
     Ok(cover_of(groups, row.file, row.closed, &row.ended).ripe_past(ripe))
@@ -195,6 +215,7 @@ fn ripe_of(
 fn due_key(
     now: Moment,
     files: &[FileRow],
+    names: &[NameRow],
     versions: &[VersionRow],
     handles: &[HandleRow],
     groups: &[GroupRow],
@@ -202,11 +223,11 @@ fn due_key(
     alloc: Global,
 ) -> Result<Option<Key>, NoMemory>
     ensures { IfOk result (λ key. (w : World) → w.now ≡ now → w.files ≡ files.now
-        → w.versions ≡ versions.now → w.handles ≡ handles.now → w.groups ≡ groups.now
-        → key ≡ due_key w row.now) }
+        → w.names ≡ names.now → w.versions ≡ versions.now → w.handles ≡ handles.now
+        → w.groups ≡ groups.now → key ≡ due_key w row.now) }
 {
     let at = now.seconds();
-    let Some(ripe) = ripe_of(files, versions, handles, groups, row, alloc)? else {
+    let Some(ripe) = ripe_of(files, names, versions, handles, groups, row, alloc)? else {
         return Ok(None);
     };
     if ripe.seconds() > at {
@@ -236,13 +257,14 @@ pub fn due(world: &Flat) -> Result<KeyList, NoMemory>
     ensures { IfOk result (λ keys. keys ≡ scan world.entry.now) }
 {
     let files = world.files.as_slice();
+    let names = world.names.as_slice();
     let versions = world.versions.as_slice();
     let handles = world.handles.as_slice();
     let groups = world.groups.as_slice();
     let alloc = world.versions.allocator();
     let mut keys = BTreeSet::new(alloc);
     for row in versions {
-        let key = due_key(world.now, files, versions, handles, groups, row, alloc)?;
+        let key = due_key(world.now, files, names, versions, handles, groups, row, alloc)?;
         add_key(&mut keys, key)?;
     }
     let listed: Vec<Key> = keys.iter().copied().collect(alloc)?;
