@@ -1,11 +1,12 @@
 -- Which ripe moments change where a file has a version more: the new one's own, and that of the held one which with it has as many
 -- newer ones as the floor asks; where no floor is in force that of the newest held one, which ends unless it had, and gets a
 -- neighbour.
-use Rattle.ele_world.proofs.Basics.{◌≡◌, ℕ, ◌+◌, ◌-◌, ◌<◌, ◌==◌, Bool, true, false, cond, ◌&&◌, ◌||◌, List, [], ◌∷◌, Some, None, is_none, refl, ap, sym, ◌∙◌, arith, find, option_and_then, option_map, unwrap_or, AllByRecursion, option_map_or}
-use Rattle.ele_world.proofs.Basics.{nat_tests, nat_le, nat_lt, list_any, IfSome, zero, suc, sum_by-cons, all-none, all-not_found, AllLater, insert_before, update_first, later-weaker, all-both, all-insert_before, all-update_first, all-weaker, all-found, found_passes, not_found, find-insert_before}
+use Rattle.ele_world.proofs.Basics.{◌≡◌, ℕ, ◌+◌, ◌-◌, ◌<◌, ◌==◌, Bool, true, false, cond, ◌&&◌, ◌||◌, List, [], ◌∷◌, Some, None, is_none, refl, ap, sym, subst, ◌∙◌, arith, find, option_and_then, option_map, unwrap_or, AllByRecursion, option_map_or}
+use Rattle.ele_world.proofs.Basics.{nat_tests, Option, ◌≤◌, not, nat_le, nat_lt, list_any, IfSome, zero, suc, sum_by-cons, all-none, all-not_found, AllLater, insert_before, update_first, later-weaker, all-both, all-insert_before, all-update_first, all-weaker, all-found, found_passes, not_found, find-insert_before}
 use Rattle.ele_world.proofs.Basics.{list_any-update_first, any-found, find-inserted, find-update_other}
 use Rattle.ele_world.proofs.Words.{Cell, Cover, Policy, floor_in, newer_held, IsLawful, VersionRow, ended_at, next_version, with_end, with_version, ripe_of, ripe_at, cover_of, is_newer_of, near_moment, next_closing, ArePlaced, AreHeldRead, AreVersions}
 use Rattle.ele_world.proofs.Words.{IsVersion, Readers, Versions, HasParts, World, is_file, is_live, is_open, is_version, is_version_after, next_of, policy_of}
+use Rattle.std.proofs.Common.{zero-add}
 use Rattle.std.specs.List.{count_by}
 use Rattle.ele_lists.proofs.Cuts.{any-found as first_passing}
 use Rattle.ele_lists.proofs.Sums.{any-count, sum_by-insert_before}
@@ -13,7 +14,7 @@ use Rattle.ele_world.proofs.Closes.{new_found, none_next}
 use Rattle.ele_world.proofs.Files.{policies-numbered}
 use Rattle.ele_world.proofs.Elements.{any_none}
 use Rattle.ele_world.proofs.KeptVersions.{behind_too, ended_versions, next_placed}
-use Rattle.ele_world.proofs.Neighbours.{AreInOrder, floor_for, found_moment, unmet_moment, near_floored, near_unmet, newer_held-ended, next_closing-ended, none_past, ripe_at_near, versions_in_order}
+use Rattle.ele_world.proofs.Neighbours.{AreInOrder, floor_for, found_moment, unmet_moment, near_floored, near_unmet, newer_held-ended, next_closing-ended, no_floor, none_past, ripe_at_near, versions_in_order}
 use Rattle.ele_world.proofs.Readers.{unread_unheld}
 use Rattle.ele_world.proofs.RipeAt.{ripe_at_is}
 use Rattle.ele_world.proofs.Views.{IsLife, lives_in, policies_of, policy_is}
@@ -130,7 +131,7 @@ module _ (w : World) (file opened : ℕ) (cells : List Cell) (k : MayGrow w file
       ∙ rw (new_found w file k.versions.each opened cells, policies-numbered w.files file file, none_behind, unread) (by (is_live w file)) where
         by : (live : Bool) → option_and_then (near_moment cover policy None (nat_le (floor_in policy live) (newer_held appended.versions file next)) w.now) (cond live None (Some w.now)) ≡ cond live None (near_moment cover policy None true w.now w.now)
         by true = refl
-        by false = refl
+        by false = ap (λ met. near_moment cover policy None met w.now w.now) (no_floor (newer_held appended.versions file next))
 
   -- each other version is found as before, but that its file's last one ends
   found_after : (f n : ℕ) → is_version f n new ≡ false → find (is_version f n) appended.versions ≡ find (is_version f n) (with_end w file)
@@ -250,21 +251,21 @@ module _ (w : World) (file opened : ℕ) (cells : List Cell) (k : MayGrow w file
 
   -- ---- all others stay
 
-  stays_own : (n : ℕ) → (n == next) ≡ false → has_newer w.versions file (floor - 1) n ≡ false → ripe_at appended file n ≡ ripe_at w file n
-  stays_own n new apart = by (find (is_version file n) w.versions) refl where
-    by : (o : Option VersionRow) → find (is_version file n) w.versions ≡ o → ripe_at appended file n ≡ ripe_at w file n
-    by None none = stays_unheld n new (all-not_found (is_version file n) w.versions none)
+  stays_own : (m : ℕ) → (m == next) ≡ false → has_newer w.versions file (floor - 1) m ≡ false → ripe_at appended file m ≡ ripe_at w file m
+  stays_own m unlike apart = by (find (is_version file m) w.versions) refl where
+    by : (o : Option VersionRow) → find (is_version file m) w.versions ≡ o → ripe_at appended file m ≡ ripe_at w file m
+    by None none = stays_unheld m unlike (all-not_found (is_version file m) w.versions none)
     by (Some row) found =
-        let number : row.number ≡ n = grind (arith, nat_tests, found_passes (is_version file n) w.versions row found) in
-        let held = any-found (is_version file n) (is_version file n) w.versions row found (found_passes (is_version file n) w.versions row found) in
-        rw (← number) (stays_held row (rw number found) (rw number (grind (arith, nat_tests, apart, held))))
+        let number : row.number ≡ m = grind (arith, nat_tests, found_passes (is_version file m) w.versions row found) in
+        let held = any-found (is_version file m) (is_version file m) w.versions row found (found_passes (is_version file m) w.versions row found) in
+        rw (← number) (stays_held row (subst (λ k. find (is_version file k) w.versions ≡ Some row) (sym number) found) (rw number (grind (arith, nat_tests, apart, held))))
 
   stays_other : (f n : ℕ) → (f == file) ≡ false → ripe_at appended f n ≡ ripe_at w f n
   stays_other f n other =
       let apart : is_version f n new ≡ false = grind (arith, nat_tests, other) in
       let none : is_newer_of f n new ≡ false = grind (arith, nat_tests, other) in
       found_moment w appended f n ordered then_ordered (λ closed ended. refl) (policies-numbered w.files file f)
-      (rw (policies-numbered w.files file f, newer_after f n, none) refl) refl
+      (rw (policies-numbered w.files file f, newer_after f n, none, zero-add (newer_held w.versions f n)) refl) refl
       (ap (option_map (λ (x : VersionRow). x.closed)) (find-insert_before behind (is_newer_of f n) new (with_end w file) none) ∙ next_closing-ended p w.now w.versions f n)
       (found_still f n apart (grind (arith, nat_tests, other)))
 

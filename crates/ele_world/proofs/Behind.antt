@@ -1,6 +1,6 @@
 -- A change made in a world and in one that lags behind it, with the same versions and files missing before and after.
-use Rattle.ele_world.proofs.Basics.{◌≡◌, ◌==◌, ◌≤◌, ℕ, Bool, true, false, not, List, [], ◌∷◌, ◌++◌, None, Option, refl, ap, sym, ◌∙◌, arith, nat_tests, nat_le, list_any, option_map_or, AllByRecursion}
-use Rattle.ele_world.proofs.Basics.{all-split, false≢true, list_any-append, is_none}
+use Rattle.ele_world.proofs.Basics.{◌≡◌, ◌==◌, ◌≤◌, ℕ, Bool, true, false, not, List, [], ◌∷◌, ◌++◌, None, Some, Option, refl, ap, sym, ◌∙◌, arith, nat_tests, nat_le, list_any, option_map_or, AllByRecursion}
+use Rattle.ele_world.proofs.Basics.{all-split, false≢true, list_any-append, is_none, is_some}
 use Rattle.ele_world.proofs.Words.{Change, HasParts, NameRow, Target, File, Directory, World, after_change, has_draft, is_live, is_live_name_of, ripe_at, next_of}
 use Rattle.ele_world.specs.AnyDueLeave.{AreDue}
 use Rattle.ele_world.specs.Lags.{Lags}
@@ -41,6 +41,13 @@ module _ (gone : ℕ → ℕ → Bool) (dropped : ℕ → Bool) (u v : World) (b
     emptied = λ file is. keeps.emptied file is (b.emptied file is);
     ungrouped = keeps.groups ∙ b.ungrouped;
   }
+
+  -- what is missing has a ripe moment
+  pub due_moment : (file number : ℕ) → gone file number ≡ true → is_some (ripe_at v file number) ≡ true
+  due_moment file number named = some_on (ripe_at v file number) (sym (is_due_is v file number b.formed) ∙ b.due file number named) where
+    some_on : (o : Option ℕ) → option_map_or (λ m. nat_le m v.now) o false ≡ true → is_some o ≡ true
+    some_on None is = absurd (false≢true is)
+    some_on (Some m) is = refl
 
   -- ---- what isn't missing
 

@@ -31,7 +31,7 @@ module _ (gone : ℕ → ℕ → Bool) (dropped : ℕ → Bool) (u v : World) (b
   keeps_drafts : (drafts : List DraftRow) → ((file : ℕ) → dropped file ≡ true → list_any (is_draft file) v.drafts ≡ false → list_any (is_draft file) drafts ≡ false) → KeepsBehind gone dropped v (record v { drafts = drafts })
   keeps_drafts drafts none = record {
     time = omega arith;
-    ripe = λ file number named. moments_stay v (record v { drafts = drafts }) (in_order_of v b.formed) refl refl refl refl file number;
+    ripe = λ file number named. moments_stay v (record v { drafts = drafts }) (in_order_of v b.formed) refl refl refl refl file number refl;
     emptied = λ file is e. record { there = e.there; nameless = e.nameless; undrafted = none file is e.undrafted; unheld = e.unheld };
     groups = refl;
   }
@@ -98,7 +98,7 @@ module _ (gone : ℕ → ℕ → Bool) (dropped : ℕ → Bool) (u v : World) (b
       let ordered = in_order_of v b.formed in
       change_on gone dropped u v b c refl formed (keeps_handles (after_change v c) refl refl refl refl refl refl (λ f n named.
       let none = unread f n named in
-      found_moment v (after_change v c) f n ordered ordered (λ closed ended. refl) refl (still_none (is_handle number) (λ (row : HandleRow). reads_version f n row.reads) v.handles none ∙ sym none) refl refl))
+      found_moment v (after_change v c) f n ordered ordered (λ closed ended. refl) refl refl (still_none (is_handle number) (λ (row : HandleRow). reads_version f n row.reads) v.handles none ∙ sym none) refl refl))
 
   -- ---- a file goes if nothing is left of it
 

@@ -1,16 +1,16 @@
 -- Changes of the clock, of directories and of names, in a world and in one that lags behind it.
 use Rattle.ele_world.proofs.Basics.{◌≡◌, ◌==◌, ◌≤◌, ◌-◌, ℕ, Bool, true, false, cond, not, ◌&&◌, List, [], ◌∷◌, ◌++◌, refl, ap, sym, ◌∙◌, arith, nat_tests, filter, list_any}
 use Rattle.ele_world.proofs.Basics.{all-weaker, list_any-append, list_any-update_fails, list_any-update_first, false≢true, update_first}
-use Rattle.ele_world.proofs.Words.{AddName, Change, EndFileName, EndName, Govern, HasParts, MakeDirectory, MoveName, NameRow, Policy, Target, Directory, Time, World, after_change, born_row, dies, ended_at, is_live, is_live_name, is_live_name_of, is_target_file, is_version, next_of, ripe_at, with_end}
+use Rattle.ele_world.proofs.Words.{AddName, Change, EndFileName, EndName, Govern, HasParts, MakeDirectory, MoveName, NameRow, Policy, Target, Directory, File, Time, World, after_change, born_row, dies, ended_at, is_live, is_live_name, is_live_name_of, is_target_file, is_version, next_of, ripe_at, with_end}
 use Rattle.ele_world.specs.Less.{less, is_dropped}
 use Rattle.ele_world.proofs.AnyDueLeave.{remains}
-use Rattle.ele_world.proofs.Behind.{Behind, KeepsBehind, change_on, live_there, names_live, unripe_there}
+use Rattle.ele_world.proofs.Behind.{Behind, KeepsBehind, change_on, due_moment, live_there, names_live, unripe_there}
 use Rattle.ele_world.proofs.CleanLags.{parts_same}
 use Rattle.ele_world.proofs.Currents.{has_current}
 use Rattle.ele_world.proofs.Filters.{filter-push, update_first-filter, update_first-stay}
 use Rattle.ele_world.proofs.Lagging.{stays_name, live_same, next_same}
 use Rattle.ele_world.proofs.LiveNames.{StaysLive}
-use Rattle.ele_world.proofs.NameMoments.{moments_stay, other_moments, no_moment}
+use Rattle.ele_world.proofs.NameMoments.{kept_moments, moments_kept, moments_stay, no_moment}
 use Rattle.ele_world.proofs.Neighbours.{in_order_of}
 
 module _ (gone : ℕ → ℕ → Bool) (dropped : ℕ → Bool) (u v : World) (b : Behind gone dropped u v) where
@@ -22,23 +22,23 @@ module _ (gone : ℕ → ℕ → Bool) (dropped : ℕ → Bool) (u v : World) (b
   pub time_both : (to : ℕ) → v.now ≤ to → HasParts (after_change v (Time to)) → Behind gone dropped (after_change u (Time to)) (after_change v (Time to))
   time_both to le formed = change_on gone dropped u v b (Time to) refl formed (record {
     time = le;
-    ripe = λ file number named. moments_stay v (after_change v (Time to)) (in_order_of v b.formed) refl refl refl refl file number;
+    ripe = λ file number named. moments_stay v (after_change v (Time to)) (in_order_of v b.formed) refl refl refl refl file number refl;
     emptied = λ file is e. record { there = e.there; nameless = e.nameless; undrafted = e.undrafted; unheld = e.unheld };
     groups = refl;
   })
 
-  -- where files, versions, drafts, handles, groups and the clock stay, and no file becomes live that is missing
+  -- where files, versions, drafts, handles, groups and the clock stay, and no file becomes live
   keeps_names : (after : World) → after.now ≡ v.now → after.files ≡ v.files → after.versions ≡ v.versions → after.drafts ≡ v.drafts → after.handles ≡ v.handles → after.groups ≡ v.groups
-      → ((file : ℕ) → dropped file ≡ true → is_live v file ≡ false → is_live after file ≡ false) → KeepsBehind gone dropped v after
+      → ((file : ℕ) → is_live v file ≡ false → is_live after file ≡ false) → KeepsBehind gone dropped v after
   keeps_names after now files versions drafts handles groups nameless = record {
     time = omega (arith, now);
-    ripe = λ file number named. moments_stay v after (in_order_of v b.formed) files versions handles groups file number;
-    emptied = λ file is e. record { there = rw files e.there; nameless = nameless file is e.nameless; undrafted = rw drafts e.undrafted; unheld = λ number held. e.unheld number (rw versions at held) };
+    ripe = λ file number named. moments_kept v after (in_order_of v b.formed) files versions handles groups file number (nameless file) (due_moment gone dropped u v b file number named);
+    emptied = λ file is e. record { there = rw files e.there; nameless = nameless file e.nameless; undrafted = rw drafts e.undrafted; unheld = λ number held. e.unheld number (rw versions at held) };
     groups = groups;
   }
 
   pub govern_both : (directory : ℕ) (policy : Policy) → HasParts (after_change v (Govern directory policy)) → Behind gone dropped (after_change u (Govern directory policy)) (after_change v (Govern directory policy))
-  govern_both directory policy formed = change_on gone dropped u v b (Govern directory policy) refl formed (keeps_names (after_change v (Govern directory policy)) refl refl refl refl refl refl (λ file is none. none))
+  govern_both directory policy formed = change_on gone dropped u v b (Govern directory policy) refl formed (keeps_names (after_change v (Govern directory policy)) refl refl refl refl refl refl (λ file none. none))
 
   -- ---- the names that are left after a name more, and after the end of one
 
@@ -53,10 +53,13 @@ module _ (gone : ℕ → ℕ → Bool) (dropped : ℕ → Bool) (u v : World) (b
       (all-weaker (StaysLive (stays_name dropped)) (λ row. is_live_name directory name row ≡ true → stays_name dropped row ≡ true) v.names (λ row stays is. stays (grind (arith, nat_tests, is))) (names_live gone dropped u v b))
 
   -- no file becomes live
-  nameless_more : (names : List NameRow) (directory : ℕ) (name : List ℕ) (target : Target) (file : ℕ) → is_dropped dropped target ≡ false → dropped file ≡ true → list_any (is_live_name_of file) names ≡ false → list_any (is_live_name_of file) (names ++ born_row directory name target v.now ∷ []) ≡ false
-  nameless_more names directory name target file stays is none = list_any-append (is_live_name_of file) names (born_row directory name target v.now ∷ []) ∙ grind (arith, nat_tests, none, other target stays) where
-    other : (target : Target) → is_dropped dropped target ≡ false → is_target_file file target ≡ false
-    other target stays = grind (arith, nat_tests, stays, is, false≢true)
+  nameless_more : (names : List NameRow) (directory : ℕ) (name : List ℕ) (target : Target) (file : ℕ) → is_target_file file target ≡ false → list_any (is_live_name_of file) names ≡ false → list_any (is_live_name_of file) (names ++ born_row directory name target v.now ∷ []) ≡ false
+  nameless_more names directory name target file other none = list_any-append (is_live_name_of file) names (born_row directory name target v.now ∷ []) ∙ grind (arith, nat_tests, none, other)
+
+  -- what stands for a live file stands for no nameless one
+  other_file : (target : Target) (file : ℕ) → ((f : ℕ) → target ≡ File f → is_live v f ≡ true) → is_live v file ≡ false → is_target_file file target ≡ false
+  other_file (Directory id) file live none = refl
+  other_file (File f) file live none = grind (arith, nat_tests, live f refl, none, false≢true)
 
   nameless_end : (directory : ℕ) (name : List ℕ) (file : ℕ) → list_any (is_live_name_of file) v.names ≡ false → list_any (is_live_name_of file) (update_first (is_live_name directory name) (dies v.now) v.names) ≡ false
   nameless_end directory name file none =
@@ -70,29 +73,29 @@ module _ (gone : ℕ → ℕ → Bool) (dropped : ℕ → Bool) (u v : World) (b
       let c = MakeDirectory directory name id policy in
       change_on gone dropped u v b c
       (ap (λ (names : List NameRow). let w : World = record (after_change behind c) { names = names } in w) (name_more v.names directory name (Directory id) refl)) formed
-      (keeps_names (after_change v c) refl refl refl refl refl refl (λ file is none. nameless_more v.names directory name (Directory id) file refl is none))
+      (keeps_names (after_change v c) refl refl refl refl refl refl (λ file none. nameless_more v.names directory name (Directory id) file refl none))
 
   pub end_both : (directory : ℕ) (name : List ℕ) → let c = EndName directory name in HasParts (after_change v c) → Behind gone dropped (after_change u c) (after_change v c)
   end_both directory name formed =
       let c = EndName directory name in
       change_on gone dropped u v b c
       (ap (λ (names : List NameRow). let w : World = record (after_change behind c) { names = names } in w) (name_end directory name)) formed
-      (keeps_names (after_change v c) refl refl refl refl refl refl (λ file is none. nameless_end directory name file none))
+      (keeps_names (after_change v c) refl refl refl refl refl refl (λ file none. nameless_end directory name file none))
 
-  pub add_both : (directory : ℕ) (name : List ℕ) (target : Target) → is_dropped dropped target ≡ false → let c = AddName directory name target in HasParts (after_change v c) → Behind gone dropped (after_change u c) (after_change v c)
-  add_both directory name target stays formed =
+  pub add_both : (directory : ℕ) (name : List ℕ) (target : Target) → is_dropped dropped target ≡ false → ((f : ℕ) → target ≡ File f → is_live v f ≡ true) → let c = AddName directory name target in HasParts (after_change v c) → Behind gone dropped (after_change u c) (after_change v c)
+  add_both directory name target stays live formed =
       let c = AddName directory name target in
       change_on gone dropped u v b c
       (ap (λ (names : List NameRow). let w : World = record (after_change behind c) { names = names } in w) (name_more v.names directory name target stays)) formed
-      (keeps_names (after_change v c) refl refl refl refl refl refl (λ file is none. nameless_more v.names directory name target file stays is none))
+      (keeps_names (after_change v c) refl refl refl refl refl refl (λ file none. nameless_more v.names directory name target file (other_file target file live none) none))
 
-  pub move_both : (from : ℕ) (old : List ℕ) (to : ℕ) (new : List ℕ) (target : Target) → is_dropped dropped target ≡ false → let c = MoveName from old to new target in HasParts (after_change v c) → Behind gone dropped (after_change u c) (after_change v c)
-  move_both from old to new target stays formed =
+  pub move_both : (from : ℕ) (old : List ℕ) (to : ℕ) (new : List ℕ) (target : Target) → is_dropped dropped target ≡ false → ((f : ℕ) → target ≡ File f → is_live v f ≡ true) → let c = MoveName from old to new target in HasParts (after_change v c) → Behind gone dropped (after_change u c) (after_change v c)
+  move_both from old to new target stays live formed =
       let c = MoveName from old to new target in
       let names = update_first (is_live_name from old) (dies v.now) v.names in
       change_on gone dropped u v b c
       (ap (λ (names : List NameRow). let w : World = record (after_change behind c) { names = names } in w) (ap (λ (rows : List NameRow). rows ++ born_row to new target v.now ∷ []) (name_end from old) ∙ name_more names to new target stays)) formed
-      (keeps_names (after_change v c) refl refl refl refl refl refl (λ file is none. nameless_more names to new target file stays is (nameless_end from old file none)))
+      (keeps_names (after_change v c) refl refl refl refl refl refl (λ file none. nameless_more names to new target file (other_file target file live none) (nameless_end from old file none)))
 
   -- ---- a file's name ends
 
@@ -118,7 +121,7 @@ module _ (gone : ℕ → ℕ → Bool) (dropped : ℕ → Bool) (u v : World) (b
     ripe_stays : (f n : ℕ) → gone f n ≡ true → ripe_at (after_change v c) f n ≡ ripe_at v f n
     ripe_stays f n named = by ((f == file) && (n == next_of v.files file - 1)) refl where
       by : (l : Bool) → ((f == file) && (n == next_of v.files file - 1)) ≡ l → ripe_at (after_change v c) f n ≡ ripe_at v f n
-      by false e = other_moments v directory name file b.formed f n e
+      by false e = kept_moments v directory name file b.formed f n e (due_moment gone dropped u v b f n named)
       by true e = absurd (
           let unripe = unripe_there gone dropped u v b file (next_of v.files file - 1) (no_moment v directory name file (has_current v file b.formed live)) in
           let own : f ≡ file = grind (arith, nat_tests, e) in

@@ -1,12 +1,11 @@
 -- A new file and a file's next version, in a world and in one that lags behind it.
 use Rattle.ele_world.proofs.Basics.{◌≡◌, ◌==◌, ◌<◌, ◌-◌, ◌+◌, ℕ, Bool, true, false, cond, not, ◌&&◌, ◌||◌, List, [], ◌∷◌, None, Some, Option, refl, ap, sym, subst, ◌∙◌, arith, nat_tests, filter, list_any, nat_le, IfSome, option_map_or, unwrap_or, option_and_then, update_first, AllLater}
-use Rattle.ele_world.proofs.Basics.{later-weaker, list_any-append, list_any-insert_before, list_any-update_first, false≢true, all-weaker, not_found}
-use Rattle.ele_world.proofs.Words.{Cover, Always, Free, Until, cover_of, ripe_past, Append, Cell, Change, Files, IsLawful, HasParts, MakeFile, Policy, VersionRow, Versions, World, after_change, ended_at, is_file, is_live_name_of, is_open, is_version, is_version_after, near_moment, newest_of, next_of, next_version, numbered_on, policy_of, ripe_at, with_end, with_version, ArePlaced}
-use Rattle.ele_policy.specs.Ripe.{alone, ripe_by}
+use Rattle.ele_world.proofs.Basics.{later-weaker, list_any-append, list_any-insert_before, list_any-update_first, false≢true, all-weaker, all-not_found, find, found_passes, not_found}
+use Rattle.ele_world.proofs.Words.{Cover, Always, Free, Until, cover_of, ripe_past, Append, Cell, Change, Files, IsLawful, HasParts, MakeFile, Policy, VersionRow, Versions, World, after_change, ended_at, is_file, is_live_name_of, is_open, is_version, is_version_after, near_moment, newer_held, ripe_near, next_of, next_version, numbered_on, policy_of, ripe_at, with_end, with_version, ArePlaced}
 use Rattle.ele_world.specs.Due.{ripe_of}
 use Rattle.ele_world.specs.Less.{less}
 use Rattle.ele_world.proofs.AnyDueLeave.{remains}
-use Rattle.ele_world.proofs.AppendMoments.{MayGrow, may_grow, newest_is, newest_was, next_before, others_after}
+use Rattle.ele_world.proofs.AppendMoments.{MayGrow, gaining_is, gaining_was, has_newer, may_grow, next_before, others_after, touches}
 use Rattle.ele_world.proofs.Behind.{Behind, KeepsBehind, apart_from, change_on, new_there, unripe_there}
 use Rattle.ele_world.proofs.CleanLags.{parts_same}
 use Rattle.ele_world.proofs.Created.{created, made_is, new_file, new_name, first_version, versions_before}
@@ -15,13 +14,15 @@ use Rattle.ele_world.proofs.Filters.{filter-push, insert_before-filter, update_f
 use Rattle.ele_world.proofs.KeptVersions.{behind_too, ended_versions}
 use Rattle.ele_world.proofs.Lagging.{stays_name, stays_file, live_same, next_same}
 use Rattle.ele_world.proofs.MadeMoments.{moment_stays}
+use Rattle.ele_world.proofs.Elements.{any_none}
+use Rattle.ele_world.proofs.Neighbours.{floor_for}
 use Rattle.ele_world.proofs.RipeAt.{is_due_is, ripe_at_is}
 use Rattle.ele_world.proofs.Views.{policies_of, policy_is}
 
 -- a version that is due with no newer one beside it is so from the same moment on beside one
-near_keeps : (policy : Policy) (closed ended nearest at : ℕ) → IsLawful policy → (o : Option ℕ) → ripe_by policy closed (alone None) ended ≡ o → option_map_or (λ m. nat_le m at) o false ≡ true → ripe_by policy closed (alone (Some nearest)) ended ≡ o
-near_keeps policy closed ended nearest at is None e due = absurd (false≢true due)
-near_keeps policy closed ended nearest at is (Some m) e due = is.ripe_keeps closed ended m nearest e
+near_keeps : (policy : Policy) (closed ended nearest at : ℕ) (met : Bool) → IsLawful policy → (o : Option ℕ) → ripe_near policy closed None met ended ≡ o → option_map_or (λ m. nat_le m at) o false ≡ true → ripe_near policy closed (Some nearest) true ended ≡ o
+near_keeps policy closed ended nearest at met is None e due = absurd (false≢true due)
+near_keeps policy closed ended nearest at met is (Some m) e due = is.ripe_keeps closed ended m nearest met e
 
 past_due : (c : Cover) (o : Option ℕ) (now : ℕ) → option_map_or (λ m. nat_le m now) (option_and_then (ripe_past c) o) false ≡ true → option_map_or (λ m. nat_le m now) o false ≡ true
 past_due c None now due = absurd (false≢true due)
@@ -29,14 +30,14 @@ past_due Free (Some m) now due = due
 past_due Always (Some m) now due = absurd (false≢true due)
 past_due (Until end) (Some m) now due = grind (arith, nat_tests, due)
 
-beside_one : (read : Bool) (cover : ℕ → Option ℕ → Cover) (policy : Option Policy) (closed now : ℕ) (ended : Option ℕ) → IfSome policy IsLawful
-    → option_map_or (λ m. nat_le m now) (cond read None (option_and_then (near_moment cover policy None closed) ended)) false ≡ true
-    → cond read None (near_moment cover policy (Some now) closed (unwrap_or ended now)) ≡ cond read None (option_and_then (near_moment cover policy None closed) ended)
-beside_one true cover policy closed now ended given due = absurd (false≢true due)
-beside_one false cover policy closed now None given due = absurd (false≢true due)
-beside_one false cover None closed now (Some ended) given due = grind (arith, nat_tests, due, false≢true)
-beside_one false cover (Some policy) closed now (Some ended) given due =
-    ap (option_and_then (ripe_past (cover closed (Some ended)))) (near_keeps policy closed ended now now given (ripe_by policy closed (alone None) ended) refl (past_due (cover closed (Some ended)) (ripe_by policy closed (alone None) ended) now due))
+beside_one : (read : Bool) (cover : ℕ → Option ℕ → Cover) (policy : Option Policy) (met : Bool) (closed now : ℕ) (ended : Option ℕ) → IfSome policy IsLawful
+    → option_map_or (λ m. nat_le m now) (cond read None (option_and_then (near_moment cover policy None met closed) ended)) false ≡ true
+    → cond read None (near_moment cover policy (Some now) true closed (unwrap_or ended now)) ≡ cond read None (option_and_then (near_moment cover policy None met closed) ended)
+beside_one true cover policy met closed now ended given due = absurd (false≢true due)
+beside_one false cover policy met closed now None given due = absurd (false≢true due)
+beside_one false cover None met closed now (Some ended) given due = grind (arith, nat_tests, due, false≢true)
+beside_one false cover (Some policy) met closed now (Some ended) given due =
+    ap (option_and_then (ripe_past (cover closed (Some ended)))) (near_keeps policy closed ended now now met given (ripe_near policy closed None met ended) refl (past_due (cover closed (Some ended)) (ripe_near policy closed None met ended) now due))
 
 module _ (gone : ℕ → ℕ → Bool) (dropped : ℕ → Bool) (u v : World) (b : Behind gone dropped u v) where
   abbrev behind : World
@@ -115,24 +116,32 @@ module _ (gone : ℕ → ℕ → Bool) (dropped : ℕ → Bool) (u v : World) (b
 
     -- ---- what was due stays due
 
-    -- the newest of the file, which has another one beside it now
-    newest_stays : (row : VersionRow) → newest_of v.versions file ≡ Some row → gone file row.number ≡ true → ripe_at appended file row.number ≡ ripe_at v file row.number
-    newest_stays row is named =
-        let was = newest_was v file opened cells may row is in
-        newest_is v file opened cells may row is
-        ∙ beside_one (is_open v.handles file row.number) (cover_of v.groups file) (policy_of v.files file) row.closed v.now row.ended (policy_is v.files file (policies_of v b.formed)) (rw was at (sym (is_due_is v file row.number b.formed) ∙ b.due file row.number named))
+    -- the one that has another one beside it now
+    gaining_stays : (row : VersionRow) → find (is_version file row.number) v.versions ≡ Some row → newer_held v.versions file row.number ≡ floor_for v file - 1 → gone file row.number ≡ true → ripe_at appended file row.number ≡ ripe_at v file row.number
+    gaining_stays row found least named =
+        let was = gaining_was v file opened cells may row found least in
+        gaining_is v file opened cells may row found least
+        ∙ beside_one (is_open v.handles file row.number) (cover_of v.groups file) (policy_of v.files file) (nat_le (floor_for v file) (floor_for v file - 1)) row.closed v.now row.ended (policy_is v.files file (policies_of v b.formed)) (rw was at (sym (is_due_is v file row.number b.formed) ∙ b.due file row.number named))
         ∙ sym was
 
-    ripe_stays : (f n : ℕ) → gone f n ≡ true → ripe_at appended f n ≡ ripe_at v f n
-    ripe_stays f n named = by (newest_of v.versions file) refl ((f == file) && ((n == next) || option_map_or (λ (row : VersionRow). n == row.number) (newest_of v.versions file) false)) refl where
-      its : (o : Option VersionRow) → newest_of v.versions file ≡ o → f ≡ file → (l : Bool) → (n == next) ≡ l → (l || option_map_or (λ (row : VersionRow). n == row.number) o false) ≡ true → ripe_at appended f n ≡ ripe_at v f n
-      its o e own true is so = let same : n ≡ next = grind (arith, nat_tests, is) in absurd (false≢true (sym next_stays ∙ (rw (own, same) at named)))
-      its None e own false is so = absurd (false≢true so)
-      its (Some row) e own false is so = let same : n ≡ row.number = grind (arith, nat_tests, so) in rw (own, same) (newest_stays row e (rw (own, same) at named))
+    ripe_own : (n : ℕ) → gone file n ≡ true → (o : Option VersionRow) → find (is_version file n) v.versions ≡ o → ((n == next) || has_newer v.versions file (floor_for v file - 1) n) ≡ true → ripe_at appended file n ≡ ripe_at v file n
+    ripe_own n named o found so = by (n == next) refl o found where
+      by : (l : Bool) → (n == next) ≡ l → (o : Option VersionRow) → find (is_version file n) v.versions ≡ o → ripe_at appended file n ≡ ripe_at v file n
+      by true is o found = let same : n ≡ next = grind (arith, nat_tests, is) in absurd (false≢true (sym next_stays ∙ rw same at named))
+      by false is None found =
+          let none = any_none (is_version file n) v.versions (all-not_found (is_version file n) v.versions found) in
+          absurd (false≢true (grind (arith, nat_tests, so, is, none)))
+      by false is (Some row) found =
+          let number : row.number ≡ n = grind (arith, nat_tests, found_passes (is_version file n) v.versions row found) in
+          rw (← number) (gaining_stays row (subst (λ k. find (is_version file k) v.versions ≡ Some row) (sym number) found) (grind (arith, nat_tests, so, is, number)) (rw number named))
 
-      by : (o : Option VersionRow) → newest_of v.versions file ≡ o → (l : Bool) → ((f == file) && ((n == next) || option_map_or (λ (row : VersionRow). n == row.number) (newest_of v.versions file) false)) ≡ l → ripe_at appended f n ≡ ripe_at v f n
-      by o e false fails = others_after v file opened cells may f n fails
-      by o e true so = its o e (grind (arith, nat_tests, so)) (n == next) refl (grind (arith, nat_tests, so, e))
+    ripe_stays : (f n : ℕ) → gone f n ≡ true → ripe_at appended f n ≡ ripe_at v f n
+    ripe_stays f n named = by (touches v file f n) refl where
+      by : (l : Bool) → touches v file f n ≡ l → ripe_at appended f n ≡ ripe_at v f n
+      by false fails = others_after v file opened cells may f n fails
+      by true so =
+          let own : f ≡ file = grind (arith, nat_tests, so) in
+          rw own (ripe_own n (rw own at named) (find (is_version file n) v.versions) refl (grind (arith, nat_tests, so)))
 
     held_before : (f n : ℕ) → dropped f ≡ true → list_any (is_version f n) appended.versions ≡ true → list_any (is_version f n) v.versions ≡ true
     held_before f n dead held =

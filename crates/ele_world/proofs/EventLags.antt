@@ -129,12 +129,12 @@ module _ (gone : ℕ → ℕ → Bool) (dropped : ℕ → Bool) (v : World) (b :
   names_lag (Create path) is plain changes = by_plan (Create path) (simp (walks, targets)) (λ at found free files names versions.
       one (Create path) is (MakeFile at.0 at.1 (v.made.files + 1) (default_of v.directories at.0)) (allowed v (Create path) b.formed at found free files names versions).0 (make_both gone dropped behind v b at.0 at.1 (default_of v.directories at.0) formed))
   names_lag (Link from to) is plain changes = by_plan (Link from to) (simp (walks, targets)) (λ file leads at found free names.
-      one (Link from to) is (AddName at.0 at.1 (File file)) (allowed v (Link from to) b.formed file leads at found free names).0 (add_both gone dropped behind v b at.0 at.1 (File file) (live_there gone dropped behind v b file (file_live v.names from file leads))))
+      one (Link from to) is (AddName at.0 at.1 (File file)) (allowed v (Link from to) b.formed file leads at found free names).0 (add_both gone dropped behind v b at.0 at.1 (File file) (live_there gone dropped behind v b file (file_live v.names from file leads)) (λ f same. let own : file ≡ f = cc in rw (← own) (file_live v.names from file leads))))
   names_lag (Unlink path) is plain changes = by_plan (Unlink path) (simp walks) (λ at found file leads.
       one (Unlink path) is (EndFileName at.0 at.1 file) (allowed v (Unlink path) b.formed at found file leads).0 (end_file_both gone dropped behind v b at.0 at.1 file (file_live v.names path file leads)))
   names_lag (Rename from to) is plain changes = by_plan (Rename from to) (simp (walks, targets, stands)) (λ old found moved leads at named into free names.
       let may = (allowed v (Rename from to) b.formed old found moved leads at named into free names).0 in
-      one (Rename from to) is (MoveName old.0 old.1 at.0 at.1 moved) may (move_both gone dropped behind v b old.0 old.1 at.0 at.1 moved (target_there moved old.0 old.1 may.stands)))
+      one (Rename from to) is (MoveName old.0 old.1 at.0 at.1 moved) may (move_both gone dropped behind v b old.0 old.1 at.0 at.1 moved (target_there moved old.0 old.1 may.stands) (λ f same. target_live v.names old.0 old.1 (File f) (may.stands ∙ ap Some same))))
   names_lag (SetDefault path policy) is plain changes = by_plan (SetDefault path policy) (simp walks) (λ directory leads.
       one (SetDefault path policy) is (Govern directory policy) (allowed v (SetDefault path policy) b.formed directory leads).0 (govern_both gone dropped behind v b directory policy))
   names_lag (Write handle offset bytes) is plain changes = by_plan (Write handle offset bytes) refl (λ file found. (

@@ -83,13 +83,13 @@ module _ (w : World) (row : VersionRow) where
 
   one_cause : (v : FileView) (since : ℕ) (a b : Cause) → IsCause v row since a → IsCause v row since b → a ≡ b
   one_cause v since AtOnce AtOnce p q = refl
-  one_cause v since AtOnce (Age n) p q = absurd (cc)
+  one_cause v since AtOnce (Age n) p q = absurd (cc (p, q.safe))
   one_cause v since AtOnce (Displaced l n) p q = absurd (cc (p, q.ladder))
-  one_cause v since (Age n) AtOnce p q = absurd (cc)
-  one_cause v since (Age n) (Age m) p q = cc
-  one_cause v since (Age n) (Displaced l m) p q = absurd (cc (p, q.ladder))
+  one_cause v since (Age n) AtOnce p q = absurd (cc (p.safe, q))
+  one_cause v since (Age n) (Age m) p q = let same : n ≡ m = cc (p.safe, q.safe) in ap Age same
+  one_cause v since (Age n) (Displaced l m) p q = absurd (cc (p.safe, q.ladder))
   one_cause v since (Displaced l n) AtOnce p q = absurd (cc (p.ladder, q))
-  one_cause v since (Displaced l n) (Age m) p q = absurd (cc (p.ladder, q))
+  one_cause v since (Displaced l n) (Age m) p q = absurd (cc (p.ladder, q.safe))
   one_cause v since (Displaced l n) (Displaced k m) p q =
       let level : l ≡ k = cc (p.reached, q.reached) in
       let rungs : p.rungs ≡ q.rungs = cc (p.ladder, q.ladder) in

@@ -5,7 +5,7 @@ use Rattle.ele_world.proofs.Words.{Policy, dies, ended_at, floor_in, newer_held,
 use Rattle.ele_world.specs.Due.{ripe_of}
 use Rattle.ele_world.proofs.Currents.{HasCurrent, last_ends}
 use Rattle.ele_world.proofs.KeptVersions.{ended_versions}
-use Rattle.ele_world.proofs.Neighbours.{AreInOrder, floor_for, found_kept, found_moment, in_order_of, newer_held-ended, next_closing-ended, none_past, ripe_at_near, versions_in_order}
+use Rattle.ele_world.proofs.Neighbours.{AreInOrder, floor_for, found_kept, found_moment, in_order_of, met_of, newer_held-ended, next_closing-ended, no_floor, none_past, ripe_at_near, versions_in_order}
 use Rattle.ele_world.proofs.RipeAt.{ripe_at_is, unended}
 use Rattle.ele_world.proofs.Views.{policies_of}
 
@@ -14,15 +14,16 @@ pub moments_stay : (w v : World) → AreInOrder w.files w.versions → v.files �
     → (file number : ℕ) → floor_for v file ≡ floor_for w file → ripe_at v file number ≡ ripe_at w file number
 moments_stay w v ordered files versions handles groups file number floor = grind (arith, nat_tests, found_moment)
 
+-- what has enough newer ones in a live file has them in a nameless one
+met_stays : (policy : Option Policy) (live then : Bool) (newer : ℕ) → (live ≡ false → then ≡ false) → nat_le (floor_in policy live) newer ≡ true → nat_le (floor_in policy then) newer ≡ true
+met_stays policy live then newer nameless met = grind (arith, nat_tests, nameless, met)
+
 -- and those that are there already of a file that doesn't become live
 pub moments_kept : (w v : World) → AreInOrder w.files w.versions → v.files ≡ w.files → v.versions ≡ w.versions → v.handles ≡ w.handles → v.groups ≡ w.groups
     → (file number : ℕ) → (is_live w file ≡ false → is_live v file ≡ false) → is_some (ripe_at w file number) ≡ true → ripe_at v file number ≡ ripe_at w file number
 moments_kept w v ordered files versions handles groups file number nameless some =
     found_kept w v file number ordered (rw (files, versions) ordered) (λ closed ended. rw groups refl) (rw files refl) (rw (files, versions) (met_stays (policy_of w.files file) (is_live w file) (is_live v file) (newer_held w.versions file number) nameless)) (rw handles refl) (rw versions refl) (rw versions refl) some
 
--- what has enough newer ones in a live file has them in a nameless one
-met_stays : (policy : Option Policy) (live then : Bool) (newer : ℕ) → (live ≡ false → then ≡ false) → nat_le (floor_in policy live) newer ≡ true → nat_le (floor_in policy then) newer ≡ true
-met_stays policy live then newer nameless met = grind (arith, nat_tests, nameless, met)
 
 -- ---- the end of a file's name
 
@@ -89,4 +90,5 @@ module _ (w : World) (directory : ℕ) (name : List ℕ) (file : ℕ) where
     ended_moment k dead =
         let found : find (is_version file last) after.versions ≡ Some (ended_at w.now current.row) = rw dead (last_ends w file current) in
         let next : next_closing after.versions file last ≡ None = rw dead (none_past w.files w.now (with_end w file) file last (ended_versions w file (k.holds Versions)).each (omega arith)) in
-        ripe_at_near after file last (ended_in_order k) ∙ rw (found, next, current.no_end, dead) refl
+        let met : met_of after file last ≡ true = ap (λ l. nat_le (floor_in (policy_of w.files file) l) (newer_held after.versions file last)) dead ∙ no_floor (newer_held after.versions file last) in
+        ripe_at_near after file last (ended_in_order k) ∙ rw (found, next, current.no_end, met) refl

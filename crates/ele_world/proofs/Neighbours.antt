@@ -31,8 +31,11 @@ slice_get-filter p (x ∷ xs) = grind (arith, nat_tests, slice_get-filter p xs)
 
 -- whether the floor that is in force is met
 floor_told : (policy : Policy) (live : Bool) (newer : ℕ) → meets_floor policy live newer ≡ nat_le (floor_in (Some policy) live) newer
-floor_told policy true newer = refl
-floor_told policy false newer = refl
+floor_told policy live newer = grind (arith, nat_tests)
+
+-- no floor is always met
+pub no_floor : (newer : ℕ) → nat_le 0 newer ≡ true
+no_floor newer = grind (arith, nat_tests)
 
 -- where it isn't, nothing ripens
 pub near_unmet : (cover : ℕ → Option ℕ → Cover) (policy : Option Policy) (live : Bool) (newer : ℕ) (nearest : Option ℕ) (closed ended : ℕ) → IfSome policy IsLawful → nat_le (floor_in policy live) newer ≡ false
@@ -76,7 +79,7 @@ ripe_in_near v row nearest governed near = ripe_told v row governed ∙ by (list
 -- as many closings stand beside it as newer versions of its file are held
 newer_told : (w : World) (row : VersionRow) → length (beside (file_view w row.file) row).newer ≡ newer_held w.versions row.file row.number
 newer_told w row =
-    length-map (λ (r : VersionRow). r.closed) (filter (is_newer row) (filter (is_version_of row.file) w.versions))
+    length-map (filter (is_newer row) (filter (is_version_of row.file) w.versions)) (λ (r : VersionRow). r.closed)
     ∙ ap length (filter-both (is_newer row) (is_version_of row.file) w.versions)
     ∙ length-filter (is_newer_of row.file row.number) w.versions
 

@@ -1,6 +1,6 @@
 -- Which ripe moments change where handles come and go: that of a version that a handle reads, and no other.
 use Rattle.ele_world.proofs.Basics.{nat_tests, arith, ◌≡◌, ℕ, ◌||◌, true, false, cond, None, refl, ◌∙◌, Ok, list_any-append, remove_first, list_any-remove_first}
-use Rattle.ele_world.proofs.Words.{after_change, OpenHandle, ShutHandle, ripe_at, Reads, free_moment, World, is_handle, is_open, reads_by, reads_version}
+use Rattle.ele_world.proofs.Words.{after_change, OpenHandle, ShutHandle, ripe_at, Reads, free_moment, World, is_handle, is_live, is_open, reads_by, reads_version}
 use Rattle.ele_world.proofs.Neighbours.{AreInOrder, found_moment, ripe_at_near}
 
 -- an open version has none
@@ -27,8 +27,8 @@ module _ (w : World) (number : ℕ) (reads : Reads) (is : reads_by w.handles num
 
   -- and has the moment that it had
   pub shut_others : AreInOrder w.files w.versions → (f n : ℕ) → reads_version f n reads ≡ false → ripe_at (after_change w (ShutHandle number)) f n ≡ ripe_at w f n
-  shut_others ordered f n other = found_moment w (after_change w (ShutHandle number)) f n ordered ordered (λ closed ended. refl) refl (open_still f n other) refl refl
+  shut_others ordered f n other = found_moment w (after_change w (ShutHandle number)) f n ordered ordered (λ closed ended. refl) refl refl (open_still f n other) refl refl
 
 -- what the handle read has none still where another handle reads it, and else the one that it has unread
-pub shut_own : (w : World) (handle file number : ℕ) → AreInOrder w.files w.versions → ripe_at (after_change w (ShutHandle handle)) file number ≡ cond (is_open (remove_first (is_handle handle) w.handles) file number) None (free_moment w.groups w.files w.versions file number)
+pub shut_own : (w : World) (handle file number : ℕ) → AreInOrder w.files w.versions → ripe_at (after_change w (ShutHandle handle)) file number ≡ cond (is_open (remove_first (is_handle handle) w.handles) file number) None (free_moment w.groups w.files (is_live w file) w.versions file number)
 shut_own w handle file number ordered = ripe_at_near (after_change w (ShutHandle handle)) file number ordered

@@ -1,5 +1,5 @@
 -- The law of the order of removal. Whichever due row is taken out, every other row is due as before, at each moment at which it was due.
-use Rattle.ele_world.proofs.Basics.{◌≡◌, ℕ, Bool, true, not, List, ◌∷◌, ◌++◌, Some, refl, ap, subst, ◌∙◌, filter, arith, ◌⊎◌, inl, inr, IfSome, nat_tests, AllLater, sym, find, AllByRecursion, filter-append, all-weaker, all-append, all-around, later-around, filter-same_all, remove_first, find-cut, remove_first-at}
+use Rattle.ele_world.proofs.Basics.{◌≡◌, ◌==◌, ℕ, Bool, true, false, not, List, ◌∷◌, ◌++◌, Some, refl, ap, subst, ◌∙◌, filter, arith, ◌⊎◌, inl, inr, IfSome, nat_tests, AllLater, sym, find, AllByRecursion, filter-append, all-weaker, all-append, all-around, later-around, filter-same_all, remove_first, find-cut, remove_first-at}
 use Rattle.ele_world.proofs.Words.{IsLawful, VersionRow, FileView, is_newer, closings, due_in, ArePlaced, file_view, is_version, is_version_of, Take, after_change, HasParts, World, LeavesDue}
 use Rattle.ele_world.proofs.Views.{IsLife, Precedes, newer_is, newer_before, newer_without, newer_behind, precedes, view_is, lives_of, placed_of, own_rows, other_rows}
 use Rattle.std.proofs.lemmas.List.{map-append}
@@ -53,7 +53,22 @@ module _ (w : World) (before : List VersionRow) (row : VersionRow) (behind : Lis
   seen : (Q : Bool → Bool → Type 0) → ((b : Bool) → Q b b) → (at : ℕ) (x : VersionRow)
       → (x.file ≡ row.file → Q (due_in (with_own (own before ++ row ∷ own behind)) x at) (due_in (with_own (own before ++ own behind)) x at)) → Q (is_due_at w x at) (is_due_at rest x at)
   unfolding is_due_at
-  seen Q same at x here = grind (arith, nat_tests, whole, own_is, filter-append, with_rows, other_rows)
+  seen Q same at x here = by (x.file == row.file) refl where
+    now : Bool
+    now = is_due_at w x at
+
+    then : Bool
+    then = is_due_at rest x at
+
+    by : (b : Bool) → (x.file == row.file) ≡ b → Q now then
+    by true e =
+        let its : x.file ≡ row.file = grind (arith, nat_tests, e) in
+        let is_now : now ≡ due_in (with_own (own before ++ row ∷ own behind)) x at = ap (λ f. due_in (file_view w f) x at) its ∙ ap (λ rows. due_in (with_own rows) x at) own_is in
+        let is_then : then ≡ due_in (with_own (own before ++ own behind)) x at = ap (λ f. due_in (file_view rest f) x at) its ∙ ap (λ rows. due_in (with_own rows) x at) (filter-append (is_version_of row.file) before behind) in
+        subst (λ b. Q b then) (sym is_now) (subst (Q (due_in (with_own (own before ++ row ∷ own behind)) x at)) (sym is_then) (here its))
+    by false e =
+        let rows = ap (filter (is_version_of x.file)) whole ∙ other_rows x.file before row behind (grind (arith, nat_tests, e)) in
+        subst (λ b. Q b then) (sym (ap (λ (rows : List VersionRow). due_in (with_rows (file_view w x.file) rows) x at) rows)) (same then)
 
   pub stays : (at : ℕ) → is_due_at w row at ≡ true → (x : VersionRow) → IsBeside row x → is_due_at rest x at ≡ is_due_at w x at
   unfolding is_due_at
