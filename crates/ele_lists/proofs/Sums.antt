@@ -46,6 +46,21 @@ module _ {X : Type 0} (p : X → Bool) where
   abbrev one : X → ℕ
   one x = cond (p x) 1 0
 
+  pub count-cons : (x : X) (xs : List X) → count_by p (x ∷ xs) ≡ one x + count_by p xs
+  count-cons x xs = sum_by-cons one x xs
+
+  pub count-all : (xs : List X) → AllByRecursion (λ x. p x ≡ true) xs → count_by p xs ≡ length xs
+  count-all [] all = refl
+  count-all (x ∷ xs) all = grind (arith, count-cons x xs, count-all xs)
+
+  -- of a view, and among those that pass another test that each passes that counts
+  pub count-map : {Y : Type 0} (h : Y → X) (ys : List Y) → count_by p (map h ys) ≡ count_by (λ y. p (h y)) ys
+  count-map h ys = sum_by-map one h ys
+
+  pub count-filter : (q : X → Bool) (xs : List X) → ((x : X) → p x ≡ true → q x ≡ true) → count_by p (filter q xs) ≡ count_by p xs
+  count-filter q [] own = refl
+  count-filter q (x ∷ xs) own = let e = own x in grind (arith, nat_tests, count-cons, count-filter q xs own)
+
   -- whether one passes is whether the count is more than none
   pub any-count : (xs : List X) → list_any p xs ≡ nat_lt 0 (count_by p xs)
   any-count [] = refl
