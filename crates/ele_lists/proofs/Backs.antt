@@ -2,6 +2,7 @@
 -- greater one.
 use Rattle.ele_lists.proofs.Basics.{AllByRecursion, AllLater, Bool, Global, List, None, Rises, Some, Vec, [], append-nil, append_assoc, arith, cond, count_by, count_by-le-length, eqb, false, filter, find, flat, is_behind, last_passing, leb, length, length-append, length-reverse, nat_tests, option_map_or, refl, reverse, reverse-append, slice_get, slice_get_past, suc, take, true, zero, ℕ, ◌++◌, ◌+◌, ◌-◌, ◌<◌, ◌∷◌, ◌≡◌, ◌≤◌}
 use Rattle.ele_lists.proofs.Edits.{all-weaker}
+use Rattle.ele_lists.proofs.Found.{find-same_all}
 use Rattle.ele_lists.proofs.Sums.{count-all, count-cons}
 
 module _ {X : Type 0} where
@@ -42,11 +43,6 @@ module _ {X : Type 0} (cs : List (Vec X Global)) (i : ℕ) (here : Vec X Global)
 
   pub chunk-far : (n : ℕ) → length here.items ≤ n → slice_get (reverse (flat (take (i + 1) cs))) n ≡ slice_get (reverse (flat (take i cs))) (n - length here.items)
   chunk-far n far = rw flat-more (back-far (flat (take i cs)) here.items n far)
-
--- what tests that agree find
-find-same_all : {X : Type 0} (p q : X → Bool) (xs : List X) → AllByRecursion (λ x. p x ≡ q x) xs → find p xs ≡ find q xs
-find-same_all p q [] same = refl
-find-same_all p q (x ∷ xs) same = grind (arith, find-same_all p q xs)
 
 none-back : {X : Type 0} (xs : List X) → slice_get (reverse xs) 0 ≡ None → length xs ≡ 0
 none-back [] none = refl
