@@ -35,7 +35,7 @@ pub use Rattle.ele_world.specs.LinkLeads.{LeadsToSame}
 pub use Rattle.ele_world.specs.MakeDirLeads.{LeadsToDirectory}
 pub use Rattle.ele_world.specs.MarkedStays.{IsMarkedHeld, MarkedStays}
 pub use Rattle.ele_world.specs.NameRows.{born_row, covers, dies, is_live_directory, is_live_in, is_name_of_directory, is_named, is_target_directory, last_dead, target_at}
-pub use Rattle.ele_world.specs.Neighbours.{free_moment, is_moment, is_newer_of, moment_under, near_moment, newest_of, next_closing}
+pub use Rattle.ele_world.specs.Neighbours.{free_moment, is_moment, is_newer_of, moment_under, near_moment, newer_held, newest_of, next_closing, with_newer}
 pub use Rattle.ele_world.specs.NewPlaces.{different_of, has_slot, is_among, new_places}
 pub use Rattle.ele_world.specs.NoIdleStays.{HasNoIdle, NoIdleStays}
 pub use Rattle.ele_world.specs.NothingChanges.{asks}

@@ -1,6 +1,7 @@
 -- The held versions next to one of a file, and the ripe moment that they tell. No public clause that a reader of the core needs
 -- cites this module: `ele_files` finds such neighbours.
 use Rattle.std.specs.Prelude.{ℕ, ◌==◌, nat_lt, Bool, false, ◌&&◌, List, Option, Some, find, option_and_then}
+use Rattle.std.specs.List.{count_by}
 use Rattle.std.specs.Option.{option_map, option_map_or}
 use Rattle.ele_lists.specs.Last.{last_passing}
 use Rattle.ele_policy.specs.declared.policy.Policy.{Policy}
@@ -24,6 +25,14 @@ is_newer_of file number row = (row.file == file) && nat_lt number row.number
 -- when the file's next held version behind the number closed, if there is one
 abbrev pub next_closing : List VersionRow → ℕ → ℕ → Option ℕ
 next_closing versions file number = option_map (λ row. row.closed) (find (is_newer_of file number) versions)
+
+-- how many held versions of the file have a greater number
+abbrev pub newer_held : List VersionRow → ℕ → ℕ → ℕ
+newer_held versions file number = count_by (is_newer_of file number) versions
+
+-- the file's held version that has so many newer ones
+abbrev pub with_newer : List VersionRow → ℕ → ℕ → Option VersionRow
+with_newer versions file newer = find (λ row. is_version_of file row && (newer_held versions file row.number == newer)) versions
 
 -- the file's newest held version
 abbrev pub newest_of : List VersionRow → ℕ → Option VersionRow
