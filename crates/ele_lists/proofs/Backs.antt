@@ -1,6 +1,6 @@
 -- The element that has so many behind it: in lists after one another, in chunks, and among rows of rising keys, where so many have a
 -- greater one.
-use Rattle.ele_lists.proofs.Basics.{AllByRecursion, AllLater, Bool, Global, List, None, Rises, Some, Vec, [], append-nil, append_assoc, arith, cond, count_by, count_by-le-length, eqb, false, filter, find, flat, is_behind, last_passing, leb, length, length-append, length-reverse, nat_tests, option_map_or, refl, reverse, reverse-append, slice_get, slice_get_past, suc, take, true, zero, ℕ, ◌++◌, ◌+◌, ◌-◌, ◌<◌, ◌∷◌, ◌≡◌, ◌≤◌}
+use Rattle.ele_lists.proofs.Basics.{AllByRecursion, AllLater, Bool, Global, List, None, Rises, Some, Vec, [], append-nil, append_assoc, arith, cond, count_by, count_by-le-length, eqb, false, filter, find, flat, is_behind, last_passing, leb, length, length-append, length-map, length-reverse, map, nat_tests, option_map, option_map_or, refl, reverse, reverse-append, slice_get, slice_get_past, suc, take, true, zero, ℕ, ◌++◌, ◌+◌, ◌-◌, ◌<◌, ◌∷◌, ◌≡◌, ◌≤◌}
 use Rattle.ele_lists.proofs.Edits.{all-weaker}
 use Rattle.ele_lists.proofs.Found.{find-same_all}
 use Rattle.ele_lists.proofs.Sums.{count-all, count-cons}
@@ -28,6 +28,11 @@ module _ {X : Type 0} where
   pub back-far : (xs ys : List X) (n : ℕ) → length ys ≤ n → slice_get (reverse (xs ++ ys)) n ≡ slice_get (reverse xs) (n - length ys)
   back-far [] ys n far = grind (arith, back-past ys n)
   back-far (x ∷ xs) ys n far = grind (arith, nat_tests, back-cons x (xs ++ ys) n, back-cons x xs (n - length ys), back-far xs ys n far, length-append {A = X} xs ys)
+
+-- in a view
+pub back-map : {X Y : Type 0} (h : X → Y) (xs : List X) (n : ℕ) → slice_get (reverse (map h xs)) n ≡ option_map h (slice_get (reverse xs) n)
+back-map h [] n = refl
+back-map h (x ∷ xs) n = grind (arith, nat_tests, back-cons (h x) (map h xs) n, back-cons x xs n, length-map xs h, back-map h xs n)
 
 -- of chunks the last holds it, or else it stands so many fewer from the end of those before
 module _ {X : Type 0} (cs : List (Vec X Global)) (i : ℕ) (here : Vec X Global) (is : slice_get cs i ≡ Some here) where
