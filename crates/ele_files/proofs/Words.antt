@@ -44,7 +44,7 @@ pub use Rattle.ele_sessions.specs.declared.reads.Reads.{Reads}
 pub use Rattle.ele_time_path.specs.declared.tagged.Tag.{Tag}
 pub use Rattle.ele_world.proofs.Created.{named_live}
 pub use Rattle.ele_world.proofs.Files.{next_of-numbered_other, next_of-push}
-pub use Rattle.ele_world.proofs.Newer.{enough_newer, newer_own, number_of, with_newer_own}
+pub use Rattle.ele_world.proofs.Newer.{enough_newer, newer_own, with_newer_own}
 pub use Rattle.ele_world.specs.Change.{Append, EndDraft, OpenHandle, PutUnder, ShutHandle, after_change, after_changes, changed_by, ended_at, fitted_by, numbered_on, with_file, with_name}
 pub use Rattle.ele_world.specs.FileUsage.{file_usage}
 pub use Rattle.ele_world.specs.FileView.{is_version_of}

@@ -51,8 +51,7 @@ impl Files {
     #[tactic(auto, using(std::proofs::lemmas::Bool::Decides::nat_tests, crate::proofs::Newer::none_back, crate::proofs::Newer::back_shown))]
     pub fn with_newer(&self, file: FileId, newer: u64, meter: &mut Meter) -> Option<Stamps>
         requires meter { meter.old < 2 ^ 60 }
-        ensures value { result
-            ≡ option_map stamps_of (with_newer self.now.versions file newer) }
+        ensures value { result ≡ option_map stamps_of (with_newer self.now.versions file newer) }
         ensures read { meter.new ≤ meter.old + 1 }
     {
         let held = file_of(&self.files, file)?;
