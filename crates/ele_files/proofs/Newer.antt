@@ -1,7 +1,8 @@
--- What is told of the next version behind one, as the log of its file shows it.
-use Rattle.ele_files.proofs.Words.{AllSessions, File, Keeps, List, LogRow, None, Option, Some, Store, VersionRow, ap, arith, find, find-filter, find-map, flat_map, is_after, is_id, is_newer_of, is_version_of, nat_tests, option_map, row_in, rows_in, stamps_in, stamps_of, sym, ℕ, ◌∙◌, ◌≡◌}
+-- What is told of versions behind one, and how many they are, as the log of their file shows it.
+use Rattle.ele_files.proofs.Words.{AllLater, AllSessions, File, IsFileKept, Keeps, List, LogRow, None, Option, Precedes, Some, Store, VersionRow, all_found, ap, arith, back-map, enough_newer, false, filter, find, find-filter, find-map, flat_map, is_after, is_id, is_newer_of, is_version_of, later-map, later-weaker, nat_lt, nat_tests, newer_held, newer_own, option_map, option_map_or, refl, reverse, row_in, rows_in, slice_get, stamps_in, stamps_of, sym, with_newer, with_newer_own, ℕ, ◌-◌, ◌<◌, ◌∙◌, ◌≡◌, ◌≢◌}
 use Rattle.ele_files.proofs.Stock.{row_lives}
-use Rattle.ele_files.proofs.Tagged.{none_shown, own, own_rows}
+use Rattle.ele_files.proofs.Tagged.{list_shown, none_shown, own, own_rows}
+use Rattle.std.specs.Prelude.{nat_le}
 
 module _ (s : Store) (files : List File) (a : AllSessions) (kept : Keeps s files a) (file : ℕ) where
   abbrev versions : List VersionRow
@@ -17,3 +18,39 @@ module _ (s : Store) (files : List File) (a : AllSessions) (kept : Keeps s files
 
     pub newer_shown : (number : ℕ) (o : Option LogRow) → o ≡ find (is_after number) f.log.rows → option_map stamps_of (find (is_newer_of file number) versions) ≡ option_map stamps_in o
     newer_shown number o is = rw (is, row_shown number) (grind (arith, nat_tests, row_lives s files a kept))
+
+  -- a file that isn't there has no newer versions either
+  pub none_newer : (number count : ℕ) → count ≢ 0 → find (is_id file) files ≡ None → nat_le count (newer_held versions file number) ≡ false
+  none_newer number count some none = rw (newer_own versions file number, none_shown s files a kept file none) (grind (arith, nat_tests))
+
+  pub none_back : (newer : ℕ) → find (is_id file) files ≡ None → option_map stamps_of (with_newer versions file newer) ≡ None
+  none_back newer none =
+      let bare = none_shown s files a kept file none in
+      ap (option_map stamps_of) (with_newer_own versions file (rw bare tt) newer ∙ ap (λ rows. slice_get (reverse rows) newer) bare)
+
+  module _ (f : File) (found : find (is_id file) files ≡ Some f) where
+    rise : AllLater (λ (x y : VersionRow). x.number < y.number) (filter (is_version_of file) versions)
+    rise =
+        let order = (all_found (is_id file) IsFileKept files f found kept.files_kept).order in
+        rw (own_rows s files a kept file f found) (later-map (row_in s f.id) (λ (x y : VersionRow). x.number < y.number) f.log.rows (later-weaker Precedes (λ (x y : LogRow). x.number < y.number) f.log.rows (λ x y p. p.number) order.order))
+
+    back_own : (newer : ℕ) → with_newer versions file newer ≡ slice_get (reverse (filter (is_version_of file) versions)) newer
+    back_own newer = with_newer_own versions file rise newer
+
+    pub back_shown : (newer : ℕ) (o : Option LogRow) → o ≡ slice_get (reverse f.log.rows) newer → option_map stamps_of (with_newer versions file newer) ≡ option_map stamps_in o
+    back_shown newer o is =
+        ap (option_map stamps_of) (back_own newer)
+        ∙ sym (back-map stamps_of (filter (is_version_of file) versions) newer)
+        ∙ ap (λ told. slice_get (reverse told) newer) (list_shown s files a kept file f found)
+        ∙ back-map stamps_in f.log.rows newer
+        ∙ ap (option_map stamps_in) (sym is)
+
+    -- whether so many are newer, where one fewer are newer than the row
+    pub enough_shown : (number count : ℕ) → count ≢ 0 → (o : Option LogRow) → o ≡ slice_get (reverse f.log.rows) (count - 1) → nat_le count (newer_held versions file number) ≡ option_map_or (λ (row : LogRow). nat_lt number row.number) o false
+    enough_shown number count some o is =
+        ap (λ n. nat_le n (newer_held versions file number)) (grind (arith, some))
+        ∙ enough_newer versions file rise (count - 1) number
+        ∙ rw (is, back_own (count - 1), own_rows s files a kept file f found, back-map (row_in s f.id) f.log.rows (count - 1)) (elim (slice_get (reverse f.log.rows) (count - 1)) as (λ o. option_map_or (λ (row : VersionRow). nat_lt number row.number) (option_map (row_in s f.id) o) false ≡ option_map_or (λ (row : LogRow). nat_lt number row.number) o false) [
+          | Some row ↦ refl
+          | None ↦ refl
+        ])

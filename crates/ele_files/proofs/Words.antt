@@ -20,7 +20,8 @@ pub use Rattle.ele_files.specs.Met.{Counts, Meets, is_key, log_bytes, log_places
 pub use Rattle.ele_files.specs.declared.file.File.{File}
 pub use Rattle.ele_inode_log.specs.Rows.{AreInOrder, CanEndAt, EndsInTime, HeldRows, Precedes, has_closed_by, is_after, is_before, has_number, is_other, last_of, lives_at, update_last}
 pub use Rattle.ele_inode_log.specs.declared.row.VersionRow.{VersionRow as LogRow}
-pub use Rattle.ele_lists.proofs.Alls.{all-append, all-flat_map, all-got, all-left, all-map, all-place as all_place, all-right, all-split, flat_map-all, later-weaker, map-all}
+pub use Rattle.ele_lists.proofs.Alls.{all-append, all-flat_map, all-got, all-left, all-map, all-place as all_place, all-right, all-split, flat_map-all, later-map, later-weaker, map-all}
+pub use Rattle.ele_lists.proofs.Backs.{back-map}
 pub use Rattle.ele_lists.proofs.Buckets.{IsLocal, bucket_changes, filter-buckets, find-buckets, local-after, local-insert_before, local-remove_first, local-update_first}
 pub use Rattle.ele_lists.proofs.Cuts.{find-at, find-cut, flat_map-cut, remove_first-at, remove_first-unfound as remove_first_unfound, update_first-at, update_first-same as update_first_same, update_first-unfound as update_first_unfound}
 pub use Rattle.ele_lists.proofs.Edits.{all-any, all-both, all-found as all_found, all-insert_before, all-none, all-not_found as all_not_found, all-push, all-remove_first, all-update_first, all-weaker, find-remove_first, found_passes, later-push, later-remove_first, later-update_first, not_found}
@@ -43,10 +44,11 @@ pub use Rattle.ele_sessions.specs.declared.reads.Reads.{Reads}
 pub use Rattle.ele_time_path.specs.declared.tagged.Tag.{Tag}
 pub use Rattle.ele_world.proofs.Created.{named_live}
 pub use Rattle.ele_world.proofs.Files.{next_of-numbered_other, next_of-push}
+pub use Rattle.ele_world.proofs.Newer.{enough_newer, newer_own, with_newer_own}
 pub use Rattle.ele_world.specs.Change.{Append, EndDraft, OpenHandle, PutUnder, ShutHandle, after_change, after_changes, changed_by, ended_at, fitted_by, numbered_on, with_file, with_name}
 pub use Rattle.ele_world.specs.FileUsage.{file_usage}
 pub use Rattle.ele_world.specs.FileView.{is_version_of}
-pub use Rattle.ele_world.specs.Neighbours.{is_newer_of, newest_of, next_closing}
+pub use Rattle.ele_world.specs.Neighbours.{is_newer_of, newer_held, newest_of, next_closing, with_newer}
 pub use Rattle.ele_world.specs.NewPlaces.{is_among}
 pub use Rattle.ele_world.specs.Tagged.{had_closed, had_life, held_or_forgotten, last_number, version_living, version_meant, version_numbered}
 pub use Rattle.ele_world.specs.Told.{stamps_of}
@@ -60,7 +62,7 @@ pub use Rattle.ele_world.specs.declared.rows.FileRow.{FileRow}
 pub use Rattle.ele_world.specs.declared.rows.HandleRow.{HandleRow}
 pub use Rattle.ele_world.specs.declared.rows.Stamps.{Stamps}
 pub use Rattle.ele_world.specs.declared.rows.VersionRow.{VersionRow}
-pub use Rattle.std.proofs.Common.{Bool, Err, List, None, Ok, Option, Result, Some, [], ap, append-nil as append_nil, append_assoc, arith, cond, eqb, false, filter, find, flat_map, get_or, is_some, length, length-append, ltb, map, nat_lt, not, refl, subst, suc, sym, take, true, zero, ℕ, ◌&&◌, ◌*◌, ◌++◌, ◌+◌, ◌-◌, ◌<◌, ◌^◌, ◌||◌, ◌∙◌, ◌∷◌, ◌≡◌, ◌≢◌, ◌≤◌}
+pub use Rattle.std.proofs.Common.{Bool, Err, List, None, Ok, Option, Result, Some, [], ap, append-nil as append_nil, append_assoc, arith, cond, eqb, false, filter, find, flat_map, get_or, is_some, length, length-append, ltb, map, nat_lt, not, refl, reverse, subst, suc, sym, take, true, zero, ℕ, ◌&&◌, ◌*◌, ◌++◌, ◌+◌, ◌-◌, ◌<◌, ◌^◌, ◌||◌, ◌∙◌, ◌∷◌, ◌≡◌, ◌≢◌, ◌≤◌}
 pub use Rattle.std.proofs.Math.ListN.{set}
 pub use Rattle.std.proofs.lemmas.Bool.{false≢true}
 pub use Rattle.std.proofs.lemmas.Bool.Decides.{nat_tests}

@@ -1,6 +1,6 @@
 //! The held versions of one file.
 //! A contract sees the list of their rows by number, and for how many more there is memory.
-ghost use Rattle.std.specs.Prelude.{◌≡◌, ◌<◌, ◌≤◌, ◌+◌, ◌==◌, ◌^◌, [], ◌∷◌, ◌++◌, OnOk, OnErr, IfErr, IsOk, IsTrue, ◌↔◌, All, IsSomeAnd, find, filter, length, is_some, if◌then◌else◌};
+ghost use Rattle.std.specs.Prelude.{◌≡◌, ◌<◌, ◌≤◌, ◌+◌, ◌==◌, ◌^◌, [], ◌∷◌, ◌++◌, OnOk, OnErr, IfErr, IsOk, IsTrue, ◌↔◌, All, IsSomeAnd, find, filter, length, reverse, slice_get, is_some, if◌then◌else◌};
 ghost use Rattle.std.specs.Option.{ForSome, option_copied, option_map};
 ghost use Rattle.std.specs.List.{list_any};
 ghost use Rattle.ele_inode_log.specs.Rows.{HeldRows, AreInOrder, Precedes, EndsInTime, CanEndAt, last_of, update_last, has_number, is_other, is_after, is_before, has_closed_by, ends_after, lives_at, ended_at};
@@ -131,6 +131,17 @@ impl InodeLog {
         ensures read { meter.new ≡ meter.old + (if is_some result then 1 else 0) }
     {
         counted(self.rows.last_before(&BeforeKey(number.0)), meter)
+    }
+
+    /// The row that has so many newer ones. What it takes to find it grows with these, and not with
+    /// the rows that are held.
+    #[tactic(auto, using(std::proofs::lemmas::Bool::Decides::nat_tests))]
+    pub fn with_newer(&self, newer: u64, meter: &mut Meter) -> Option<&VersionRow>
+        requires { meter.old < 2 ^ 63 }
+        ensures row { option_copied result ≡ slice_get (reverse self.now.rows) newer }
+        ensures read { meter.new ≡ meter.old + (if is_some result then 1 else 0) }
+    {
+        counted(self.rows.from_end(newer as usize), meter)
     }
 
     /// Takes out the row of that number.

@@ -11,13 +11,13 @@ pub use Rattle.std.proofs.Common.{Bool, Bor, Equal, Global, Greater, IsTrue, Les
 pub use Rattle.std.proofs.lemmas.Bool.{false≢true}
 pub use Rattle.std.proofs.lemmas.Bool.Decides.{nat_tests}
 pub use Rattle.std.proofs.lemmas.Cmp.{eq_by_cmp_equiv, nat_cmp_total, on_total, then_total, tied_itself}
-pub use Rattle.std.proofs.lemmas.List.{drop_all, nil_from_length, reverse-append, with_items_is}
+pub use Rattle.std.proofs.lemmas.List.{drop_all, length-append, length-map, length-reverse, nil_from_length, reverse-append, with_items_is}
 pub use Rattle.std.proofs.lemmas.List.Edits.{insert_end}
 pub use Rattle.std.proofs.lemmas.List.Elements.{All-weaker, filter-append, recursion_from_All}
 pub use Rattle.std.proofs.lemmas.List.Folds.{find-append}
 pub use Rattle.std.proofs.lemmas.List.Quantifiers.{position-Some}
 pub use Rattle.std.proofs.lemmas.List.Sorted.{IsPartitionPoint-from_clause, IsPartitionedBy-ltb}
-pub use Rattle.std.proofs.lemmas.List.Sums.{position_or_len_is, sum_by-append, sum_by-cons}
+pub use Rattle.std.proofs.lemmas.List.Sums.{count_by-le-length, position_or_len_is, sum_by-append, sum_by-cons}
 pub use Rattle.std.proofs.lemmas.Map.{lookup-none}
 pub use Rattle.std.proofs.lemmas.Map.Entries.{none_below_head, none_past_head}
 pub use Rattle.std.proofs.lemmas.Map.Keys.{IsDistinct-from_sorted}

@@ -2,6 +2,11 @@
 use Rattle.ele_lists.proofs.Basics.{AllByRecursion, AllLater, Bool, List, None, Some, [], arith, false, find, insert_before, list_any, refl, true, update_first, ◌∷◌, ◌≡◌}
 use Rattle.ele_lists.proofs.Edits.{all-weaker, all-update_first, not_found}
 
+-- what tests that agree find
+pub find-same_all : {X : Type 0} (p q : X → Bool) (xs : List X) → AllByRecursion (λ x. p x ≡ q x) xs → find p xs ≡ find q xs
+find-same_all p q [] same = refl
+find-same_all p q (x ∷ xs) same = grind (arith, find-same_all p q xs)
+
 -- a test t beside the test p by which it is found
 module _ {X : Type 0} (p t : X → Bool) where
   pub any-found : (xs : List X) (x : X) → find p xs ≡ Some x → t x ≡ true → list_any t xs ≡ true

@@ -1,5 +1,5 @@
 -- Sums and counts over lists, and what a change at one place makes of them.
-use Rattle.ele_lists.proofs.Basics.{AllByRecursion, Bool, List, Some, [], arith, cond, count_by, false, filter, find, flat_map, insert_before, length, list_any, map, nat_lt, nat_tests, not, option_map_or, refl, remove_first, sum_by, sum_by-append, sum_by-cons, true, update_first, ℕ, ◌++◌, ◌+◌, ◌∷◌, ◌≡◌, ◌≤◌}
+use Rattle.ele_lists.proofs.Basics.{AllByRecursion, Bool, List, Some, [], arith, cond, count_by, false, filter, find, flat_map, insert_before, length, list_any, map, nat_lt, nat_tests, not, option_map_or, refl, remove_first, sum_by, sum_by-append, sum_by-cons, true, update_first, ℕ, ◌&&◌, ◌++◌, ◌+◌, ◌∷◌, ◌≡◌, ◌≤◌}
 
 module _ {X : Type 0} (f : X → ℕ) where
   -- the changes
@@ -45,6 +45,21 @@ module _ {X : Type 0} (f g : X → ℕ) where
 module _ {X : Type 0} (p : X → Bool) where
   abbrev one : X → ℕ
   one x = cond (p x) 1 0
+
+  pub count-cons : (x : X) (xs : List X) → count_by p (x ∷ xs) ≡ one x + count_by p xs
+  count-cons x xs = sum_by-cons one x xs
+
+  pub count-all : (xs : List X) → AllByRecursion (λ x. p x ≡ true) xs → count_by p xs ≡ length xs
+  count-all [] all = refl
+  count-all (x ∷ xs) all = grind (arith, count-cons x xs, count-all xs)
+
+  -- of a view, and of what passes another test
+  pub count-map : {Y : Type 0} (h : Y → X) (ys : List Y) → count_by p (map h ys) ≡ count_by (λ y. p (h y)) ys
+  count-map h ys = sum_by-map one h ys
+
+  pub count-filter_both : (q : X → Bool) (xs : List X) → count_by p (filter q xs) ≡ count_by (λ x. q x && p x) xs
+  count-filter_both q [] = refl
+  count-filter_both q (x ∷ xs) = grind (arith, nat_tests, count-cons, sum_by-cons (λ x. cond (q x && p x) 1 0) x xs, count-filter_both q xs)
 
   -- whether one passes is whether the count is more than none
   pub any-count : (xs : List X) → list_any p xs ≡ nat_lt 0 (count_by p xs)

@@ -1,6 +1,7 @@
 -- The same, and the lemmas on lists, for answers.
 pub use Rattle.ele_lists.proofs.Alls.{all-got}
-pub use Rattle.ele_lists.proofs.Basics.{All-weaker, IsKeyInRange, IsPartitionPoint-from_clause, IsPartitionedBy, Some, ap, arith, entry_cmp, false, flat, get_or-set_same, has, last_of, length, length-set, ltb, nat_tests, nil_from_length, not, option_copied, recursion_from_All, refl, rules, set, slice_get, slice_get-get_or, slice_get_read, sym, true, update_last, with_items_is, ◌-◌, ◌<◌, ◌∙◌, ◌≡◌}
+pub use Rattle.ele_lists.proofs.Backs.{chunk-far, chunk-near}
+pub use Rattle.ele_lists.proofs.Basics.{All-weaker, IsKeyInRange, IsPartitionPoint-from_clause, IsPartitionedBy, Some, ap, arith, entry_cmp, false, flat, get_or-set_same, has, last_of, length, length-set, ltb, nat_tests, nil_from_length, not, option_copied, recursion_from_All, refl, reverse, rules, set, slice_get, slice_get-get_or, slice_get_read, sym, take, take_all, true, update_last, with_items_is, ◌-◌, ◌<◌, ◌∙◌, ◌≡◌}
 pub use Rattle.ele_lists.proofs.Cuts.{remove_first-unfound}
 pub use Rattle.ele_lists.proofs.Edits.{all-weaker, not_found}
 pub use Rattle.ele_lists.proofs.Ends.{find-parted, find_last-parted, last-slice_get, length-update_last, update_last-set}

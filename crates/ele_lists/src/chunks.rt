@@ -1,6 +1,6 @@
 //! A list in chunks, with room behind it that can be taken in advance.
 //! A contract sees its rows, and for how many more there is room.
-ghost use Rattle.std.specs.Prelude.{◌≡◌, ◌<◌, ◌≤◌, ◌/◌, [], ◌∷◌, ◌++◌, OnOk, IsOk, not, find, reverse, length, max, min};
+ghost use Rattle.std.specs.Prelude.{◌≡◌, ◌<◌, ◌≤◌, ◌/◌, [], ◌∷◌, ◌++◌, OnOk, IsOk, not, find, reverse, length, slice_get, max, min};
 ghost use Rattle.std.specs.Option.{option_copied};
 ghost use Rattle.ele_lists.specs.Lists.{remove_first, AllLater};
 ghost use Rattle.ele_lists.specs.Ends.{last_of, update_last};
@@ -11,7 +11,8 @@ use crate::cut::{Change, Cut};
 use crate::keyed::Keyed;
 use crate::rows::ChunkRows;
 use crate::seam::{
-    change_last, find_key, last_has_room, last_row, push_last, row_at, row_before, seek, take_out,
+    change_last, find_key, last_has_room, last_row, push_last, row_at, row_before, row_from_end,
+    seek, take_out,
 };
 use std::alloc::{AllocError, Global};
 use std::marker::Model;
@@ -125,6 +126,14 @@ impl<T: Drop> Chunks<T> {
         ensures { option_copied result ≡ last_of self.now.rows }
     {
         last_row(&self.chunks)
+    }
+
+    /// The row that has so many rows behind it. It goes back from the last chunk, at most over as
+    /// many chunks as those rows are and one.
+    pub fn from_end(&self, behind: usize) -> Option<&T>
+        ensures { option_copied result ≡ slice_get (reverse self.now.rows) behind }
+    {
+        row_from_end(&self.chunks, behind)
     }
 
     /// Changes the last row, if there is one.

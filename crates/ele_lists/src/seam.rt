@@ -1,6 +1,6 @@
 //! Chunks that follow one another, each with rows, as one list of rows.
 //! A contract sees that list, and a place in it as the number of a chunk and a place in the chunk.
-ghost use Rattle.std.specs.Prelude.{◌≡◌, ◌<◌, ◌≤◌, ◌+◌, ◌++◌, Some, false, IsTrue, OnSome, IfNone, IfSome, [], ◌∷◌, ◌↔◌, length, vec_len, vec_capacity, suc, slice_get};
+ghost use Rattle.std.specs.Prelude.{◌≡◌, ◌<◌, ◌≤◌, ◌+◌, ◌++◌, Some, false, IsTrue, OnSome, IfNone, IfSome, [], ◌∷◌, ◌↔◌, length, reverse, vec_len, vec_capacity, suc, slice_get};
 ghost use Rattle.std.specs.Option.{option_copied};
 ghost use Rattle.std.specs.List.{AllByRecursion};
 ghost use Rattle.ele_lists.specs.Lists.{AllLater};
@@ -95,6 +95,22 @@ pub fn row_before<T>(chunks: &[Vec<T>], chunk: usize, place: usize) -> Option<&T
     } else {
         last_row(&chunks[..chunk])
     }
+}
+
+/// The row that has so many rows behind it.
+#[tactic(auto, using(crate::proofs::Steps::row_from_end_steps))]
+pub fn row_from_end<T>(chunks: &[Vec<T>], behind: usize) -> Option<&T>
+    ensures { option_copied result ≡ slice_get (reverse (flat chunks.now)) behind }
+{
+    let mut left = behind;
+    for place in (0..chunks.len()).rev() {
+        let rows = chunks[place].as_slice();
+        if left < rows.len() {
+            return Some(&rows[rows.len() - 1 - left]);
+        }
+        left -= rows.len();
+    }
+    None
 }
 
 // Whether all rows of the chunk come before the cut.

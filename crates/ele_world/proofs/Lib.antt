@@ -50,6 +50,7 @@ pub mod Leads
 pub mod Cleans
 pub mod CleanKeepsKeys
 pub mod DueKeys
+pub mod Newer
 pub mod Newest
 pub mod Listed
 pub mod SlotPlaces

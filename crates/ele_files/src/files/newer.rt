@@ -1,8 +1,8 @@
-//! The next held version behind one.
-//! A contract sees the answer as a look at the rows.
-ghost use Rattle.std.specs.Prelude.{◌≡◌, ◌<◌, ◌≤◌, ◌+◌, ◌^◌, find};
+//! The held versions behind one: the next, whether there are so many, and the one that has so many.
+//! A contract sees each answer as a look at the rows.
+ghost use Rattle.std.specs.Prelude.{◌≡◌, ◌<◌, ◌≤◌, ◌+◌, ◌^◌, find, nat_le};
 ghost use Rattle.std.specs.Option.{option_map};
-ghost use Rattle.ele_world.specs.Neighbours.{is_newer_of};
+ghost use Rattle.ele_world.specs.Neighbours.{is_newer_of, newer_held, with_newer};
 ghost use Rattle.ele_world.specs.Told.{stamps_of};
 
 use crate::files::{Files, file_of};
@@ -23,6 +23,39 @@ impl Files {
     {
         let held = file_of(&self.files, file)?;
         let row = held.log.next_held(number, meter)?;
+        Some(stamps_of(row))
+    }
+
+    /// Whether the file holds at least so many versions with a greater number. It reads at most one
+    /// row.
+    #[tactic(auto, using(std::proofs::lemmas::Bool::Decides::nat_tests))]
+    pub fn has_newer(&self, file: FileId, number: VersionNo, count: u64, meter: &mut Meter) -> bool
+        requires meter { meter.old < 2 ^ 60 }
+        ensures value { result ≡ nat_le count (newer_held self.now.versions file number) }
+        ensures read { meter.new ≤ meter.old + 1 }
+    {
+        if count == 0 {
+            return true;
+        }
+        let Some(held) = file_of(&self.files, file) else {
+            return false;
+        };
+        match held.log.with_newer(count - 1, meter) {
+            Some(row) => number.0 < row.number.0,
+            None => false,
+        }
+    }
+
+    /// What is told of the file's held version that has so many newer ones; none where there is
+    /// none. It reads at most one row.
+    #[tactic(auto, using(std::proofs::lemmas::Bool::Decides::nat_tests, crate::proofs::Newer::none_back, crate::proofs::Newer::back_shown))]
+    pub fn with_newer(&self, file: FileId, newer: u64, meter: &mut Meter) -> Option<Stamps>
+        requires meter { meter.old < 2 ^ 60 }
+        ensures value { result ≡ option_map stamps_of (with_newer self.now.versions file newer) }
+        ensures read { meter.new ≤ meter.old + 1 }
+    {
+        let held = file_of(&self.files, file)?;
+        let row = held.log.with_newer(newer, meter)?;
         Some(stamps_of(row))
     }
 }
