@@ -1,8 +1,8 @@
 -- Which ripe moments change where a file has a version more: the new one's own, and that of the held one which with it has as many
 -- newer ones as the floor asks; where no floor is in force that of the newest held one, which ends unless it had, and gets a
 -- neighbour.
-use Rattle.ele_world.proofs.Basics.{◌≡◌, ℕ, ◌+◌, ◌-◌, ◌<◌, ◌==◌, Bool, true, false, cond, ◌&&◌, ◌||◌, List, [], ◌∷◌, Some, None, is_none, refl, ap, sym, subst, ◌∙◌, arith, find, option_and_then, option_map, unwrap_or, AllByRecursion, option_map_or}
-use Rattle.ele_world.proofs.Basics.{nat_tests, Option, ◌≤◌, not, nat_le, nat_lt, list_any, IfSome, zero, suc, sum_by-cons, all-none, all-not_found, AllLater, insert_before, update_first, later-weaker, all-both, all-insert_before, all-update_first, all-weaker, all-found, found_passes, not_found, find-insert_before}
+use Rattle.ele_world.proofs.Basics.{◌≡◌, ℕ, ◌+◌, ◌-◌, ◌<◌, ◌==◌, Bool, true, false, cond, ◌&&◌, ◌||◌, List, [], ◌∷◌, Some, None, is_none, refl, ap, sym, subst, ◌∙◌, arith, find, option_and_then, option_map, unwrap_or, AllByRecursion}
+use Rattle.ele_world.proofs.Basics.{nat_tests, Option, ◌≤◌, nat_le, nat_lt, list_any, IfSome, zero, suc, sum_by-cons, all-none, all-not_found, AllLater, insert_before, update_first, later-weaker, all-insert_before, all-update_first, all-weaker, all-found, found_passes, not_found, find-insert_before}
 use Rattle.ele_world.proofs.Basics.{list_any-update_first, any-found, find-inserted, find-update_other}
 use Rattle.ele_world.proofs.Words.{Cell, Cover, Policy, floor_in, newer_held, IsLawful, VersionRow, ended_at, next_version, with_end, with_version, ripe_of, ripe_at, cover_of, is_newer_of, near_moment, next_closing, ArePlaced, AreHeldRead, AreVersions}
 use Rattle.ele_world.proofs.Words.{IsVersion, Readers, Versions, HasParts, World, is_file, is_live, is_open, is_version, is_version_after, next_of, policy_of}

@@ -1,5 +1,5 @@
 -- Which ripe moments change where marks of groups come and go: those of versions that they cover, and no other.
-use Rattle.ele_world.proofs.Basics.{◌≡◌, ℕ, true, false, cond, List, [], ◌∷◌, Option, Some, None, refl, ap, sym, subst, ◌∙◌, arith, ◌&&◌, ◌==◌, Bool, find, list_any, option_map_or, bytes_eq, false≢true, nat_tests, AllLater, all-found}
+use Rattle.ele_world.proofs.Basics.{◌≡◌, ℕ, true, false, cond, List, [], ◌∷◌, Option, Some, None, ap, sym, subst, ◌∙◌, arith, ◌&&◌, ◌==◌, Bool, find, list_any, option_map_or, bytes_eq, false≢true, nat_tests, AllLater, all-found}
 use Rattle.ele_world.proofs.Words.{DropGroup, AddMember, RemoveMember, AddMark, RemoveMark, after_change, ripe_at, covers_moment, group_named, has_mark, has_member, is_group, is_marked_at, is_member, with_mark, with_member, without_group}
 use Rattle.ele_world.proofs.Words.{without_mark, without_member, Cover, cover_of, cover_until, cover_with, cover_without, longer, members_of, marks_of, moment_under, Groups, IsGroup, HasParts, World, is_open, is_version, policy_of, Counts, GroupRow, MarkRow, VersionRow}
 use Rattle.ele_world.proofs.MarksChanged.{drop_apart, drop_still, join_apart, join_longer, leave_apart, leave_still, mark_apart, mark_longer, touches, unmark_apart, unmark_still}

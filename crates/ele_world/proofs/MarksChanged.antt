@@ -1,11 +1,10 @@
 -- What marks stand over a file after a change of groups, and for how long they keep: with more members or marks longer where these
 -- cover, and with fewer as long as what is left.
-use Rattle.ele_world.proofs.Basics.{◌≡◌, ℕ, ◌==◌, Bool, true, false, not, ◌&&◌, ◌||◌, List, [], ◌∷◌, Option, Some, None, refl, ap, sym, ◌∙◌, arith, filter, find, map, AllByRecursion, list_any, option_map_or, bytes_eq, false≢true}
-use Rattle.ele_world.proofs.Basics.{nat_tests, list_any-append, bytes_eq-Decides, AllLater, update_first, remove_first, found_passes, filter-all}
-use Rattle.ele_world.proofs.Words.{GroupRow, MarkRow, Cover, Free, covers_moment, cover_by, cover_of, cover_until, cover_with, cover_without, group_named, has_member, is_group, is_left_out, is_mark, is_marked, is_marked_at, is_member, keeps_at, longer, marks, marks_left, removes, unmarks, with_mark, with_member, without_group, without_mark, without_member, marks_of, members_of}
-use Rattle.ele_world.proofs.Covers.{cover_same, exceeds, exceeds_by, exceeds_longer, exceeds_same, reaches}
+use Rattle.ele_world.proofs.Basics.{◌≡◌, ℕ, ◌==◌, Bool, true, false, not, ◌&&◌, ◌||◌, List, [], ◌∷◌, Option, Some, None, refl, ap, sym, ◌∙◌, arith, filter, find, map, AllByRecursion, list_any, option_map_or, bytes_eq}
+use Rattle.ele_world.proofs.Basics.{nat_tests, list_any-append, bytes_eq-Decides, AllLater, update_first, remove_first, found_passes}
+use Rattle.ele_world.proofs.Words.{GroupRow, MarkRow, Cover, covers_moment, cover_by, cover_of, cover_until, cover_with, cover_without, group_named, is_group, is_mark, is_marked, is_member, keeps_at, longer, marks, marks_left, removes, unmarks, with_mark, with_member, without_group, without_mark, without_member, marks_of, members_of}
+use Rattle.ele_world.proofs.Covers.{exceeds, exceeds_by, exceeds_longer, exceeds_same, reaches}
 use Rattle.ele_world.proofs.GroupMarks.{any_over}
-use Rattle.std.proofs.Math.Bool.{and-true}
 pub use Rattle.std.proofs.Math.Bool.{or-false as or_false, or-true as or_true}
 
 -- ---- lists

@@ -24,7 +24,6 @@ pub moments_kept : (w v : World) → AreInOrder w.files w.versions → v.files �
 moments_kept w v ordered files versions handles groups file number nameless some =
     found_kept w v file number ordered (rw (files, versions) ordered) (λ closed ended. rw groups refl) (rw files refl) (rw (files, versions) (met_stays (policy_of w.files file) (is_live w file) (is_live v file) (newer_held w.versions file number) nameless)) (rw handles refl) (rw versions refl) (rw versions refl) some
 
-
 -- ---- the end of a file's name
 
 module _ (w : World) (directory : ℕ) (name : List ℕ) (file : ℕ) where

@@ -1,6 +1,6 @@
 -- A version's ripe moment: none while a handle reads it or it is marked for ever, and else what its policy, its own moments, its
 -- next held neighbour and the ends of marks tell.
-use Rattle.ele_world.proofs.Basics.{false≢true, is_some, length, length-map, length-filter, filter-both, nat_le, ◌≡◌, ℕ, ◌+◌, ◌≤◌, ◌==◌, ◌&&◌, ◌||◌, Bool, true, false, not, cond, List, [], ◌∷◌, Option, Some, None, refl, ap, sym, ◌∙◌, arith, filter, slice_get, find, option_and_then, IfSome, AllByRecursion, list_any, option_map_or}
+use Rattle.ele_world.proofs.Basics.{false≢true, is_some, length, length-map, length-filter, filter-both, nat_le, ◌≡◌, ℕ, ◌+◌, ◌≤◌, ◌==◌, Bool, true, false, cond, List, [], ◌∷◌, Option, Some, None, refl, ap, sym, ◌∙◌, arith, filter, slice_get, find, option_and_then, IfSome, AllByRecursion, list_any}
 use Rattle.ele_world.proofs.Basics.{nat_tests, slice_get-map, find-cut, find-filter_both, AllLater, update_first, all-weaker, not_found}
 use Rattle.ele_world.proofs.Words.{floor_in, meets_floor, newer_held, is_newer, is_newer_of, is_version_of, is_live, Policy, IsLawful, IsNearest, FileRow, VersionRow, ended_at, ripe_at, FileView, file_view, beside, ripe_in, ripe_past, Cover, cover_by, cover_of, near_moment}
 use Rattle.ele_world.proofs.Words.{next_closing, moment_under, free_moment, ArePlaced, AreVersions, IsVersion, Versions, HasParts, World, is_open, is_version, next_of, policy_of}

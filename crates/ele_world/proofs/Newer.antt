@@ -1,6 +1,6 @@
 -- The held version of a file that has so many newer ones: among the file's rows it stands so many from the end.
-use Rattle.ele_world.proofs.Basics.{AllLater, List, all-any, arith, eqb, false, filter, find, later-filter, nat_lt, nat_tests, option_map_or, refl, suc, sym, ℕ, ◌<◌, ◌∙◌, ◌≡◌}
-use Rattle.ele_world.proofs.Words.{ArePlaced, VersionRow, is_newer_of, is_version_of, newer_held, newest_of, with_newer}
+use Rattle.ele_world.proofs.Basics.{AllLater, List, all-any, arith, eqb, false, filter, later-filter, nat_lt, nat_tests, option_map_or, refl, suc, sym, ℕ, ◌<◌, ◌∙◌, ◌≡◌}
+use Rattle.ele_world.proofs.Words.{ArePlaced, VersionRow, is_version_of, newer_held, newest_of, with_newer}
 use Rattle.ele_lists.proofs.Alls.{later-weaker}
 use Rattle.ele_lists.proofs.Backs.{enough-back, found-back, last-back}
 use Rattle.ele_lists.proofs.Filters.{find-filter_both}

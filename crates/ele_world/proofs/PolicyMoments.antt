@@ -3,7 +3,7 @@ use Rattle.ele_world.proofs.Basics.{arith, nat_tests, ◌≡◌, ℕ, ◌<◌, �
 use Rattle.ele_policy.specs.FloorOf.{without_floor}
 use Rattle.ele_policy.specs.Ripe.{ripe_by}
 use Rattle.ele_policy.specs.declared.policy.Policy.TheVariants.{Landmarks}
-use Rattle.ele_world.proofs.Words.{All, One, Safe, Cover, Files, IsPolicy, Law, VersionRow, candidates, is_version, near_moment, newer_held, next_closing, policy_of, ripe_near, ripe_past, is_file, put_under, Policy, IsLawful, PutUnder, after_change, ripe_at, file_view, ripe_numbered, cover_of, moment_under, floor_in, HasParts, World, is_live, is_open, next_of}
+use Rattle.ele_world.proofs.Words.{All, One, Safe, Cover, Files, IsPolicy, Law, VersionRow, is_version, near_moment, newer_held, next_closing, policy_of, ripe_near, ripe_past, is_file, put_under, Policy, IsLawful, PutUnder, after_change, ripe_at, file_view, ripe_numbered, cover_of, moment_under, floor_in, HasParts, World, is_live, is_open, next_of}
 use Rattle.ele_world.proofs.Elements.{find-updated}
 use Rattle.ele_world.proofs.Files.{policy_of-put_other}
 use Rattle.ele_world.proofs.KeptNames.{put_under_keeps}

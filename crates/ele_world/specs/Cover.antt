@@ -1,5 +1,5 @@
 -- For how long marks keep what was current from one moment until another, or still is.
-use Rattle.std.specs.Prelude.{ℕ, ◌&&◌, nat_le, nat_lt, max, Bool, true, false, List, [], ◌∷◌, Option, Some, None, if◌then◌else◌}
+use Rattle.std.specs.Prelude.{ℕ, nat_le, nat_lt, max, Bool, true, false, List, [], ◌∷◌, Option, Some, None, if◌then◌else◌}
 use Rattle.ele_moment.specs.Last.{last_moment}
 use Rattle.ele_world.specs.declared.cover.Cover.{Cover}
 use Rattle.ele_world.specs.declared.cover.Cover.TheVariants.{Free, Until, Always}

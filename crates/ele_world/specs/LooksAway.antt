@@ -1,5 +1,5 @@
 -- Which policies look at nothing beside a version. No public clause cites this module.
-use Rattle.std.specs.Prelude.{ℕ, ◌==◌, Bool, true, false, not, ◌||◌}
+use Rattle.std.specs.Prelude.{◌==◌, Bool, true, false, not, ◌||◌}
 use Rattle.ele_policy.specs.declared.policy.Policy.{Policy}
 use Rattle.ele_policy.specs.declared.policy.Policy.TheVariants.{One, All, Safe, Landmarks}
 

@@ -141,9 +141,7 @@ fn newer_closings(
 fn is_live(names: &[NameRow], file: FileId) -> bool
     ensures { result ≡ list_any (is_live_name_of file) names.now }
 {
-    names
-        .iter()
-        .any(|row| row.death.is_none() && row.target == Target::File(file))
+    names.iter().any(|row| row.death.is_none() && row.target == Target::File(file))
 }
 
 /// Whether the policy looks at nothing beside a version of a file that is live or not.
@@ -264,7 +262,9 @@ pub fn due(world: &Flat) -> Result<KeyList, NoMemory>
     let alloc = world.versions.allocator();
     let mut keys = BTreeSet::new(alloc);
     for row in versions {
-        let key = due_key(world.now, files, names, versions, handles, groups, row, alloc)?;
+        let key = due_key(
+            world.now, files, names, versions, handles, groups, row, alloc,
+        )?;
         add_key(&mut keys, key)?;
     }
     let listed: Vec<Key> = keys.iter().copied().collect(alloc)?;

@@ -1,4 +1,4 @@
-use Rattle.ele_world.proofs.Basics.{arith, IfOk-weaker}
+use Rattle.ele_world.proofs.Basics.{arith}
 use Rattle.ele_world.proofs.DueKeys.{ripe-open, ripe-unfiled, ripe-unended, ripe-told}
 use Rattle.ele_world.proofs.scan.ripe_of.Goals as goal
 
