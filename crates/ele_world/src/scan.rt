@@ -179,53 +179,35 @@ fn ripe_by(
 }
 
 /// The version's ripe moment.
-fn ripe_of(
-    files: &[FileRow],
-    names: &[NameRow],
-    versions: &[VersionRow],
-    handles: &[HandleRow],
-    groups: &[GroupRow],
-    row: &VersionRow,
-    alloc: Global,
-) -> Result<Option<Moment>, NoMemory>
-    ensures { IfOk result (λ ripe. (w : World) → w.files ≡ files.now → w.names ≡ names.now
-        → w.versions ≡ versions.now → w.handles ≡ handles.now → w.groups ≡ groups.now
-        → (ripe ≡ ripe_of w row.now) × IsDueFromRipe w row.now) }
+fn ripe_of(world: &Flat, row: &VersionRow, alloc: Global) -> Result<Option<Moment>, NoMemory>
+    ensures { IfOk result
+        (λ ripe. (ripe ≡ ripe_of world.entry.now row.now) × IsDueFromRipe world.entry.now row.now) }
 {
-    let Some(policy) = policy_of(files, row.file) else {
+    let Some(policy) = policy_of(world.files.as_slice(), row.file) else {
         return Ok(None);
     };
     policy.is_given();
-    if is_open(handles, row.file, row.number) {
+    if is_open(world.handles.as_slice(), row.file, row.number) {
         return Ok(None);
     }
     let Some(ended) = row.ended else {
         return Ok(None);
     };
-    let is_live = is_live(names, row.file);
+    let versions = world.versions.as_slice();
+    let is_live = is_live(world.names.as_slice(), row.file);
     let Some(ripe) = ripe_by(&policy, versions, row, ended, is_live, alloc)? else {
         return Ok(None);
     };
+    let groups = world.groups.as_slice();
     Ok(cover_of(groups, row.file, row.closed, &row.ended).ripe_past(ripe))
 }
 
-/// The version's key, if it is due at the moment.
-fn due_key(
-    now: Moment,
-    files: &[FileRow],
-    names: &[NameRow],
-    versions: &[VersionRow],
-    handles: &[HandleRow],
-    groups: &[GroupRow],
-    row: &VersionRow,
-    alloc: Global,
-) -> Result<Option<Key>, NoMemory>
-    ensures { IfOk result (λ key. (w : World) → w.now ≡ now → w.files ≡ files.now
-        → w.names ≡ names.now → w.versions ≡ versions.now → w.handles ≡ handles.now
-        → w.groups ≡ groups.now → key ≡ due_key w row.now) }
+/// The version's key, if it is due now.
+fn due_key(world: &Flat, row: &VersionRow, alloc: Global) -> Result<Option<Key>, NoMemory>
+    ensures { IfOk result (λ key. key ≡ due_key world.entry.now row.now) }
 {
-    let at = now.seconds();
-    let Some(ripe) = ripe_of(files, names, versions, handles, groups, row, alloc)? else {
+    let at = world.now.seconds();
+    let Some(ripe) = ripe_of(world, row, alloc)? else {
         return Ok(None);
     };
     if ripe.seconds() > at {
@@ -254,17 +236,10 @@ fn add_key(keys: &mut BTreeSet<Key>, key: Option<Key>) -> Result<(), NoMemory>
 pub fn due(world: &Flat) -> Result<KeyList, NoMemory>
     ensures { IfOk result (λ keys. keys ≡ scan world.entry.now) }
 {
-    let files = world.files.as_slice();
-    let names = world.names.as_slice();
-    let versions = world.versions.as_slice();
-    let handles = world.handles.as_slice();
-    let groups = world.groups.as_slice();
     let alloc = world.versions.allocator();
     let mut keys = BTreeSet::new(alloc);
-    for row in versions {
-        let key = due_key(
-            world.now, files, names, versions, handles, groups, row, alloc,
-        )?;
+    for row in world.versions.as_slice() {
+        let key = due_key(world, row, alloc)?;
         add_key(&mut keys, key)?;
     }
     let listed: Vec<Key> = keys.iter().copied().collect(alloc)?;
