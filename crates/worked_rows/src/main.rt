@@ -68,7 +68,11 @@ const LIMITED: [(&str, [u64; 9]); 24] = [
 ];
 
 /// Scripts under the largest limits whose lines `why` and `ahead` are answered.
-const EXPLAINED: [&str; 2] = ["explained_landmarks", "explained_policies"];
+const EXPLAINED: [&str; 3] = [
+    "explained_landmarks",
+    "explained_policies",
+    "explained_floors",
+];
 
 /// What the script prints.
 fn printed(rt: &HostRuntime, name: &str, limits: Limits) -> Result<String> {

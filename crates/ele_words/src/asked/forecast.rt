@@ -13,15 +13,15 @@ const FORECAST: &str = "Tells from when on each version of a file may be forgott
     and which stay at given moments. The moments at which the file closed come on standard input, \
     one a line, oldest first";
 
-const POLICY: &str = "The file's policy: one, all, safe:SECONDS, or landmarks:AGE/WIDTH,.. \
-    in seconds";
+const POLICY: &str = "The file's policy: one, all, safe:SECONDS, safe:SECONDS/FLOOR, \
+    or landmarks:AGE/WIDTH,.. in seconds";
 
 const AT: &str = "Tells which versions stay at that moment; may be given several times";
 
 const SVG: &str = "Draws it as SVG, up to 2000 versions, in place of the table";
 
 const BAD_POLICY: &str =
-    "error: --policy takes one, all, safe:SECONDS or landmarks:AGE/WIDTH,..\n\n\
+    "error: --policy takes one, all, safe:SECONDS, safe:SECONDS/FLOOR or landmarks:AGE/WIDTH,..\n\n\
     For more information, try 'elephant forecast --help'.\n";
 
 const BAD_MOMENT: &str =

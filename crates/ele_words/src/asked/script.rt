@@ -50,4 +50,4 @@ Lines and their answers:
   T        the same, or a path#V for the version of that number
   G        the name of a group
   X        bytes as hexadecimal digits, or - for none
-  POL      one, all, safe:SECONDS, or landmarks:AGE/WIDTH,.. in seconds";
+  POL      one, all, safe:SECONDS, safe:SECONDS/FLOOR, or landmarks:AGE/WIDTH,.. in seconds";
