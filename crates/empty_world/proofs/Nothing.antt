@@ -72,6 +72,6 @@ nothing_used w is = rw is.3 refl
 pub formed : (now : ℕ) (default : Policy) (limits : Bounds) → FreshIsWellFormed → StepKeepsWellFormed → now ≤ last_moment → IsPolicy default → AreBounds limits → IsWellFormed (empty now default limits)
 formed now default limits fresh keeps within given bounds =
     let later : nat_lt now 0 ≡ false = grind (arith, nat_tests) in
-    let told : step (fresh_world limits) (event.Clock now) ≡ (Now now, empty now (Safe 86400) limits) = rw later refl in
-    let at : IsWellFormed (empty now (Safe 86400) limits) = subst (λ (o : Reply × World). IsWellFormed o.1) told (keeps (fresh_world limits) (event.Clock now) within (fresh limits bounds)) in
-    keeps (empty now (Safe 86400) limits) (event.SetDefault [] default) given at
+    let told : step (fresh_world limits) (event.Clock now) ≡ (Now now, empty now (Safe 86400 0) limits) = rw later refl in
+    let at : IsWellFormed (empty now (Safe 86400 0) limits) = subst (λ (o : Reply × World). IsWellFormed o.1) told (keeps (fresh_world limits) (event.Clock now) within (fresh limits bounds)) in
+    keeps (empty now (Safe 86400 0) limits) (event.SetDefault [] default) given at
