@@ -1,6 +1,6 @@
 -- Words of policies: what they spell, or their fault.
 use Rattle.ele_script.proofs.Basics.{◌≡◌, ℕ, List, [], ◌∷◌, length, take, drop, refl, sym, subst, ◌∙◌, ◌⊎◌, inl, inr, Option, Some, None, Ok, Err, AllZip, codes, position, dec_le}
-use Rattle.ele_script.proofs.Prelude.{SpellsNumber, One, KeepAll, Safe, Landmarks, Rung, IsLadder, climbs, ground, LineFault, BadLadder, Syntax, SpellsPair, SpellsPairs, SpellsSafe, IsSafeWord, IsLadderWord, HasForm, ReadsPolicy, parts_of}
+use Rattle.ele_script.proofs.Prelude.{One, KeepAll, Safe, Landmarks, Rung, IsLadder, climbs, ground, LineFault, BadLadder, Syntax, SpellsPair, SpellsPairs, SpellsSafe, IsSafeWord, IsLadderWord, HasForm, ReadsPolicy, parts_of}
 use Rattle.ele_policy.specs.declared.policy.Policy.{Policy}
 use Rattle.ele_policy.specs.Interval.{IsInterval}
 use Rattle.ele_policy.specs.Policy.{IsPolicy}
