@@ -1,5 +1,5 @@
 -- The version of a closing: where it stands among its file's rows, and what stands behind it.
-use Rattle.ele_forecast.proofs.Words.{◌≡◌, ℕ, zero, suc, ◌+◌, ◌<◌, ◌≤◌, false, List, [], ◌∷◌, ◌++◌, Option, Some, None, refl, ap, sym, subst, ◌∙◌, arith, nat_tests, filter, find, map, slice_get, IfSome, AllByRecursion, AllLater}
+use Rattle.ele_forecast.proofs.Words.{◌≡◌, ℕ, zero, suc, ◌+◌, ◌<◌, ◌≤◌, false, List, [], ◌∷◌, ◌++◌, Option, Some, None, refl, ap, sym, subst, ◌∙◌, arith, nat_tests, filter, find, map, slice_get, AllByRecursion, AllLater, length}
 use Rattle.ele_forecast.proofs.Words.{all-weaker, later-around, find-at, Policy, IsNearest, VersionRow, FileView, beside, closings, is_newer, is_numbered, IsFileOf, IsFollowed, Life, life_of, lives_from, Tells, TellsOf, Forecast}
 use Rattle.ele_world.proofs.Views.{Precedes, newer_is}
 
@@ -51,6 +51,7 @@ pub record IsPlaced (cs : List ℕ) (rows : List VersionRow) (place number close
   pub life : life_of row ≡ (number, closed, slice_get later 0)
   pub rest : map life_of behind ≡ lives_from (number + 1) later
   pub rises : AllLater ◌≤◌ (closed ∷ later)
+  pub many : length later + suc place ≡ length cs
 
 pub placed : (n : ℕ) (cs : List ℕ) (rows : List VersionRow) (place closed : ℕ) → map life_of rows ≡ lives_from n cs → AllLater ◌≤◌ cs → slice_get cs place ≡ Some closed → IsPlaced cs rows place (place + n) closed
 placed n [] rows place closed e rising there = absurd (cc)
@@ -67,6 +68,7 @@ placed n (c ∷ cs) (row ∷ rows) zero closed e rising there =
       life = grind (arith, nat_tests);
       rest = grind (arith, nat_tests);
       rises = subst (λ (x : ℕ). AllLater ◌≤◌ (x ∷ cs)) same rising;
+      many = omega arith;
     }
 placed n (c ∷ cs) (row ∷ rows) (suc place) closed e rising there =
     let k = placed (n + 1) cs rows place closed (cc) rising.1 there in
@@ -81,6 +83,7 @@ placed n (c ∷ cs) (row ∷ rows) (suc place) closed e rising there =
       life = k.life ∙ ap (λ (m : ℕ). let life : ℕ × ℕ × Option ℕ = (m, closed, slice_get k.later 0) in life) number;
       rest = k.rest ∙ ap (λ (m : ℕ). lives_from (m + 1) k.later) number;
       rises = k.rises;
+      many = let more = k.many in omega arith;
     }
 
 -- ---- what stands about it
@@ -106,12 +109,14 @@ module _ (policy : Policy) (cs : List ℕ) (v : FileView) (is : IsFileOf policy 
       let before = all-weaker (λ x. Precedes x own.row) (λ x. is_numbered (place + 1) x ≡ false) own.before (λ x p. let number = p.number in let n = numbered in grind (arith, nat_tests)) (later-around Precedes own.before own.row own.behind all_precede).0 in
       ap (find (is_numbered (place + 1))) own.whole ∙ find-at (is_numbered (place + 1)) own.before own.row own.behind before (let n = numbered in grind (arith, nat_tests))
 
-  newer : filter (is_newer own.row) v.rows ≡ own.behind
-  newer = ap (filter (is_newer own.row)) own.whole ∙ newer_is own.before own.row own.behind all_precede
+  newer_rows : filter (is_newer own.row) v.rows ≡ own.behind
+  newer_rows = ap (filter (is_newer own.row)) own.whole ∙ newer_is own.before own.row own.behind all_precede
+
+  closings_same : closings (filter (is_newer own.row) v.rows) ≡ own.later
+  closings_same = ap closings newer_rows ∙ closings_are (place + 1 + 1) own.later own.behind own.rest
 
   pub nearest : IsNearest own.row.closed (slice_get cs (suc place)) (beside v own.row)
   nearest =
-      let closings_same : closings (filter (is_newer own.row) v.rows) ≡ own.later = ap closings newer ∙ closings_are (place + 1 + 1) own.later own.behind own.rest in
       record {
         in_order = subst (λ (xs : List ℕ). AllLater ◌≤◌ (own.row.closed ∷ xs)) (sym closings_same) (subst (λ (x : ℕ). AllLater ◌≤◌ (x ∷ own.later)) (sym closes) own.rises);
         first = ap (λ (xs : List ℕ). slice_get xs 0) closings_same ∙ own.next;
@@ -146,25 +151,30 @@ module _ (policy : Policy) (cs : List ℕ) (v : FileView) (is : IsFileOf policy 
     pub behind_it : IsNext own.behind
     behind_it = next_in own.later own.behind (own.next ∙ next) own.rest
 
-    pub followed : IsFollowed policy v own.row behind_it.next_row
-    followed =
+    so_many : (newer : ℕ) → newer + suc place ≡ length cs → length (beside v own.row).newer ≡ newer
+    so_many newer are = ap length closings_same ∙ (let many = own.many in omega arith)
+
+    pub followed : (newer : ℕ) → newer + suc place ≡ length cs → IsFollowed policy v own.row behind_it.next_row newer
+    followed newer are =
         let same : Some ended ≡ Some behind_it.next_row.closed = ap Some (sym behind_it.closed_then) in
         record {
           policy_is = is.policy_is;
+          live = is.live;
           unread = is.unread;
           unmarked = is.unmarked;
           ended = ends ∙ next ∙ same;
           later = behind_it.others;
-          newer = newer ∙ behind_it.parts;
+          behind = newer_rows ∙ behind_it.parts;
+          so_many = so_many newer are;
           nearest = subst (λ (x : Option ℕ). IsNearest own.row.closed x (beside v own.row)) (next ∙ same) nearest;
         }
 
-    pub tells_followed : (forecast : Forecast) → forecast.number ≡ place + 1
-        → ((row next : VersionRow) → IsFollowed policy v row next → row.closed ≡ closed → next.closed ≡ ended → next.number ≡ place + 1 + 1 → TellsOf v row forecast) → Tells v forecast
-    tells_followed forecast number told = record {
+    pub tells_followed : (forecast : Forecast) (newer : ℕ) → newer + suc place ≡ length cs → forecast.number ≡ place + 1
+        → ((row next : VersionRow) → IsFollowed policy v row next newer → row.closed ≡ closed → next.closed ≡ ended → next.number ≡ place + 1 + 1 → TellsOf v row forecast) → Tells v forecast
+    tells_followed forecast newer are number told = record {
       row = own.row;
       held = ap (λ (n : ℕ). find (is_numbered n) v.rows) number ∙ held;
-      told = told own.row behind_it.next_row followed closes behind_it.closed_then behind_it.its_number;
+      told = told own.row behind_it.next_row (followed newer are) closes behind_it.closed_then behind_it.its_number;
     }
 
 -- a closing doesn't come before the one ahead of it
@@ -179,7 +189,3 @@ next_rises (c ∷ d ∷ cs) (suc place) closed ended rising there next = next_ri
 
 pub next_from : (cs : List ℕ) (place : ℕ) (found next : Option ℕ) → found ≡ slice_get cs (place + 1) → found ≡ next → slice_get cs (suc place) ≡ next
 next_from cs place found next at is = let same : suc place ≡ place + 1 = omega arith in ap (slice_get cs) same ∙ sym at ∙ is
-
-pub next_if : (cs : List ℕ) (place closed : ℕ) (found : Option ℕ) → AllLater ◌≤◌ cs → slice_get cs place ≡ Some closed → found ≡ slice_get cs (place + 1) → IfSome found (λ next. closed ≤ next)
-next_if cs place closed None rising there at = tt
-next_if cs place closed (Some next) rising there at = next_rises cs place closed next rising there (next_from cs place (Some next) (Some next) at refl)

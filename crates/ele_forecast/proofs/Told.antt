@@ -1,5 +1,5 @@
 -- What is told of one version after another.
-use Rattle.ele_forecast.proofs.Words.{◌≡◌, ℕ, zero, suc, ◌+◌, ◌≤◌, List, [], ◌∷◌, ◌++◌, Option, Some, None, refl, ap, sym, ◌∙◌, arith, append_assoc, append-nil, map, slice_get, AllByRecursion, length, drop}
+use Rattle.ele_forecast.proofs.Words.{◌≡◌, ℕ, zero, suc, ◌+◌, ◌≤◌, List, [], ◌∷◌, ◌++◌, Some, refl, ap, sym, ◌∙◌, arith, append_assoc, append-nil, map, slice_get, AllByRecursion, length, drop}
 use Rattle.ele_forecast.proofs.Words.{Policy, FileView, IsFileOf, Life, lives_from, Tells, Forecast}
 use Rattle.std.proofs.lemmas.List.{drop_all, map-append}
 use Rattle.ele_forecast.specs.Tells.{AreForecasts, told_life}

@@ -1,19 +1,15 @@
--- Whether a version stays, by its own closing and the next. No public clause cites this module.
-use Rattle.std.specs.Prelude.{ℕ, ◌+◌, nat_le, Bool, false, not, ◌&&◌, List, [], ◌∷◌, Option, Some, None, slice_get, if◌then◌else◌}
+-- Whether a version stays, by its own closing and the newer ones. No public clause cites this module.
+use Rattle.std.specs.Prelude.{ℕ, ◌+◌, Bool, true, false, List, [], ◌∷◌, if◌then◌else◌}
 use Rattle.ele_policy.specs.declared.policy.Policy.{Policy}
-use Rattle.ele_policy.specs.Ripe.{alone, is_due_by}
+use Rattle.ele_policy.specs.Ripe.{is_due_by}
 
--- it ended as the next one closed, and is due by then
-abbrev pub goes : Policy → ℕ → ℕ → Option ℕ → Bool
-goes policy at closed None = false
-goes policy at closed (Some ended) = is_due_by policy closed (alone (Some ended)) ended at
-
--- it has closed by then, and isn't due
-abbrev pub stays : Policy → ℕ → ℕ → Option ℕ → Bool
-stays policy at closed next = nat_le closed at && not (goes policy at closed next)
+-- in a live file, it ended as the first of the newer ones closed, and is due beside these
+abbrev pub goes : Policy → ℕ → ℕ → List ℕ → Bool
+goes policy at closed [] = false
+goes policy at closed (ended ∷ later) = is_due_by policy closed (record { newer = ended ∷ later; live = true }) ended at
 
 -- the numbers of those that stay, of versions numbered from there on
 abbrev pub kept_from : Policy → ℕ → ℕ → List ℕ → List ℕ
 kept_from policy at number [] = []
 kept_from policy at number (closed ∷ later) =
-    let rest = kept_from policy at (number + 1) later in if stays policy at closed (slice_get later 0) then number ∷ rest else rest
+    let rest = kept_from policy at (number + 1) later in if goes policy at closed later then rest else number ∷ rest

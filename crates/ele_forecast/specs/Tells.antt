@@ -4,8 +4,9 @@ use Rattle.std.specs.List.{AllByRecursion}
 use Rattle.std.specs.Option.{option_map}
 use Rattle.ele_policy.specs.Ladder.{Rung, level_of, rung_at, shares}
 use Rattle.ele_policy.specs.declared.policy.Policy.{Policy}
-use Rattle.ele_policy.specs.declared.policy.Policy.TheVariants.{One, Safe, Landmarks}
+use Rattle.ele_policy.specs.declared.policy.Policy.TheVariants.{One, Landmarks}
 use Rattle.ele_world.specs.declared.rows.VersionRow.{VersionRow}
+use Rattle.ele_world.specs.Fate.{IsSafeFor}
 use Rattle.ele_world.specs.FileView.{FileView, is_newer, is_numbered, ripe_in}
 use Rattle.ele_forecast.specs.FileOf.{IsFileOf, Life, lives_from}
 use Rattle.ele_forecast.specs.declared.forecast.Forecast.{Forecast}
@@ -34,7 +35,7 @@ abbrev pub IsWhy : FileView → VersionRow → Why → Type 0
 IsWhy v row Current = row.ended ≡ None
 IsWhy v row Never = IsSome row.ended × (ripe_in v row ≡ None)
 IsWhy v row AtOnce = (v.policy ≡ Some One) × IsSome (ripe_in v row)
-IsWhy v row (Age seconds) = (v.policy ≡ Some (Safe seconds)) × IsSome (ripe_in v row)
+IsWhy v row (Age seconds) = IsSafeFor v seconds × IsSome (ripe_in v row)
 IsWhy v row (Displaced level by) = IsDisplaced v row level by
 
 -- a forecast of that version of the file

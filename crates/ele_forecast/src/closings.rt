@@ -4,7 +4,7 @@ ghost use Rattle.std.specs.List.{AllByRecursion};
 ghost use Rattle.ele_lists.specs.Lists.{AllLater};
 ghost use Rattle.ele_world.specs.FileView.{FileView};
 ghost use Rattle.ele_forecast.specs.FileOf.{IsFileOf};
-ghost use Rattle.ele_forecast.specs.Stays.{AreKept};
+ghost use Rattle.ele_forecast.specs.Stays.{AreKept, come_by};
 ghost use Rattle.ele_forecast.specs.Tells.{AreForecasts, Tells};
 
 use crate::forecast::{Forecast, add, current, followed, stays};
@@ -103,7 +103,7 @@ impl Closings {
         let number = VersionNo(place as u64 + 1);
         let closed = self.at(place);
         match self.next(place) {
-            Some(ended) => followed(policy, number, closed, ended),
+            Some(ended) => followed(policy, number, closed, ended, self.len() - place - 1),
             None => current(number, closed),
         }
     }
@@ -136,16 +136,34 @@ impl Closings {
     pub fn staying(&self, policy: &Policy, at: Moment) -> Result<Vec<VersionNo>, NoMemory>
         ensures { IfOk result (λ numbers. AreKept policy.now self.now at numbers.items) }
     {
-        policy.is_given();
-        at.seconds();
-        self.rise();
         let mut numbers = Vec::new(*self.moments.allocator());
-        for place in 0..self.len() {
-            if stays(policy, self.at(place), self.next(place), at) {
+        let come = self.come_by(at);
+        for place in 0..come.len() {
+            if stays(policy, come[place], &come[place + 1..], at) {
                 numbers.push(VersionNo(place as u64 + 1))?;
             }
         }
         Ok(numbers)
+    }
+
+    // The closings that have come by the moment, which are the first ones.
+    fn come_by(&self, at: Moment) -> &[Moment]
+        ensures come { result.now ≡ come_by at self.now }
+        ensures rise { AllLater ◌≤◌ result.now }
+    {
+        self.rise();
+        &self.moments[..self.count_by(at)]
+    }
+
+    // How many closings have come by the moment.
+    fn count_by(&self, at: Moment) -> usize
+        ensures { result ≡ length (come_by at self.now) }
+    {
+        let now = at.seconds();
+        self.moments
+            .iter()
+            .filter(|closed| closed.seconds() <= now)
+            .count()
     }
 
     // The closing at that place.

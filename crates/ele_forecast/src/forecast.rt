@@ -1,11 +1,13 @@
 //! What is told of one version. A contract sees it as plain data, beside the version's row and the
 //! file that holds it.
-ghost use Rattle.std.specs.Prelude.{◌≡◌, ◌≤◌, ◌<◌, ◌+◌, ◌^◌, ◌++◌, ◌∷◌, [], Some, None, IfSome, OnOk, true};
-ghost use Rattle.ele_policy.specs.Ripe.{alone, is_due_by};
+ghost use Rattle.std.specs.Prelude.{◌≡◌, ◌≤◌, ℕ, ◌<◌, ◌+◌, ◌^◌, ◌++◌, ◌∷◌, [], Some, None, OnOk, true, not};
+ghost use Rattle.ele_lists.specs.Lists.{AllLater};
+ghost use Rattle.ele_policy.specs.FloorOf.{meets_floor};
+ghost use Rattle.ele_policy.specs.Ripe.{alone, ripe_by};
 ghost use Rattle.ele_world.specs.FileView.{FileView, ripe_in};
 ghost use Rattle.ele_world.specs.declared.rows.VersionRow.{VersionRow};
 ghost use Rattle.ele_forecast.specs.Followed.{IsFollowed};
-ghost use Rattle.ele_forecast.specs.StaysBehind.{stays};
+ghost use Rattle.ele_forecast.specs.StaysBehind.{goes};
 ghost use Rattle.ele_forecast.specs.Tells.{IsWhy, TellsOf};
 
 use ele_moment::{Moment, NoMemory, VersionNo};
@@ -16,11 +18,11 @@ use ele_policy::{Interval, Policy, ripe};
 pub enum Why {
     /// It has no end.
     Current,
-    /// Its policy never lets it go, or not before the last moment.
+    /// Its policy never lets it go, not before the last moment, or not beside so few newer ones.
     Never,
     /// Its policy keeps no version that has ended.
     AtOnce,
-    /// It has been ended for that long.
+    /// It has been ended for that long, beside as many newer ones as the floor says.
     Age(Interval),
     /// At the level of the ladder that it has reached by then, the first of which is 1, that newer
     /// version closed in the same span: the nearest one that did.
@@ -40,15 +42,16 @@ pub struct Forecast {
 
 // Why the policy lets a version go from its ripe moment on, behind which that one closed as it ended.
 fn reason(policy: &Policy, closed: Moment, ended: Moment, ripe: Moment, by: VersionNo) -> Why
-    requires { is_due_by policy.now closed (alone (Some ended)) ended ripe ≡ true }
-    ensures { (v : FileView) (row next : VersionRow) → IsFollowed policy.now v row next
-        → row.closed ≡ closed → next.closed ≡ ended → next.number ≡ by
+    requires { ripe_by policy.now closed (alone (Some ended)) ended ≡ Some ripe }
+    ensures { (v : FileView) (row next : VersionRow) (newer : ℕ)
+        → IsFollowed policy.now v row next newer → row.closed ≡ closed → next.closed ≡ ended → next.number ≡ by
         → ripe_in v row ≡ Some ripe → IsWhy v row result }
 {
+    policy.is_given();
     match policy {
         Policy::One => Why::AtOnce,
         Policy::All => Why::Never,
-        Policy::Safe(interval) => Why::Age(*interval),
+        Policy::Safe(interval, _) => Why::Age(*interval),
         Policy::Landmarks(ladder) => {
             let age = ripe.seconds().saturating_sub(ended.seconds());
             let level = ladder.level(age);
@@ -108,23 +111,32 @@ pub(crate) fn current(number: VersionNo, closed: Moment) -> Forecast
     told(number, closed, None, None, Why::Current)
 }
 
-/// What is told of a version that ended as the next one closed.
+// Whether so many newer versions meet the policy's floor, in a live file.
+fn meets_floor(policy: &Policy, newer: usize) -> bool
+    ensures { result ≡ meets_floor policy.now true newer }
+{
+    policy.floor().number() <= newer as u64
+}
+
+/// What is told of a version that ended as the next one closed, the first of so many newer ones.
 pub(crate) fn followed(
     policy: &Policy,
     number: VersionNo,
     closed: Moment,
     ended: Moment,
+    newer: usize,
 ) -> Forecast
     requires rises { closed ≤ ended }
     requires numbered { number + 1 < 2 ^ 64 }
     ensures number { result.number ≡ number }
     ensures closed { result.closed ≡ closed }
     ensures ended { result.ended ≡ Some ended }
-    ensures tells { (v : FileView) (row next : VersionRow) → IsFollowed policy.now v row next
-        → row.closed ≡ closed → next.closed ≡ ended → next.number ≡ number + 1
-        → TellsOf v row result }
+    ensures tells { (v : FileView) (row next : VersionRow)
+        → IsFollowed policy.now v row next newer → row.closed ≡ closed → next.closed ≡ ended
+        → next.number ≡ number + 1 → TellsOf v row result }
 {
-    match ripe(policy, closed, ended, Some(ended)) {
+    let floor_met = meets_floor(policy, newer);
+    match ripe(policy, closed, ended, Some(ended), floor_met) {
         Some(moment) => {
             let why = reason(policy, closed, ended, moment, number.after());
             told(number, closed, Some(ended), Some(moment), why)
@@ -133,20 +145,19 @@ pub(crate) fn followed(
     }
 }
 
-/// Whether a version that closed then, and ended as the next one closed, stays at the moment.
-pub(crate) fn stays(policy: &Policy, closed: Moment, next: Option<Moment>, at: Moment) -> bool
-    requires { IfSome next (λ ended. closed ≤ ended) }
-    ensures { result ≡ stays policy.now at closed next }
+/// Whether a version that closed then stays at the moment, beside the newer ones that have closed by
+/// then. It ended as the first of these closed.
+pub(crate) fn stays(policy: &Policy, closed: Moment, newer: &[Moment], at: Moment) -> bool
+    requires { AllLater ◌≤◌ (closed ∷ newer.now) }
+    ensures { result ≡ not (goes policy.now at closed newer.now) }
 {
-    if closed.seconds() > at.seconds() {
-        return false;
-    }
-    let Some(ended) = next else {
+    let now = at.seconds();
+    let Some(ended) = newer.first() else {
         return true;
     };
-    let goes = ripe(policy, closed, ended, Some(ended));
-    match goes {
-        Some(moment) => moment.seconds() > at.seconds(),
+    let floor_met = meets_floor(policy, newer.len());
+    match ripe(policy, closed, *ended, Some(*ended), floor_met) {
+        Some(moment) => moment.seconds() > now,
         None => true,
     }
 }

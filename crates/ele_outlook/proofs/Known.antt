@@ -1,14 +1,14 @@
 -- What a writer holds and what is held for it, piece after piece.
-use Rattle.std.proofs.Common.{◌≡◌, ℕ, suc, ◌+◌, ◌-◌, ◌<◌, ◌≤◌, List, [], ◌∷◌, ◌++◌, length, drop, get_or, map, Option, Some, None, Result, Ok, Err, refl, sym, ap, subst, ◌∙◌, append_assoc, arith}
+use Rattle.std.proofs.Common.{◌≡◌, ℕ, zero, suc, ◌+◌, ◌-◌, ◌<◌, ◌≤◌, List, [], ◌∷◌, ◌++◌, length, drop, get_or, Option, Some, None, Result, Ok, Err, refl, sym, ap, subst, ◌∙◌, append_assoc, arith}
 use Rattle.std.proofs.KnownBytes.{Appends-kept, Appends-nil, Appends-trans}
 use Rattle.std.proofs.lemmas.List.{append-nil, at_drop_all, drop_more}
 use Rattle.std.specs.Io.KnownBytes.{Appends, Keeps}
 use Rattle.std.specs.List.{flat_map, fold, join_with_byte, range_with_len}
-use Rattle.std.specs.Prelude.{IsErr, OnErr, OnOk, decimal}
+use Rattle.std.specs.Prelude.{IsErr, OnErr, OnOk, codes, decimal}
 use Rattle.ele_printer.specs.Front.{AppendsFront}
 use Rattle.ele_printer.specs.Outlet.{HandsOver, Outlet, Puts, Takes, TakesFront}
 use Rattle.ele_printer.specs.Printed.{line_text}
-use Rattle.ele_outlook.specs.Drawing.{tie_from}
+use Rattle.ele_outlook.specs.Drawing.{floor_words, tie_from}
 use Rattle.ele_outlook.specs.Mark.{mark_text}
 use Rattle.ele_outlook.specs.Reading.{Writes}
 use Rattle.ele_outlook.specs.Stamp.{stamp_of, stamp_or}
@@ -139,6 +139,21 @@ joined first (word ∷ words) = ap (λ (rest : List ℕ). first ++ 32 ∷ rest) 
 pub fronted : (word : List ℕ) (words : List (List ℕ)) → join_with_byte 32 ((32 ∷ word) ∷ words) ≡ spaced (word ∷ words)
 fronted word words = joined (32 ∷ word) words
 
+-- words behind others
+spaced_both : (words more : List (List ℕ)) → spaced (words ++ more) ≡ spaced words ++ spaced more
+spaced_both [] more = refl
+spaced_both (word ∷ words) more = ap (λ (rest : List ℕ). (32 ∷ word) ++ rest) (spaced_both words more) ∙ sym (append_assoc (32 ∷ word) (spaced words) (spaced more))
+
+pub joined_both : (first : List ℕ) (words more : List (List ℕ)) → join_with_byte 32 (first ∷ (words ++ more)) ≡ join_with_byte 32 (first ∷ words) ++ spaced more
+joined_both first words more =
+    joined first (words ++ more) ∙ ap (λ (rest : List ℕ). first ++ rest) (spaced_both words more) ∙ sym (append_assoc first (spaced words) (spaced more))
+    ∙ ap (λ (front : List ℕ). front ++ spaced more) (sym (joined first words))
+
+-- the name of a floor, with a space in front
+pub floor_parts : (n : ℕ) → 0 < n → join_with_byte 32 (codes " with a floor of" ∷ decimal n ∷ []) ≡ spaced (floor_words n)
+floor_parts zero some = absurd (omega arith)
+floor_parts (suc n) some = fronted (codes "with a floor of") (decimal (suc n) ∷ [])
+
 -- a line is its first four words, and each other with a space in front
 pub line_parts : (a b c d : List ℕ) (words : List (List ℕ)) → line_text (a ∷ b ∷ c ∷ d ∷ words) ≡ join_with_byte 32 (a ∷ b ∷ c ∷ d ∷ []) ++ (spaced words ++ 10 ∷ [])
 line_parts a b c d words =
@@ -152,8 +167,8 @@ line_parts a b c d words =
 
 -- the line of a version in its parts
 pub version_parts : (policy : Policy) (told : Forecast) → version_line policy told
-    ≡ join_with_byte 32 (decimal told.number ∷ stamp_of told.closed ∷ stamp_or told.ended ∷ stamp_or told.ripe ∷ []) ++ (spaced (why_words policy told.why) ++ 10 ∷ [])
-version_parts policy told = line_parts (decimal told.number) (stamp_of told.closed) (stamp_or told.ended) (stamp_or told.ripe) (why_words policy told.why)
+    ≡ join_with_byte 32 (decimal told.number ∷ stamp_of told.closed ∷ stamp_or told.ended ∷ stamp_or told.ripe ∷ []) ++ (spaced (why_words policy told.ended told.why) ++ 10 ∷ [])
+version_parts policy told = line_parts (decimal told.number) (stamp_of told.closed) (stamp_or told.ended) (stamp_or told.ripe) (why_words policy told.ended told.why)
 
 -- the same bytes
 pub puts_as : {A E : Type 0} (a c : Outlet) (x y : List ℕ) (r : Result A E) → x ≡ y → Puts a c x r → Puts a c y r

@@ -1,5 +1,5 @@
 -- A forecast as a drawing: an SVG 1.1 document, with time from left to right and a row for each version.
-use Rattle.std.specs.Prelude.{ℕ, ◌+◌, ◌-◌, ◌*◌, ◌/◌, ◌<◌, ◌^◌, max, min, nat_lt, Bool, true, false, List, [], ◌∷◌, ◌++◌, codes, decimal, length, Option, Some, None, slice_get, if◌then◌else◌}
+use Rattle.std.specs.Prelude.{ℕ, zero, suc, ◌+◌, ◌-◌, ◌*◌, ◌/◌, ◌<◌, ◌^◌, max, min, nat_lt, Bool, true, false, List, [], ◌∷◌, ◌++◌, codes, decimal, length, Option, Some, None, slice_get, if◌then◌else◌}
 use Rattle.std.specs.List.{flat_map, join_with_byte, range_with_len}
 use Rattle.ele_policy.specs.Ladder.{Rung, level_of}
 use Rattle.ele_policy.specs.declared.policy.Policy.{Policy}
@@ -138,11 +138,16 @@ abbrev pub band_drawn : Page → List Rung → Rung → List ℕ
 band_drawn page rungs rung =
     let top = band_top (level_of rungs rung.0) in flat_map mark_text (band_marks top rung.0 rung.1) ++ spans_drawn page top rung.1
 
+-- the name of a floor, and none for none
+abbrev pub floor_words : ℕ → List (List ℕ)
+floor_words zero = []
+floor_words (suc n) = codes "with a floor of" ∷ decimal (suc n) ∷ []
+
 -- the name of a policy
 abbrev pub policy_name : Policy → List (List ℕ)
 policy_name policy.One = codes " Keep One" ∷ []
 policy_name policy.All = codes " Keep All" ∷ []
-policy_name (policy.Safe seconds) = codes " Keep Safe for" ∷ length_words seconds
+policy_name (policy.Safe seconds floor) = codes " Keep Safe for" ∷ (length_words seconds ++ floor_words floor)
 policy_name (policy.Landmarks rungs) = codes " Keep Landmarks" ∷ []
 
 abbrev pub head_drawn : Page → ℕ → List ℕ

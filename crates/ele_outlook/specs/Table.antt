@@ -15,7 +15,7 @@ heading = line_text (codes "version closed ended due why" ∷ [])
 -- the line of a version: its number, when it closed and ended, the moment from which it may be forgotten, and why
 abbrev pub version_line : Policy → Forecast → List ℕ
 version_line policy told =
-    line_text (decimal told.number ∷ stamp_of told.closed ∷ stamp_or told.ended ∷ stamp_or told.ripe ∷ why_words policy told.why)
+    line_text (decimal told.number ∷ stamp_of told.closed ∷ stamp_or told.ended ∷ stamp_or told.ripe ∷ why_words policy told.ended told.why)
 
 -- the line of a moment: how many versions stay, and the numbers of these
 abbrev pub numbered_line : ℕ → List ℕ → List ℕ

@@ -1,7 +1,8 @@
 -- Why a version may be forgotten or stays, in words.
-use Rattle.std.specs.Prelude.{ℕ, ◌/◌, ◌%◌, ◌==◌, List, [], ◌∷◌, ◌++◌, codes, decimal, if◌then◌else◌}
+use Rattle.std.specs.Prelude.{ℕ, ◌+◌, ◌/◌, ◌%◌, ◌==◌, nat_le, Bool, false, List, [], ◌∷◌, codes, decimal, Option, if◌then◌else◌}
 use Rattle.std.specs.List.{flat_map}
 use Rattle.std.specs.Option.{option_map_or}
+use Rattle.ele_moment.specs.Last.{last_moment}
 use Rattle.ele_policy.specs.Ladder.{Rung, rung_at}
 use Rattle.ele_policy.specs.declared.policy.Policy.{Policy}
 use Rattle.ele_policy.specs.declared.policy.Policy.TheVariants as policy
@@ -55,18 +56,23 @@ abbrev pub width_at : Policy → ℕ → ℕ
 width_at (policy.Landmarks rungs) level = width_of rungs level
 width_at other level = 0
 
--- why a version is never let go
-abbrev pub never_word : Policy → List ℕ
-never_word policy.All = codes "all are kept"
-never_word (policy.Landmarks rungs) = codes "kept as a landmark"
-never_word other = codes "not before the year 10000"
+-- so many seconds after the end, if there is one, are no later than the last moment
+abbrev pub is_in_time : Option ℕ → ℕ → Bool
+is_in_time ended seconds = option_map_or (λ e. nat_le (e + seconds) last_moment) ended false
 
-abbrev pub why_words : Policy → Why → List (List ℕ)
-why_words policy Current = codes "current" ∷ []
-why_words policy Never = never_word policy ∷ []
-why_words policy AtOnce = codes "only the current one is kept" ∷ []
-why_words policy (Age seconds) = codes "ended for" ∷ length_words seconds
-why_words policy (Displaced level by) =
+-- why a version that ended then is never let go
+abbrev pub never_word : Policy → Option ℕ → List ℕ
+never_word policy.All ended = codes "all are kept"
+never_word (policy.Landmarks rungs) ended = codes "kept as a landmark"
+never_word (policy.Safe seconds floor) ended = if is_in_time ended seconds then codes "kept by the floor" else codes "not before the year 10000"
+never_word policy.One ended = codes "not before the year 10000"
+
+abbrev pub why_words : Policy → Option ℕ → Why → List (List ℕ)
+why_words policy ended Current = codes "current" ∷ []
+why_words policy ended Never = never_word policy ended ∷ []
+why_words policy ended AtOnce = codes "only the current one is kept" ∷ []
+why_words policy ended (Age seconds) = codes "ended for" ∷ length_words seconds
+why_words policy ended (Displaced level by) =
     codes "version" ∷ decimal by ∷ codes "closed in the same" ∷ span_words (width_at policy level)
 
 -- each word with a space (32) in front

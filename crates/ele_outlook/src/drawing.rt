@@ -3,10 +3,11 @@ ghost use Rattle.std.specs.Prelude.{◌≡◌, ◌<◌, ◌≤◌, ◌+◌, ◌-
 ghost use Rattle.std.specs.List.{flat_map, join_with_byte};
 ghost use Rattle.ele_policy.specs.Ladder.{level_of};
 ghost use Rattle.ele_printer.specs.Prints.{Prints};
-ghost use Rattle.ele_outlook.specs.Drawing.{IsOnPage, band_drawn, band_marks, band_top, drawing_text, frame_drawn, head_drawn, heading_drawn, kept_drawn, kept_marks, moment_drawn, policy_name, rows_drawn, scale_drawn, scale_marks, spans_drawn, tie_from, version_drawn, version_tied};
+ghost use Rattle.ele_outlook.specs.Drawing.{IsOnPage, band_drawn, band_marks, band_top, drawing_text, floor_words, frame_drawn, head_drawn, heading_drawn, kept_drawn, kept_marks, moment_drawn, policy_name, rows_drawn, scale_drawn, scale_marks, spans_drawn, tie_from, version_drawn, version_tied};
 ghost use Rattle.ele_outlook.specs.Mark.{mark_text};
 ghost use Rattle.ele_outlook.specs.Page.{step_of};
 ghost use Rattle.ele_outlook.specs.Table.{version_line};
+ghost use Rattle.ele_outlook.specs.Why.{spaced};
 
 use crate::mark::{put_marks, put_parts};
 use crate::marks::{
@@ -19,7 +20,7 @@ use crate::staying::Staying;
 use crate::why::put_length;
 use ele_forecast::{Forecast, Why};
 use ele_moment::{Moment, VersionNo};
-use ele_policy::Policy;
+use ele_policy::{Floor, Policy};
 use ele_printer::{Printer, WriteFault, put_words};
 use itoa::Buffer;
 use std::io::Write;
@@ -136,9 +137,28 @@ fn put_name<W: Write>(policy: &Policy, printer: &mut Printer<'_, W>) -> Result<(
     match policy {
         Policy::One => printer.put(b" Keep One"),
         Policy::All => printer.put(b" Keep All"),
-        Policy::Safe(interval) => put_length(b" Keep Safe for", interval.seconds(), printer),
+        Policy::Safe(interval, floor) => {
+            put_length(b" Keep Safe for", interval.seconds(), printer)?;
+            put_floor(*floor, printer)
+        }
         Policy::Landmarks(_) => printer.put(b" Keep Landmarks"),
     }
+}
+
+// Puts a space and the name of a floor, or nothing for none.
+fn put_floor<W: Write>(floor: Floor, printer: &mut Printer<'_, W>) -> Result<(), WriteFault>
+    ensures { Prints W.contents printer.old printer.new (spaced (floor_words floor)) result }
+{
+    let versions = floor.number();
+    if versions == 0 {
+        return Ok(());
+    }
+    let mut digits = Buffer::new();
+    put_words(
+        b" with a floor of",
+        &[digits.format(versions).as_bytes()],
+        printer,
+    )
 }
 
 // Puts the moments at the foot.

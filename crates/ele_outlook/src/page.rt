@@ -210,7 +210,7 @@ pub(crate) fn rungs_of(policy: &Policy) -> &[(u64, u64)]
 {
     match policy {
         Policy::Landmarks(ladder) => ladder.pairs(),
-        Policy::One | Policy::All | Policy::Safe(_) => &[],
+        Policy::One | Policy::All | Policy::Safe(_, _) => &[],
     }
 }
 

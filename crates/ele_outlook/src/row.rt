@@ -46,7 +46,7 @@ pub(crate) fn put_version<W: Write>(
         result }
 {
     put_moments(forecast, printer)?;
-    put_why(policy, forecast.why, printer)?;
+    put_why(policy, forecast.ended, forecast.why, printer)?;
     printer.put(b"\n")
 }
 

@@ -3,10 +3,11 @@
 ghost use Rattle.std.specs.Prelude.{◌≡◌, ◌∷◌, [], codes, decimal};
 ghost use Rattle.std.specs.List.{join_with_byte};
 ghost use Rattle.ele_printer.specs.Prints.{Prints};
-ghost use Rattle.ele_outlook.specs.Why.{length_words, never_word, spaced, span_words, width_at, width_of, why_words};
+ghost use Rattle.ele_outlook.specs.Why.{is_in_time, length_words, never_word, spaced, span_words, width_at, width_of, why_words};
 
 use crate::unit::{count_of, unit_of};
 use ele_forecast::Why;
+use ele_moment::Moment;
 use ele_policy::Policy;
 use ele_printer::{Printer, WriteFault, put_word, put_words};
 use itoa::Buffer;
@@ -15,28 +16,41 @@ use std::io::Write;
 /// Puts a space and each of the words.
 pub(crate) fn put_why<W: Write>(
     policy: &Policy,
+    ended: Option<Moment>,
     why: Why,
     printer: &mut Printer<'_, W>,
 ) -> Result<(), WriteFault>
-    ensures { Prints W.contents printer.old printer.new (spaced (why_words policy.now why)) result }
+    ensures { Prints W.contents printer.old printer.new (spaced (why_words policy.now ended why))
+        result }
 {
     match why {
         Why::Current => put_word(b"current", printer),
-        Why::Never => put_word(never_word(policy), printer),
+        Why::Never => put_word(never_word(policy, ended), printer),
         Why::AtOnce => put_word(b"only the current one is kept", printer),
         Why::Age(interval) => put_length(b" ended for", interval.seconds(), printer),
         Why::Displaced { level, by } => put_displaced(by.0, width_at(policy, level), printer),
     }
 }
 
-// Why a policy never lets a version go.
-fn never_word(policy: &Policy) -> &'static [u8]
-    ensures { result.now ≡ never_word policy.now }
+// Why a policy never lets a version go that ended then.
+fn never_word(policy: &Policy, ended: Option<Moment>) -> &'static [u8]
+    ensures { result.now ≡ never_word policy.now ended }
 {
     match policy {
         Policy::All => b"all are kept",
         Policy::Landmarks(_) => b"kept as a landmark",
-        Policy::One | Policy::Safe(_) => b"not before the year 10000",
+        Policy::Safe(interval, _) if is_in_time(ended, interval.seconds()) => b"kept by the floor",
+        Policy::One | Policy::Safe(_, _) => b"not before the year 10000",
+    }
+}
+
+// Whether so many seconds after an end are no later than the last moment.
+fn is_in_time(ended: Option<Moment>, seconds: u64) -> bool
+    ensures { result ≡ is_in_time ended seconds }
+{
+    match ended {
+        Some(ended) => ended.plus(seconds).is_some(),
+        None => false,
     }
 }
 
@@ -107,6 +121,6 @@ fn width_at(policy: &Policy, level: usize) -> u64
 {
     match policy {
         Policy::Landmarks(ladder) => width_of(ladder.pairs(), level),
-        Policy::One | Policy::All | Policy::Safe(_) => 0,
+        Policy::One | Policy::All | Policy::Safe(_, _) => 0,
     }
 }

@@ -1,7 +1,7 @@
 //! Putting what is told of versions, directories and names, and the policies in it. A contract sees
 //! each as itself, and a printer as its outlet.
 ghost use Rattle.std.specs.Prelude.{◌≡◌, ◌∷◌, [], ◌++◌, map, decimal, codes};
-ghost use Rattle.ele_policy.specs.PolicyText.{ladder_word, pair_word, policy_word};
+ghost use Rattle.ele_policy.specs.PolicyText.{floor_word, ladder_word, pair_word, policy_word};
 ghost use Rattle.ele_printer.specs.Prints.{Prints};
 ghost use Rattle.ele_printer.specs.Printed.{line_text, end_word, file_text, directory_text, version_line, versions_text, name_line, names_text};
 
@@ -9,7 +9,7 @@ use crate::fault::WriteFault;
 use crate::printer::{Printer, put_line, put_words};
 use crate::row::{Row, put_rows};
 use ele_moment::{Moment, Name};
-use ele_policy::{Ladder, Policy};
+use ele_policy::{Floor, Ladder, Policy};
 use ele_world::{DirectoryRow, FileStat, Stamps, Target};
 use itoa::Buffer;
 use std::io::Write;
@@ -84,8 +84,21 @@ pub(crate) fn put_policy<W: Write>(
     match policy {
         Policy::One => printer.put(b" one"),
         Policy::All => printer.put(b" all"),
-        Policy::Safe(interval) => put_listed(b" safe:", interval.seconds(), printer),
+        Policy::Safe(interval, floor) => {
+            put_listed(b" safe:", interval.seconds(), printer)?;
+            put_floor(*floor, printer)
+        }
         Policy::Landmarks(ladder) => put_ladder(ladder, printer),
+    }
+}
+
+// Puts a slash and a floor, or nothing for none.
+fn put_floor<W: Write>(floor: Floor, printer: &mut Printer<'_, W>) -> Result<(), WriteFault>
+    ensures { Prints W.contents printer.old printer.new (floor_word floor) result }
+{
+    match floor.number() {
+        0 => Ok(()),
+        versions => put_listed(b"/", versions, printer),
     }
 }
 

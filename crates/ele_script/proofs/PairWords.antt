@@ -1,5 +1,5 @@
 -- Words of pairs: each one pair, cut at its slash.
-use Rattle.ele_script.proofs.Basics.{nat_tests, ◌≡◌, ℕ, zero, suc, ◌+◌, ◌<◌, ◌≤◌, ◌==◌, Bool, false, List, [], ◌∷◌, ◌++◌, length, take, drop, refl, sym, ap, ◌∙◌, arith, length-append, Option, Some, None, IfNone, get_or, AllZip, position, same_Some}
+use Rattle.ele_script.proofs.Basics.{nat_tests, subst, true≢false, ◌≡◌, ℕ, zero, suc, ◌+◌, ◌<◌, ◌≤◌, ◌==◌, Bool, false, List, [], ◌∷◌, ◌++◌, length, take, drop, refl, sym, ap, ◌∙◌, arith, length-append, Option, Some, None, IfNone, get_or, AllZip, position, same_Some}
 use Rattle.ele_script.proofs.Basics.{position_or_len, slice_split, decimal, AllDigits, digits_value, eqb-true, lt-ltb, digits_decimal, drop_more, take-append-drop, position-Some, All-nil, All-cons, All-head, All-tail}
 use Rattle.ele_script.proofs.Prelude.{SpellsNumber, Rung, Keeps, SpellsPair, parts_of}
 use Rattle.std.specs.Prelude.{All}
@@ -29,6 +29,14 @@ slash_behind (c ∷ front) rest none = grind (arith, All-head, slash_behind fron
 slash_at : (word : List ℕ) (pair : Rung) → (is : SpellsPair word pair) → position is_slash word ≡ Some (length is.age)
 slash_at word pair is = grind (arith, nat_tests, slash_behind, number_unmarked, lt-ltb, length-append)
 
+slash_there : (front rest : List ℕ) → All (λ c. (c == 47) ≡ false) (front ++ 47 ∷ rest) → ⊥
+slash_there [] rest none = true≢false (All-head (λ c. (c == 47) ≡ false) 47 rest none)
+slash_there (c ∷ front) rest none = slash_there front rest (All-tail (λ c. (c == 47) ≡ false) c (front ++ 47 ∷ rest) none)
+
+-- so a pair has one
+pub slashed : (word : List ℕ) (pair : Rung) → SpellsPair word pair → All (λ c. (c == 47) ≡ false) word → ⊥
+slashed word pair is none = slash_there is.age is.width (subst (All (λ c. (c == 47) ≡ false)) is.are none)
+
 -- in front of the first slash stands the age, and behind it the width
 pub parts_at : (word : List ℕ) (pair : Rung) (at : ℕ) → SpellsPair word pair → position is_slash word ≡ Some at → SpellsNumber (take at word) pair.0 × SpellsNumber (drop 1 (drop at word)) pair.1
 parts_at word pair at is found =
@@ -37,7 +45,7 @@ parts_at word pair at is found =
     let width : drop 1 (drop at word) ≡ is.width = rw (place, is.are, drop-append_seam is.age (47 ∷ is.width)) refl in
     (rw age is.age_is, rw width is.width_is)
 
-none_is : {A : Type 0} {x : A} → ◌≡◌ {A = Option A} None (Some x) → ⊥
+pub none_is : {A : Type 0} {x : A} → ◌≡◌ {A = Option A} None (Some x) → ⊥
 none_is h = cc
 
 -- what has no slash is no pair
@@ -72,7 +80,7 @@ made_pair word front behind rest at m n found before after more age width =
     }
 
 -- a word is one pair
-one_pair : (word : List ℕ) (p q : Rung) → SpellsPair word p → SpellsPair word q → p ≡ q
+pub one_pair : (word : List ℕ) (p q : Rung) → SpellsPair word p → SpellsPair word q → p ≡ q
 one_pair word (age, width) (other, wide) a b =
     let found = slash_at word (other, wide) b in
     let x = parts_at word (age, width) (length b.age) a found in

@@ -1,5 +1,5 @@
 -- The words of values, as they are printed, are plain and not empty.
-use Rattle.ele_script.proofs.Basics.{◌≡◌, ℕ, zero, suc, ◌<◌, true, List, [], ◌∷◌, length, map, refl, ◌∙◌, arith, nat_tests, AllZip, list_all, All-head, All-tail}
+use Rattle.ele_script.proofs.Basics.{◌≡◌, ℕ, zero, suc, ◌<◌, ◌≤◌, decimal, true, List, [], ◌∷◌, length, map, refl, ◌∙◌, arith, nat_tests, AllZip, list_all, All-head, All-tail}
 use Rattle.ele_script.proofs.Prelude.{SpellsNumber, Rung, ground, SpellsPair, pair_word, Value, Moment, Name, Path, Timed, Bytes}
 use Rattle.std.specs.Prelude.{All}
 use Rattle.std.specs.List.{AllByRecursion}
@@ -14,7 +14,7 @@ use Rattle.ele_time_path.specs.PathAt.{tag_at}
 use Rattle.ele_world.specs.declared.event.Source.TheVariants as source
 use Rattle.ele_printer.specs.EventText.{IsValue, value_word}
 use Rattle.ele_printer.specs.Printed.{bytes_word}
-use Rattle.ele_policy.specs.PolicyText.{policy_word}
+use Rattle.ele_policy.specs.PolicyText.{floor_word, policy_word}
 use Rattle.ele_time_path.specs.PathText.{path_word}
 use Rattle.ele_script.specs.Value.{Number, Tagged, Source, Policy}
 use Rattle.ele_script.proofs.PolicyBack.{spelled_pairs}
@@ -48,13 +48,18 @@ pairs_inner [] [] are = refl
 pairs_inner (word ∷ words) (rung ∷ rungs) are = rw (pair_inner word rung are.0, pairs_inner words rungs are.1) refl
 pairs_inner words rungs are = absurd are
 
+floor_inner : (floor : ℕ) → floor ≤ 16 → list_all is_inner (floor_word floor) ≡ true
+floor_inner zero few = refl
+floor_inner (suc n) few = number_inner (suc n) (omega (arith, few))
+
 policy_is : (kept : AnyPolicy) → IsPolicy kept → is_word (policy_word kept) ≡ true
 policy_is policy.One is = refl
 policy_is policy.All is = refl
-policy_is (policy.Safe seconds) is =
-    let word = policy_word (policy.Safe seconds) in
+policy_is (policy.Safe seconds floor) is =
+    let word = policy_word (policy.Safe seconds floor) in
     let some : 0 < length word = omega arith in
-    word_is word some (number_inner seconds (omega (arith, is.fits)))
+    let inner = number_inner seconds (omega (arith, is.0.fits)) in
+    word_is word some (list_all-append is_inner (decimal seconds) (floor_word floor) ∙ rw (inner, floor_inner floor is.1) refl)
 policy_is (policy.Landmarks rungs) is =
     let word = policy_word (policy.Landmarks rungs) in
     let some : 0 < length word = omega arith in

@@ -1,9 +1,10 @@
 -- The words by which policies are printed spell them.
-use Rattle.ele_script.proofs.Basics.{◌≡◌, ℕ, ◌<◌, ◌≤◌, ◌==◌, true, false, List, [], ◌∷◌, length, map, refl, ap, ◌∙◌, arith, length-append, AllZip, join_with_byte, slice_split, decimal, nat_tests, All-append, All-cons}
+use Rattle.ele_script.proofs.Basics.{◌≡◌, ℕ, zero, suc, ◌++◌, inl, inr, sym, subst, append-nil, ◌<◌, ◌≤◌, ◌==◌, true, false, List, [], ◌∷◌, length, map, refl, ap, ◌∙◌, arith, length-append, AllZip, join_with_byte, slice_split, decimal, nat_tests, All-append, All-cons}
 use Rattle.ele_script.proofs.Basics.{slice_split_none, slice_split_at}
-use Rattle.ele_script.proofs.Prelude.{SpellsNumber, One, KeepAll, Safe, Landmarks, Rung, IsLadder, climbs, ground, is_above, SpellsPair, SpellsPairs, pair_word}
+use Rattle.ele_script.proofs.Prelude.{SpellsNumber, One, KeepAll, Safe, Landmarks, Rung, IsLadder, climbs, ground, is_above, SpellsPair, SpellsPairs, SpellsSafe, pair_word}
 use Rattle.std.specs.Prelude.{All}
 use Rattle.ele_moment.specs.Last.{last_moment}
+use Rattle.ele_policy.specs.PolicyText.{floor_word}
 use Rattle.ele_script.specs.PolicyBack.{PolicyBack}
 use Rattle.ele_script.proofs.PairWords.{number_unmarked, parts_are}
 
@@ -57,8 +58,13 @@ joined_pairs (first ∷ rungs) is =
     let text = join_with_byte 44 (map pair_word (first ∷ rungs)) in
     rw (parts_are text (is_some (length text) (some_bytes first rungs)), cut_pairs first rungs are) are
 
+-- seconds, with a floor behind them if there is one
+spelled_safe : (seconds floor : ℕ) → seconds ≤ last_moment → floor ≤ 16 → SpellsSafe (decimal seconds ++ floor_word floor) seconds floor
+spelled_safe seconds zero fits few = inl (subst (λ (text : List ℕ). SpellsNumber text seconds) (sym (append-nil (decimal seconds))) (spelled seconds fits), refl)
+spelled_safe seconds (suc n) fits few = inr (record { age = decimal seconds; width = decimal (suc n); are = refl; age_is = spelled seconds fits; width_is = spelled (suc n) (omega (arith, few)) })
+
 pub policy_back : PolicyBack
 policy_back One is = (refl, is)
 policy_back KeepAll is = (refl, is)
-policy_back (Safe seconds) is = (record { digits = decimal seconds; are = refl; number = spelled seconds is.fits }, is)
+policy_back (Safe seconds floor) is = (record { text = decimal seconds ++ floor_word floor; are = refl; spelled = spelled_safe seconds floor is.0.fits is.1 }, is)
 policy_back (Landmarks rungs) is = (record { text = join_with_byte 44 (map pair_word rungs); are = refl; spelled = joined_pairs rungs is }, is)

@@ -1,6 +1,6 @@
 -- Words of policies: what they spell, or their fault.
-use Rattle.ele_script.proofs.Basics.{◌≡◌, ℕ, List, [], ◌∷◌, length, take, drop, refl, sym, subst, ◌∙◌, ◌⊎◌, inl, inr, Option, Some, None, Ok, Err, AllZip, codes, position}
-use Rattle.ele_script.proofs.Prelude.{SpellsNumber, One, KeepAll, Safe, Landmarks, Rung, IsLadder, climbs, ground, LineFault, BadLadder, Syntax, SpellsPair, SpellsPairs, IsSafeWord, IsLadderWord, HasForm, ReadsPolicy, parts_of}
+use Rattle.ele_script.proofs.Basics.{◌≡◌, ℕ, List, [], ◌∷◌, length, take, drop, refl, sym, subst, ◌∙◌, ◌⊎◌, inl, inr, Option, Some, None, Ok, Err, AllZip, codes, position, dec_le}
+use Rattle.ele_script.proofs.Prelude.{One, KeepAll, Safe, Landmarks, Rung, IsLadder, climbs, ground, LineFault, BadLadder, Syntax, SpellsPair, SpellsPairs, SpellsSafe, IsSafeWord, IsLadderWord, HasForm, ReadsPolicy, parts_of}
 use Rattle.ele_policy.specs.declared.policy.Policy.{Policy}
 use Rattle.ele_policy.specs.Interval.{IsInterval}
 use Rattle.ele_policy.specs.Policy.{IsPolicy}
@@ -9,15 +9,6 @@ use Rattle.ele_script.proofs.Decided.{dec_behind, dec_in, dec_same, dec_true, sa
 use Rattle.ele_script.proofs.Moments.{dec_number}
 use Rattle.ele_script.proofs.PairWords.{is_slash, made_pair, parts_at, unslashed}
 use Rattle.ele_script.proofs.Policies.{formless_word}
-
-dec_safe : (word : List ℕ) → Dec ((seconds : ℕ) × IsSafeWord word seconds)
-dec_safe word = elim (dec_behind (codes "safe:") word) [
-  | no none ↦ no (λ h. none (h.1.digits, h.1.are))
-  | yes digits ↦ elim (dec_number digits.0) [
-    | yes number ↦ yes (number.0, record { digits = digits.0; are = digits.1; number = number.1 })
-    | no none ↦ no (λ h. none (h.0, subst (λ w. SpellsNumber w h.0) (same_behind (codes "safe:") h.1.digits digits.0 (sym h.1.are ∙ digits.1)) h.1.number))
-  ]
-]
 
 dec_pair : (word : List ℕ) → Dec ((pair : Rung) × SpellsPair word pair)
 dec_pair word = go (position is_slash word) refl where
@@ -30,6 +21,24 @@ dec_pair word = go (position is_slash word) refl where
       | yes width ↦ yes ((age.0, width.0), made_pair word (take at word) (drop at word) (drop 1 (drop at word)) at age.0 width.0 (sym found) refl refl refl age.1 width.1)
     ]
   ]
+
+dec_spelled : (text : List ℕ) → Dec ((seconds : ℕ) × (floor : ℕ) × SpellsSafe text seconds floor)
+dec_spelled text = elim (dec_number text) [
+  | yes number ↦ yes (number.0, 0, inl (number.1, refl))
+  | no unnumbered ↦ elim (dec_pair text) [
+    | yes pair ↦ yes (pair.0.0, pair.0.1, inr pair.1)
+    | no unpaired ↦ no (λ h. elim h.2 [ inl number ↦ unnumbered (h.0, number.0) | inr pair ↦ unpaired ((h.0, h.1), pair) ])
+  ]
+]
+
+dec_safe : (word : List ℕ) → Dec ((seconds : ℕ) × (floor : ℕ) × IsSafeWord word seconds floor)
+dec_safe word = elim (dec_behind (codes "safe:") word) [
+  | no none ↦ no (λ h. none (h.2.text, h.2.are))
+  | yes text ↦ elim (dec_spelled text.0) [
+    | yes numbers ↦ yes (numbers.0, numbers.1, record { text = text.0; are = text.1; spelled = numbers.2 })
+    | no none ↦ no (λ h. none (h.0, h.1, subst (λ w. SpellsSafe w h.0 h.1) (same_behind (codes "safe:") h.2.text text.0 (sym h.2.are ∙ text.1)) h.2.spelled))
+  ]
+]
 
 head_is : (word : List ℕ) (words : List (List ℕ)) (pairs : List Rung) → AllZip SpellsPair (word ∷ words) pairs → ((pair : Rung) × SpellsPair word pair) × ((more : List Rung) × AllZip SpellsPair words more)
 head_is word words [] are = absurd are
@@ -72,7 +81,13 @@ dec_rungs rungs = elim (dec_in 1 8 (length rungs)) [
 dec_policy : (policy : Policy) → Dec (IsPolicy policy)
 dec_policy One = yes tt
 dec_policy KeepAll = yes tt
-dec_policy (Safe seconds) = dec_interval seconds
+dec_policy (Safe seconds floor) = elim (dec_interval seconds) [
+  | no none ↦ no (λ is. none is.0)
+  | yes given ↦ elim (dec_le floor 16) [
+    | no large ↦ no (λ is. large is.1)
+    | yes fits ↦ yes (given, fits)
+  ]
+]
 dec_policy (Landmarks rungs) = dec_rungs rungs
 
 abbrev pub PolicyMeaning : List ℕ → Type 0
@@ -90,10 +105,10 @@ policy_meaning word = elim (dec_same word (codes "one")) [
   | no not_one ↦ elim (dec_same word (codes "all")) [
     | yes is ↦ formed word KeepAll is
     | no not_all ↦ elim (dec_safe word) [
-      | yes seconds ↦ formed word (Safe seconds.0) seconds.1
+      | yes numbers ↦ formed word (Safe numbers.0 numbers.1) numbers.2
       | no unsafe ↦ elim (dec_ladder word) [
         | yes pairs ↦ formed word (Landmarks pairs.0) pairs.1
-        | no unpaired ↦ inr (Syntax, formless_word word not_one not_all (λ seconds is. unsafe (seconds, is)) (λ pairs is. unpaired (pairs, is)))
+        | no unpaired ↦ inr (Syntax, formless_word word not_one not_all (λ seconds floor is. unsafe (seconds, floor, is)) (λ pairs is. unpaired (pairs, is)))
       ]
     ]
   ]

@@ -11,7 +11,7 @@ pub use Rattle.ele_script.specs.KeptPairs.{Keeps, KeepsLadder}
 pub use Rattle.ele_printer.specs.LineFault.{fault_of_path, fault_of_path_at}
 pub use Rattle.ele_script.specs.Memory.{TakesMemory}
 pub use Rattle.ele_script.specs.PathWord.{IsSourceFault, IsTaggedWordFault, begins_path, of_handle}
-pub use Rattle.ele_script.specs.PolicyWord.{HasForm, IsLadderWord, IsSafeWord, ReadsPolicy, SpellsPair, SpellsPairs, parts_of}
+pub use Rattle.ele_script.specs.PolicyWord.{HasForm, IsLadderWord, IsSafeWord, ReadsPolicy, SpellsPair, SpellsPairs, SpellsSafe, parts_of}
 pub use Rattle.ele_policy.specs.PolicyText.{pair_word}
 pub use Rattle.ele_script.specs.Reads.{IsFaultOfKinds, IsRefused, ReadsLine, bad_word, miscounted}
 pub use Rattle.ele_script.specs.Spells.{Asks, AsksEvent, SpellsLine, SpellsValues, SpellsWords}

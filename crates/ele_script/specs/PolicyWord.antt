@@ -1,5 +1,5 @@
 -- Which words are a policy, and what is wrong with a word that is none.
-use Rattle.std.specs.Prelude.{◌≡◌, ℕ, ◌==◌, List, [], ◌∷◌, ◌++◌, codes, Result, Ok, Err}
+use Rattle.std.specs.Prelude.{◌≡◌, ℕ, ◌==◌, List, [], ◌∷◌, ◌++◌, codes, ◌⊎◌, Result, Ok, Err}
 use Rattle.std.specs.List.{AllZip, slice_split}
 use Rattle.ele_moment.specs.Number.{SpellsNumber}
 use Rattle.ele_policy.specs.declared.policy.Policy.{Policy}
@@ -9,12 +9,6 @@ use Rattle.ele_policy.specs.Policy.{IsPolicy}
 use Rattle.ele_printer.specs.declared.fault.LineFault.{LineFault}
 use Rattle.ele_printer.specs.declared.fault.LineFault.TheVariants.{BadLadder, Syntax}
 
--- `safe:` and a number
-pub record IsSafeWord (word : List ℕ) (seconds : ℕ) : Type 0 where
-  pub digits : List ℕ
-  pub are : word ≡ codes "safe:" ++ digits
-  pub number : SpellsNumber digits seconds
-
 -- a number, a slash (47) and a number
 pub record SpellsPair (word : List ℕ) (pair : Rung) : Type 0 where
   pub age : List ℕ
@@ -22,6 +16,16 @@ pub record SpellsPair (word : List ℕ) (pair : Rung) : Type 0 where
   pub are : word ≡ age ++ 47 ∷ width
   pub age_is : SpellsNumber age pair.0
   pub width_is : SpellsNumber width pair.1
+
+-- a number of seconds and no floor, or a floor behind it
+abbrev pub SpellsSafe : List ℕ → ℕ → ℕ → Type 0
+SpellsSafe text seconds floor = (SpellsNumber text seconds × (floor ≡ 0)) ⊎ SpellsPair text (seconds, floor)
+
+-- `safe:` and these
+pub record IsSafeWord (word : List ℕ) (seconds floor : ℕ) : Type 0 where
+  pub text : List ℕ
+  pub are : word ≡ codes "safe:" ++ text
+  pub spelled : SpellsSafe text seconds floor
 
 -- what stands between commas (44), and nothing in no bytes
 abbrev pub parts_of : List ℕ → List (List ℕ)
@@ -42,7 +46,7 @@ pub record IsLadderWord (word : List ℕ) (pairs : List Rung) : Type 0 where
 abbrev pub HasForm : List ℕ → Policy → Type 0
 HasForm word One = word ≡ codes "one"
 HasForm word All = word ≡ codes "all"
-HasForm word (Safe seconds) = IsSafeWord word seconds
+HasForm word (Safe seconds floor) = IsSafeWord word seconds floor
 HasForm word (Landmarks rungs) = IsLadderWord word rungs
 
 -- what a word is read as: the policy of its form; `Syntax` where it has none, and `BadLadder` where its numbers are no policy's

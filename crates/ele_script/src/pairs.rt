@@ -37,8 +37,8 @@ fn read_pairs(text: &[u8]) -> Option<ArrayVec<(u64, u64), MOST_PAIRS>>
     Some(pairs)
 }
 
-// Two numbers with a slash between them.
-fn read_pair(word: &[u8]) -> Option<(u64, u64)>
+/// Two numbers with a slash between them.
+pub(crate) fn read_pair(word: &[u8]) -> Option<(u64, u64)>
     ensures some { IfSome result (SpellsPair word.now) }
     ensures none { IfNone result ((pair : Rung) → ¬ SpellsPair word.now pair) }
 {

@@ -6,13 +6,13 @@ ghost use Rattle.ele_time_path.specs.Path.{SpellsPath};
 ghost use Rattle.ele_time_path.specs.Tagged.{SpellsTaggedPath};
 ghost use Rattle.ele_time_path.specs.PathAt.{SpellsPathAt};
 ghost use Rattle.ele_script.specs.Value.{NumberWord, MomentWord, NameWord, PathWord, TaggedWord, TimedWord, SourceWord, BytesWord, SpellsName, SpellsBytes, SpellsSource};
-ghost use Rattle.ele_script.specs.PolicyWord.{ReadsPolicy, IsSafeWord};
+ghost use Rattle.ele_script.specs.PolicyWord.{ReadsPolicy, IsSafeWord, SpellsSafe};
 ghost use Rattle.ele_script.specs.PathWord.{begins_path};
 ghost use Rattle.ele_script.specs.FirstFault.{IsOfKind, IsWordFault};
 
-use crate::pairs::ladder_pairs;
+use crate::pairs::{ladder_pairs, read_pair};
 use ele_moment::{Moment, Name, read_number};
-use ele_policy::{Interval, Ladder, Policy};
+use ele_policy::{Floor, Interval, Ladder, Policy};
 use ele_printer::LineFault;
 use ele_time_path::{Path, PathAt, TaggedPath};
 use ele_world::{ByteList, Handle, Source};
@@ -129,8 +129,8 @@ pub fn policy(word: &[u8]) -> Result<Policy, LineFault>
     if word == b"all".as_slice() {
         return Ok(Policy::All);
     }
-    if let Some(seconds) = safe_number(word) {
-        return Ok(Policy::Safe(Interval::new(seconds)?));
+    if let Some((seconds, floor)) = safe_numbers(word) {
+        return Ok(Policy::Safe(Interval::new(seconds)?, Floor::new(floor)?));
     }
     let Some(pairs) = ladder_pairs(word) else {
         return Err(LineFault::Syntax);
@@ -138,10 +138,21 @@ pub fn policy(word: &[u8]) -> Result<Policy, LineFault>
     Ok(Policy::Landmarks(Ladder::new(pairs.as_slice())?))
 }
 
-// The number behind `safe:`.
-fn safe_number(word: &[u8]) -> Option<u64>
-    ensures some { IfSome result (IsSafeWord word.now) }
-    ensures none { IfNone result ((seconds : ℕ) → ¬ IsSafeWord word.now seconds) }
+// The seconds and the floor behind `safe:`.
+fn safe_numbers(word: &[u8]) -> Option<(u64, u64)>
+    ensures some { IfSome result (λ numbers. IsSafeWord word.now numbers.0 numbers.1) }
+    ensures none { IfNone result ((seconds floor : ℕ) → ¬ IsSafeWord word.now seconds floor) }
 {
-    read_number(word.strip_prefix(b"safe:")?)
+    read_safe(word.strip_prefix(b"safe:")?)
+}
+
+// Seconds with no floor, or with a slash and a floor behind them.
+fn read_safe(text: &[u8]) -> Option<(u64, u64)>
+    ensures some { IfSome result (λ numbers. SpellsSafe text.now numbers.0 numbers.1) }
+    ensures none { IfNone result ((seconds floor : ℕ) → ¬ SpellsSafe text.now seconds floor) }
+{
+    match read_number(text) {
+        Some(seconds) => Some((seconds, Floor::NONE.number())),
+        None => read_pair(text),
+    }
 }

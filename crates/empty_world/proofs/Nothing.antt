@@ -1,12 +1,11 @@
 -- What is answered where there are no names.
-use Rattle.std.proofs.Common.{◌≡◌, ◌≢◌, ◌==◌, false, ℕ, ◌+◌, ◌-◌, ◌<◌, ◌≤◌, suc, zero, List, [], ◌∷◌, length, take, Some, None, Ok, Err, refl, sym, ap, subst, ◌∙◌, arith, rules}
+use Rattle.std.proofs.Common.{◌≡◌, ◌==◌, false, ℕ, ◌-◌, ◌≤◌, suc, List, [], ◌∷◌, length, Some, refl, subst, arith}
 use Rattle.std.proofs.lemmas.Bool.Decides.{nat_tests}
 use Rattle.std.specs.Prelude.{slice_get, nat_lt}
 use Rattle.ele_moment.specs.Last.{last_moment}
 use Rattle.ele_policy.specs.Policy.{IsPolicy}
 use Rattle.ele_policy.specs.declared.policy.Policy.TheVariants.{Safe}
 use Rattle.ele_policy.specs.declared.policy.Policy.{Policy}
-use Rattle.ele_time_path.specs.declared.tagged.Tag.TheVariants as tag
 use Rattle.ele_usage.specs.declared.usage.Usage.{Usage}
 use Rattle.ele_world.specs.Bounds.{Bounds, AreBounds}
 use Rattle.ele_world.specs.Change.{Time, after_change}
@@ -15,13 +14,10 @@ use Rattle.ele_world.specs.AlwaysWellFormed.{FreshIsWellFormed, StepKeepsWellFor
 use Rattle.ele_world.specs.Step.{step}
 use Rattle.ele_world.specs.Restorable.{restorable}
 use Rattle.ele_world.specs.Usage.{usage_of, usages}
-use Rattle.ele_world.specs.Walk.{parent_now, directory_now, walk_now}
-use Rattle.ele_world.specs.WalkAt.{walk_covering}
 use Rattle.ele_world.specs.declared.event.Event.TheVariants as event
-use Rattle.ele_world.specs.declared.refusal.Refusal.TheVariants.{NoEntry, IsRoot}
+use Rattle.ele_world.specs.declared.refusal.Refusal.TheVariants.{NoEntry}
 use Rattle.ele_world.specs.declared.reply.Reply.{Reply}
 use Rattle.ele_world.specs.declared.reply.Reply.TheVariants.{Refused, Nothing, Now, UsageList}
-use Rattle.ele_world.specs.declared.rows.Target.TheVariants.{Directory}
 use Rattle.ele_world.specs.World.{World, fresh_world}
 use Rattle.ele_world.specs.WellFormed.{IsWellFormed}
 use Rattle.empty_world.specs.Empty.{empty, IsEmpty}
@@ -72,6 +68,6 @@ nothing_used w is = rw is.3 refl
 pub formed : (now : ℕ) (default : Policy) (limits : Bounds) → FreshIsWellFormed → StepKeepsWellFormed → now ≤ last_moment → IsPolicy default → AreBounds limits → IsWellFormed (empty now default limits)
 formed now default limits fresh keeps within given bounds =
     let later : nat_lt now 0 ≡ false = grind (arith, nat_tests) in
-    let told : step (fresh_world limits) (event.Clock now) ≡ (Now now, empty now (Safe 86400) limits) = rw later refl in
-    let at : IsWellFormed (empty now (Safe 86400) limits) = subst (λ (o : Reply × World). IsWellFormed o.1) told (keeps (fresh_world limits) (event.Clock now) within (fresh limits bounds)) in
-    keeps (empty now (Safe 86400) limits) (event.SetDefault [] default) given at
+    let told : step (fresh_world limits) (event.Clock now) ≡ (Now now, empty now (Safe 86400 0) limits) = rw later refl in
+    let at : IsWellFormed (empty now (Safe 86400 0) limits) = subst (λ (o : Reply × World). IsWellFormed o.1) told (keeps (fresh_world limits) (event.Clock now) within (fresh limits bounds)) in
+    keeps (empty now (Safe 86400 0) limits) (event.SetDefault [] default) given at

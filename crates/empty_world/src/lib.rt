@@ -10,7 +10,7 @@ ghost use Rattle.ele_world.specs.declared.event.Event.TheVariants as event;
 ghost use Rattle.empty_world.specs.Empty.{IsEmpty};
 
 use ele_moment::Moment;
-use ele_policy::{Interval, Policy};
+use ele_policy::{Floor, Interval, Policy};
 use ele_time_path::{Path, Tag, TaggedPath};
 use ele_usage::Usage;
 use ele_world::laws::{fresh_is_well_formed, step_keeps_well_formed};
@@ -144,7 +144,7 @@ impl Stepping for EmptyWorld {
         Ok(EmptyWorld {
             alloc,
             now: Moment::START,
-            default: Policy::Safe(Interval::DAY),
+            default: Policy::Safe(Interval::DAY, Floor::NONE),
             limits,
         })
     }

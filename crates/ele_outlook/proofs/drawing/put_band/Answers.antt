@@ -1,7 +1,5 @@
-use Rattle.std.proofs.Common.{◌++◌, refl}
-use Rattle.std.specs.List.{flat_map}
-use Rattle.ele_outlook.specs.Drawing.{band_marks, band_top, spans_drawn}
-use Rattle.ele_outlook.specs.Mark.{mark_text}
+use Rattle.std.proofs.Common.{refl}
+use Rattle.ele_outlook.specs.Drawing.{band_top, spans_drawn}
 use Rattle.ele_outlook.proofs.Known.{puts_err, puts_then}
 use Rattle.ele_outlook.proofs.drawing.put_band.Goals as goal
 

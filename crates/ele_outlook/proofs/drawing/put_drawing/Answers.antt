@@ -1,5 +1,5 @@
-use Rattle.std.proofs.Common.{◌++◌, length, refl}
-use Rattle.ele_outlook.specs.Drawing.{frame_drawn, rows_drawn}
+use Rattle.std.proofs.Common.{refl}
+use Rattle.ele_outlook.specs.Drawing.{rows_drawn}
 use Rattle.ele_outlook.specs.Page.{page_of}
 use Rattle.ele_outlook.proofs.Known.{puts_err, puts_then}
 use Rattle.ele_outlook.proofs.drawing.put_drawing.Goals as goal

@@ -1,6 +1,6 @@
 use Rattle.std.proofs.Common.{◌++◌, refl}
 use Rattle.std.specs.List.{flat_map}
-use Rattle.ele_outlook.specs.Drawing.{band_drawn, head_drawn, heading_drawn, scale_drawn}
+use Rattle.ele_outlook.specs.Drawing.{band_drawn, heading_drawn, scale_drawn}
 use Rattle.ele_outlook.specs.Page.{rungs_of, step_of}
 use Rattle.ele_outlook.specs.declared.page.Scale.TheVariants.{Foot}
 use Rattle.ele_outlook.proofs.Known.{puts_err, puts_then}

@@ -1,7 +1,7 @@
 use Rattle.std.proofs.Common.{◌++◌, refl}
 use Rattle.std.specs.Prelude.{codes}
 use Rattle.std.specs.List.{flat_map}
-use Rattle.ele_outlook.specs.Drawing.{kept_drawn, moment_drawn, version_drawn, version_tied}
+use Rattle.ele_outlook.specs.Drawing.{kept_drawn, moment_drawn, version_drawn}
 use Rattle.ele_outlook.proofs.Known.{puts_err, puts_then}
 use Rattle.ele_outlook.proofs.drawing.put_rows.Goals as goal
 

@@ -1,5 +1,5 @@
-use Rattle.std.proofs.Common.{◌≡◌, ℕ, ◌+◌, ◌-◌, ◌*◌, ◌/◌, List, ap, arith}
-use Rattle.std.specs.List.{flat_map, range_with_len}
+use Rattle.std.proofs.Common.{ℕ, ◌*◌, ◌/◌, arith}
+use Rattle.std.specs.List.{flat_map}
 use Rattle.ele_outlook.specs.Drawing.{scale_marks}
 use Rattle.ele_outlook.specs.Mark.{mark_text}
 use Rattle.ele_outlook.proofs.Known.{all_sent, each_between, each_more, each_none, sent_as, sent_err, sent_more}

@@ -1,4 +1,4 @@
-use Rattle.std.proofs.Common.{ℕ, ◌<◌, [], length, refl, arith}
+use Rattle.std.proofs.Common.{◌<◌, [], length, refl, arith}
 use Rattle.std.proofs.lemmas.Bool.Decides.{nat_tests}
 use Rattle.std.proofs.lemmas.Result.{err_from_is_err_and}
 use Rattle.ele_outlook.proofs.Lines.{only_line, read_all, read_bad, read_more}

@@ -1,7 +1,6 @@
 use Rattle.std.proofs.Common.{◌++◌, refl}
 use Rattle.std.specs.Prelude.{codes}
 use Rattle.ele_outlook.specs.Mark.{words_text}
-use Rattle.ele_outlook.specs.Mark.{opening}
 use Rattle.ele_outlook.proofs.Known.{puts_err, puts_then}
 use Rattle.ele_outlook.proofs.mark.put_text.Goals as goal
 

@@ -1,4 +1,4 @@
-use Rattle.std.proofs.Common.{ℕ, ◌∷◌, ◌++◌, [], refl}
+use Rattle.std.proofs.Common.{ℕ, ◌∷◌, ◌++◌, refl}
 use Rattle.std.specs.Prelude.{codes, decimal}
 use Rattle.std.specs.List.{flat_map}
 use Rattle.ele_outlook.proofs.Known.{puts_err, puts_then}

@@ -1,4 +1,4 @@
-use Rattle.std.proofs.Common.{Some, None, arith, sym, ◌+◌, ◌∙◌}
+use Rattle.std.proofs.Common.{Some, None, arith, sym, ◌+◌, ◌-◌, ◌∙◌}
 use Rattle.std.proofs.lemmas.Option.{slice_get_within}
 use Rattle.ele_forecast.proofs.Lives.{next_from, next_rises, tells_current, tells_followed}
 use Rattle.ele_forecast.proofs.closings.Closings.forecast.Goals as goal
@@ -12,7 +12,7 @@ followed-requires-clause-numbered c = omega (arith, slice_get_within c.args.self
 pub returns-in-Some-clause-tells : goal.returns-in-Some-clause-tells
 returns-in-Some-clause-tells c v is =
     let next = next_from c.args.self.now c.args.place c.next.result (Some c.in-Some.ended) c.next.ensures c.in-Some.is in
-    tells_followed c.args.policy.now c.args.self.now v is c.rise.ensures.rises c.args.place c.at-closed.result c.at-closed.ensures c.in-Some.ended next c.followed.result c.followed.ensures.number (λ row behind f closes ends numbered. c.followed.ensures.tells v row behind f closes ends numbered)
+    tells_followed c.args.policy.now c.args.self.now v is c.rise.ensures.rises c.args.place c.at-closed.result c.at-closed.ensures c.in-Some.ended next c.followed.result (c.len.result - c.args.place - 1) (omega (arith, c.len.ensures)) c.followed.ensures.number (λ row behind f closes ends numbered. c.followed.ensures.tells v row behind f closes ends numbered)
 
 pub returns-in-None-clause-tells : goal.returns-in-None-clause-tells
 returns-in-None-clause-tells c v is =

@@ -1,5 +1,5 @@
 use Rattle.std.proofs.Common.{arith}
-use Rattle.ele_forecast.proofs.Told.{told_none, told_one, told_all}
+use Rattle.ele_forecast.proofs.Told.{told_one, told_all}
 use Rattle.ele_forecast.proofs.closings.Closings.forecasts.Goals as goal
 
 pub loop-place-preserved : goal.loop-place-preserved
