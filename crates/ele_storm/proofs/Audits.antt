@@ -1,7 +1,7 @@
 -- What a storm over a history of its own came to.
-use Rattle.std.proofs.Common.{◌≡◌, ℕ, ◌+◌, ◌≤◌, Bool, true, false, cond, IsTrue, List, [], ◌∷◌, ◌++◌, length, ap, subst, arith}
+use Rattle.std.proofs.Common.{◌≡◌, ℕ, ◌+◌, ◌≤◌, Bool, true, false, cond, IsTrue, List, [], ◌∷◌, ◌++◌, length, ap, subst, arith, length-append}
 use Rattle.ele_history.specs.Legal.{IsLegal}
-use Rattle.ele_history.specs.Past.{Past, fresh, world_of}
+use Rattle.ele_history.specs.Past.{Past, world_of}
 use Rattle.ele_shared.specs.declared.board.Call.{Call}
 use Rattle.ele_shared.specs.Closing.{Closes}
 use Rattle.ele_shared.specs.Knowledge.{Knowledge, Object}
@@ -28,15 +28,16 @@ own_is_short : (ns : List ℕ) (calls : List Call) → length (own_of ns calls) 
 own_is_short ns [] = omega arith
 own_is_short ns (call ∷ calls) = short_cond (has ns call.by) call calls (own_of ns calls) (own_is_short ns calls)
 
-pub calls_stand : (opening after : Past) (last : Knowledge) → Closes opening last after → AreOfOne opening (length last.own)
+pub calls_stand : (opening after : Past) (last : Knowledge) → Closes opening last after → AreOfOne opening (length last.own) (length last.view)
 calls_stand opening after last closes = record {
   history = entries_of closes.log;
   legal = closes.legal;
   stand = omega (arith, ap length closes.own, own_is_short last.numbers closes.log, length-entries_of closes.log);
+  begun = omega (arith, ap length closes.view.1, length-append last.view closes.view.0, length-entries_of closes.log);
 }
 
 pub audited : (limits : Bounds) (plan : StormPlan) (events : ℕ) (equal : Bool) (object : Object) (first last : Knowledge) → IsBegun limits object first → events ≡ storm_events plan
-    → length last.own ≡ length first.own + events → AreOfOne object.opening (length last.own) → IsTrue equal → IsAudited limits plan events equal
+    → length last.own ≡ length first.own + events → AreOfOne object.opening (length last.own) (length last.view) → IsTrue equal → IsAudited limits plan events equal
 audited limits plan events equal object first last begun count more of all = record {
   count = count;
   history = of.history;

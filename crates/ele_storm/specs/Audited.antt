@@ -24,8 +24,9 @@ pub record IsBegun (limits : Bounds) (object : Object) (seat : Knowledge) : Type
   pub of : seat.object ≡ object
   pub own : seat.own ≡ []
 
--- so many calls stand in a legal history behind the opening one
-pub record AreOfOne (opening : Past) (calls : ℕ) : Type 0 where
+-- so many calls stand in a legal history behind the opening one, which has no fewer entries than were seen of it
+pub record AreOfOne (opening : Past) (calls seen : ℕ) : Type 0 where
   pub history : List Entry
   pub legal : IsLegal (world_of opening) history
   pub stand : calls ≤ length history
+  pub begun : seen ≤ length history

@@ -60,7 +60,7 @@ pub fn share_fresh<C: Stepping>(
 pub fn close_and_audit<C: Auditable>(shared: Shared<C>, seat: Seat<C>) -> Result<bool, AuditFault>
     requires { seat.object ≡ shared }
     ensures equal { IfOk result (λ equal. IsTrue equal) }
-    ensures calls { IfOk result (λ equal. AreOfOne shared.opening (length seat.own)) }
+    ensures calls { IfOk result (λ equal. AreOfOne shared.opening (length seat.own) (length seat.view)) }
 {
     let history = shared.close(seat)?;
     Ok(is_equal(history.core())?)
