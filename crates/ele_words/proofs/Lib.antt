@@ -1,2 +1,4 @@
 pub mod Flushed
+pub mod Progress
 pub mod Told
+pub mod Watching

@@ -1,9 +1,7 @@
 -- How the program ends: what its reader and its two writers hold then, and with which status.
-use Rattle.std.specs.Prelude.{◌≡◌, ℕ, List, [], ◌∷◌, codes, decimal, string_bytes, Option, Some, None}
+use Rattle.std.specs.Prelude.{◌≡◌, ℕ, Bool, List, string_bytes, Option, Some, None}
 use Rattle.std.specs.Io.KnownBytes.{Appends, Keeps}
 use Rattle.ele_printer.specs.Front.{AppendsFront}
-use Rattle.ele_printer.specs.Printed.{line_text}
-use Rattle.ele_runs.specs.Fault.{number_of, name_of}
 use Rattle.ele_history.specs.Past.{fresh}
 use Rattle.ele_runs.specs.Course.{begun}
 use Rattle.ele_runs.specs.declared.fault.ShellFault.{ShellFault}
@@ -12,7 +10,7 @@ pub use Rattle.ele_words.specs.Status.{fault_line, Tells}
 use Rattle.ele_words.specs.Status.{status_of}
 use Rattle.ele_words.specs.Forecasts.{ForecastEnds}
 pub use Rattle.ele_words.specs.RunEnds.{HasRun, RunEnds}
-use Rattle.ele_words.specs.Storms.{StormEnds}
+use Rattle.ele_words.specs.Progress.{EndsWatched}
 use Rattle.ele_words.specs.declared.asked.Asked.{Asked}
 use Rattle.ele_words.specs.declared.asked.Asked.TheVariants as asked
 
@@ -32,14 +30,14 @@ pub record Ends (Done : Option ShellFault → Type 0) (before after : Option (Li
   pub told : Tells fault before after
 
 -- by what was asked for; words that weren't understood are told with status 2
-abbrev pub EndsWith : Asked → Option (List ℕ) → Option (List ℕ) → Option (List ℕ) → Option (List ℕ) → Option (List ℕ) → Option (List ℕ) → ℕ → Type 0
-EndsWith (asked.Run limits manner) input rest old new before after status =
+abbrev pub EndsWith : Asked → Bool → Option (List ℕ) → Option (List ℕ) → Option (List ℕ) → Option (List ℕ) → Option (List ℕ) → Option (List ℕ) → ℕ → Type 0
+EndsWith (asked.Run limits manner) watched input rest old new before after status =
     RunEnds (begun manner (fresh limits)) input rest old new before after status
-EndsWith (asked.Storm plan) input rest old new before after status = Keeps input rest × StormEnds plan old new before after status
-EndsWith (asked.Forecast ask) input rest old new before after status = ForecastEnds ask input rest old new before after status
-EndsWith (asked.Help text) input rest old new before after status =
+EndsWith (asked.Storm plan) watched input rest old new before after status = Keeps input rest × EndsWatched watched plan old new before after status
+EndsWith (asked.Forecast ask) watched input rest old new before after status = ForecastEnds ask input rest old new before after status
+EndsWith (asked.Help text) watched input rest old new before after status =
     Keeps input rest × Ends (HasWritten (string_bytes text) old new) before after status
-EndsWith (asked.NotUnderstood text) input rest old new before after status =
+EndsWith (asked.NotUnderstood text) watched input rest old new before after status =
     Keeps input rest × Keeps old new × AppendsFront before after (string_bytes text) × (status ≡ 2)
-EndsWith asked.NoMemory input rest old new before after status =
+EndsWith asked.NoMemory watched input rest old new before after status =
     Keeps input rest × Keeps old new × AppendsFront before after (fault_line NoMemory) × (status ≡ 3)

@@ -1,6 +1,8 @@
 pub mod Asked
 pub mod Ends
 pub mod Forecasts
+pub mod Progress
 pub mod RunEnds
 pub mod Status
 pub mod Storms
+pub mod Watched

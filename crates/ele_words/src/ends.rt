@@ -19,6 +19,7 @@ use std::io;
 use std::io::{Read, Write};
 use std::sync::Wait;
 use std::thread::Threads;
+use std::time::Clock;
 
 /// How it ended if its writer was flushed behind it.
 pub(crate) fn after_flush<T: Drop>(
@@ -127,15 +128,24 @@ pub(crate) fn tell<E: Write>(fault: Option<ShellFault>, errors: &mut E) -> u8
 }
 
 /// Does what was asked for: answers at the writer, and tells faults and words that weren't
-/// understood at the other. The result is the status that the program ends with.
+/// understood at the other, and there, where it is watched, how far a storm is too. The result is the
+/// status that the program ends with.
 pub fn answer<
     C: Auditable + Explaining + Send,
-    T: Threads + Wait + Sync,
+    T: Threads + Wait + Clock + Sync,
     R: Read,
     W: Write,
     E: Write,
->(rt: &T, alloc: Global, asked: &Asked, reader: &mut R, writer: &mut W, errors: &mut E) -> u8
-    ensures { EndsWith asked.now (R.remaining reader.old) (R.remaining reader.new)
+>(
+    rt: &T,
+    alloc: Global,
+    asked: &Asked,
+    watched: bool,
+    reader: &mut R,
+    writer: &mut W,
+    errors: &mut E,
+) -> u8
+    ensures { EndsWith asked.now watched (R.remaining reader.old) (R.remaining reader.new)
         (W.contents writer.old) (W.contents writer.new)
         (E.contents errors.old) (E.contents errors.new) result }
 {
@@ -144,7 +154,7 @@ pub fn answer<
             let ran = run_script::<C, R, W>(alloc, *manner, *limits, reader, writer);
             tell_run(&ran, errors)
         }
-        Asked::Storm(plan) => run_storm::<C, T, W, E>(rt, alloc, plan, writer, errors),
+        Asked::Storm(plan) => run_storm::<C, T, W, E>(rt, alloc, plan, watched, writer, errors),
         Asked::Forecast(ask) => run_forecast(alloc, ask, reader, writer, errors),
         Asked::Help(text) => tell(write_text(text.as_str(), writer).err(), errors),
         Asked::NotUnderstood(text) => {

@@ -3,9 +3,12 @@
 ghost use Rattle.std.specs.Prelude.{◌≡◌};
 ghost use Rattle.std.specs.Result.{result_err};
 ghost use Rattle.ele_printer.specs.Front.{AppendsFront};
-ghost use Rattle.ele_words.specs.Storms.{HasStormed, HasTold, StormEnds, TellsStorm, audit_word, storm_fault_line, storm_line, storm_status};
+ghost use Rattle.ele_words.specs.Progress.{EndsWatched};
+ghost use Rattle.ele_words.specs.Storms.{HasStormed, HasTold, TellsEnd, TellsStorm, audit_word, storm_fault_line, storm_line, storm_status};
+ghost use Rattle.ele_words.specs.Watched.{Watched};
 
 use crate::ends::{tell, write_text};
+use crate::watched::watch_storm;
 use ele_runs::ShellFault;
 use ele_script::write_named;
 use ele_storm::{AuditFault, Flags, StormFault, StormPlan, storm_and_audit};
@@ -14,26 +17,60 @@ use std::alloc::Global;
 use std::io::Write;
 use std::sync::Wait;
 use std::thread::Threads;
+use std::time::Clock;
 
 /// How often a worker looks for another one's flag, at most.
 const MOST_LOOKS: u64 = 10_000_000;
 
 /// Runs the storm over a fresh core of the largest limits, audits it, and tells how many events it
-/// ran and whether the audit found all equal. The result is the status that the program ends with.
-pub(crate) fn run_storm<C: Auditable + Send, T: Threads + Wait + Sync, W: Write, E: Write>(
+/// ran and whether the audit found all equal. Where it is watched it also tells how far it is while
+/// it runs, at the writer of faults. The result is the status that the program ends with.
+pub(crate) fn run_storm<C: Auditable + Send, T: Threads + Wait + Clock + Sync, W: Write, E: Write>(
     rt: &T,
     alloc: Global,
     plan: &StormPlan,
+    watched: bool,
     writer: &mut W,
     errors: &mut E,
 ) -> u8
-    ensures { StormEnds plan.now (W.contents writer.old) (W.contents writer.new)
+    ensures { EndsWatched watched plan.now (W.contents writer.old) (W.contents writer.new)
         (E.contents errors.old) (E.contents errors.new) result }
 {
-    match storm_and_look::<C, T>(rt, alloc, plan) {
+    if watched {
+        let ended = storm_and_watch::<C, T, E>(rt, alloc, plan, errors);
+        return tell_ended(alloc, ended, writer, errors);
+    }
+    let ended = storm_and_look::<C, T>(rt, alloc, plan);
+    tell_ended(alloc, ended, writer, errors)
+}
+
+// Tells what a storm came to, and answers the status to end with.
+fn tell_ended<W: Write, E: Write>(
+    alloc: Global,
+    ended: Result<(u64, bool), AuditFault>,
+    writer: &mut W,
+    errors: &mut E,
+) -> u8
+    ensures { TellsEnd ended (W.contents writer.old) (W.contents writer.new)
+        (E.contents errors.old) (E.contents errors.new) result }
+{
+    match ended {
         Ok((events, equal)) => tell_storm(alloc, events, equal, writer, errors),
         Err(fault) => tell_fault(fault, errors),
     }
+}
+
+// Runs the storm, audits what its core tells, and tells meanwhile how far it is.
+fn storm_and_watch<C: Auditable + Send, T: Threads + Wait + Clock + Sync, E: Write>(
+    rt: &T,
+    alloc: Global,
+    plan: &StormPlan,
+    errors: &mut E,
+) -> Result<(u64, bool), AuditFault>
+    ensures { Watched plan.now (E.contents errors.old) (E.contents errors.new) result }
+{
+    let flags = Flags::new(alloc, plan.workers(), MOST_LOOKS)?;
+    watch_storm::<C, T, E>(rt, alloc, plan, &flags, errors)
 }
 
 // Runs the storm, and audits what its core tells.

@@ -39,10 +39,13 @@ fn main(rt: HostRuntime) -> ExitCode {
     let mut input = rt.stdin();
     let mut output = rt.stdout();
     let mut errors = rt.stderr();
+    // A person at a terminal is told how far a storm is.
+    let watched = errors.is_terminal();
     let status = answer::<Core, _, _, _, _>(
         &rt,
         rt.alloc(),
         &asked,
+        watched,
         &mut input,
         &mut output,
         &mut errors,

@@ -10,6 +10,7 @@ use std::io::{Read, Write};
 use std::sync::Wait;
 use std::test::Fail;
 use std::thread::Threads;
+use std::time::Clock;
 
 // Twelve closings. 2026-01-01 begins one of the spans of seven days, which are counted from 1970.
 const CLOSINGS: &[u8] = b"2026-01-01T08:00:00Z
@@ -61,7 +62,7 @@ fn ask_about(alloc: Global, policy: Policy, words: &[&[u8]]) -> Result<Asked, Fa
 }
 
 // What the program does, over a world that it doesn't ask.
-fn foretell<T: Threads + Wait + Sync, R: Read, W: Write>(
+fn foretell<T: Threads + Wait + Clock + Sync, R: Read, W: Write>(
     rt: &T,
     alloc: Global,
     asked: &Asked,
@@ -69,7 +70,7 @@ fn foretell<T: Threads + Wait + Sync, R: Read, W: Write>(
     writer: &mut W,
     errors: &mut Vec<u8>,
 ) -> u8 {
-    answer::<EmptyWorld, T, R, W, Vec<u8>>(rt, alloc, asked, reader, writer, errors)
+    answer::<EmptyWorld, T, R, W, Vec<u8>>(rt, alloc, asked, false, reader, writer, errors)
 }
 
 #[test]

@@ -10,6 +10,7 @@ use std::io::{Error, ErrorKind, Read, Write};
 use std::sync::Wait;
 use std::test::Fail;
 use std::thread::Threads;
+use std::time::Clock;
 
 /// A reader that fails behind its bytes.
 #[derive(Drop)]
@@ -48,7 +49,7 @@ impl Write for Late {
 }
 
 // What the program does, over a world that stays empty.
-fn do_over_empty<T: Threads + Wait + Sync, R: Read, W: Write, E: Write>(
+fn do_over_empty<T: Threads + Wait + Clock + Sync, R: Read, W: Write, E: Write>(
     rt: &T,
     alloc: Global,
     asked: &Asked,
@@ -56,7 +57,7 @@ fn do_over_empty<T: Threads + Wait + Sync, R: Read, W: Write, E: Write>(
     writer: &mut W,
     errors: &mut E,
 ) -> u8 {
-    answer::<EmptyWorld, T, R, W, E>(rt, alloc, asked, reader, writer, errors)
+    answer::<EmptyWorld, T, R, W, E>(rt, alloc, asked, false, reader, writer, errors)
 }
 
 fn make_late(alloc: Global, fails: bool) -> Late {

@@ -1,0 +1,9 @@
+use Rattle.ele_shared.specs.Knowledge.{Looked, count_seen}
+use Rattle.ele_words.proofs.Progress.{Telling}
+use Rattle.ele_words.proofs.watched.tell_until.Given as goal
+
+abbrev pub invariant-loop : goal.invariant-loop
+invariant-loop g l =
+    (goal.iterator-loop g).can_next l.iterator' × (goal.iterator-loop g).is_finite l.iterator'
+    × Looked l.fn.seat l.seat
+    × Telling (g.E.Write.contents l.fn.errors) (g.E.Write.contents l.errors) (count_seen l.seat)

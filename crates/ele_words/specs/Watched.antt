@@ -1,0 +1,22 @@
+-- What a watched storm leaves its seats, and what it came to. No public clause cites this module.
+use Rattle.std.specs.Prelude.{◌≡◌, ℕ, ◌+◌, Bool, List, length, Option, Result, IfOk}
+use Rattle.ele_shared.specs.Knowledge.{Knowledge}
+use Rattle.ele_storm.specs.Plan.{storm_events}
+use Rattle.ele_storm.specs.declared.fault.AuditFault.{AuditFault}
+use Rattle.ele_storm.specs.declared.fault.StormFault.{StormFault}
+use Rattle.ele_storm.specs.declared.plan.StormPlan.{StormPlan}
+use Rattle.ele_words.specs.Progress.{ShowsProgress, StandBehind}
+use Rattle.ele_words.specs.Storms.{HasStormed}
+
+-- a storm of the plan by a seat: where none failed it has as many calls more as the plan has events
+pub record Stormed (plan : StormPlan) (before after : Knowledge) (result : Result ℕ StormFault) : Type 0 where
+  pub object : after.object ≡ before.object
+  pub count : IfOk result (λ count. count ≡ storm_events plan)
+  pub own : IfOk result (λ count. length after.own ≡ length before.own + count)
+
+-- a storm of which its progress was told came to this
+pub record Watched (plan : StormPlan) (before after : Option (List ℕ)) (result : Result (ℕ × Bool) AuditFault) : Type 0 where
+  pub most : ℕ
+  pub progress : ShowsProgress before after most
+  pub stormed : HasStormed plan result
+  pub behind : StandBehind most plan result stormed

@@ -1,0 +1,218 @@
+//! A storm that tells how far it is while it runs. The thread that was asked for it watches, so that
+//! one thread alone writes.
+//! A contract sees the counts that were told, and what the storm came to.
+ghost use Rattle.std.specs.Prelude.{◌≡◌, OnOk, OnErr};
+ghost use Rattle.std.specs.Io.KnownBytes.{Appends};
+ghost use Rattle.std.specs.Thread.{IsSync};
+ghost use Rattle.ele_printer.specs.Front.{AppendsFront};
+ghost use Rattle.ele_shared.specs.Knowledge.{Looked, count_seen};
+ghost use Rattle.ele_words.specs.Progress.{ShowsProgress, progress_line};
+ghost use Rattle.ele_words.specs.Watched.{Stormed, Watched};
+
+use ele_script::{WriteFault, write_placed};
+use ele_shared::{Seat, Shared};
+use ele_storm::{AuditFault, Flags, StormFault, StormPlan, close_and_audit, share_fresh, storm};
+use ele_world::{Auditable, Limits, Stepping};
+use std::alloc::Global;
+use std::io::Write;
+use std::snapshot::Snapshot;
+use std::sync::{Condvar, Mutex, Wait};
+use std::thread::{Promise, Threads, scope, scope_env};
+use std::time::{Clock, Duration};
+
+// For so many milliseconds nothing is told of a storm.
+const QUIET: u64 = 1_000;
+
+// So many are between two lines, at least.
+const PAUSE: u64 = 100;
+
+// Rings once the storm has ended.
+#[derive(Drop)]
+struct Bell {
+    rung: Mutex<bool>,
+    rings: Condvar,
+}
+
+impl Bell {
+    fn new() -> Bell {
+        Bell {
+            rung: Mutex::new(false),
+            rings: Condvar::new(),
+        }
+    }
+
+    fn ring<R: Wait>(&self, rt: &R) {
+        *self.rung.lock(rt) = true;
+        self.rings.notify_one();
+    }
+
+    // Waits until it has rung, so many milliseconds at most, and answers whether it has.
+    fn rings_within<R: Wait + Clock>(&self, rt: &R, millis: u64) -> bool {
+        let most = Duration::from_millis(millis);
+        let rung = self.rung.lock(rt);
+        let (_rung, ended) = self.rings.wait_timeout_while(rt, rung, most, |rung| !*rung);
+        !ended.timed_out()
+    }
+}
+
+// A seat, and how the storm by it ended.
+type Ended<C> = (Seat<C>, Result<u64, StormFault>);
+
+// What is promised of a storm by a seat.
+#[derive(Drop)]
+struct Storming<C: Stepping> {
+    before: Snapshot<Seat<C>>,
+    plan: StormPlan,
+}
+
+impl<C: Stepping> Promise<Ended<C>> for Storming<C> {
+    ghost kept_by = { λ p r. Stormed p.plan p.before.value r.0 r.1 };
+}
+
+/// Runs the storm over a fresh core of the largest limits, and audits it. Meanwhile it tells how many
+/// events were answered: nothing in the first second, and then ten lines a second at most. Once a
+/// line can't be written no more are.
+pub(crate) fn watch_storm<C: Auditable + Send, R: Threads + Wait + Clock + Sync, E: Write>(
+    rt: &R,
+    alloc: Global,
+    plan: &StormPlan,
+    flags: &Flags,
+    errors: &mut E,
+) -> Result<(u64, bool), AuditFault>
+    ensures { Watched plan.now (E.contents errors.old) (E.contents errors.new) result }
+{
+    let (shared, mut seat) = share_fresh::<C>(alloc, Limits::largest())?;
+    let watcher = shared.split(&mut seat)?;
+    let (watcher, (mut seat, ended)) = run_watched(
+        rt, alloc, &shared, seat, watcher, *plan, flags, errors,
+    );
+    let events = ended?;
+    shared.join(&mut seat, watcher);
+    let equal = close_and_audit(shared, seat)?;
+    Ok((events, equal))
+}
+
+// Runs the storm by the seat in a thread of its own, and tells by the watcher's how far it is. Where
+// that thread is refused the storm runs in this one, and nothing is told.
+fn run_watched<C: Stepping + Send, R: Threads + Wait + Clock + Sync, E: Write>(
+    rt: &R,
+    alloc: Global,
+    shared: &Shared<C>,
+    seat: Seat<C>,
+    watcher: Seat<C>,
+    plan: StormPlan,
+    flags: &Flags,
+    errors: &mut E,
+) -> (Seat<C>, Ended<C>)
+    requires seat { seat.object ≡ shared.now }
+    requires watcher { watcher.object ≡ shared.now }
+    ensures looked { Looked watcher result.0 }
+    ensures stormed { Stormed plan seat result.1.0 result.1.1 }
+    ensures progress { ShowsProgress (E.contents errors.old) (E.contents errors.new)
+        (count_seen result.0) }
+{
+    let bell = Bell::new();
+    let bell = &bell;
+    let (errors, watcher, ended) = scope(
+        scope_env(),
+        rt,
+        move |s| -> (&mut E, Seat<C>, Ended<C>)
+            requires { IsSync R.row × (seat.object ≡ shared.now)
+                × (watcher.object ≡ shared.now) }
+            ensures same { result.0.ghost_name ≡ errors.entry.ghost_name }
+            ensures looked { Looked watcher result.1 }
+            ensures stormed { Stormed plan seat result.2.0 result.2.1 }
+            ensures progress { ShowsProgress (E.contents errors.entry.now)
+                (E.contents result.0.now) (count_seen result.1) }
+        {
+            let promise = Storming {
+                before: Snapshot::of(&seat),
+                plan,
+            };
+            let spawned = s.spawn_with(
+                promise,
+                move || -> Ended<C>
+                    requires { IsSync R.row × (seat.object ≡ shared.now) }
+                    ensures { Stormed plan seat result.0 result.1 }
+                { run_and_ring(rt, alloc, shared, seat, plan, flags, bell) },
+            );
+            match spawned {
+                Ok(thread) => {
+                    let watcher = tell_until(rt, shared, watcher, bell, errors);
+                    (errors, watcher, thread.join(rt))
+                }
+                Err(refused) => (errors, watcher, (refused.value)()),
+            }
+        },
+    );
+    take_back(errors);
+    (watcher, ended)
+}
+
+// Does nothing, but this use of a returned reference ties it to the parameter that lent it.
+fn take_back<E>(errors: &mut E)
+    ensures { errors.new ≡ errors.old }
+{}
+
+// Runs the storm by the seat, and then rings.
+fn run_and_ring<C: Stepping + Send, R: Threads + Wait + Sync>(
+    rt: &R,
+    alloc: Global,
+    shared: &Shared<C>,
+    mut seat: Seat<C>,
+    plan: StormPlan,
+    flags: &Flags,
+    bell: &Bell,
+) -> Ended<C>
+    requires { seat.object ≡ shared.now }
+    ensures { Stormed plan seat result.0 result.1 }
+{
+    let ended = storm(rt, alloc, shared, &mut seat, &plan, flags);
+    bell.ring(rt);
+    (seat, ended)
+}
+
+// Tells how far the storm is until the bell rings, or until a line can't be written.
+fn tell_until<C: Stepping, R: Wait + Clock, E: Write>(
+    rt: &R,
+    shared: &Shared<C>,
+    mut seat: Seat<C>,
+    bell: &Bell,
+    errors: &mut E,
+) -> Seat<C>
+    requires { seat.object ≡ shared.now }
+    ensures looked { Looked seat result }
+    ensures progress { ShowsProgress (E.contents errors.old) (E.contents errors.new)
+        (count_seen result) }
+{
+    let mut pause = QUIET;
+    for _ in rt.forever() {
+        if bell.rings_within(rt, pause) {
+            return seat;
+        }
+        let Ok(()) = tell_next(shared, &mut seat, errors) else {
+            return seat;
+        };
+        pause = PAUSE;
+    }
+    unreachable!()
+}
+
+// Tells how many events were answered by now.
+fn tell_next<C: Stepping, E: Write>(
+    shared: &Shared<C>,
+    seat: &mut Seat<C>,
+    errors: &mut E,
+) -> Result<(), WriteFault>
+    requires { seat.old.object ≡ shared.now }
+    ensures looked { Looked seat.old seat.new }
+    ensures ok { OnOk result (Appends (E.contents errors.old) (E.contents errors.new)
+        (progress_line (count_seen seat.new))) }
+    ensures err { OnErr result (AppendsFront (E.contents errors.old) (E.contents errors.new)
+        (progress_line (count_seen seat.new))) }
+{
+    let count = shared.published(seat);
+    let told = write_placed(b"storm", count, b"events", b"answered", errors);
+    let _ = errors.flush();
+    told
+}
