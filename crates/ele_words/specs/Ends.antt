@@ -1,9 +1,7 @@
 -- How the program ends: what its reader and its two writers hold then, and with which status.
-use Rattle.std.specs.Prelude.{◌≡◌, ℕ, List, [], ◌∷◌, codes, decimal, string_bytes, Option, Some, None}
+use Rattle.std.specs.Prelude.{◌≡◌, ℕ, List, string_bytes, Option, Some, None}
 use Rattle.std.specs.Io.KnownBytes.{Appends, Keeps}
 use Rattle.ele_printer.specs.Front.{AppendsFront}
-use Rattle.ele_printer.specs.Printed.{line_text}
-use Rattle.ele_runs.specs.Fault.{number_of, name_of}
 use Rattle.ele_history.specs.Past.{fresh}
 use Rattle.ele_runs.specs.Course.{begun}
 use Rattle.ele_runs.specs.declared.fault.ShellFault.{ShellFault}

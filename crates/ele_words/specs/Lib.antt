@@ -4,3 +4,4 @@ pub mod Forecasts
 pub mod RunEnds
 pub mod Status
 pub mod Storms
+pub mod StrictEnd
