@@ -11,7 +11,8 @@ use Rattle.ele_runs.specs.Block.{IsBlock}
 use Rattle.ele_runs.specs.declared.manner.Manner.{Manner}
 use Rattle.ele_script.specs.FirstFault.{IsWordFault}
 use Rattle.ele_script.specs.Question.{asked_in}
-use Rattle.ele_script.specs.Value.{WordKind, MomentWord, TaggedWord}
+use Rattle.ele_script.specs.declared.kind.WordKind.{WordKind}
+use Rattle.ele_script.specs.declared.kind.WordKind.TheVariants.{Moment as MomentWord, Tagged as TaggedWord}
 use Rattle.ele_time_path.specs.Tagged.{SpellsTaggedPath}
 use Rattle.ele_time_path.specs.declared.tagged.TaggedPath.{TaggedPath}
 use Rattle.ele_world.specs.Why.{IsAhead, IsWhy}

@@ -16,7 +16,8 @@ use Rattle.ele_runs.specs.declared.said.Said.TheVariants.{Nothing, Bad, Stopped,
 use Rattle.ele_printer.specs.declared.fault.LineFault.{LineFault}
 use Rattle.ele_script.specs.FirstFault.{IsWordFault}
 use Rattle.ele_script.specs.Question.{ReadsQuestion}
-use Rattle.ele_script.specs.Value.{WordKind, MomentWord, TaggedWord}
+use Rattle.ele_script.specs.declared.kind.WordKind.{WordKind}
+use Rattle.ele_script.specs.declared.kind.WordKind.TheVariants.{Moment as MomentWord, Tagged as TaggedWord}
 use Rattle.ele_script.specs.declared.question.Question.{Question}
 use Rattle.ele_time_path.specs.Tagged.{SpellsTaggedPath}
 use Rattle.ele_time_path.specs.declared.tagged.TaggedPath.{TaggedPath}

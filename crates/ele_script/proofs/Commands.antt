@@ -6,7 +6,7 @@ use Rattle.std.proofs.Common.{IfSome}
 use Rattle.ele_script.specs.CommandOf.{command_of}
 
 -- a command's words, and what stands behind them
-command_of-words : (command : Command) (arguments : List (List ℕ)) → command_of (command_words command ++ arguments) ≡ Some (command, arguments)
+pub command_of-words : (command : Command) (arguments : List (List ℕ)) → command_of (command_words command ++ arguments) ≡ Some (command, arguments)
 unfolding command_of
 command_of-words command arguments = grind arith
 

@@ -1,5 +1,5 @@
 -- What is true of lines: each asks for one thing, or has a first fault, and not both.
-use Rattle.ele_script.proofs.Basics.{nat_tests, ◌≡◌, ◌≢◌, ◌+◌, ◌==◌, None, Some, ℕ, ◌≤◌, true, true≢false, List, [], ◌∷◌, length, refl, sym, ap, ◌∙◌, arith, ◌⊎◌, inl, inr, Result, Ok, Err, IfOk, IfErr, same_Some}
+use Rattle.ele_script.proofs.Basics.{nat_tests, ◌≡◌, ◌≢◌, ◌==◌, None, Some, ℕ, ◌≤◌, true, true≢false, List, [], ◌∷◌, length, refl, sym, ap, ◌∙◌, arith, ◌⊎◌, inl, inr, Result, Ok, Err, IfOk, IfErr, same_Some}
 use Rattle.ele_script.proofs.Prelude.{OneMeaning, Line, Command, LineFault, NoMemory, WordKind, Value, word_kind, kinds_behind, kinds_if, longest_line, words_of, is_worded, SpellsValues, SpellsWords, SpellsLine, Asks, AsksEvent}
 use Rattle.ele_script.proofs.Prelude.{IsFirstWordFault, IsFaultOfWords, no_command, of_word, IsFirstFault, too_long, not_worded, of_words, IsEventFault, of_line, no_event}
 use Rattle.ele_printer.specs.Parts.{parts_of}
@@ -45,7 +45,7 @@ spelled_kinds words asked spells = asked_kinds asked ∙ ap (λ n. kinds_if (lin
   length_kinds [] = refl
   length_kinds (value ∷ values) = grind (arith, length_kinds values)
 
-moved : (fault : LineFault) {c d : Command} {xs ys : List (List ℕ)} → c ≡ d → xs ≡ ys → IsFirstWordFault (kinds_behind c xs) xs fault → IsFirstWordFault (kinds_behind d ys) ys fault
+pub moved : (fault : LineFault) {c d : Command} {xs ys : List (List ℕ)} → c ≡ d → xs ≡ ys → IsFirstWordFault (kinds_behind c xs) xs fault → IsFirstWordFault (kinds_behind d ys) ys fault
 moved fault {c} {d} {xs} {ys} p q h = grind (arith, nat_tests)
 
 module _ (law : OneMeaning) where

@@ -3,6 +3,7 @@ mod Basics
 pub mod Commands
 pub mod Behind
 pub mod Words
+pub mod Cuts
 pub mod Decided
 pub mod Dates
 pub mod Moments
@@ -21,3 +22,4 @@ pub mod PolicyMeanings
 pub mod WordMeanings
 pub mod EveryLine
 pub mod LineLaws
+pub mod WhyBad

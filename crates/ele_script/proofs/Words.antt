@@ -13,34 +13,34 @@ is_space byte = byte == 32
 plain_byte : (x : ℕ) → ends_word x ≡ false → is_plain x ≡ true
 plain_byte x word = grind (arith, nat_tests)
 
-no_space : (x : ℕ) → ends_word x ≡ false → is_space x ≡ false
+pub no_space : (x : ℕ) → ends_word x ≡ false → is_space x ≡ false
 no_space x word = grind (arith, nat_tests)
 
 -- the first n bytes are of words
-abbrev AreOfWords : List ℕ → ℕ → Type 0
+abbrev pub AreOfWords : List ℕ → ℕ → Type 0
 AreOfWords text n = (k : ℕ) → k < n → ends_word (get_or text k 0) ≡ false
 
-later : (x : ℕ) (xs : List ℕ) (n : ℕ) → AreOfWords (x ∷ xs) (suc n) → AreOfWords xs n
+pub later : (x : ℕ) (xs : List ℕ) (n : ℕ) → AreOfWords (x ∷ xs) (suc n) → AreOfWords xs n
 later x xs n h k lt = h (suc k) (omega (arith, lt))
 
 -- behind a word stands a space
-word_before : (n : ℕ) (xs ys : List ℕ) → n ≤ length xs → AreOfWords xs n → words_of (take n xs ++ 32 ∷ ys) ≡ take n xs ∷ words_of ys
+pub word_before : (n : ℕ) (xs ys : List ℕ) → n ≤ length xs → AreOfWords xs n → words_of (take n xs ++ 32 ∷ ys) ≡ take n xs ∷ words_of ys
 word_before zero xs ys le h = refl
 word_before (suc n) [] ys le h = absurd (omega (arith, le))
 word_before (suc n) (x ∷ xs) ys le h =
     rw (no_space x (h 0 (omega arith)), word_before n xs ys (omega (arith, le)) (later x xs n h)) refl
 
-plain_before : (n : ℕ) (xs : List ℕ) → n ≤ length xs → AreOfWords xs n → list_all is_plain (take n xs) ≡ true
+pub plain_before : (n : ℕ) (xs : List ℕ) → n ≤ length xs → AreOfWords xs n → list_all is_plain (take n xs) ≡ true
 plain_before zero xs le h = refl
 plain_before (suc n) [] le h = absurd (omega (arith, le))
 plain_before (suc n) (x ∷ xs) le h = rw (plain_byte x (h 0 (omega arith))) (plain_before n xs (omega (arith, le)) (later x xs n h))
 
 -- what has no end is one plain word
-whole_word : (xs : List ℕ) → AreOfWords xs (length xs) → (words_of xs ≡ xs ∷ []) × (list_all is_plain xs ≡ true)
+pub whole_word : (xs : List ℕ) → AreOfWords xs (length xs) → (words_of xs ≡ xs ∷ []) × (list_all is_plain xs ≡ true)
 whole_word [] h = (refl, refl)
 whole_word (x ∷ xs) h = grind (arith, nat_tests, no_space x, plain_byte x, h 0, whole_word xs (later x xs (length xs) h))
 
-no_end : (text : List ℕ) → position ends_word text ≡ None → AreOfWords text (length text)
+pub no_end : (text : List ℕ) → position ends_word text ≡ None → AreOfWords text (length text)
 no_end text none k lt = grind (arith, nat_tests, ltb-false, prefix_len_passes)
 
 -- a word has a byte

@@ -16,3 +16,6 @@ pub mod OnePolicy
 pub mod PolicyBack
 pub mod Reads
 pub mod Question
+pub mod Reason
+pub mod ReasonText
+pub mod ReasonFound

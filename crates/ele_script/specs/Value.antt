@@ -8,21 +8,11 @@ use Rattle.ele_time_path.specs.Path.{SpellsPath}
 use Rattle.ele_time_path.specs.Tagged.{SpellsTaggedPath}
 use Rattle.ele_time_path.specs.PathAt.{SpellsPathAt}
 pub use Rattle.ele_printer.specs.Value.{Value, Number, Moment, Name, Path, Tagged, Timed, Source, Bytes, Policy}
+pub use Rattle.ele_script.specs.declared.kind.WordKind.{WordKind}
+pub use Rattle.ele_script.specs.declared.kind.WordKind.TheVariants.{Number as NumberWord, Moment as MomentWord, Name as NameWord, Path as PathWord, Tagged as TaggedWord, Timed as TimedWord, Source as SourceWord, Bytes as BytesWord, Policy as PolicyWord}
 use Rattle.ele_world.specs.declared.event.Source.{Source as AnySource}
 use Rattle.ele_world.specs.declared.event.Source.TheVariants as source
 use Rattle.ele_script.specs.PolicyWord.{ReadsPolicy}
-
--- the kinds of words behind a command
-pub data WordKind : Type 0 where
-  NumberWord : WordKind
-  MomentWord : WordKind
-  NameWord : WordKind
-  PathWord : WordKind
-  TaggedWord : WordKind
-  TimedWord : WordKind
-  SourceWord : WordKind
-  BytesWord : WordKind
-  PolicyWord : WordKind
 
 -- the kind of words that stand for such a value
 abbrev pub word_kind : Value → WordKind

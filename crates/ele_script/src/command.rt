@@ -8,7 +8,7 @@ use ele_printer::Command;
 
 /// All commands; those that come often stand in front, since a word is looked for from the first
 /// row on.
-static COMMANDS: [Command; 35] = [
+pub(crate) static COMMANDS: [Command; 35] = [
     Command::Write,
     Command::Read,
     Command::Close,

@@ -4,21 +4,28 @@
 #![tactic(auto)]
 
 mod arguments;
+mod bad_word;
 mod command;
+mod cut;
+mod kind;
 pub mod line_laws;
 mod pairs;
 pub mod policy_laws;
 mod question;
 mod reading;
+mod reasons;
 mod word;
 mod writing;
 
+pub use bad_word::reason;
 pub use ele_printer::{
     LineFault, Printer, WriteFault, put, put_ahead, put_answer, put_fault, put_history, put_pass,
     put_reply, put_stop, put_trimmed, put_why, write_fault, write_named, write_pass, write_placed,
     write_reply,
 };
+pub use kind::WordKind;
 pub use question::{Question, read_question};
 pub use reading::{LONGEST_LINE, Line, read_event, read_line};
+pub use reasons::{Detail, Reason};
 pub use word::policy as read_policy;
 pub use writing::write_event;

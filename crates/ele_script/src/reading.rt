@@ -130,8 +130,8 @@ pub(crate) fn words_in(line: &[u8]) -> Option<ArrayVec<&[u8], MOST_WORDS>>
     Some(words)
 }
 
-// Where the first byte stands that is in no word.
-fn word_end(text: &[u8]) -> Option<usize>
+/// Where the first byte stands that is in no word.
+pub(crate) fn word_end(text: &[u8]) -> Option<usize>
     ensures { result ≡ position ends_word text.now }
 {
     text.iter()

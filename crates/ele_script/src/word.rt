@@ -89,8 +89,8 @@ pub(crate) fn source(alloc: Global, word: &[u8]) -> Result<Source, LineFault>
     Ok(Source::Of(Handle(number(word)?)))
 }
 
-// Whether a slash stands in front.
-fn begins_path(word: &[u8]) -> bool
+/// Whether a slash stands in front.
+pub(crate) fn begins_path(word: &[u8]) -> bool
     ensures { result ≡ begins_path word.now }
 {
     match word {

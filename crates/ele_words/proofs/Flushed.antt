@@ -18,7 +18,6 @@ use Rattle.ele_runs.specs.declared.end.RunEnd.{RunEnd}
 use Rattle.ele_runs.specs.declared.fault.ShellFault.{ShellFault}
 use Rattle.ele_runs.specs.declared.fault.ShellFault.TheVariants.{ReadFault, WriteFault, TooManyLines, NoMemory}
 use Rattle.ele_words.specs.Ends.{HasRun, HasWritten, fault_line}
-use Rattle.ele_words.specs.RunEnds.{end_line, shown}
 
 -- what a run says of each of its ends
 pub has_run : (start : Course) (input rest old new : Option (List ℕ)) (r : Result RunEnd ShellFault) → IfOk r (λ end. HasTold start input rest old new end.lines end.ended_by)
@@ -30,11 +29,11 @@ has_run start input rest old new (Err TooManyLines) ok read many write memory = 
 has_run start input rest old new (Err WriteFault) ok read many write memory = write refl
 has_run start input rest old new (Err NoMemory) ok read many write memory = memory refl
 
-front_kept : (old mid new : Option (List ℕ)) (bytes : List ℕ) → AppendsFront old mid bytes → Keeps mid new → AppendsFront old new bytes
+pub front_kept : (old mid new : Option (List ℕ)) (bytes : List ℕ) → AppendsFront old mid bytes → Keeps mid new → AppendsFront old new bytes
 front_kept old mid new bytes is same =
     record { front = is.front; back = is.back; parts = is.parts; written = Appends-kept old mid new is.front is.written same }
 
-whole_front : (old new : Option (List ℕ)) (bytes : List ℕ) → Appends old new bytes → AppendsFront old new bytes
+pub whole_front : (old new : Option (List ℕ)) (bytes : List ℕ) → Appends old new bytes → AppendsFront old new bytes
 whole_front old new bytes is = record { front = bytes; back = []; parts = sym (append-nil bytes); written = is }
 
 -- the writer holds what it held before it was flushed
@@ -238,14 +237,6 @@ pub run_flushed : (start : Course) (input rest old mid new : Option (List ℕ)) 
 run_flushed start input rest old mid new ran true ended has same is = rw is (kept start input rest old mid new ran has same)
 run_flushed start input rest old mid new ran false ended has same is =
     rw is (kept start input rest old mid new (Err WriteFault) (as_write_fault start input rest old mid ran has) same)
-
--- the line that ended a run was told, or a front of it
-pub end_flushed : {A E : Type 0} (old mid new : Option (List ℕ)) (number : ℕ) (line : Option (List ℕ)) (text : List ℕ) (r : Result A E) → text ≡ shown line
-    → OnOk r (Appends old mid (line_text (codes "elephant: line" ∷ decimal number ∷ codes "ended the run:" ∷ text ∷ [])))
-    → OnErr r (AppendsFront old mid (line_text (codes "elephant: line" ∷ decimal number ∷ codes "ended the run:" ∷ text ∷ []))) → Keeps mid new → AppendsFront old new (end_line number line)
-end_flushed old mid new number line text r is all front same =
-    let told : line_text (codes "elephant: line" ∷ decimal number ∷ codes "ended the run:" ∷ text ∷ []) ≡ end_line number line = rw is refl in
-    subst (AppendsFront old new) told (written_flushed old mid new (line_text (codes "elephant: line" ∷ decimal number ∷ codes "ended the run:" ∷ text ∷ [])) r all front same)
 
 -- all of a text was written
 pub text_flushed : {A : Type 0} (text : List ℕ) (old mid new : Option (List ℕ)) (x : A) (is_flushed : Bool) (ended : Result A ShellFault) → Appends old mid text → Keeps mid new → ended ≡ (if is_flushed then Ok x else Err WriteFault)

@@ -1,4 +1,5 @@
 pub mod Flushed
 pub mod Progress
 pub mod Told
+pub mod Ended
 pub mod Watching

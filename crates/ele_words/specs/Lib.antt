@@ -5,4 +5,5 @@ pub mod Progress
 pub mod RunEnds
 pub mod Status
 pub mod Storms
+pub mod StrictEnd
 pub mod Watched

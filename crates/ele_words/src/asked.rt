@@ -66,7 +66,8 @@ A script is lines, and each is answered as it comes. This one saves a file, and 
 
 const SCRIPT: &str = "Tells the commands of scripts";
 
-const STRICT: &str = "Ends the run, with status 5, at the first line that isn't answered by `ok`";
+const STRICT: &str = "Ends the run, with status 5, at the first line that isn't answered by `ok`, \
+    and tells it on standard error, with the word at fault where it is `bad`";
 
 const NUMBERS: &str = "Puts the number of its line in front of each answer";
 

@@ -6,13 +6,14 @@ ghost use Rattle.ele_history.specs.Past.{fresh};
 ghost use Rattle.ele_runs.specs.Course.{begun};
 ghost use Rattle.ele_words.specs.Status.{fault_status, status_of};
 ghost use Rattle.ele_words.specs.Ends.{HasRun, HasWritten, Tells, EndsWith};
-ghost use Rattle.ele_words.specs.RunEnds.{TellsEnd, TellsRun, end_status, run_status, shown};
+ghost use Rattle.ele_words.specs.RunEnds.{TellsRun, run_status};
 
 use crate::asked::Asked;
 use crate::forecasting::run_forecast;
 use crate::storming::run_storm;
-use ele_runs::{LineBuffer, Manner, RunEnd, ShellFault, run_in};
-use ele_script::{put, write_named, write_placed};
+use crate::strict::tell_end;
+use ele_runs::{Manner, RunEnd, ShellFault, run_in};
+use ele_script::{put, write_named};
 use ele_world::{Auditable, Explaining, Limits};
 use std::alloc::Global;
 use std::io;
@@ -52,43 +53,18 @@ fn run_script<C: Explaining, R: Read, W: Write>(
     after_flush(ran, &flushed)
 }
 
-// The text of the line that ended a run.
-fn shown(line: &LineBuffer) -> &[u8]
-    ensures { result.now ≡ shown line.now }
-{
-    match line.line() {
-        Some(text) => text,
-        None => b"more than 8192 bytes",
-    }
-}
-
-// Tells which line ended a strict run, if one did, and the status to end with.
-fn tell_end<E: Write>(end: &RunEnd, errors: &mut E) -> u8
-    ensures status { result ≡ end_status end.now.ended_by }
-    ensures told { TellsEnd end.now.lines end.now.ended_by (E.contents errors.old)
-        (E.contents errors.new) }
-{
-    let Some(line) = &end.ended_by else {
-        return 0;
-    };
-    let _ = write_placed(
-        b"elephant: line",
-        end.lines,
-        b"ended the run:",
-        shown(line),
-        errors,
-    );
-    let _ = errors.flush();
-    5
-}
-
 // Tells how a run ended, and the status to end with.
-fn tell_run<E: Write>(ran: &Result<RunEnd, ShellFault>, errors: &mut E) -> u8
+fn tell_run<E: Write>(
+    alloc: Global,
+    manner: Manner,
+    ran: &Result<RunEnd, ShellFault>,
+    errors: &mut E,
+) -> u8
     ensures status { result ≡ run_status ran.now }
-    ensures told { TellsRun ran.now (E.contents errors.old) (E.contents errors.new) }
+    ensures told { TellsRun manner ran.now (E.contents errors.old) (E.contents errors.new) }
 {
     match ran {
-        Ok(end) => tell_end(end, errors),
+        Ok(end) => tell_end(alloc, manner, end, errors),
         Err(fault) => tell(Some(*fault), errors),
     }
 }
@@ -152,7 +128,7 @@ pub fn answer<
     match asked {
         Asked::Run(limits, manner) => {
             let ran = run_script::<C, R, W>(alloc, *manner, *limits, reader, writer);
-            tell_run(&ran, errors)
+            tell_run(alloc, *manner, &ran, errors)
         }
         Asked::Storm(plan) => run_storm::<C, T, W, E>(rt, alloc, plan, watched, writer, errors),
         Asked::Forecast(ask) => run_forecast(alloc, ask, reader, writer, errors),

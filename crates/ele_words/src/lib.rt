@@ -6,6 +6,7 @@ mod asked;
 mod ends;
 mod forecasting;
 mod storming;
+mod strict;
 mod watched;
 
 pub use asked::{Asked, no_words, words};

@@ -1,0 +1,178 @@
+-- Why words are no command, and what was found of their first ones.
+use Rattle.ele_script.proofs.Basics.{◌≡◌, ◌≢◌, ℕ, ◌+◌, ◌<◌, ◌≤◌, ◌==◌, Bool, true, List, [], ◌∷◌, ◌++◌, zero, suc, length, take, drop, refl, true≢false, sym, ap, ◌∙◌, arith, inl, inr, append_assoc, length-append, take-append-drop, subst, map, length-map, Option, Some, None, Result, Ok, Err, IfOk}
+use Rattle.ele_script.proofs.Prelude.{OneMeaning, Command, LineFault, WordKind, command_words, kinds_behind, kinds_if, longest_line, words_of, is_worded, TakesMemory}
+use Rattle.ele_script.proofs.Prelude.{IsFirstWordFault, FitsCommand, IsFaultOfWords, IsFirstFault, too_long, not_worded, of_words, no_command, of_word}
+use Rattle.ele_printer.specs.declared.command.Command.TheVariants.{Read}
+use Rattle.ele_script.specs.CommandOf.{command_of}
+use Rattle.ele_script.specs.Memory.{behind_takes, takes_memory}
+use Rattle.ele_script.specs.Reason.{IsFirstBadWord, IsReasonOfWords, fault_of, unknown_number}
+use Rattle.ele_script.specs.Reason as why
+use Rattle.ele_script.specs.ReasonFound.{AreOfKinds, IsCommand, TakesBehind, any_takes, word_takes}
+use Rattle.ele_script.specs.declared.reasons.Reason.{Reason}
+use Rattle.ele_script.specs.declared.reasons.Reason.TheVariants.{NoCommand, Words}
+use Rattle.std.specs.List.{list_any}
+use Rattle.ele_script.proofs.Laws.{moved}
+use Rattle.ele_script.proofs.Commands.{command_of-words, one_fit, words_found}
+use Rattle.std.specs.Prelude.{◌-◌, IfNone, IfSome, OnErr}
+use Rattle.std.proofs.lemmas.List.{append-nil}
+use Rattle.ele_script.proofs.Values.{faultless_word}
+
+-- the first bad word has the first fault
+first_fault : (before : ℕ) (kinds : List WordKind) (words : List (List ℕ)) (reason : Reason) → IsFirstBadWord before kinds words reason → IsFirstWordFault kinds words (fault_of reason)
+first_fault before (kind ∷ kinds) (word ∷ words) reason (inl bad) = inl (rw bad.2 bad.1)
+first_fault before (kind ∷ kinds) (word ∷ words) reason (inr bad) = inr (bad.0, first_fault (before + 1) kinds words reason bad.1)
+first_fault before kinds words reason bad = absurd bad
+
+-- the reason of words is that of their fault
+pub words_fault : (words : List (List ℕ)) (reason : Reason) → IsReasonOfWords words reason → IsFaultOfWords words (fault_of reason)
+words_fault words reason (why.no_command none is) = no_command (λ c xs fits. none c xs fits.are) (rw is refl)
+words_fault words reason (why.miscounted command arguments are count is) =
+    no_command (λ c xs fits. let same = one_fit words c command xs arguments fits.are are in count (rw (sym same.0, sym same.1) fits.count)) (rw is refl)
+words_fault words reason (why.of_word command arguments fits bad) =
+    of_word command arguments fits (first_fault (length (command_words command)) (kinds_behind command arguments) arguments reason bad)
+
+-- a command has four words at most
+few_words : (command : Command) (ended : Bool) → length (command_words command) + length (kinds_if command ended) ≤ 4
+few_words command ended = grind arith
+
+few_kinds : (command : Command) (ended : Bool) → length (kinds_if command ended) ≤ 3
+few_kinds command ended = grind arith
+
+take_short : {A : Type 0} (n : ℕ) (xs : List A) → length (take n xs) < n → take n xs ≡ xs
+take_short zero xs lt = absurd (omega (arith, lt))
+take_short (suc n) [] lt = refl
+take_short (suc n) (x ∷ xs) lt = ap (λ ys. x ∷ ys) (take_short n xs (omega (arith, lt)))
+
+-- where the first of the words fit a command they are all
+pub all_fit : (words : List (List ℕ)) (command : Command) (arguments : List (List ℕ)) → FitsCommand (take 5 words) command arguments → take 5 words ≡ words
+all_fit words command arguments fits =
+    take_short 5 words (omega (arith, ap length fits.are, length-append (command_words command) arguments, fits.count, few_words command (length arguments == 3)))
+
+take_front : (command : Command) (arguments : List (List ℕ)) → (rest : List (List ℕ)) × (take 5 (command_words command ++ arguments) ≡ command_words command ++ rest)
+take_front command arguments = (take (5 - length (command_words command)) arguments, grind arith)
+
+unknown_first : (words : List (List ℕ)) → unknown_number (take 5 words) ≡ unknown_number words
+unknown_first [] = refl
+unknown_first (word ∷ words) = refl
+
+few_name : (command : Command) → length (command_words command) ≤ 2
+few_name command = grind arith
+
+taken_all : {A : Type 0} (n : ℕ) (xs : List A) (x : A) (rest : List A) → drop n xs ≡ x ∷ rest → length (take n xs) ≡ n
+taken_all zero xs x rest more = refl
+taken_all (suc n) [] x rest more = absurd cc
+taken_all (suc n) (y ∷ xs) x rest more = ap suc (taken_all n xs x rest more)
+
+-- all words behind the command are no fewer than the first ones, and more than it takes where these are not all
+miscounted_all : (words : List (List ℕ)) (command : Command) (arguments : List (List ℕ)) → take 5 words ≡ command_words command ++ arguments → length arguments ≢ length (kinds_behind command arguments)
+    → length (arguments ++ drop 5 words) ≢ length (kinds_behind command (arguments ++ drop 5 words))
+miscounted_all words command arguments are count same = by_rest (drop 5 words) refl where
+  by_rest : (rest : List (List ℕ)) → drop 5 words ≡ rest → ⊥
+  by_rest [] none = count (rw (none, append-nil arguments) at same)
+  by_rest (word ∷ rest) more =
+      let many = taken_all 5 words word rest more in
+      omega (arith, same, many, ap length are, length-append (command_words command) arguments, length-append arguments (drop 5 words), ap length more, few_name command, few_kinds command (length (arguments ++ drop 5 words) == 3))
+
+-- the reason of the first words is that of all
+pub all_reason : (words : List (List ℕ)) (reason : Reason) → IsReasonOfWords (take 5 words) reason → IsReasonOfWords words reason
+all_reason words reason (why.no_command none is) =
+    why.no_command (λ c xs are. let front = take_front c xs in none c front.0 (ap (λ (ws : List (List ℕ)). take 5 ws) are ∙ front.1)) (is ∙ ap NoCommand (unknown_first words))
+all_reason words reason (why.miscounted command arguments are count is) =
+    let parts : words ≡ command_words command ++ (arguments ++ drop 5 words) =
+    sym (take-append-drop 5 words) ∙ ap (λ (ws : List (List ℕ)). ws ++ drop 5 words) are ∙ append_assoc (command_words command) arguments (drop 5 words) in
+    why.miscounted command (arguments ++ drop 5 words) parts (miscounted_all words command arguments are count) is
+all_reason words reason (why.of_word command arguments fits bad) =
+    let same = all_fit words command arguments fits in subst (λ ws. IsReasonOfWords ws reason) same (why.of_word command arguments fits bad)
+
+-- words of their kinds have no first bad one
+no_first : (law : OneMeaning) (kinds : List WordKind) (words : List (List ℕ)) (fault : LineFault) → AreOfKinds kinds words → IsFirstWordFault kinds words fault → ⊥
+no_first law (kind ∷ kinds) (word ∷ words) fault are (inl bad) = faultless_word law kind word fault are.0 bad
+no_first law (kind ∷ kinds) (word ∷ words) fault are (inr bad) = no_first law kinds words fault are.1 bad.1
+no_first law kinds words fault are bad = absurd bad
+
+-- a command and what it takes has no fault
+command_faultless : (law : OneMeaning) (words : List (List ℕ)) (fault : LineFault) → IsCommand words → IsFaultOfWords words fault → ⊥
+command_faultless law words fault is (no_command none syntax) = none is.command is.arguments is.fits
+command_faultless law words fault is (of_word command arguments fits bad) =
+    let same = one_fit words command is.command arguments is.arguments fits.are is.fits.are in
+    no_first law (kinds_behind is.command is.arguments) is.arguments fault is.are (moved fault same.0 same.1 bad)
+
+-- nor a line that is one
+pub faultless_line : (law : OneMeaning) (line : List ℕ) (first : List (List ℕ)) → length line ≤ longest_line → is_worded line ≡ true → first ≡ take 5 (words_of line) → IsCommand first → (fault : LineFault) → ¬ IsFirstFault line fault
+faultless_line law line first short worded is command fault (too_long long other) = omega (arith, long, short)
+faultless_line law line first short worded is command fault (not_worded also broken other) = true≢false (sym worded ∙ broken)
+faultless_line law line first short worded is command fault (of_words also whole bad) =
+    let found = subst IsCommand is command in
+    command_faultless law (words_of line) fault (subst IsCommand (all_fit (words_of line) found.command found.arguments found.fits) found) bad
+
+any_of : (kinds : List WordKind) (words : List (List ℕ)) → any_takes kinds words ≡ true → list_any takes_memory kinds ≡ true
+any_of [] words takes = absurd cc
+any_of (kind ∷ kinds) [] takes = absurd cc
+any_of (kind ∷ kinds) (word ∷ words) takes = grind (arith, any_of kinds words, one kind word) where
+  one : (kind : WordKind) (word : List ℕ) → word_takes kind word ≡ true → takes_memory kind ≡ true
+  one kind word takes = grind arith
+
+-- a word of a command that is read with memory
+pub takes_behind : (command : Command) (arguments : List (List ℕ)) → any_takes (kinds_behind command arguments) arguments ≡ true → behind_takes command arguments ≡ true
+takes_behind Read [] takes = absurd cc
+takes_behind Read (word ∷ arguments) takes = grind (arith, takes)
+takes_behind command arguments takes = any_of (kinds_behind command arguments) arguments takes
+
+-- the line takes memory where its first words do
+pub line_takes : (line : List ℕ) (first : List (List ℕ)) → first ≡ take 5 (words_of line) → TakesBehind first → TakesMemory (words_of line)
+line_takes line first is takes =
+    let found = subst TakesBehind is takes in
+    record { command = found.command; arguments = found.arguments; are = sym (all_fit (words_of line) found.command found.arguments found.fits) ∙ found.fits.are; takes = found.takes }
+
+-- words in front of which no command is found are none
+pub unknown_reason : (words : List (List ℕ)) (number : ℕ) → command_of words ≡ None → number ≡ unknown_number words → IsReasonOfWords words (NoCommand number)
+unknown_reason words number none is = why.no_command (λ c xs are. absurd (let found = ap command_of are ∙ command_of-words c xs in grind (arith, none, found))) (ap NoCommand is)
+
+-- the kinds behind a command, by how many words stand there
+pub kinds_are : {A : Type 0} (command : Command) (bytes : A → List ℕ) (behind : List A) (kinds : List WordKind) → kinds ≡ kinds_if command (length behind == 3) → kinds ≡ kinds_behind command (map bytes behind)
+kinds_are command bytes behind kinds is = rw (length-map behind bytes) is
+
+-- other words than it takes stand behind a command
+pub words_miscounted : (words : List (List ℕ)) (command : Command) (arguments : List (List ℕ)) → command_of words ≡ Some (command, arguments) → length arguments ≢ length (kinds_behind command arguments) → IsReasonOfWords words (Words command)
+words_miscounted words command arguments found count = why.miscounted command arguments (words_found words command arguments found) count refl
+
+-- and those that it takes
+pub words_fit : (words : List (List ℕ)) (command : Command) (arguments : List (List ℕ)) → command_of words ≡ Some (command, arguments) → length arguments ≡ length (kinds_behind command arguments) → FitsCommand words command arguments
+words_fit words command arguments found count = record { are = words_found words command arguments found; count = count }
+
+-- what was found of the words behind a command is so of all
+pub reason_some : {E : Type 0} (words : List (List ℕ)) (command : Command) (arguments : List (List ℕ)) (before : ℕ) (r : Result (Option Reason) E) → FitsCommand words command arguments → before ≡ length (command_words command)
+    → IfOk r (λ found. IfSome found (IsFirstBadWord before (kinds_behind command arguments) arguments)) → IfOk r (λ found. IfSome found (IsReasonOfWords words))
+reason_some words command arguments before (Ok None) fits is some = tt
+reason_some words command arguments before (Ok (Some reason)) fits is some = why.of_word command arguments fits (rw is at some)
+reason_some words command arguments before (Err e) fits is some = tt
+
+pub reason_none : {E : Type 0} (words : List (List ℕ)) (command : Command) (arguments : List (List ℕ)) (r : Result (Option Reason) E) → FitsCommand words command arguments
+    → IfOk r (λ found. IfNone found (AreOfKinds (kinds_behind command arguments) arguments)) → IfOk r (λ found. IfNone found (IsCommand words))
+reason_none words command arguments (Ok None) fits none = record { command = command; arguments = arguments; fits = fits; are = none }
+reason_none words command arguments (Ok (Some reason)) fits none = tt
+reason_none words command arguments (Err e) fits none = tt
+
+pub reason_memory : {A E : Type 0} (words : List (List ℕ)) (command : Command) (arguments : List (List ℕ)) (r : Result A E) → FitsCommand words command arguments
+    → OnErr r (any_takes (kinds_behind command arguments) arguments ≡ true) → OnErr r (TakesBehind words)
+reason_memory words command arguments (Ok x) fits takes = tt
+reason_memory words command arguments (Err e) fits takes = record { command = command; arguments = arguments; fits = fits; takes = takes_behind command arguments takes }
+
+-- what was found of the first words of a line is so of the line
+pub line_some : {E : Type 0} (line : List ℕ) (first : List (List ℕ)) (r : Result (Option Reason) E) → length line ≤ longest_line → is_worded line ≡ true → first ≡ take 5 (words_of line) → IfOk r (λ found. IfSome found (IsReasonOfWords first))
+    → IfOk r (λ found. IfSome found (why.IsReason line))
+line_some line first (Ok None) short worded is some = tt
+line_some line first (Ok (Some reason)) short worded is some = why.of_words short worded (all_reason (words_of line) reason (rw is at some))
+line_some line first (Err e) short worded is some = tt
+
+pub line_fault : {E : Type 0} (line : List ℕ) (first : List (List ℕ)) (r : Result (Option Reason) E) → length line ≤ longest_line → is_worded line ≡ true → first ≡ take 5 (words_of line) → IfOk r (λ found. IfSome found (IsReasonOfWords first))
+    → IfOk r (λ found. IfSome found (λ reason. IsFirstFault line (fault_of reason)))
+line_fault line first (Ok None) short worded is some = tt
+line_fault line first (Ok (Some reason)) short worded is some = of_words short worded (words_fault (words_of line) reason (all_reason (words_of line) reason (rw is at some)))
+line_fault line first (Err e) short worded is some = tt
+
+pub line_none : {E : Type 0} (law : OneMeaning) (line : List ℕ) (first : List (List ℕ)) (r : Result (Option Reason) E) → length line ≤ longest_line → is_worded line ≡ true → first ≡ take 5 (words_of line) → IfOk r (λ found. IfNone found (IsCommand first))
+    → IfOk r (λ found. IfNone found ((fault : LineFault) → ¬ IsFirstFault line fault))
+line_none law line first (Ok None) short worded is none = faultless_line law line first short worded is none
+line_none law line first (Ok (Some reason)) short worded is none = tt
+line_none law line first (Err e) short worded is none = tt

@@ -1,0 +1,105 @@
+-- Why a line is no command, and which word of it is at fault.
+use Rattle.std.specs.Prelude.{◌≡◌, ◌≢◌, ℕ, ◌+◌, ◌<◌, ◌≤◌, ◌==◌, ◌&&◌, nat_le, not, Bool, false, List, [], ◌∷◌, ◌++◌, length, true, Some, ◌⊎◌, if◌then◌else◌}
+use Rattle.std.specs.List.{find, list_all, list_any}
+use Rattle.std.specs.Str.{bytes_eq}
+use Rattle.ele_printer.specs.Command.{command_words}
+use Rattle.ele_printer.specs.declared.command.Command.{Command}
+use Rattle.ele_printer.specs.declared.fault.LineFault.{LineFault}
+use Rattle.ele_printer.specs.declared.fault.LineFault.TheVariants.{Syntax, LineTooLong}
+use Rattle.ele_script.specs.Command.{kinds_behind}
+use Rattle.ele_script.specs.CommandOf.{commands}
+use Rattle.ele_script.specs.FirstFault.{FitsCommand, IsOfKind, IsWordFault}
+use Rattle.ele_script.specs.PathWord.{begins_path}
+use Rattle.ele_script.specs.Value.{WordKind, NumberWord, MomentWord, NameWord, PathWord, TaggedWord, TimedWord, SourceWord, BytesWord, PolicyWord}
+use Rattle.ele_script.specs.Words.{ends_word, is_worded, longest_line, words_of}
+use Rattle.ele_script.specs.declared.reasons.Detail.{Detail}
+use Rattle.ele_script.specs.declared.reasons.Detail.TheVariants.{LeadingZero, TooLarge, NoSlash, Other}
+use Rattle.ele_script.specs.declared.reasons.Reason.{Reason}
+use Rattle.ele_script.specs.declared.reasons.Reason.TheVariants.{TooLong, Empty, Byte, NoCommand, Words, Word}
+
+-- the fault by which the line is answered
+abbrev pub fault_of : Reason → LineFault
+fault_of TooLong = LineTooLong
+fault_of (Empty number) = Syntax
+fault_of (Byte number byte) = Syntax
+fault_of (NoCommand number) = Syntax
+fault_of (Words command) = Syntax
+fault_of (Word number kind fault detail) = fault
+
+-- a digit, from `0` (48) to `9` (57)
+abbrev pub is_digit : ℕ → Bool
+is_digit byte = nat_le 48 byte && nat_le byte 57
+
+-- of digits that are no number
+abbrev pub digits_detail : List ℕ → Detail
+digits_detail [] = Other
+digits_detail (first ∷ rest) =
+    if list_all is_digit (first ∷ rest) then (if first == 48 then LeadingZero else TooLarge) else Other
+
+abbrev pub path_detail : List ℕ → Detail
+path_detail word = if begins_path word then Other else NoSlash
+
+-- what can be told of a word that isn't of its kind
+abbrev pub detail_of : WordKind → List ℕ → Detail
+detail_of NumberWord word = digits_detail word
+detail_of MomentWord word = digits_detail word
+detail_of NameWord word = Other
+detail_of PathWord word = path_detail word
+detail_of TaggedWord word = path_detail word
+detail_of TimedWord word = path_detail word
+detail_of SourceWord word = if begins_path word then Other else digits_detail word
+detail_of BytesWord word = Other
+detail_of PolicyWord word = Other
+
+-- a word is at fault behind so many others: it has no bytes, or this is its first byte that stands in no word
+abbrev pub IsUnfit : ℕ → List ℕ → Reason → Type 0
+IsUnfit before word (Empty number) = (number ≡ before + 1) × (word ≡ [])
+IsUnfit before word (Byte number byte) = (number ≡ before + 1) × (find ends_word word ≡ Some byte)
+IsUnfit before word reason = ⊥
+
+-- a word that has bytes, and none that stands in no word
+abbrev pub is_fit : List ℕ → Bool
+is_fit [] = false
+is_fit (byte ∷ bytes) = list_all (λ b. not (ends_word b)) (byte ∷ bytes)
+
+-- the reason is of the first of the words that is at fault so
+pub record HasUnfit (words : List (List ℕ)) (reason : Reason) : Type 0 where
+  pub front : List (List ℕ)
+  pub word : List ℕ
+  pub behind : List (List ℕ)
+  pub are : words ≡ front ++ word ∷ behind
+  pub fit : list_all is_fit front ≡ true
+  pub unfit : IsUnfit (length front) word reason
+
+-- the word begins the name of a command
+abbrev pub begins_command : List ℕ → Command → Bool
+begins_command word command = begins (command_words command) where
+  begins : List (List ℕ) → Bool
+  begins [] = false
+  begins (first ∷ names) = bytes_eq word first
+
+-- the number of the word that makes the words no command: the second where the first begins the name of one
+abbrev pub unknown_number : List (List ℕ) → ℕ
+unknown_number [] = 1
+unknown_number (word ∷ words) = if list_any (begins_command word) commands then 2 else 1
+
+-- the reason is of the first of these words that isn't of its kind, where so many stand before them
+abbrev pub IsFirstBadWord : ℕ → List WordKind → List (List ℕ) → Reason → Type 0
+IsFirstBadWord before (kind ∷ kinds) (word ∷ words) reason =
+    ((fault : LineFault) × IsWordFault kind word fault × (reason ≡ Word (before + 1) kind fault (detail_of kind word)))
+    ⊎ (IsOfKind kind word × IsFirstBadWord (before + 1) kinds words reason)
+IsFirstBadWord before kinds words reason = ⊥
+
+-- the reason of plain words: they begin with no command, other words than it takes stand behind it, or the first bad word
+pub data IsReasonOfWords (words : List (List ℕ)) (reason : Reason) : Type 0 where
+  no_command : ((command : Command) (arguments : List (List ℕ)) → words ≢ command_words command ++ arguments) → reason ≡ NoCommand (unknown_number words) → IsReasonOfWords words reason
+  miscounted : (command : Command) (arguments : List (List ℕ)) → words ≡ command_words command ++ arguments → length arguments ≢ length (kinds_behind command arguments) → reason ≡ Words command
+      → IsReasonOfWords words reason
+  of_word : (command : Command) (arguments : List (List ℕ)) → FitsCommand words command arguments → IsFirstBadWord (length (command_words command)) (kinds_behind command arguments) arguments reason
+      → IsReasonOfWords words reason
+
+-- the reason of a line, in the order of its first fault
+pub data IsReason (line : List ℕ) (reason : Reason) : Type 0 where
+  too_long : longest_line < length line → reason ≡ TooLong → IsReason line reason
+  unfit : length line ≤ longest_line → HasUnfit (words_of line) reason → IsReason line reason
+  of_words : length line ≤ longest_line → is_worded line ≡ true → IsReasonOfWords (words_of line) reason → IsReason line reason

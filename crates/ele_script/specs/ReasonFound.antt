@@ -1,0 +1,37 @@
+-- Words that have no reason, and which of them are read with memory. No public clause cites this module.
+use Rattle.std.specs.Prelude.{◌≡◌, ℕ, Bool, true, false, ◌||◌, List, ◌∷◌}
+use Rattle.ele_printer.specs.declared.command.Command.{Command}
+use Rattle.ele_script.specs.Command.{kinds_behind}
+use Rattle.ele_script.specs.FirstFault.{FitsCommand, IsOfKind}
+use Rattle.ele_script.specs.Memory.{behind_takes, takes_memory}
+use Rattle.ele_script.specs.PathWord.{begins_path}
+use Rattle.ele_script.specs.Value.{WordKind, SourceWord}
+
+-- each word is of its kind
+abbrev pub AreOfKinds : List WordKind → List (List ℕ) → Type 0
+AreOfKinds (kind ∷ kinds) (word ∷ words) = IsOfKind kind word × AreOfKinds kinds words
+AreOfKinds kinds words = Unit {0}
+
+-- the words are a command and what it takes
+pub record IsCommand (words : List (List ℕ)) : Type 0 where
+  pub command : Command
+  pub arguments : List (List ℕ)
+  pub fits : FitsCommand words command arguments
+  pub are : AreOfKinds (kinds_behind command arguments) arguments
+
+-- a word of the kind takes memory
+abbrev pub word_takes : WordKind → List ℕ → Bool
+word_takes SourceWord word = begins_path word
+word_takes kind word = takes_memory kind
+
+-- one of the words does
+abbrev pub any_takes : List WordKind → List (List ℕ) → Bool
+any_takes (kind ∷ kinds) (word ∷ words) = word_takes kind word || any_takes kinds words
+any_takes kinds words = false
+
+-- the words fit a command, and one behind it takes memory
+pub record TakesBehind (words : List (List ℕ)) : Type 0 where
+  pub command : Command
+  pub arguments : List (List ℕ)
+  pub fits : FitsCommand words command arguments
+  pub takes : behind_takes command arguments ≡ true

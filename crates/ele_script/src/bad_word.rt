@@ -1,0 +1,207 @@
+//! Why words are no command, and a line. A contract sees a line as its bytes, and a reason as itself.
+ghost use Rattle.std.specs.Prelude.{◌≡◌, ◌⊎◌, ◌+◌, ◌<◌, ◌≤◌, ◌^◌, true, map, length, ℕ, List, Err, IfOk, IfErr, IfSome, IfNone, OnOk, OnErr};
+ghost use Rattle.std.specs.List.{list_all, list_any};
+ghost use Rattle.ele_script.specs.FirstFault.{IsFirstFault, IsOfKind, IsWordFault};
+ghost use Rattle.ele_script.specs.Memory.{TakesMemory};
+ghost use Rattle.ele_printer.specs.Command.{command_words};
+ghost use Rattle.ele_script.specs.CommandOf.{commands};
+ghost use Rattle.ele_script.specs.Reason.{IsFirstBadWord, IsReason, IsReasonOfWords, begins_command, digits_detail, detail_of, fault_of, is_digit, path_detail, unknown_number};
+ghost use Rattle.ele_script.specs.ReasonFound.{AreOfKinds, IsCommand, TakesBehind, any_takes, word_takes};
+ghost use Rattle.ele_script.specs.Words.{words_of};
+
+use crate::command::{COMMANDS, read_command};
+use crate::cut::first_words;
+use crate::kind::{WordKind, kinds};
+use crate::reading::LONGEST_LINE;
+use crate::reasons::{Detail, Reason};
+use crate::word::{self, begins_path};
+use ele_moment::NoMemory;
+use ele_printer::{Command, LineFault};
+use ele_time_path::one_meaning;
+use std::alloc::Global;
+
+/// Why a line is no command, without its line feed, and which of its words is at fault; none where it
+/// is one. It is the first fault by which `read_line` refuses it. `NoMemory` comes only where the
+/// line's command takes a path or bytes.
+pub fn reason(alloc: Global, line: &[u8]) -> Result<Option<Reason>, NoMemory>
+    ensures some { IfOk result (λ found. IfSome found (IsReason line.now)) }
+    ensures fault { IfOk result
+        (λ found. IfSome found (λ reason. IsFirstFault line.now (fault_of reason))) }
+    ensures none { IfOk result
+        (λ found. IfNone found ((fault : LineFault) → ¬ IsFirstFault line.now fault)) }
+    ensures memory { OnErr result (TakesMemory (words_of line.now)) }
+{
+    // Told for the proof: as a path, a word means one thing.
+    one_meaning();
+    if line.len() > LONGEST_LINE {
+        return Ok(Some(Reason::TooLong));
+    }
+    match first_words(line) {
+        Ok(words) => words_reason(alloc, words.as_slice()),
+        Err(reason) => Ok(Some(reason)),
+    }
+}
+
+// Why words are no command.
+fn words_reason(alloc: Global, words: &[&[u8]]) -> Result<Option<Reason>, NoMemory>
+    ensures some { IfOk result
+        (λ found. IfSome found (IsReasonOfWords (map (λ word. word.now) words.now))) }
+    ensures none { IfOk result
+        (λ found. IfNone found (IsCommand (map (λ word. word.now) words.now))) }
+    ensures memory { OnErr result (TakesBehind (map (λ word. word.now) words.now)) }
+{
+    let Some((command, behind)) = read_command(words) else {
+        return Ok(Some(Reason::NoCommand(unknown_number(words))));
+    };
+    let kinds = kinds(command, behind.len() == 3);
+    if behind.len() != kinds.len() {
+        return Ok(Some(Reason::Words(command)));
+    }
+    bad_word(alloc, name_length(command), kinds, behind)
+}
+
+// How many words name the command.
+fn name_length(command: Command) -> u64
+    ensures is { result ≡ length (command_words command) }
+    ensures few { result ≤ 2 }
+{
+    if command.words().1.is_empty() { 1 } else { 2 }
+}
+
+// The number of the word that makes the words no command.
+fn unknown_number(words: &[&[u8]]) -> u64
+    ensures { result ≡ unknown_number (map (λ word. word.now) words.now) }
+{
+    match words.first() {
+        Some(first) if begins_command(first) => 2,
+        _ => 1,
+    }
+}
+
+// Whether the word begins the name of a command.
+fn begins_command(word: &[u8]) -> bool
+    ensures { result ≡ list_any (begins_command word.now) commands }
+{
+    COMMANDS
+        .iter()
+        .any(|command| word == command.words().0.as_bytes())
+}
+
+// The first of the words that isn't of its kind, where so many stand before them.
+fn bad_word(
+    alloc: Global,
+    before: u64,
+    kinds: &[WordKind],
+    words: &[&[u8]],
+) -> Result<Option<Reason>, NoMemory>
+    requires count { length words.now ≡ length kinds.now }
+    requires few { before + length words.now < 2 ^ 64 }
+    ensures some { IfOk result (λ found. IfSome found
+        (IsFirstBadWord before kinds.now (map (λ word. word.now) words.now))) }
+    ensures none { IfOk result (λ found. IfNone found
+        (AreOfKinds kinds.now (map (λ word. word.now) words.now))) }
+    ensures memory { OnErr result
+        (any_takes kinds.now (map (λ word. word.now) words.now) ≡ true) }
+{
+    let (Some((kind, kinds)), Some((word, words))) = (kinds.split_first(), words.split_first())
+    else {
+        return Ok(None);
+    };
+    let number = before + 1;
+    match read_word(alloc, *kind, word) {
+        Ok(()) => bad_word(alloc, number, kinds, words),
+        Err(LineFault::NoMemory) => Err(NoMemory),
+        Err(fault) => Ok(Some(Reason::Word {
+            number,
+            kind: *kind,
+            fault,
+            detail: detail(*kind, word),
+        })),
+    }
+}
+
+// Reads a word as one of its kind.
+fn read_word(alloc: Global, kind: WordKind, word: &[u8]) -> Result<(), LineFault>
+    ensures kind { OnOk result (IsOfKind kind word.now) }
+    ensures fault { IfErr result
+        (λ fault. (fault ≡ LineFault.NoMemory) ⊎ IsWordFault kind word.now fault) }
+    ensures memory { result ≡ Err LineFault.NoMemory → word_takes kind word.now ≡ true }
+{
+    match kind {
+        WordKind::Number => {
+            word::number(word)?;
+        }
+        WordKind::Moment => {
+            word::moment(word)?;
+        }
+        WordKind::Name => {
+            word::name(word)?;
+        }
+        WordKind::Path => {
+            word::path(alloc, word)?;
+        }
+        WordKind::Tagged => {
+            word::tagged(alloc, word)?;
+        }
+        WordKind::Timed => {
+            word::path_at(alloc, word)?;
+        }
+        WordKind::Source => {
+            word::source(alloc, word)?;
+        }
+        WordKind::Bytes => {
+            word::bytes(alloc, word)?;
+        }
+        WordKind::Policy => {
+            word::policy(word)?;
+        }
+    }
+    Ok(())
+}
+
+// What can be told of a word that isn't of its kind.
+fn detail(kind: WordKind, word: &[u8]) -> Detail
+    ensures { result ≡ detail_of kind word.now }
+{
+    match kind {
+        WordKind::Number | WordKind::Moment => digits_detail(word),
+        WordKind::Path | WordKind::Tagged | WordKind::Timed => path_detail(word),
+        WordKind::Source => {
+            if begins_path(word) {
+                Detail::Other
+            } else {
+                digits_detail(word)
+            }
+        }
+        WordKind::Name | WordKind::Bytes | WordKind::Policy => Detail::Other,
+    }
+}
+
+// What can be told of a word that is no path.
+fn path_detail(word: &[u8]) -> Detail
+    ensures { result ≡ path_detail word.now }
+{
+    if begins_path(word) {
+        Detail::Other
+    } else {
+        Detail::NoSlash
+    }
+}
+
+// What can be told of a word that is no number.
+fn digits_detail(word: &[u8]) -> Detail
+    ensures { result ≡ digits_detail word.now }
+{
+    match word {
+        [b'0', ..] if is_digits(word) => Detail::LeadingZero,
+        [_, ..] if is_digits(word) => Detail::TooLarge,
+        _ => Detail::Other,
+    }
+}
+
+// Whether all of the bytes are digits.
+fn is_digits(word: &[u8]) -> bool
+    ensures { result ≡ list_all is_digit word.now }
+{
+    word.iter().all(|byte| b'0' <= *byte && *byte <= b'9')
+}
