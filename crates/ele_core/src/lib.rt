@@ -30,7 +30,7 @@ mod version;
 pub use crate::halt::Halt;
 pub use crate::question::Stat;
 pub use ele_moment::{BadMoment, BadName};
-pub use ele_policy::{BadLadder, Interval};
+pub use ele_policy::{BadLadder, Floor, Interval};
 use ele_state::{Meter, State};
 pub use ele_time_path::{PathAtFault, PathFault};
 pub use ele_world::{

@@ -1,9 +1,11 @@
 -- Which keys the versions have, once a file has its next version: two came, and all others stayed.
-use Rattle.ele_policy.specs.Ripe.{alone, ripe_by}
-use Rattle.ele_state.proofs.Words.{Cover, is_some, ripe_past, ap, ◌≡◌, ℕ, ◌==◌, Bool, true, false, cond, not, ◌&&◌, ◌||◌, List, Option, Some, None, refl, ◌∙◌, and-false, arith, or-false, unwrap_or, option_and_then, option_map_or, false≢true, nat_tests, Cell, IsTracked, NewKeys, Rows, world_of, IsQueued, is_entry, is_new, gained_moment, own_moment, new_keys, Key, has_key, IfSome, rows_of, Policy, IsLawful, VersionRow, with_version, ripe_at, is_moment, near_moment, newest_of, cover_of, World, is_live, is_open, next_of, policy_is, policy_of, MayGrow, touches, next_before, next_after, newest_before, newest_was, newest_is, others_after, []}
+use Rattle.ele_policy.specs.Ripe.{ripe_near}
+use Rattle.ele_world.proofs.Basics.{all-not_found}
+use Rattle.ele_world.proofs.Versions.{IsFound}
+use Rattle.ele_state.proofs.Words.{AllLater, ArePlaced, Bool, Cell, Cover, IfSome, IsLawful, IsQueued, Key, List, MayGrow, NewKeys, None, Option, Policy, Some, VersionRow, World, all-found, all_found, and-false, any-found, ap, arith, cond, cover_of, false, false≢true, find, floor_for, found_passes, gained_moment, gaining_is, gaining_was, has_key, has_newer, held_before, is_entry, is_live, is_moment, is_new, is_open, is_some, is_version, is_version_of, list_any, met_before, nat_tests, near_moment, new_keys, newer_held, next_after, next_before, next_of, not, one_with_newer, option_and_then, option_map_or, or-false, others_after, own_moment, policy_is, policy_of, refl, ripe_at, ripe_past, rows_of, subst, sym, touches, true, unwrap_or, with_newer, with_version, ◌&&◌, ◌-◌, ◌<◌, ◌==◌, ◌||◌, ◌∙◌, ◌∷◌, ◌≡◌, ℕ, []}
 use Rattle.ele_state.proofs.Following.{follows}
 
--- ---- what the newest version gets
+-- ---- what the version gets that gains
 
 -- the moment came, or was there, and not both
 record IsGained (m : ℕ) (was came is : Option ℕ) : Type 0 where
@@ -15,17 +17,66 @@ gained_as : (m : ℕ) (was is : Option ℕ) → (is_some was ≡ true → is ≡
 gained_as m None is same = grind (arith, nat_tests, or-false)
 gained_as m (Some r) is same = rw (same refl) (grind (arith, nat_tests, or-false, false≢true))
 
-gained : (cover : ℕ → Option ℕ → Cover) (policy : Option Policy) (now closed m : ℕ) (ended : Option ℕ) → IfSome policy IsLawful
-    → IsGained m (option_and_then (near_moment cover policy None closed) ended) (gained_moment cover policy now closed ended) (near_moment cover policy (Some now) closed (unwrap_or ended now))
-gained cover policy now closed m None given = gained_as m None (near_moment cover policy (Some now) closed now) (λ h. absurd (false≢true h))
-gained cover None now closed m (Some ended) given = gained_as m None None (λ h. absurd (false≢true h))
-gained cover (Some policy) now closed m (Some ended) given = gained_as m (later (ripe_by policy closed (alone None) ended)) (later (ripe_by policy closed (alone (Some now)) ended)) (by (ripe_by policy closed (alone None) ended) refl) where
+gained : (cover : ℕ → Option ℕ → Cover) (policy : Option Policy) (floor now closed m : ℕ) (ended : Option ℕ) → IfSome policy IsLawful
+    → IsGained m (option_and_then (near_moment cover policy None (met_before floor) closed) ended) (gained_moment cover policy floor now closed ended) (near_moment cover policy (Some now) true closed (unwrap_or ended now))
+gained cover policy floor now closed m None given = gained_as m None (near_moment cover policy (Some now) true closed now) (λ h. absurd (false≢true h))
+gained cover None floor now closed m (Some ended) given = gained_as m None None (λ h. absurd (false≢true h))
+gained cover (Some policy) floor now closed m (Some ended) given = gained_as m (later (ripe_near policy closed None (met_before floor) ended)) (later (ripe_near policy closed (Some now) true ended)) (by (ripe_near policy closed None (met_before floor) ended) refl) where
   later : Option ℕ → Option ℕ
   later = option_and_then (ripe_past (cover closed (Some ended)))
 
-  by : (o : Option ℕ) → ripe_by policy closed (alone None) ended ≡ o → is_some (later o) ≡ true → later (ripe_by policy closed (alone (Some now)) ended) ≡ later o
+  by : (o : Option ℕ) → ripe_near policy closed None (met_before floor) ended ≡ o → is_some (later o) ≡ true → later (ripe_near policy closed (Some now) true ended) ≡ later o
   by None none h = absurd (false≢true h)
-  by (Some r) some h = ap later (given.ripe_keeps closed ended r now some)
+  by (Some r) some h = ap later (given.ripe_keeps closed ended r now (met_before floor) some)
+
+-- ---- the held version that has so many newer ones
+
+not_held : (p : VersionRow → Bool) (rows : List VersionRow) → find p rows ≡ None → list_any p rows ≡ false
+not_held p [] none = refl
+not_held p (row ∷ rows) none = grind (arith, nat_tests, not_held p rows)
+
+module _ (versions : List VersionRow) (file newer : ℕ) where
+  abbrev its : VersionRow → Bool
+  its row = is_version_of file row && (newer_held versions file row.number == newer)
+
+  pub record HasNewer (row : VersionRow) : Type 0 where
+    pub found : find (is_version file row.number) versions ≡ Some row
+    pub least : newer_held versions file row.number ≡ newer
+
+  pub one_has : (row : VersionRow) → AllLater ArePlaced versions → with_newer versions file newer ≡ Some row → HasNewer row
+  one_has row placed is =
+      let passes = found_passes its versions row is in
+      let own : row.file ≡ file = grind (arith, nat_tests, passes) in
+      let found : find (is_version row.file row.number) versions ≡ Some row = all-found its (IsFound versions) versions row is (all_found versions placed) in
+      record { found = subst (λ f. find (is_version f row.number) versions ≡ Some row) own found; least = grind (arith, nat_tests, passes) }
+
+  -- no version has so many where none is found
+  none_has : (n : ℕ) → with_newer versions file newer ≡ None → has_newer versions file newer n ≡ false
+  none_has n none = by (find (is_version file n) versions) refl where
+    by : (o : Option VersionRow) → find (is_version file n) versions ≡ o → has_newer versions file newer n ≡ false
+    by None unheld = let held = not_held (is_version file n) versions unheld in rw held refl
+    by (Some row) found =
+        let passes = found_passes (is_version file n) versions row found in
+        let number : row.number ≡ n = grind (arith, nat_tests, passes) in
+        let apart : its row ≡ false = all-found (is_version file n) (λ r. its r ≡ false) versions row found (all-not_found its versions none) in
+        grind (arith, nat_tests, passes, number, apart)
+
+  -- and where one is, it alone has
+  one_alone : (row : VersionRow) (n : ℕ) → HasNewer row → has_newer versions file newer n ≡ (n == row.number)
+  one_alone row n has = by (find (is_version file n) versions) refl where
+    itself : list_any (is_version file row.number) versions ≡ true
+    itself = any-found (is_version file row.number) (is_version file row.number) versions row has.found (found_passes (is_version file row.number) versions row has.found)
+
+    by : (o : Option VersionRow) → find (is_version file n) versions ≡ o → has_newer versions file newer n ≡ (n == row.number)
+    by None unheld =
+        let held = not_held (is_version file n) versions unheld in
+        rw held (grind (arith, nat_tests, itself, held))
+    by (Some other) found =
+        let passes = found_passes (is_version file n) versions other found in
+        let number : other.number ≡ n = grind (arith, nat_tests, passes) in
+        let held : list_any (is_version file n) versions ≡ true = any-found (is_version file n) (is_version file n) versions other found passes in
+        let own : find (is_version file other.number) versions ≡ Some other = subst (λ m. find (is_version file m) versions ≡ Some other) (sym number) found in
+        rw held (grind (arith, nat_tests, number, has.least, one_with_newer versions file other row own has.found))
 
 module _ (w : World) (file opened : ℕ) (cells : List Cell) (k : MayGrow w file) where
   abbrev next : ℕ
@@ -34,26 +85,45 @@ module _ (w : World) (file opened : ℕ) (cells : List Cell) (k : MayGrow w file
   abbrev pub appended : World
   appended = with_version w file opened cells
 
+  abbrev floor : ℕ
+  floor = floor_for w file
+
   abbrev own : Bool → Option ℕ
   own live = own_moment w.groups w.files file w.now live
 
   abbrev came : VersionRow → Option ℕ
-  came row = cond (is_open w.handles file row.number) None (gained_moment (cover_of w.groups file) (policy_of w.files file) w.now row.closed row.ended)
+  came row = cond (is_open w.handles file row.number) None (gained_moment (cover_of w.groups file) (policy_of w.files file) floor w.now row.closed row.ended)
 
-  newest_gains : (row : VersionRow) (m : ℕ) → newest_of w.versions file ≡ Some row → IsGained m (ripe_at w file row.number) (came row) (ripe_at appended file row.number)
-  newest_gains row m is = rw (newest_was w file opened cells k row is, newest_is w file opened cells k row is) (by (is_open w.handles file row.number)) where
-    by : (b : Bool) → IsGained m (cond b None (option_and_then (near_moment (cover_of w.groups file) (policy_of w.files file) None row.closed) row.ended)) (cond b None (gained_moment (cover_of w.groups file) (policy_of w.files file) w.now row.closed row.ended)) (cond b None (near_moment (cover_of w.groups file) (policy_of w.files file) (Some w.now) row.closed (unwrap_or row.ended w.now)))
-    by true = record { is_now = refl; wasnt = λ h. refl }
-    by false = gained (cover_of w.groups file) (policy_of w.files file) w.now row.closed m row.ended (policy_is w.files file k.policies)
+  -- the one that gains
+  abbrev gaining : Option VersionRow
+  gaining = with_newer w.versions file (floor - 1)
+
+  has : (row : VersionRow) → gaining ≡ Some row → HasNewer w.versions file (floor - 1) row
+  has row is = one_has w.versions file (floor - 1) row k.versions.placed is
+
+  gains : (row : VersionRow) (m : ℕ) → gaining ≡ Some row → IsGained m (ripe_at w file row.number) (came row) (ripe_at appended file row.number)
+  gains row m is =
+      let h = has row is in
+      rw (gaining_was w file opened cells k row h.found h.least, gaining_is w file opened cells k row h.found h.least) (by (is_open w.handles file row.number)) where
+        by : (b : Bool) → IsGained m (cond b None (option_and_then (near_moment (cover_of w.groups file) (policy_of w.files file) None (met_before floor) row.closed) row.ended)) (cond b None (gained_moment (cover_of w.groups file) (policy_of w.files file) floor w.now row.closed row.ended)) (cond b None (near_moment (cover_of w.groups file) (policy_of w.files file) (Some w.now) true row.closed (unwrap_or row.ended w.now)))
+        by true = record { is_now = refl; wasnt = λ h. refl }
+        by false = gained (cover_of w.groups file) (policy_of w.files file) floor w.now row.closed m row.ended (policy_is w.files file k.policies)
+
+  gains_before : (row : VersionRow) → gaining ≡ Some row → row.number < next
+  gains_before row is = held_before w file opened cells k row (has row is).found
 
   -- ---- the queue
 
-  -- the keys that come, where that is the newest version
+  -- the keys that come, where that is the one that gains
   abbrev comes_with : Bool → Option VersionRow → Key → Bool
-  comes_with live newest j = is_entry file (option_map_or (λ (row : VersionRow). row.number) newest 0) (option_and_then came newest) j || is_entry file next (own live) j
+  comes_with live o j = is_entry file (option_map_or (λ (row : VersionRow). row.number) o 0) (option_and_then came o) j || is_entry file next (own live) j
 
   abbrev touched_with : Option VersionRow → ℕ → ℕ → Bool
-  touched_with newest f n = (f == file) && ((n == next) || option_map_or (λ (row : VersionRow). n == row.number) newest false)
+  touched_with o f n = (f == file) && ((n == next) || option_map_or (λ (row : VersionRow). n == row.number) o false)
+
+  touches_with : (f n : ℕ) (o : Option VersionRow) → gaining ≡ o → touches w file f n ≡ touched_with o f n
+  touches_with f n None is = rw (none_has w.versions file (floor - 1) n is) refl
+  touches_with f n (Some row) is = rw (one_alone w.versions file (floor - 1) row n (has row is)) refl
 
   -- none of them was there
   next_absent : (f n m : ℕ) → (f == file) ≡ true → (n == next) ≡ true → is_moment m (ripe_at w f n) ≡ false
@@ -62,34 +132,41 @@ module _ (w : World) (file opened : ℕ) (cells : List Cell) (k : MayGrow w file
       let number_is : n ≡ next = grind (arith, nat_tests) in
       rw (file_is, number_is, next_before w file opened cells k) refl
 
-  newest_absent : (row : VersionRow) (f n m : ℕ) → newest_of w.versions file ≡ Some row → (f == file) ≡ true → (n == row.number) ≡ true → is_moment m (came row) ≡ true → is_moment m (ripe_at w f n) ≡ false
-  newest_absent row f n m is own its comes =
+  gaining_absent : (row : VersionRow) (f n m : ℕ) → gaining ≡ Some row → (f == file) ≡ true → (n == row.number) ≡ true → is_moment m (came row) ≡ true → is_moment m (ripe_at w f n) ≡ false
+  gaining_absent row f n m is own its comes =
       let file_is : f ≡ file = grind (arith, nat_tests) in
       let number_is : n ≡ row.number = grind (arith, nat_tests) in
-      rw (file_is, number_is) ((newest_gains row m is).wasnt comes)
+      rw (file_is, number_is) ((gains row m is).wasnt comes)
 
-  absent : (live : Bool) (j : Key) (newest : Option VersionRow) → newest_of w.versions file ≡ newest → comes_with live newest j ≡ true → is_moment j.ripe (ripe_at w j.file j.number) ≡ false
+  absent : (live : Bool) (j : Key) (o : Option VersionRow) → gaining ≡ o → comes_with live o j ≡ true → is_moment j.ripe (ripe_at w j.file j.number) ≡ false
   absent live j None e is = grind (arith, nat_tests, and-false, or-false, false≢true, next_absent j.file j.number j.ripe)
-  absent live j (Some row) e is = grind (arith, nat_tests, and-false, or-false, false≢true, next_absent j.file j.number j.ripe, newest_absent row j.file j.number j.ripe e)
+  absent live j (Some row) e is = grind (arith, nat_tests, and-false, or-false, false≢true, next_absent j.file j.number j.ripe, gaining_absent row j.file j.number j.ripe e)
 
   module _ (queue after : List Key) (queued : IsQueued w queue) where
-    -- and the newest one's
-    has_now : (j : Key) (newest : Option VersionRow) → newest_of w.versions file ≡ newest → (comes_with (is_live w file) newest j || has_key j queue) ≡ cond (touched_with newest j.file j.number) (is_moment j.ripe (ripe_at appended j.file j.number)) (has_key j queue)
-    has_now j x1 e = grind (arith, nat_tests, and-false, or-false, next_before w file opened cells k, next_after w file opened cells k, or-false (is_moment j.ripe (own (is_live w file))), newest_before, false≢true, newest_gains)
+    -- and its own
+    has_now : (j : Key) (o : Option VersionRow) → gaining ≡ o → (comes_with (is_live w file) o j || has_key j queue) ≡ cond (touched_with o j.file j.number) (is_moment j.ripe (ripe_at appended j.file j.number)) (has_key j queue)
+    has_now j x1 e = grind (arith, nat_tests, and-false, or-false, next_before w file opened cells k, next_after w file opened cells k, or-false (is_moment j.ripe (own (is_live w file))), gains_before, false≢true, gains)
+
+    has_then : (j : Key) → (comes_with (is_live w file) gaining j || has_key j queue) ≡ cond (touches w file j.file j.number) (is_moment j.ripe (ripe_at appended j.file j.number)) (has_key j queue)
+    has_then j = rw (touches_with j.file j.number gaining refl) (has_now j gaining refl)
 
     -- with the keys that come it has those of all versions
     pub appended_queue : (keys : NewKeys) → keys ≡ new_keys w.groups (rows_of w) file w.now (is_live w file) → ((j : Key) → has_key j after ≡ (is_new keys j || has_key j queue)) → IsQueued appended after
-    appended_queue keys are edited = follows w appended queue after queued (touches w.versions file next) (others_after w file opened cells k) (λ j. edited j ∙ rw are (has_now j (newest_of w.versions file) refl))
+    appended_queue keys are edited = follows w appended queue after queued (touches w file) (others_after w file opened cells k) (λ j. edited j ∙ rw are (has_then j))
+
+    -- none of which was there
+    pub none_there : (keys : NewKeys) → keys ≡ new_keys w.groups (rows_of w) file w.now (is_live w file) → (j : Key) → is_new keys j ≡ true → has_key j queue ≡ false
+    none_there keys are j is = queued j ∙ absent (is_live w file) j gaining refl (rw are at is)
 
 -- ---- keys that are refused
 
-module _ (rows : Rows) (file : ℕ) (live : Bool) (keys : NewKeys) (after : List Key) (tracked : IsTracked rows) (grows : MayGrow (world_of rows) file) (are : keys ≡ new_keys rows.groups rows.files file rows.moment live) where
-  none_there : (j : Key) → is_new keys j ≡ true → has_key j rows.queue ≡ false
-  none_there j is = tracked.queue j ∙ absent (world_of rows) file 0 [] grows live j (newest_of rows.files.versions file) refl (rw are at is)
-
+module _ (keys : NewKeys) (before : List Key) (absent : (j : Key) → is_new keys j ≡ true → has_key j before ≡ false) where
   -- the queue is as it was where they are taken out again, or the former alone came and went
-  pub taken_back : (between : List Key) → ((j : Key) → has_key j between ≡ (is_new keys j || has_key j rows.queue)) → ((j : Key) → has_key j after ≡ (not (is_new keys j) && has_key j between)) → IsQueued (world_of rows) after
-  taken_back between came went j = grind (arith, nat_tests, none_there j, tracked.queue j)
+  pub taken_back : (between after : List Key) → ((j : Key) → has_key j between ≡ (is_new keys j || has_key j before)) → ((j : Key) → has_key j after ≡ (not (is_new keys j) && has_key j between)) → (j : Key) → has_key j after ≡ has_key j before
+  taken_back between after came went j = rw (went j, came j) (by (is_new keys j) (has_key j before) (absent j)) where
+    by : (a b : Bool) → (a ≡ true → b ≡ false) → (not a && (a || b)) ≡ b
+    by true b none = sym (none refl)
+    by false b none = refl
 
-  pub refused : ((j : Key) → (is_entry keys.file keys.newest keys.former j ≡ true → has_key j rows.queue ≡ false) → has_key j after ≡ has_key j rows.queue) → IsQueued (world_of rows) after
-  refused edited j = edited j (λ is. none_there j (rw is refl)) ∙ tracked.queue j
+  pub refused : (after : List Key) → ((j : Key) → (is_entry keys.file keys.gaining keys.former j ≡ true → has_key j before ≡ false) → has_key j after ≡ has_key j before) → (j : Key) → has_key j after ≡ has_key j before
+  refused after edited j = edited j (λ is. absent j (rw is refl))

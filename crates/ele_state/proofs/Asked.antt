@@ -1,8 +1,9 @@
 -- What is told of one version, and of the first that are due.
-use Rattle.ele_state.proofs.Words.{◌≡◌, ℕ, ◌≤◌, false, ◌&&◌, List, cond, Option, Some, None, refl, ap, sym, ◌∙◌, arith, nat_le, slice_get, filter_map, option_map, option_map_or, nat_tests, world_of, IsSound, former_moment, gained_moment, Rows, Key, has_key, is_ripe_by, Held, Stamps, ripe_at, free_moment, newest_of, due_key, first_due, cover_of, GroupRow, stamps_of, World, is_open, policy_of, in_order_of, ripe_at_near, is_due_is, scan_members}
+use Rattle.ele_state.proofs.Words.{AllLater, ArePlaced, VersionRow, is_live, met_before, option_and_then, with_newer, ◌-◌, ◌==◌, ◌≡◌, ℕ, ◌≤◌, false, ◌&&◌, List, cond, Option, Some, None, refl, ap, sym, ◌∙◌, arith, nat_le, slice_get, filter_map, option_map, option_map_or, nat_tests, world_of, IsSound, former_moment, gained_moment, Rows, Key, has_key, is_ripe_by, Held, Stamps, ripe_at, free_moment, newest_of, due_key, first_due, cover_of, GroupRow, stamps_of, World, is_open, policy_of, in_order_of, ripe_at_near, is_due_is, scan_members}
 use Rattle.ele_moment.specs.Last.{last_moment}
 use Rattle.ele_due.specs.InOrder.{in_order}
 use Rattle.ele_due.specs.Key.{if_ripe}
+use Rattle.ele_world.proofs.Newer.{newest_newer}
 use Rattle.ele_world.proofs.RipeAt.{scan_members_at}
 use Rattle.ele_world.specs.Change.{Time, after_change}
 use Rattle.ele_world.specs.Due.{is_due}
@@ -34,13 +35,27 @@ pub due_by_key : (rows : Rows) (file number : ℕ) → IsSound rows → is_due (
 due_by_key rows file number sound = grind (arith, nat_tests, is_due_is (world_of rows) file number sound.formed)
 
 -- the ripe moment of a version, by whether a handle reads it
-pub ripe_told : (rows : Rows) (file number : ℕ) → IsSound rows → ripe_at (world_of rows) file number ≡ cond (is_open rows.files.handles file number) None (free_moment rows.groups rows.files.files rows.files.versions file number)
+pub ripe_told : (rows : Rows) (file number : ℕ) → IsSound rows → ripe_at (world_of rows) file number ≡ cond (is_open rows.files.handles file number) None (free_moment rows.groups rows.files.files (is_live (world_of rows) file) rows.files.versions file number)
 ripe_told rows file number sound = ripe_at_near (world_of rows) file number (in_order_of (world_of rows) sound.formed)
 
--- the moment that the newest version gets, by what is told of it
-abbrev gained_by : List GroupRow → Held → ℕ → ℕ → ℕ → ℕ → Option ℕ → Option ℕ
-gained_by groups h file now number closed ended = cond (is_open h.handles file number) None (gained_moment (cover_of groups file) (policy_of h.files file) now closed ended)
+-- the moment that the version gets that gains, by what is told of it
+abbrev gained_by : List GroupRow → Held → ℕ → ℕ → ℕ → ℕ → ℕ → Option ℕ → Option ℕ
+gained_by groups h file floor now number closed ended = cond (is_open h.handles file number) None (gained_moment (cover_of groups file) (policy_of h.files file) floor now closed ended)
 
-pub former_told : (groups : List GroupRow) (h : Held) (file now : ℕ) (newest : Stamps) → option_map stamps_of (newest_of h.versions file) ≡ Some newest
-    → former_moment groups h file now ≡ gained_by groups h file now newest.number newest.closed newest.ended
-former_told groups h file now newest told = grind (arith, nat_tests)
+pub former_told : (groups : List GroupRow) (h : Held) (file floor now : ℕ) (gaining : Stamps) → option_map stamps_of (with_newer h.versions file (floor - 1)) ≡ Some gaining
+    → former_moment groups h file floor now ≡ gained_by groups h file floor now gaining.number gaining.closed gaining.ended
+former_told groups h file floor now gaining told = by (with_newer h.versions file (floor - 1)) told where
+  by : (o : Option VersionRow) → option_map stamps_of o ≡ Some gaining
+      → option_and_then (λ row. cond (is_open h.handles file row.number) None (gained_moment (cover_of groups file) (policy_of h.files file) floor now row.closed row.ended)) o ≡ gained_by groups h file floor now gaining.number gaining.closed gaining.ended
+  by None told = absurd cc
+  by (Some row) told = let same : stamps_of row ≡ gaining = cc in rw (← same) refl
+
+-- with one newer version fewer a floor isn't met
+pub met_alone : (floor : ℕ) → (floor == 0) ≡ met_before floor
+met_alone floor = grind (arith, nat_tests)
+
+-- where no floor is in force, or one version is enough, the newest gains
+pub newest_gains : (versions : List VersionRow) (file floor : ℕ) (newest : Option Stamps) → AllLater ArePlaced versions → option_map stamps_of (newest_of versions file) ≡ newest → floor ≤ 1 → newest ≡ option_map stamps_of (with_newer versions file (floor - 1))
+newest_gains versions file floor newest placed is few =
+    let none : floor - 1 ≡ 0 = omega (arith, few) in
+    rw none (sym is ∙ ap (option_map stamps_of) (newest_newer versions file placed))

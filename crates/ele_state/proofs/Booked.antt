@@ -16,8 +16,8 @@ few rows sound k =
       bytes = omega (arith, within_bytes w k, whole_bytes w formed bounds);
     })
 
-pub few_blocks : (rows : Rows) → IsTracked rows → (k : Kind) → (sums_of rows.book k).blocks ≤ blocks_of rows.files
-few_blocks rows tracked k = rw (tracked.book k) (within_blocks (held_world rows.files) k)
+pub few_blocks : (rows : Rows) → IsBooked rows.files rows.book → (k : Kind) → (sums_of rows.book k).blocks ≤ blocks_of rows.files
+few_blocks rows is k = rw (is k) (within_blocks (held_world rows.files) k)
 
 pub fits : (rows : Rows) → IsSound rows → (k : Kind) → Fits (record (sums_of rows.book k) { blocks = 0 })
 fits rows sound k = grind (arith, nat_tests, few rows sound k)
@@ -78,7 +78,7 @@ fitted_is h handle file size by = rw by refl
 -- ---- a file is made
 
 pub made_fits : (rows : Rows) (k : Kind) (before : ℕ) → IsSound rows → before ≡ blocks_of rows.files → before < 2 ^ 64 → Fits (plus (sums_of rows.book k) (record { files = 1; versions = 1; bytes = 0; blocks = 0 }))
-made_fits rows k before sound is bound = grind (arith, nat_tests, few rows sound k, few_blocks rows sound.tracked k)
+made_fits rows k before sound is bound = grind (arith, nat_tests, few rows sound k, few_blocks rows sound.tracked.book k)
 
 -- a new file, its name aside, is all that its kind has more
 pub made_book : (rows : Rows) (directory : ℕ) (name : List ℕ) (policy : Policy) (now : Held) (book : Book) → IsSound rows → now ≡ rows_after (world_of rows) rows.files (MakeFile directory name (rows.made.files + 1) policy ∷ []) → ((k : Kind) → sums_of book k ≡ plus (sums_of rows.book k) (only_at (kind_of policy) (record { files = 1; versions = 1; bytes = 0; blocks = 0 }) k)) → IsBooked now book

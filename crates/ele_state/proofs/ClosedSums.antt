@@ -1,5 +1,5 @@
 -- What the book of usage has, once a handle is closed.
-use Rattle.ele_state.proofs.Words.{None, only_at, left_by, opening_by, with_rows, Closed, Close, DropIdle, IsBooked, after_change, step, nat_tests, ◌≡◌, ℕ, ◌+◌, ◌-◌, ◌≤◌, ◌<◌, ◌^◌, cond, List, length, Ok, refl, sym, arith, content_of, longest_content, world_of, IsSound, IsRoomy, IsTracked, held_world, blocks_of, one_version, IsOwed, Rows, Held, cells_of_draft, insert_before, update_first, DraftRow, all-found, length-update_first, length-insert_before, Kind, Book, sums_of, nothing, plus, Fits, VersionRow, ended_at, with_end, is_file_of, bytes_in, Drafts, ChangesOnly, Draft, World, reads_by, is_version, is_version_after, next_of, versions-finished, kinds-numbered, files-numbered, sum_by-insert_before, sum_by-update_same, Bool, Usage, usage_of, subst, ap, ◌∙◌, IsQueued, HasParts}
+use Rattle.ele_state.proofs.Words.{None, only_at, left_by, opening_by, with_rows, Closed, Close, DropIdle, IsBooked, after_change, step, nat_tests, ◌≡◌, ℕ, ◌+◌, ◌-◌, ◌≤◌, ◌<◌, ◌^◌, cond, List, length, Ok, refl, sym, arith, content_of, longest_content, world_of, IsSound, IsRoomy, held_world, blocks_of, one_version, IsOwed, Rows, Held, cells_of_draft, insert_before, update_first, DraftRow, all-found, length-update_first, length-insert_before, Kind, Book, sums_of, nothing, plus, Fits, VersionRow, ended_at, with_end, is_file_of, bytes_in, Drafts, ChangesOnly, Draft, World, reads_by, is_version, is_version_after, next_of, versions-finished, kinds-numbered, files-numbered, sum_by-insert_before, sum_by-update_same, Bool, Usage, usage_of, subst, ap, ◌∙◌, IsQueued, HasParts}
 use Rattle.ele_state.proofs.Booked.{few_blocks, owed, drafts_owed, and_nothing, size, bytes_are}
 use Rattle.ele_state.proofs.ClosedSteps.{leaves, left_keeps, left_queue, left_step, left_world}
 use Rattle.ele_world.proofs.Others.{other_drafts}
@@ -35,10 +35,10 @@ module _ (rows : Rows) (file : ℕ) (new : VersionRow) (drafts : List DraftRow) 
   more_bytes = omega (arith, bytes_are now.versions, bytes_are w.versions, sum_by-insert_before size (is_version_after file next) new (with_end w file), sum_by-update_same size (is_version file (next - 1)) (ended_at w.now) w.versions (λ row. refl))
 
   -- the blocks of the file are owed once the book has the new version
-  pub version_owed : IsTracked rows → (after : Held) (book : Book) (bytes before : ℕ) → after ≡ now → bytes ≡ length (content_of new.cells) → before ≡ blocks_of rows.files → HasAdded after file rows.book book bytes → IsOwed after book file before
-  version_owed tracked after book bytes before is long same added =
+  pub version_owed : IsBooked rows.files rows.book → (after : Held) (book : Book) (bytes before : ℕ) → after ≡ now → bytes ≡ length (content_of new.cells) → before ≡ blocks_of rows.files → HasAdded after file rows.book book bytes → IsOwed after book file before
+  version_owed booked after book bytes before is long same added =
       rw (is, same) (owed file rows.files now book 1 (length (content_of new.cells)) 0 0 changes (omega (arith, more_versions)) (omega (arith, more_bytes))
-      (λ k. ends (sums_of book k) (sums_of rows.book k) (usage_of (held_world rows.files) k) (is_file_of now.files k file) (length (content_of new.cells)) (rw (is, long) at added k) (tracked.book k)))
+      (λ k. ends (sums_of book k) (sums_of rows.book k) (usage_of (held_world rows.files) k) (is_file_of now.files k file) (length (content_of new.cells)) (rw (is, long) at added k) (booked k)))
 
 -- ---- a handle whose draft stays, or goes without a trace
 
@@ -60,8 +60,8 @@ module _ (rows : Rows) (handle file : ℕ) (sound : IsSound rows) (reads : reads
 pub draft_short : (rows : Rows) → IsSound rows → (file bytes : ℕ) → bytes ≡ length (content_of (cells_of_draft rows.files file)) → bytes ≤ longest_content
 draft_short rows sound file bytes is = grind (arith, nat_tests, all-found, sound.formed.holds Drafts)
 
-pub version_fits : (rows : Rows) → IsTracked rows → IsRoomy rows → (bytes before : ℕ) → bytes ≤ longest_content → before ≡ blocks_of rows.files → before < 2 ^ 64 → (k : Kind) → Fits (plus (sums_of rows.book k) (one_version bytes))
-version_fits rows tracked roomy bytes before short is bound k = grind (arith, nat_tests, roomy.sums k, few_blocks rows tracked k)
+pub version_fits : (rows : Rows) → IsBooked rows.files rows.book → IsRoomy rows → (bytes before : ℕ) → bytes ≤ longest_content → before ≡ blocks_of rows.files → before < 2 ^ 64 → (k : Kind) → Fits (plus (sums_of rows.book k) (one_version bytes))
+version_fits rows booked roomy bytes before short is bound k = grind (arith, nat_tests, roomy.sums k, few_blocks rows booked k)
 
 pub added_fits : (rows : Rows) (kind : Kind) (book : Book) (bytes : ℕ) → IsRoomy rows → bytes ≤ longest_content → ((k : Kind) → sums_of book k ≡ plus (sums_of rows.book k) (only_at kind (one_version bytes) k)) → (k : Kind) → Fits (record (sums_of book k) { blocks = 0 })
 added_fits rows kind book bytes roomy short added k = grind (arith, nat_tests, roomy.sums k, added k)

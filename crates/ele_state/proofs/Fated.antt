@@ -1,10 +1,12 @@
 -- What becomes of a held version: by the groups that have its file, and by what its policy alone makes of it.
-use Rattle.ele_state.proofs.Words.{◌≡◌, ℕ, ◌<◌, ◌≤◌, ◌&&◌, Bool, true, false, List, [], ◌∷◌, Option, Some, None, IfSome, refl, ap, sym, subst, ◌∙◌, arith, nat_tests, nat_le, find, slice_get, take, length, list_any, option_map, option_map_or, AllByRecursion, AllLater, all-found, found_passes, bytes_eq-Decides, IsSound, IsTold, Rows, world_of, Held, Policy, GroupRow, Stamps, VersionRow, Versions, HasParts, World, alone, Cover, MarkRow, cover_of, ripe_past, option_and_then, file_view, is_open, is_version, policy_of, ripe_at, stamps_of, in_order_of, ripe_at_is, ripe_at_near}
+use Rattle.ele_state.proofs.Words.{IsLawful, floor_in, is_live, newer_held, ◌≡◌, ℕ, ◌<◌, ◌≤◌, ◌&&◌, Bool, true, false, List, [], ◌∷◌, Option, Some, None, IfSome, refl, ap, sym, subst, ◌∙◌, arith, nat_tests, nat_le, find, slice_get, take, length, list_any, option_map, option_map_or, AllByRecursion, AllLater, all-found, found_passes, bytes_eq-Decides, IsSound, IsTold, Rows, world_of, Held, Policy, GroupRow, Stamps, VersionRow, Versions, HasParts, World, Cover, MarkRow, cover_of, ripe_past, option_and_then, file_view, is_open, is_version, policy_of, ripe_at, stamps_of, in_order_of, ripe_at_is, ripe_at_near}
 use Rattle.ele_world.proofs.Basics.{zero, suc}
 use Rattle.ele_world.proofs.Words.{IsVersion, Now}
 use Rattle.std.specs.Str.{bytes_eq}
 use Rattle.ele_policy.specs.Ladder.{shares}
-use Rattle.ele_policy.specs.Ripe.{ripe_by}
+use Rattle.ele_moment.specs.Last.{last_moment}
+use Rattle.ele_policy.specs.Ripe.{alone, is_due_by, ripe_by, ripe_near}
+use Rattle.ele_policy.specs.declared.policy.Policy.TheVariants.{One, All, Safe, Landmarks}
 use Rattle.ele_groups.specs.Rows.{row_of}
 use Rattle.ele_state.specs.Fated.{IsFreeCause, IsFreeFate, MarksBy, closing_of}
 use Rattle.ele_world.proofs.Fates.{displaced_by, newer_found, protected_told}
@@ -123,12 +125,15 @@ module _ (w : World) (k : HasParts w) (row : VersionRow) where
     abbrev cover : Cover
     cover = cover_of w.groups row.file row.closed (Some ended)
 
-    ripe_told : ripe_of w row ≡ option_and_then (ripe_past cover) (ripe_by policy row.closed (alone (closing_of (option_map stamps_of next_row))) ended)
+    abbrev met : Bool
+    met = nat_le (floor_in (Some policy) (is_live w row.file)) (newer_held w.versions row.file row.number)
+
+    ripe_told : ripe_of w row ≡ option_and_then (ripe_past cover) (ripe_near policy row.closed (closing_of (option_map stamps_of next_row)) met ended)
     ripe_told =
         let own : ripe_at w row.file row.number ≡ ripe_of w row = ripe_at_is w row.file row.number ∙ rw found refl in
-        let near : ripe_at w row.file row.number ≡ option_and_then (ripe_past cover) (ripe_by policy row.closed (alone (option_map (λ (r : VersionRow). r.closed) next_row)) ended) =
+        let near : ripe_at w row.file row.number ≡ option_and_then (ripe_past cover) (ripe_near policy row.closed (option_map (λ (r : VersionRow). r.closed) next_row) met ended) =
         ripe_at_near w row.file row.number (in_order_of w k) ∙ grind (arith, nat_tests, found, ends, unread, filed) in
-        sym own ∙ near ∙ ap (λ (o : Option ℕ). option_and_then (ripe_past cover) (ripe_by policy row.closed (alone o) ended)) (closing_told next_row)
+        sym own ∙ near ∙ ap (λ (o : Option ℕ). option_and_then (ripe_past cover) (ripe_near policy row.closed o met ended)) (closing_told next_row)
 
     unprotected : is_protected (file_view w row.file) row w.now ≡ false
     unprotected = protected_told w row w.now ∙ grind (arith, nat_tests, unread, unmarked)
@@ -142,7 +147,7 @@ module _ (w : World) (k : HasParts w) (row : VersionRow) where
 
     cause_is : (since : ℕ) (cause : Cause) → IsFreeCause policy row.closed ended (option_map stamps_of next_row) since cause → IsCause (file_view w row.file) row since cause
     cause_is since AtOnce is = filed ∙ ap Some is
-    cause_is since (Age seconds) is = filed ∙ ap Some is
+    cause_is since (Age seconds) is = record { floor = is.floor; safe = filed ∙ ap Some is.safe }
     cause_is since (Displaced level by) is =
         let next = stamps_found next_row is.stamps is.next_is in
         let found : find (is_newer row) (file_view w row.file).rows ≡ Some next.0 = sym (newer_found w row) ∙ next.1 in
@@ -158,12 +163,12 @@ module _ (w : World) (k : HasParts w) (row : VersionRow) where
           by_is = displaced_by (file_view w row.file).rows row next.0 is.rung found same ∙ ap Some number;
         }
 
-    pub free_is : (next : Option Stamps) (fate : Fate) → next ≡ option_map stamps_of next_row → IsFreeFate cover policy row.closed ended next w.now fate → IsFate w row fate
+    pub free_is : (next : Option Stamps) (fate : Fate) → next ≡ option_map stamps_of next_row → IsFreeFate cover policy row.closed ended next met w.now fate → IsFate w row fate
     free_is next Current next_is is = absurd is
     free_is next Open next_is is = absurd is
     free_is next (Marked name mark) next_is is = absurd is
     free_is next (Kept until level) next_is is =
-        let own = let P : Option Stamps → Type 0 = λ n. IsFreeFate cover policy row.closed ended n w.now (Kept until level) in subst P next_is is in
+        let own = let P : Option Stamps → Type 0 = λ n. IsFreeFate cover policy row.closed ended n met w.now (Kept until level) in subst P next_is is in
         let ripe : until ≡ ripe_of w row = own.0 ∙ sym ripe_told in
         record {
           has_ended = rw ends refl;
@@ -173,13 +178,32 @@ module _ (w : World) (k : HasParts w) (row : VersionRow) where
           level_is = own.2 ∙ rw (filed, ends) refl;
         }
     free_is next (Due since cause) next_is is =
-        let own = let P : Option Stamps → Type 0 = λ n. IsFreeFate cover policy row.closed ended n w.now (Due since cause) in subst P next_is is in
+        let own = let P : Option Stamps → Type 0 = λ n. IsFreeFate cover policy row.closed ended n met w.now (Due since cause) in subst P next_is is in
         let ripe : ripe_of w row ≡ Some since = ripe_told ∙ own.0 in
         record {
           due = due_told ∙ ap (λ (o : Option ℕ). option_map_or (λ m. nat_le m w.now) o false) ripe ∙ own.1;
           ripe = ripe;
           why = cause_is since cause own.2;
         }
+
+-- ---- why it is due
+
+near_alone : (policy : Policy) (closed : ℕ) (nearest : Option ℕ) (met : Bool) (ended r : ℕ) → ripe_near policy closed nearest met ended ≡ Some r → ripe_by policy closed (alone nearest) ended ≡ Some r
+near_alone One closed nearest met ended r is = is
+near_alone All closed nearest met ended r is = is
+near_alone (Safe interval floor) closed nearest true ended r is = is
+near_alone (Safe interval floor) closed nearest false ended r is = absurd cc
+near_alone (Landmarks rungs) closed nearest met ended r is = is
+
+-- what ripens is due from then on beside its nearest newer one alone
+pub due_alone : (cover : Cover) (policy : Policy) (closed : ℕ) (nearest : Option ℕ) (met : Bool) (ended since : ℕ) → IsLawful policy → since ≤ last_moment → option_and_then (ripe_past cover) (ripe_near policy closed nearest met ended) ≡ Some since
+    → is_due_by policy closed (alone nearest) ended since ≡ true
+due_alone cover policy closed nearest met ended since given fits is = by (ripe_near policy closed nearest met ended) refl is where
+  by : (o : Option ℕ) → ripe_near policy closed nearest met ended ≡ o → option_and_then (ripe_past cover) o ≡ Some since → is_due_by policy closed (alone nearest) ended since ≡ true
+  by None none h = absurd cc
+  by (Some r) some h = given.due_from closed ended since (alone nearest) fits ∙ rw (near_alone policy closed nearest met ended r some) (past cover r h) where
+    past : (c : Cover) (r : ℕ) → ripe_past c r ≡ Some since → nat_le r since ≡ true
+    past x0 r h = grind (arith, nat_tests, h)
 
 -- ---- by what is told of it
 
@@ -227,14 +251,15 @@ module _ (rows : Rows) (file : ℕ) (stamps : Stamps) (told : IsTold rows.files 
 
       pub fate_free : IsSound rows → is_marked rows.groups file stamps.closed (Some ended) rows.moment ≡ false → (policy : Policy) → policy_of rows.files.files file ≡ Some policy
           → (next : Option Stamps) → next ≡ option_map stamps_of (find (is_newer_of file stamps.number) rows.files.versions)
-          → (fate : Fate) → IsFreeFate (cover_of rows.groups file stamps.closed (Some ended)) policy stamps.closed ended next rows.moment fate → FateIs fate
-      fate_free sound unmarked policy filed next next_is fate is =
+          → (met : Bool) → met ≡ nat_le (floor_in (Some policy) (is_live (world_of rows) file)) (newer_held rows.files.versions file stamps.number)
+          → (fate : Fate) → IsFreeFate (cover_of rows.groups file stamps.closed (Some ended)) policy stamps.closed ended next met rows.moment fate → FateIs fate
+      fate_free sound unmarked policy filed next next_is met met_is fate is =
           let its = row_told rows.files file stamps told in
           let number : its.row.number ≡ stamps.number = ap (λ (s : Stamps). s.number) its.told in
           let closed : its.row.closed ≡ stamps.closed = ap (λ (s : Stamps). s.closed) its.told in
           let ended_is : its.row.ended ≡ stamps.ended = ap (λ (s : Stamps). s.ended) its.told in
           let w = world_of rows in
-          record { row = its.row; held = its.found; is = free_is w sound.formed its.row (rw (its.filed, number) its.found) policy ended (its_end its) (rw (its.filed, number) unread) (rw (its.filed, closed, ended_is, ends) unmarked) (rw its.filed filed) next fate (rw (its.filed, number) next_is) (rw (its.filed, closed) is) }
+          record { row = its.row; held = its.found; is = free_is w sound.formed its.row (rw (its.filed, number) its.found) policy ended (its_end its) (rw (its.filed, number) unread) (rw (its.filed, closed, ended_is, ends) unmarked) (rw its.filed filed) next fate (rw (its.filed, number) next_is) (rw (its.filed, number, closed, ← met_is) is) }
 
       pub fate_ungoverned : IsSound rows → policy_of rows.files.files file ≡ None → ⊥
       fate_ungoverned sound none =

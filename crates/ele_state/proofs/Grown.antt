@@ -1,6 +1,6 @@
 -- What a file's next version leaves, whatever its content comes from.
-use Rattle.ele_state.proofs.Words.{◌≡◌, ℕ, ◌+◌, ◌<◌, ◌||◌, List, arith, refl, ◌∙◌, ap, Bool, Book, HasSource, Held, IsOwed, IsOwedBy, IsQueued, Kind, Policy, Some, kind_of, one_version, only_at, plus, policy_of, sums_of, IsReady, IsRoomy, IsSound, IsSource, IsTracked, Key, MayGrow, NewKeys, Rows, Source, World, after_changes, appending, blocks_of, cells_of_draft, cells_of_version, content_of, has_key, is_draft, is_live, is_new, length, may_grow, new_keys, next_of, next_version, remove_first, rows_after, source_cells, with_rows, world_of, drafts-removed}
-use Rattle.ele_state.proofs.Appended.{appended_queue}
+use Rattle.ele_state.proofs.Words.{IsBooked, NoMemory, OnErr, OnOk, Result, Ok, Err, subst, sym, true, false, [], ◌≡◌, ℕ, ◌+◌, ◌<◌, ◌||◌, List, arith, refl, ◌∙◌, ap, Bool, Book, HasSource, Held, IsOwed, IsOwedBy, IsQueued, Kind, Policy, Some, kind_of, one_version, only_at, plus, policy_of, sums_of, IsReady, IsRoomy, IsSound, IsSource, IsTracked, Key, MayGrow, NewKeys, Rows, Source, World, after_changes, appending, blocks_of, cells_of_draft, cells_of_version, content_of, has_key, is_draft, is_live, is_new, length, may_grow, new_keys, next_of, next_version, remove_first, rows_after, source_cells, with_rows, world_of, drafts-removed}
+use Rattle.ele_state.proofs.Appended.{appended_queue, none_there}
 use Rattle.ele_state.proofs.Booked.{few, of_kind, owed_by}
 use Rattle.ele_state.proofs.Bounded.{rows_few, versions_few}
 use Rattle.ele_state.proofs.ClosedSteps.{finished_queue, numbered, past}
@@ -19,7 +19,7 @@ ready rows file source sound is = record { is = is; few = omega (arith, rows_few
 
 -- ---- what follows
 
-module _ (rows : Rows) (file : ℕ) (tracked : IsTracked rows) where
+module _ (rows : Rows) (file : ℕ) where
   abbrev w : World
   w = world_of rows
 
@@ -30,27 +30,47 @@ module _ (rows : Rows) (file : ℕ) (tracked : IsTracked rows) where
   grows (Draft handle opened) there has = may_grow w file has.grows there
   grows (Version number) there has = has.grows
 
-  pub grown_queue : (source : Source) (after : List Key) (live : Bool) (keys : NewKeys) → HasSource rows file source → live ≡ is_live w file → keys ≡ new_keys rows.groups h file rows.moment live → ((j : Key) → has_key j after ≡ (is_new keys j || has_key j rows.queue))
-      → IsQueued (after_changes w (appending h rows.moment file source)) after
-  grown_queue (Draft handle opened) after live keys has lives are = finished_queue w handle file has.ready.is.reads opened has.ready.is.changed has.grows rows.queue after live keys tracked.queue lives are
-  grown_queue (Version number) after live keys has lives are = appended_queue w file rows.moment (cells_of_version h file number) has.grows rows.queue after tracked.queue keys (are ∙ ap (new_keys rows.groups h file rows.moment) lives)
+  pub none_new : IsTracked rows → (source : Source) (live : Bool) (keys : NewKeys) → 0 < next_of h.files file → HasSource rows file source → live ≡ is_live w file → keys ≡ new_keys rows.groups h file rows.moment live → (j : Key) → is_new keys j ≡ true → has_key j rows.queue ≡ false
+  none_new tracked source live keys there has lives are = none_there w file 0 [] (grows source there has) rows.queue [] tracked.queue keys (are ∙ ap (new_keys rows.groups h file rows.moment) lives)
 
-  grown_owed : (source : Source) (after : Held) (book : Book) (bytes before : ℕ) → after ≡ rows_after w h (appending h rows.moment file source) → bytes ≡ length (content_of (source_cells h file source)) → before ≡ blocks_of h → HasAdded after file rows.book book bytes → IsOwed after book file before
-  grown_owed (Draft handle opened) = version_owed rows file (next_version w file opened (cells_of_draft h file)) (remove_first (is_draft file) h.drafts) (remove_first (is_handle handle) h.handles) refl (drafts-removed file h.drafts) tracked
-  grown_owed (Version number) = version_owed rows file (next_version w file rows.moment (cells_of_version h file number)) h.drafts h.handles refl refl tracked
+  pub grown_queue : IsTracked rows → (source : Source) (after : List Key) (live : Bool) (keys : NewKeys) → HasSource rows file source → live ≡ is_live w file → keys ≡ new_keys rows.groups h file rows.moment live → ((j : Key) → has_key j after ≡ (is_new keys j || has_key j rows.queue))
+      → IsQueued (after_changes w (appending h rows.moment file source)) after
+  grown_queue tracked (Draft handle opened) after live keys has lives are = finished_queue w handle file has.ready.is.reads opened has.ready.is.changed has.grows rows.queue after live keys tracked.queue lives are
+  grown_queue tracked (Version number) after live keys has lives are = appended_queue w file rows.moment (cells_of_version h file number) has.grows rows.queue after tracked.queue keys (are ∙ ap (new_keys rows.groups h file rows.moment) lives)
+
+  grown_owed : IsBooked h rows.book → (source : Source) (after : Held) (book : Book) (bytes before : ℕ) → after ≡ rows_after w h (appending h rows.moment file source) → bytes ≡ length (content_of (source_cells h file source)) → before ≡ blocks_of h → HasAdded after file rows.book book bytes → IsOwed after book file before
+  grown_owed booked (Draft handle opened) = version_owed rows file (next_version w file opened (cells_of_draft h file)) (remove_first (is_draft file) h.drafts) (remove_first (is_handle handle) h.handles) refl (drafts-removed file h.drafts) booked
+  grown_owed booked (Version number) = version_owed rows file (next_version w file rows.moment (cells_of_version h file number)) h.drafts h.handles refl refl booked
 
   grown_policy : (source : Source) (after : Held) → after ≡ rows_after w h (appending h rows.moment file source) → policy_of after.files file ≡ policy_of h.files file
   grown_policy (Draft handle opened) after is = rw is (policies-numbered h.files file file)
   grown_policy (Version number) after is = rw is (policies-numbered h.files file file)
 
   -- so it is to the kind of its policy, once that has the version
-  pub grown_owed_by : (source : Source) (after : Held) (book : Book) (bytes before : ℕ) (policy : Policy) → policy_of h.files file ≡ Some policy → after ≡ rows_after w h (appending h rows.moment file source) → bytes ≡ length (content_of (source_cells h file source)) → before ≡ blocks_of h
+  pub grown_owed_by : IsBooked h rows.book → (source : Source) (after : Held) (book : Book) (bytes before : ℕ) (policy : Policy) → policy_of h.files file ≡ Some policy → after ≡ rows_after w h (appending h rows.moment file source) → bytes ≡ length (content_of (source_cells h file source)) → before ≡ blocks_of h
       → ((k : Kind) → sums_of book k ≡ plus (sums_of rows.book k) (only_at (kind_of policy) (one_version bytes) k)) → IsOwedBy after book (kind_of policy) before
-  grown_owed_by source after book bytes before policy of is long same added =
+  grown_owed_by booked source after book bytes before policy of is long same added =
       let own = grown_policy source after is ∙ of in
-      owed_by after book file before policy own (grown_owed source after book bytes before is long same (λ k. added k ∙ ap (plus (sums_of rows.book k)) (of_kind after file policy (one_version bytes) k own)))
+      owed_by after book file before policy own (grown_owed booked source after book bytes before is long same (λ k. added k ∙ ap (plus (sums_of rows.book k)) (of_kind after file policy (one_version bytes) k own)))
 
   -- the world with the files that have it, once it is counted
   pub grown_world : (source : Source) (after : Held) → after ≡ rows_after w h (appending h rows.moment file source) → with_rows (record w { made = record w.made { versions = w.made.versions + 1 } }) after ≡ after_changes w (appending h rows.moment file source)
   grown_world (Draft handle opened) after is = rw is refl
   grown_world (Version number) after is = rw is refl
+
+-- ---- once all has followed, or been refused
+
+module _ (rows : Rows) (file : ℕ) (tracked : IsTracked rows) (source : Source) (live : Bool) (keys : NewKeys) (has : HasSource rows file source) (lives : live ≡ is_live (world_of rows) file) (are : keys ≡ new_keys rows.groups rows.files file rows.moment live) where
+  pub grown_tracked : (now : Rows) (result : Result ℕ NoMemory) → OnOk result (world_of now ≡ after_changes (world_of rows) (appending rows.files rows.moment file source)) → OnErr result (now ≡ record rows { queue = now.queue; meter = now.meter })
+      → OnOk result ((j : Key) → has_key j now.queue ≡ (is_new keys j || has_key j rows.queue)) → OnErr result ((j : Key) → has_key j now.queue ≡ has_key j rows.queue)
+      → IsBooked now.files now.book → now.limits ≡ rows.limits → IsTracked now
+  grown_tracked now (Ok number) ok err come same booked limits = record {
+    queue = subst (λ (v : World). IsQueued v now.queue) (sym ok) (grown_queue rows file tracked source now.queue live keys has lives are come);
+    book = booked;
+    bounds = rw limits tracked.bounds;
+  }
+  grown_tracked now (Err refused) ok err come same booked limits = record {
+    queue = subst (λ (v : World). IsQueued v now.queue) (sym (ap world_of err)) (λ j. same j ∙ tracked.queue j);
+    book = booked;
+    bounds = rw limits tracked.bounds;
+  }

@@ -1,5 +1,7 @@
 -- The keys of versions that were current at marks: which keys these are, and that the queue follows where marks come and go.
-use Rattle.ele_state.proofs.Words.{MakeGroup, append-nil, filter, filter-append, ◌≡◌, ℕ, ◌+◌, ◌<◌, ◌==◌, ◌++◌, length, get_or, take, and-false, and_assoc, append_assoc, Bool, true, false, cond, not, ◌&&◌, ◌||◌, List, ◌∷◌, Option, Some, None, refl, ap, sym, ◌∙◌, arith, find, filter_map, list_any, cons_option, AllByRecursion, option_map, option_map_or, or-false, take_more, filter_map-append, nat_tests, IsSound, Rows, world_of, IsQueued, Asked, Joined, Marked, Standing, Without, MarkRow, cover_asked, key_at, key_unless, keys_at, moment_asked, Key, has_key, is_key, Held, rows_of, all-found, found_passes, AllLater, is_moment, moment_under, covers_moment, had_life, lives_at, stamps_of, ArePlaced, HasParts, World, is_open, is_version, policy_of, GroupRow, Stamps, VersionRow, AddMark, AddMember, DropGroup, RemoveMark, RemoveMember, after_change, drop_moves, leave_moves, mark_moves, marks_of, member_moves, members_of, unmark_moves, MarksMove, is_covered, is_touched, in_order_of, ripe_at, ripe_at_near, any-filter_map, placed_of, [], option_and_then}
+use Rattle.ele_state.proofs.Words.{floor_in, is_live, MakeGroup, append-nil, filter, filter-append, ◌≡◌, ℕ, ◌+◌, ◌<◌, ◌==◌, ◌++◌, length, get_or, take, and-false, and_assoc, append_assoc, Bool, true, false, cond, not, ◌&&◌, ◌||◌, List, ◌∷◌, Option, Some, None, refl, ap, sym, ◌∙◌, arith, find, filter_map, list_any, cons_option, AllByRecursion, option_map, option_map_or, take_more, filter_map-append, nat_tests, IsSound, Rows, world_of, IsQueued, Asked, Joined, Marked, Standing, Without, MarkRow, cover_asked, key_at, key_unless, keys_at, moment_asked, Key, has_key, is_key, Held, rows_of, all-found, found_passes, AllLater, is_moment, moment_under, covers_moment, had_life, lives_at, stamps_of, ArePlaced, HasParts, World, is_open, is_version, policy_of, GroupRow, Stamps, VersionRow, AddMark, AddMember, DropGroup, RemoveMark, RemoveMember, after_change, drop_moves, leave_moves, mark_moves, marks_of, member_moves, members_of, unmark_moves, MarksMove, is_covered, is_touched, in_order_of, ripe_at, ripe_at_near, any-filter_map, placed_of, [], option_and_then}
+use Rattle.std.proofs.lemmas.Grind.{flat_map-append}
+use Rattle.std.specs.List.{flat_map}
 use Rattle.ele_world.specs.GroupRows.{is_member, new_group, has_member, is_marked_at}
 use Rattle.ele_world.proofs.SlotPlaces.{list_any-flat_map}
 
@@ -34,6 +36,9 @@ pub one_more : {X : Type 0} (h : X → Option Key) (before : List Key) (xs : Lis
 one_more h before xs i x lt is =
     ap (λ t. before ++ filter_map h t) (take_more xs i x lt) ∙ rw (← is, filter_map-append h (take i xs) (x ∷ [])) (sym (append_assoc before (filter_map h (take i xs)) (cons_option (h x) [])))
 
+pub keys_more : {X : Type 0} (f : X → List Key) (xs : List X) (i : ℕ) (x : X) → i < length xs → x ≡ get_or xs i x → flat_map f (take (i + 1) xs) ≡ flat_map f (take i xs) ++ f x
+keys_more f xs i x lt is = ap (flat_map f) (take_more xs i x lt) ∙ rw (← is, flat_map-append f (take i xs) (x ∷ [])) (ap (λ t. flat_map f (take i xs) ++ t) (append-nil (f x)))
+
 any-same : {X : Type 0} (p q : X → Bool) (xs : List X) → ((x : X) → p x ≡ q x) → list_any p xs ≡ list_any q xs
 any-same p q [] same = refl
 any-same p q (x ∷ xs) same = rw (same x, any-same p q xs same) refl
@@ -50,45 +55,45 @@ any-never (x ∷ xs) = any-never xs
 -- ---- the keys
 
 -- the key's moment, by what is told of its version
-pub key_told : (one other : Asked) (groups : List GroupRow) (h : Held) (file mark : ℕ) (stamps : Stamps) → option_map stamps_of (find (had_life file mark) h.versions) ≡ Some stamps
-    → key_at one other groups h file mark ≡ key_unless file stamps.number (moment_asked one groups h file stamps.number stamps.closed stamps.ended) (moment_asked other groups h file stamps.number stamps.closed stamps.ended)
-key_told one other groups h file mark stamps = by (find (had_life file mark) h.versions) where
+pub key_told : (one other : Asked) (groups : List GroupRow) (h : Held) (live : Bool) (file mark : ℕ) (stamps : Stamps) → option_map stamps_of (find (had_life file mark) h.versions) ≡ Some stamps
+    → key_at one other groups h live file mark ≡ key_unless file stamps.number (moment_asked one groups h live file stamps.number stamps.closed stamps.ended) (moment_asked other groups h live file stamps.number stamps.closed stamps.ended)
+key_told one other groups h live file mark stamps = by (find (had_life file mark) h.versions) where
   by : (o : Option VersionRow) → option_map stamps_of o ≡ Some stamps
-      → option_and_then (λ row. key_unless file row.number (moment_asked one groups h file row.number row.closed row.ended) (moment_asked other groups h file row.number row.closed row.ended)) o
-      ≡ key_unless file stamps.number (moment_asked one groups h file stamps.number stamps.closed stamps.ended) (moment_asked other groups h file stamps.number stamps.closed stamps.ended)
+      → option_and_then (λ row. key_unless file row.number (moment_asked one groups h live file row.number row.closed row.ended) (moment_asked other groups h live file row.number row.closed row.ended)) o
+      ≡ key_unless file stamps.number (moment_asked one groups h live file stamps.number stamps.closed stamps.ended) (moment_asked other groups h live file stamps.number stamps.closed stamps.ended)
   by None told = absurd cc
   by (Some row) told = let same : stamps_of row ≡ stamps = cc in rw (← same) refl
 
 -- there is none where no version was current then
-pub key_untold : (one other : Asked) (groups : List GroupRow) (h : Held) (file mark : ℕ) → option_map stamps_of (find (had_life file mark) h.versions) ≡ None → None ≡ key_at one other groups h file mark
-key_untold one other groups h file mark = by (find (had_life file mark) h.versions) where
+pub key_untold : (one other : Asked) (groups : List GroupRow) (h : Held) (live : Bool) (file mark : ℕ) → option_map stamps_of (find (had_life file mark) h.versions) ≡ None → None ≡ key_at one other groups h live file mark
+key_untold one other groups h live file mark = by (find (had_life file mark) h.versions) where
   by : (o : Option VersionRow) → option_map stamps_of o ≡ None
-      → None ≡ option_and_then (λ row. key_unless file row.number (moment_asked one groups h file row.number row.closed row.ended) (moment_asked other groups h file row.number row.closed row.ended)) o
+      → None ≡ option_and_then (λ row. key_unless file row.number (moment_asked one groups h live file row.number row.closed row.ended) (moment_asked other groups h live file row.number row.closed row.ended)) o
   by None told = refl
   by (Some row) told = absurd cc
 
-module _ (one other : Asked) (groups : List GroupRow) (h : Held) (placed : AllLater ArePlaced h.versions) (k : Key) where
+module _ (one other : Asked) (groups : List GroupRow) (h : Held) (lives : ℕ → Bool) (placed : AllLater ArePlaced h.versions) (k : Key) where
   -- it is the moment asked the one way alone
   abbrev is_alone : Option ℕ → Option ℕ → Bool
   is_alone moment unless = is_moment k.ripe moment && not (is_moment k.ripe unless)
 
   -- the key is that of the version by its moment
   abbrev has_moment : ℕ → VersionRow → Bool
-  has_moment file row = (k.file == file) && is_alone (moment_asked one groups h file row.number row.closed row.ended) (moment_asked other groups h file row.number row.closed row.ended)
+  has_moment file row = (k.file == file) && is_alone (moment_asked one groups h (lives file) file row.number row.closed row.ended) (moment_asked other groups h (lives file) file row.number row.closed row.ended)
 
   its_key : (file number : ℕ) (moment unless : Option ℕ) → option_map_or (is_key k) (key_unless file number moment unless) false ≡ ((number == k.number) && ((k.file == file) && is_alone moment unless))
   its_key file number x2 unless = grind (arith, nat_tests)
 
-  passes : (file mark : ℕ) → option_map_or (is_key k) (key_at one other groups h file mark) false ≡ option_map_or (if_numbered k.number (has_moment file)) (find (had_life file mark) h.versions) false
+  passes : (file mark : ℕ) → option_map_or (is_key k) (key_at one other groups h (lives file) file mark) false ≡ option_map_or (if_numbered k.number (has_moment file)) (find (had_life file mark) h.versions) false
   passes file mark = by (find (had_life file mark) h.versions) where
-    by : (o : Option VersionRow) → option_map_or (is_key k) (option_and_then (λ row. key_unless file row.number (moment_asked one groups h file row.number row.closed row.ended) (moment_asked other groups h file row.number row.closed row.ended)) o) false
+    by : (o : Option VersionRow) → option_map_or (is_key k) (option_and_then (λ row. key_unless file row.number (moment_asked one groups h (lives file) file row.number row.closed row.ended) (moment_asked other groups h (lives file) file row.number row.closed row.ended)) o) false
         ≡ option_map_or (if_numbered k.number (has_moment file)) o false
     by None = refl
-    by (Some row) = its_key file row.number (moment_asked one groups h file row.number row.closed row.ended) (moment_asked other groups h file row.number row.closed row.ended)
+    by (Some row) = its_key file row.number (moment_asked one groups h (lives file) file row.number row.closed row.ended) (moment_asked other groups h (lives file) file row.number row.closed row.ended)
 
   -- the moment of the version that has the key's number
   abbrev its : Asked → Option ℕ
-  its asked = cond (is_open h.handles k.file k.number) None (moment_under (cover_asked asked groups k.file) (policy_of h.files k.file) h.versions k.file k.number)
+  its asked = cond (is_open h.handles k.file k.number) None (moment_under (cover_asked asked groups k.file) (policy_of h.files k.file) (floor_in (policy_of h.files k.file) (lives k.file)) h.versions k.file k.number)
 
   abbrev is_its : List ℕ → Bool
   is_its marks = is_covered marks h.versions k.file k.number && is_alone (its one) (its other)
@@ -98,14 +103,14 @@ module _ (one other : Asked) (groups : List GroupRow) (h : Held) (placed : AllLa
   covered file marks (Some row) = any-and (covers_moment row.closed row.ended) (has_moment file row) marks
 
   -- of one file
-  file_keys : (file : ℕ) (marks : List ℕ) → has_key k (filter_map (key_at one other groups h file) marks) ≡ ((file == k.file) && is_its marks)
+  file_keys : (file : ℕ) (marks : List ℕ) → has_key k (filter_map (key_at one other groups h (lives file) file) marks) ≡ ((file == k.file) && is_its marks)
   file_keys file marks =
-      any-filter_map (is_key k) (key_at one other groups h file) marks
+      any-filter_map (is_key k) (key_at one other groups h (lives file) file) marks
       ∙ any-same _ _ marks (λ mark. passes file mark ∙ living_numbered file k.number mark (has_moment file) h.versions placed)
       ∙ covered file marks (find (is_version file k.number) h.versions)
       ∙ by (file == k.file) refl where
         own : (o : Option VersionRow) → find (is_version k.file k.number) h.versions ≡ o
-            → option_map_or (λ row. list_any (covers_moment row.closed row.ended) marks && ((k.file == k.file) && is_alone (moment_asked one groups h k.file row.number row.closed row.ended) (moment_asked other groups h k.file row.number row.closed row.ended))) o false ≡ is_its marks
+            → option_map_or (λ row. list_any (covers_moment row.closed row.ended) marks && ((k.file == k.file) && is_alone (moment_asked one groups h (lives k.file) k.file row.number row.closed row.ended) (moment_asked other groups h (lives k.file) k.file row.number row.closed row.ended))) o false ≡ is_its marks
         own None e = rw e refl
         own (Some row) e =
             let number : row.number ≡ k.number = (let found = found_passes (is_version k.file k.number) h.versions row e in grind (arith, nat_tests)) in
@@ -117,9 +122,9 @@ module _ (one other : Asked) (groups : List GroupRow) (h : Held) (placed : AllLa
         by true same = let file_is : file ≡ k.file = grind (arith, nat_tests) in rw file_is (own (find (is_version k.file k.number) h.versions) refl)
 
   -- of all: those of versions that the marks cover
-  pub keys_told : (files marks : List ℕ) → has_key k (keys_at one other groups h files marks) ≡ (is_touched files marks h.versions k.file k.number && is_alone (its one) (its other))
+  pub keys_told : (files marks : List ℕ) → has_key k (keys_at one other groups h lives files marks) ≡ (is_touched files marks h.versions k.file k.number && is_alone (its one) (its other))
   keys_told files marks =
-      list_any-flat_map (is_key k) (λ file. filter_map (key_at one other groups h file) marks) files
+      list_any-flat_map (is_key k) (λ file. filter_map (key_at one other groups h (lives file) file) marks) files
       ∙ any-same _ _ files (λ file. file_keys file marks)
       ∙ any-and (λ file. file == k.file) (is_its marks) files
       ∙ sym (and_assoc (list_any (λ file. file == k.file) files) (is_covered marks h.versions k.file k.number) (is_alone (its one) (its other)))
@@ -143,17 +148,17 @@ unmoved true false false had own = refl
 
 module _ (w v : World) (formed : HasParts w) (files marks : List ℕ) (queue : List Key) (queued : IsQueued w queue) (asked : Asked) (moves : MarksMove w v (cover_asked asked w.groups) files marks) where
   abbrev comes : List Key
-  comes = keys_at asked Standing w.groups (rows_of w) files marks
+  comes = keys_at asked Standing w.groups (rows_of w) (is_live w) files marks
 
   abbrev goes : List Key
-  goes = keys_at Standing asked w.groups (rows_of w) files marks
+  goes = keys_at Standing asked w.groups (rows_of w) (is_live w) files marks
 
   abbrev touched : Key → Bool
   touched k = is_touched files marks w.versions k.file k.number
 
   -- whether it is the moment that a version has as marks are asked
   abbrev is_now : Asked → Key → Bool
-  is_now way k = is_moment k.ripe (its way way w.groups (rows_of w) (placed_of w formed) k way)
+  is_now way k = is_moment k.ripe (its way way w.groups (rows_of w) (is_live w) (placed_of w formed) k way)
 
   had : (k : Key) → touched k ≡ true → has_key k queue ≡ is_now Standing k
   had k own = queued k ∙ ap (is_moment k.ripe) (ripe_at_near w k.file k.number (in_order_of w formed))
@@ -162,10 +167,10 @@ module _ (w v : World) (formed : HasParts w) (files marks : List ℕ) (queue : L
   then_has k own = ap (is_moment k.ripe) (moves.own k.file k.number own)
 
   told_come : (k : Key) → has_key k comes ≡ (touched k && (is_now asked k && not (is_now Standing k)))
-  told_come k = keys_told asked Standing w.groups (rows_of w) (placed_of w formed) k files marks
+  told_come k = keys_told asked Standing w.groups (rows_of w) (is_live w) (placed_of w formed) k files marks
 
   told_go : (k : Key) → has_key k goes ≡ (touched k && (is_now Standing k && not (is_now asked k)))
-  told_go k = keys_told Standing asked w.groups (rows_of w) (placed_of w formed) k files marks
+  told_go k = keys_told Standing asked w.groups (rows_of w) (is_live w) (placed_of w formed) k files marks
 
   -- once the keys have come that come, and those have gone that go, it follows
   pub moved_queue : (between after : List Key) → ((k : Key) → has_key k between ≡ (has_key k comes || has_key k queue)) → ((k : Key) → has_key k after ≡ (not (has_key k goes) && has_key k between)) → IsQueued v after
@@ -192,18 +197,18 @@ module _ (rows : Rows) (name : List ℕ) (sound : IsSound rows) where
 
   -- the keys of all files or marks of the group, or of one, came, then went, or were refused
   abbrev Came : Asked → List ℕ → List ℕ → List Key → Type 0
-  Came asked files marks between = (k : Key) → has_key k between ≡ (has_key k (keys_at asked Standing rows.groups rows.files files marks) || has_key k rows.queue)
+  Came asked files marks between = (k : Key) → has_key k between ≡ (has_key k (keys_at asked Standing rows.groups rows.files (is_live world) files marks) || has_key k rows.queue)
 
   abbrev Went : Asked → List ℕ → List ℕ → List Key → List Key → Type 0
-  Went asked files marks between after = (k : Key) → has_key k after ≡ (not (has_key k (keys_at Standing asked rows.groups rows.files files marks)) && has_key k between)
+  Went asked files marks between after = (k : Key) → has_key k after ≡ (not (has_key k (keys_at Standing asked rows.groups rows.files (is_live world) files marks)) && has_key k between)
 
   abbrev Back : Asked → List ℕ → List ℕ → List Key → Type 0
-  Back asked files marks after = (k : Key) → has_key k after ≡ (not (has_key k (keys_at asked Standing rows.groups rows.files files marks)) && has_key k rows.queue)
+  Back asked files marks after = (k : Key) → has_key k after ≡ (not (has_key k (keys_at asked Standing rows.groups rows.files (is_live world) files marks)) && has_key k rows.queue)
 
   -- what came and was taken out again is refused
   pub taken_back : (asked : Asked) (files marks : List ℕ) (between after : List Key) → Came asked files marks between
-      → ((k : Key) → has_key k after ≡ (not (has_key k (keys_at asked Standing rows.groups rows.files files marks)) && has_key k between)) → Back asked files marks after
-  taken_back asked files marks between after came back k = back k ∙ rw (came k) (by (has_key k (keys_at asked Standing rows.groups rows.files files marks)) (has_key k rows.queue)) where
+      → ((k : Key) → has_key k after ≡ (not (has_key k (keys_at asked Standing rows.groups rows.files (is_live world) files marks)) && has_key k between)) → Back asked files marks after
+  taken_back asked files marks between after came back k = back k ∙ rw (came k) (by (has_key k (keys_at asked Standing rows.groups rows.files (is_live world) files marks)) (has_key k rows.queue)) where
     by : (a b : Bool) → (not a && (a || b)) ≡ (not a && b)
     by true b = refl
     by false b = refl

@@ -1,7 +1,8 @@
 -- Names that come, move and go.
-use Rattle.ele_state.proofs.Words.{Key, AllByRecursion, AreApart, File, FileRow, Files, IsNameRow, IsQueued, IsSound, IsThere, HasParts, List, NameRow, Names, Ok, Rows, Some, Target, World, [], all-both, all-weaker, ap, apart_from_new, append-nil, arith, bytes_eq-Decides, dies, false, false≢true, filter, filter-all, filter-append, in_order_of, is_live_name, is_moment, is_some, is_target_file, last_names, live_target, moments_stay, nat_tests, next_of, not, parent_now, refl, sym, true, update_first, walk_now, world_of, ℕ, ◌++◌, ◌+◌, ◌∙◌, ◌∷◌, ◌≡◌}
+use Rattle.ele_state.proofs.Words.{Bool, Directory, MayHaveMore, None, Option, any-found, find, floor_for, floor_in, found_passes, is_live, is_live_name_of, list_any, list_any-append, or-false, policy_of, subst, ◌==◌, ◌||◌, AllByRecursion, AreApart, File, FileRow, Files, IsNameRow, IsQueued, IsSound, IsThere, HasParts, List, NameRow, Names, Ok, Rows, Some, Target, World, [], all-both, all-weaker, ap, apart_from_new, append-nil, arith, bytes_eq-Decides, dies, false, false≢true, filter, filter-all, filter-append, in_order_of, is_live_name, is_moment, is_some, is_target_file, last_names, live_target, moments_stay, nat_tests, next_of, not, parent_now, refl, sym, true, update_first, walk_now, world_of, ℕ, ◌++◌, ◌+◌, ◌∙◌, ◌∷◌, ◌≡◌}
 use Rattle.ele_lists.proofs.Cuts.{update_first-front}
 use Rattle.ele_names.specs.Rows.{Follows, born_row}
+use Rattle.ele_world.proofs.Basics.{list_any-update_found}
 use Rattle.ele_world.proofs.Files.{next_of-given}
 
 -- the names there were are over
@@ -29,12 +30,41 @@ name_goes rows directory name sound = grind (arith, nat_tests, filter-append, ap
 pub placed_stands : (rows : List NameRow) (path : List (List ℕ)) (directory : ℕ) (name : List ℕ) (target : Target) → parent_now rows path ≡ Ok (directory, name) → walk_now rows path ≡ Ok target → live_target rows directory name ≡ Some target
 placed_stands rows path directory name target = last_names rows path (directory, name) target
 
--- the queue stays right whatever the names are
-pub queue_stays : (rows : Rows) (names : List NameRow) → IsSound rows → IsQueued (record (world_of rows) { names = names }) rows.queue
-queue_stays rows names sound k = sound.tracked.queue k ∙ ap (is_moment k.ripe) (sym (moments_stay (world_of rows) (record (world_of rows) { names = names }) (in_order_of (world_of rows) sound.formed) refl refl refl refl k.file k.number))
+-- the queue stays right whatever the names are, while each file is as live as it was, or has no floor
+pub queue_stays : (rows : Rows) (names : List NameRow) → IsSound rows → ((file : ℕ) → floor_for (record (world_of rows) { names = names }) file ≡ floor_for (world_of rows) file) → IsQueued (record (world_of rows) { names = names }) rows.queue
+queue_stays rows names sound floors k = sound.tracked.queue k ∙ ap (is_moment k.ripe) (sym (moments_stay (world_of rows) (record (world_of rows) { names = names }) (in_order_of (world_of rows) sound.formed) refl refl refl refl k.file k.number (floors k.file)))
 
-pub queue_back : (rows : Rows) (names : List NameRow) (queue : List Key) → IsSound rows → IsQueued (record (world_of rows) { names = names }) queue → IsQueued (world_of rows) queue
-queue_back rows names queue sound queued k = queued k ∙ ap (is_moment k.ripe) (moments_stay (world_of rows) (record (world_of rows) { names = names }) (in_order_of (world_of rows) sound.formed) refl refl refl refl k.file k.number)
+abbrev pub SameLive : List NameRow → List NameRow → Type 0
+SameLive before after = (file : ℕ) → list_any (is_live_name_of file) after ≡ list_any (is_live_name_of file) before
+
+pub names_queue : (rows : Rows) (names : List NameRow) → IsSound rows → SameLive rows.names names → IsQueued (record (world_of rows) { names = names }) rows.queue
+names_queue rows names sound same = queue_stays rows names sound (λ file. ap (floor_in (policy_of rows.files.files file)) (same file))
+
+-- a name more of a directory leaves each file as live
+directory_live : (w : World) (directory : ℕ) (name : List ℕ) (id : ℕ) → SameLive w.names (w.names ++ born_row directory name (Directory id) w.now ∷ [])
+directory_live w directory name id file = list_any-append (is_live_name_of file) w.names (born_row directory name (Directory id) w.now ∷ []) ∙ or-false (list_any (is_live_name_of file) w.names)
+
+-- so does one of a live file
+more_live : (w : World) (directory : ℕ) (name : List ℕ) (target : Target) → MayHaveMore w target → SameLive w.names (w.names ++ born_row directory name target w.now ∷ [])
+more_live w directory name (Directory id) more file = directory_live w directory name id file
+more_live w directory name (File other) more file = list_any-append (is_live_name_of file) w.names (born_row directory name (File other) w.now ∷ []) ∙ by (other == file) refl where
+  by : (b : Bool) → (other == file) ≡ b → (list_any (is_live_name_of file) w.names || list_any (is_live_name_of file) (born_row directory name (File other) w.now ∷ [])) ≡ list_any (is_live_name_of file) w.names
+  by true own = let same : other ≡ file = grind (arith, nat_tests, own) in let live : list_any (is_live_name_of file) w.names ≡ true = subst (λ f. is_live w f ≡ true) same more in rw live refl
+  by false apart = rw apart (or-false (list_any (is_live_name_of file) w.names))
+
+-- so does the death of a directory's name
+directory_dies : (w : World) (directory : ℕ) (name : List ℕ) (id : ℕ) → live_target w.names directory name ≡ Some (Directory id) → SameLive w.names (update_first (is_live_name directory name) (dies w.now) w.names)
+directory_dies w directory name id stands file = list_any-update_found (is_live_name directory name) (is_live_name_of file) (dies w.now) w.names (λ row found. grind (arith, nat_tests, stands, found))
+
+-- and the keys stay with all of these
+pub more_queue : (rows : Rows) (directory : ℕ) (name : List ℕ) (target : Target) → IsSound rows → MayHaveMore (world_of rows) target → IsQueued (record (world_of rows) { names = rows.names ++ born_row directory name target rows.moment ∷ [] }) rows.queue
+more_queue rows directory name target sound more = names_queue rows (rows.names ++ born_row directory name target rows.moment ∷ []) sound (more_live (world_of rows) directory name target more)
+
+pub directory_queue : (rows : Rows) (directory : ℕ) (name : List ℕ) (id : ℕ) → IsSound rows → IsQueued (record (world_of rows) { names = rows.names ++ born_row directory name (Directory id) rows.moment ∷ [] }) rows.queue
+directory_queue rows directory name id sound = names_queue rows (rows.names ++ born_row directory name (Directory id) rows.moment ∷ []) sound (directory_live (world_of rows) directory name id)
+
+pub dies_queue : (rows : Rows) (directory : ℕ) (name : List ℕ) (id : ℕ) → IsSound rows → live_target rows.names directory name ≡ Some (Directory id) → IsQueued (record (world_of rows) { names = update_first (is_live_name directory name) (dies rows.moment) rows.names }) rows.queue
+dies_queue rows directory name id sound stands = names_queue rows (update_first (is_live_name directory name) (dies rows.moment) rows.names) sound (directory_dies (world_of rows) directory name id stands)
 
 module _ (rows : List NameRow) (from : ℕ) (old : List ℕ) (to : ℕ) (new : List ℕ) (target : Target) (now : ℕ) (stands : live_target rows from old ≡ Some target) (free : is_some (live_target rows to new) ≡ false) where
   abbrev named : NameRow
@@ -47,3 +77,25 @@ module _ (rows : List NameRow) (from : ℕ) (old : List ℕ) (to : ℕ) (new : L
   -- so it may come before that one dies
   pub dies_before : update_first (is_live_name from old) (dies now) (rows ++ named ∷ []) ≡ update_first (is_live_name from old) (dies now) rows ++ named ∷ []
   dies_before = update_first-front (is_live_name from old) (dies now) rows (named ∷ []) (other_name, tt)
+
+  -- and it leaves each file as live
+  died : (file : ℕ) → is_target_file file target ≡ false → list_any (is_live_name_of file) (update_first (is_live_name from old) (dies now) rows) ≡ list_any (is_live_name_of file) rows
+  died file other = list_any-update_found (is_live_name from old) (is_live_name_of file) (dies now) rows (λ row found. grind (arith, nat_tests, stands, found, other))
+
+  live_then : (file : ℕ) → is_target_file file target ≡ true → list_any (is_live_name_of file) rows ≡ true
+  live_then file own = by (find (is_live_name from old) rows) refl where
+    by : (o : Option NameRow) → find (is_live_name from old) rows ≡ o → list_any (is_live_name_of file) rows ≡ true
+    by None none = absurd (grind (arith, nat_tests, stands, none))
+    by (Some row) found =
+        let passes = found_passes (is_live_name from old) rows row found in
+        any-found (is_live_name from old) (is_live_name_of file) rows row found (grind (arith, nat_tests, stands, found, passes, own))
+
+  moves_live : SameLive rows (update_first (is_live_name from old) (dies now) (rows ++ named ∷ []))
+  moves_live file = rw dies_before (list_any-append (is_live_name_of file) (update_first (is_live_name from old) (dies now) rows) (named ∷ []) ∙ by (is_target_file file target) refl) where
+    by : (b : Bool) → is_target_file file target ≡ b → (list_any (is_live_name_of file) (update_first (is_live_name from old) (dies now) rows) || list_any (is_live_name_of file) (named ∷ [])) ≡ list_any (is_live_name_of file) rows
+    by true own = rw (own, live_then file own) (grind (arith, nat_tests))
+    by false other = rw (other, died file other) (or-false (list_any (is_live_name_of file) rows))
+
+pub moved_queue : (rows : Rows) (from : ℕ) (old : List ℕ) (to : ℕ) (new : List ℕ) (target : Target) → IsSound rows → live_target rows.names from old ≡ Some target → is_some (live_target rows.names to new) ≡ false
+    → IsQueued (record (world_of rows) { names = update_first (is_live_name from old) (dies rows.moment) (rows.names ++ born_row to new target rows.moment ∷ []) }) rows.queue
+moved_queue rows from old to new target sound stands free = names_queue rows (update_first (is_live_name from old) (dies rows.moment) (rows.names ++ born_row to new target rows.moment ∷ [])) sound (moves_live rows.names from old to new target rows.moment stands free)

@@ -5,9 +5,10 @@ pub use Rattle.ele_state.specs.Inside.{IsSettled, IsSound, IsTracked, shown_of, 
 pub use Rattle.ele_state.specs.Shown.{Shown}
 pub use Rattle.ele_state.specs.Source.{Grows, HasSource, IsHeldAlone, IsLast, IsReady, IsRoomy, IsSource, appending, source_cells}
 pub use Rattle.ele_state.specs.declared.append.Source.{Source}
-pub use Rattle.ele_state.specs.Queued.{IsQueued, IsRekeyed, IsTold, key_unless, end_moment, former_moment, gained_moment, is_entry, is_new, is_under, key_at, key_under, keys_at, cover_asked, moment_asked, new_keys, own_moment, unread_under}
+pub use Rattle.ele_state.specs.Queued.{IsQueued, IsRekeyed, IsTold, key_unless, end_moment, former_moment, gained_moment, is_entry, is_held_back, is_new, is_under, key_at, key_under, keys_at, cover_asked, met_before, moment_asked, new_keys, own_moment, rule_in, unread_under}
 pub use Rattle.ele_state.specs.Tracked.{IsBooked, IsFew, IsOwed, IsOwedBy, blocks_of, held_world, of_file, one_version, only_blocks}
 pub use Rattle.ele_state.specs.declared.keys.NewKeys.{NewKeys}
+pub use Rattle.ele_state.specs.declared.keys.Rule.{Rule}
 pub use Rattle.ele_state.specs.declared.mark.Asked.{Asked}
 pub use Rattle.ele_state.specs.declared.mark.Asked.TheVariants.{Joined, Marked, Standing, Without}
 pub use Rattle.ele_state.specs.declared.rows.Rows.{Rows}
@@ -21,7 +22,7 @@ pub use Rattle.ele_policy.specs.declared.policy.Policy.{Policy}
 pub use Rattle.ele_usage.specs.Book.{Book, sums_of}
 pub use Rattle.ele_usage.specs.declared.usage.Usage.{Usage}
 pub use Rattle.ele_world.proofs.Allowed.{allowed, default_is, takes}
-pub use Rattle.ele_world.proofs.AppendMoments.{MayGrow, may_grow, newest_before, newest_is, newest_was, next_after, next_before, others_after, touches}
+pub use Rattle.ele_world.proofs.AppendMoments.{MayGrow, gaining_is, gaining_was, has_newer, held_before, may_grow, next_after, next_before, one_with_newer, others_after, touches}
 pub use Rattle.ele_world.proofs.Basics.{AllByRecursion, AllLater, Bool, Err, IsSome, List, None, Ok, Option, Result, Some, YieldsList-from_filter_map, [], all-both, all-found, all-weaker, any-found, ap, append-nil, append_assoc, arith, bytes_eq-Decides, cond, cons_option, drop, false, false≢true, filter, filter-all, filter-append, filter_map, filter_map-append, find, find-append, found_passes, get_or, insert_before, is_some, items_from_collect, length, length-insert_before, length-remove_first, length-update_first, list_any, list_any-append, map, nat_le, nat_lt, nat_tests, not, not_found, option_and_then, option_map, option_map_or, option_or, refl, remove_first, remove_first-unfound, rules, slice_get, subst, sym, take, take_more, tests, true, unwrap_or, update_first, ℕ, ◌&&◌, ◌++◌, ◌+◌, ◌-◌, ◌<◌, ◌==◌, ◌^◌, ◌||◌, ◌∙◌, ◌∷◌, ◌≡◌, ◌≤◌, ◌⊎◌, last_has}
 pub use Rattle.ele_world.proofs.Created.{created, first_version, made_is, named_live, new_file, new_name, versions_before}
 pub use Rattle.ele_world.proofs.Dropped.{dropped, stays_named}
@@ -31,8 +32,8 @@ pub use Rattle.ele_world.proofs.Homes.{parent_home}
 pub use Rattle.ele_world.proofs.Keeps.{all_keep, change_keeps, event_keeps}
 pub use Rattle.ele_world.proofs.KeptNames.{apart_from_new, put_under_keeps}
 pub use Rattle.ele_world.proofs.Meant.{is_at, is_meant, made_of, meant_held, numbered_found}
-pub use Rattle.ele_world.proofs.NameMoments.{ended_moment, live_moments, moments_stay, no_moment, other_moments}
-pub use Rattle.ele_world.proofs.Neighbours.{AreInOrder, in_order_of, ripe_at_near}
+pub use Rattle.ele_world.proofs.NameMoments.{ended_in_order, ended_moment, live_moments, moments_stay, no_moment, other_moments}
+pub use Rattle.ele_world.proofs.Neighbours.{AreInOrder, floor_for, in_order_of, near_floored, near_unmet, no_floor, ripe_at_near}
 pub use Rattle.ele_world.proofs.NoIdle.{LeavesRows, change_settles, no_idle_stays}
 pub use Rattle.ele_world.proofs.OpenMoments.{open_still, opened_others, opened_own, read_moment, shut_others, shut_own}
 pub use Rattle.ele_world.proofs.OpenStays.{has_row}
@@ -44,7 +45,9 @@ pub use Rattle.ele_world.proofs.Usages.{changes_opened, changes_removed, changes
 pub use Rattle.ele_world.proofs.Views.{placed_of, policy_is}
 pub use Rattle.ele_world.proofs.Versions.{all_found}
 pub use Rattle.ele_world.proofs.Walks.{file_live, file_of, file_there, last_names, live_target-push as name_stands, target_live}
-pub use Rattle.ele_world.proofs.Words.{cover_of, cover_until, cover_with, cover_without, longer, ripe_past, AddMark, AddMember, AddName, Append, AreApart, ArePlaced, Bounded, ChangesOnly, Counted, Directories, Drafts, DropGroup, DropIdle, EndDraft, EndFileName, EndName, Files, Fits, Groups, Handles, IsCleaned, IsEvent, IsFile, IsGroup, IsLawful, IsNameRow, IsThere, HasParts, IsWithin, MakeFile, MoveName, Names, OpenHandle, PutUnder, RemoveMark, RemoveMember, Revive, ShutHandle, StartDraft, Take, Versions, World, after_change, after_changes, alone, born_row, bytes_in, changed_by, clean_step, content_of, covers_moment, current_cells, dies, directory_in, draft_read, due_key, ended_at, file_at, file_by, file_now, file_usage, file_written, first_due, fitted_by, forgotten, free_moment, fresh_world, had_life, has_draft, has_key, is_draft, is_draft_after, is_file, is_file_of, is_held, is_idle, is_key, is_kind, is_live, is_live_name, is_live_name_of, is_moment, is_open, is_ripe_by, is_target_file, is_version, is_version_after, is_version_of, kind_of, live_target, lives_at, longest_content, marks_of, members_of, moment_under, near_moment, new_draft, newest_of, next_closing, next_of, next_version, nothing, only_at, parent_now, plus, policy_of, reads_by, reads_version, returning_name, ripe_at, root, step, target_at, usages, version_at, version_found, version_meant, file_view, walk_meant, walk_now, whole, with_end, with_name, with_version, without_file, without_name, Change, Homes, IsHoused, IsDirectoryThere, is_named, last_dead, Govern, MakeDirectory, Time, WriteDraft, TruncateDraft, MakeGroup, IsPolicy, is_reached, has_directory, Readers, current_of}
+pub use Rattle.ele_world.proofs.Words.{cover_of, cover_until, cover_with, cover_without, longer, ripe_past, AddMark, AddMember, AddName, Append, AreApart, ArePlaced, Bounded, ChangesOnly, Counted, Directories, Drafts, DropGroup, DropIdle, EndDraft, EndFileName, EndName, Files, Fits, Groups, Handles, IsCleaned, IsEvent, IsFile, IsGroup, IsLawful, IsNameRow, IsThere, HasParts, IsWithin, MakeFile, MoveName, Names, OpenHandle, PutUnder, RemoveMark, RemoveMember, Revive, ShutHandle, StartDraft, Take, Versions, World, after_change, after_changes, born_row, bytes_in, changed_by, clean_step, content_of, covers_moment, current_cells, dies, directory_in, draft_read, due_key, ended_at, file_at, file_by, file_now, file_usage, file_written, first_due, fitted_by, forgotten, free_moment, fresh_world, had_life, has_draft, has_key, is_draft, is_draft_after, is_file, is_file_of, is_held, is_idle, is_key, is_kind, is_live, is_live_name, is_live_name_of, is_moment, is_open, is_ripe_by, is_target_file, is_version, is_version_after, is_version_of, kind_of, live_target, lives_at, longest_content, marks_of, members_of, moment_under, near_moment, new_draft, newest_of, next_closing, next_of, next_version, nothing, only_at, parent_now, plus, policy_of, reads_by, reads_version, returning_name, ripe_at, root, step, target_at, usages, version_at, version_found, version_meant, file_view, walk_meant, walk_now, whole, with_end, with_name, with_version, without_file, without_name, Change, Homes, IsHoused, IsDirectoryThere, is_named, last_dead, Govern, MakeDirectory, Time, WriteDraft, TruncateDraft, MakeGroup, IsPolicy, is_reached, has_directory, Readers, current_of}
+pub use Rattle.ele_policy.specs.FloorOf.{floor_of}
+pub use Rattle.ele_world.specs.Neighbours.{floor_in, newer_held, with_newer}
 pub use Rattle.ele_world.specs.May.{HasRoom, May, MayAdd, MayAppend, MayEnd, MayGroup, MayHaveMore, MayJoin, MayMake, MayMakeDirectory, MayMark, MayMove, MayName, MayOpen, MayRevive, MayStart}
 pub use Rattle.ele_world.specs.NoIdleStays.{HasNoIdle}
 pub use Rattle.ele_world.specs.Plan.{found_outcome}

@@ -1,8 +1,8 @@
 -- What a policy makes of a version that it alone decides about. No public clause cites this module.
-use Rattle.std.specs.Prelude.{◌≡◌, ℕ, ◌-◌, nat_le, true, false, List, Option, Some, find, option_and_then}
+use Rattle.std.specs.Prelude.{◌≡◌, ℕ, ◌-◌, nat_le, Bool, true, false, List, Option, Some, find, option_and_then}
 use Rattle.std.specs.Option.{option_map, option_map_or}
 use Rattle.ele_policy.specs.Ladder.{Rung, level_of, rung_at, shares}
-use Rattle.ele_policy.specs.Ripe.{alone, ripe_by}
+use Rattle.ele_policy.specs.Ripe.{ripe_near}
 use Rattle.ele_policy.specs.declared.policy.Policy.{Policy}
 use Rattle.ele_policy.specs.declared.policy.Policy.TheVariants.{One, Safe, Landmarks}
 use Rattle.ele_world.specs.declared.cover.Cover.{Cover}
@@ -39,15 +39,21 @@ pub record IsNextIn (policy : Policy) (closed ended : ℕ) (next : Option Stamps
   pub same_span : shares closed stamps.closed rung ≡ true
   pub by_is : stamps.number ≡ by
 
+-- kept safe for so many seconds, with whatever floor
+pub record IsSafe (policy : Policy) (seconds : ℕ) : Type 0 where
+  pub floor : ℕ
+  pub safe : policy ≡ Safe seconds floor
+
 abbrev pub IsFreeCause : Policy → ℕ → ℕ → Option Stamps → ℕ → Cause → Type 0
 IsFreeCause policy closed ended next since AtOnce = policy ≡ One
-IsFreeCause policy closed ended next since (Age seconds) = policy ≡ Safe seconds
+IsFreeCause policy closed ended next since (Age seconds) = IsSafe policy seconds
 IsFreeCause policy closed ended next since (Displaced level by) = IsNextIn policy closed ended next since level by
 
--- of a version that closed and ended then, with that next one, at the moment, and with that cover, which doesn't last then
-abbrev pub IsFreeFate : Cover → Policy → ℕ → ℕ → Option Stamps → ℕ → Fate → Type 0
-IsFreeFate cover policy closed ended next now (Kept until level) =
-    (until ≡ option_and_then (ripe_past cover) (ripe_by policy closed (alone (closing_of next)) ended)) × (option_map_or (λ m. nat_le m now) until false ≡ false) × (level ≡ level_reached (Some policy) (Some ended) now)
-IsFreeFate cover policy closed ended next now (Due since cause) =
-    (option_and_then (ripe_past cover) (ripe_by policy closed (alone (closing_of next)) ended) ≡ Some since) × (nat_le since now ≡ true) × IsFreeCause policy closed ended next since cause
-IsFreeFate cover policy closed ended next now other = ⊥
+-- of a version that closed and ended then, with that next one, where the floor is met or not, at the moment, and with that cover,
+-- which doesn't last then
+abbrev pub IsFreeFate : Cover → Policy → ℕ → ℕ → Option Stamps → Bool → ℕ → Fate → Type 0
+IsFreeFate cover policy closed ended next met now (Kept until level) =
+    (until ≡ option_and_then (ripe_past cover) (ripe_near policy closed (closing_of next) met ended)) × (option_map_or (λ m. nat_le m now) until false ≡ false) × (level ≡ level_reached (Some policy) (Some ended) now)
+IsFreeFate cover policy closed ended next met now (Due since cause) =
+    (option_and_then (ripe_past cover) (ripe_near policy closed (closing_of next) met ended) ≡ Some since) × (nat_le since now ≡ true) × IsFreeCause policy closed ended next since cause
+IsFreeFate cover policy closed ended next met now other = ⊥

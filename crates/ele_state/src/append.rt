@@ -1,20 +1,25 @@
 //! A version that a file gets: where its content comes from, the keys that come with it, and what it uses.
-ghost use Rattle.std.specs.Prelude.{◌≡◌, ◌≤◌, ◌<◌, ◌+◌, ◌^◌, Some, None, IfOk, OnOk, OnErr, is_some, length, option_and_then};
+ghost use Rattle.std.specs.Prelude.{◌≡◌, ◌≤◌, ◌<◌, ◌+◌, ◌-◌, ◌^◌, ◌||◌, true, false, Some, None, IfOk, OnOk, OnErr, is_some, length, option_and_then};
 ghost use Rattle.std.specs.Option.{option_map};
 ghost use Rattle.ele_content.specs.Content.{content_of, longest_content};
+ghost use Rattle.ele_due.specs.declared.key.Key.{Key};
+ghost use Rattle.ele_due.specs.HasKey.{has_key};
 ghost use Rattle.ele_files.specs.Held.{Became};
 ghost use Rattle.ele_files.specs.Standing.{Stands};
+ghost use Rattle.ele_lists.specs.Lists.{AllLater};
 ghost use Rattle.ele_world.specs.Change.{after_changes};
 ghost use Rattle.ele_world.specs.Cover.{cover_of};
-ghost use Rattle.ele_world.specs.Neighbours.{near_moment, newest_of};
+ghost use Rattle.ele_world.specs.Neighbours.{floor_in, near_moment, with_newer};
 ghost use Rattle.ele_world.specs.Told.{stamps_of};
+ghost use Rattle.ele_world.specs.WellFormed.{ArePlaced};
 ghost use Rattle.ele_world.specs.World.{next_of, policy_of};
 ghost use Rattle.ele_state.specs.Inside.{world_of, IsTracked};
-ghost use Rattle.ele_state.specs.Queued.{end_moment, former_moment, gained_moment, own_moment, new_keys};
+ghost use Rattle.ele_state.specs.Queued.{end_moment, former_moment, gained_moment, is_new, met_before, new_keys};
 ghost use Rattle.ele_state.specs.Source.{HasSource, IsReady, IsRoomy, appending, source_cells};
+ghost use Rattle.ele_state.specs.Tracked.{IsBooked};
 
 use crate::book::{blocks, one_version, settle_blocks};
-use crate::keys::{NewKeys, near_moment};
+use crate::keys::{NewKeys, floor_in, near_moment};
 use crate::rows::Rows;
 use ele_files::{Files, Meter, Standing};
 use ele_groups::Groups;
@@ -43,31 +48,41 @@ pub fn standing(files: &Files, file: FileId, meter: &mut Meter) -> Standing
     standing
 }
 
-// Whether the policy has a ripe moment for a version without a newer one.
-fn ripens_alone(groups: &Groups, file: FileId, policy: &Policy, stamps: &Stamps) -> bool
+// Whether the policy has a ripe moment for a version without a newer one, where the floor is met or not.
+fn ripens_alone(
+    groups: &Groups,
+    file: FileId,
+    policy: &Policy,
+    floor_met: bool,
+    stamps: &Stamps,
+) -> bool
     ensures { result ≡ is_some (option_and_then
-        (near_moment (cover_of groups.now file) (Some policy.now) None stamps.now.closed)
+        (near_moment (cover_of groups.now file) (Some policy.now) None floor_met stamps.now.closed)
         stamps.now.ended) }
 {
     match stamps.ended {
-        Some(ended) => near_moment(groups, file, policy, &None, stamps.closed, ended).is_some(),
+        Some(ended) => {
+            near_moment(groups, file, policy, &None, floor_met, stamps.closed, ended).is_some()
+        }
         None => false,
     }
 }
 
-// The ripe moment that the version of these stamps gets as the next one closes now; none where it keeps the one that it had
-// alone, as it does under every policy that looks at no other version.
+// The ripe moment that the version of these stamps gets, while that floor is in force, as the next one closes now; none where it
+// keeps the one that it had alone, as it does without a floor under every policy that looks at no other version.
+#[tactic(auto, using(crate::proofs::Words::nat_tests, crate::proofs::Asked::met_alone))]
 fn gained_moment(
     groups: &Groups,
     file: FileId,
     policy: &Policy,
+    floor: u64,
     stamps: &Stamps,
     now: Moment,
 ) -> Option<Moment>
-    ensures { result
-        ≡ gained_moment (cover_of groups.now file) (Some policy.now) now stamps.now.closed stamps.now.ended }
+    ensures { result ≡ gained_moment (cover_of groups.now file) (Some policy.now) floor now
+        stamps.now.closed stamps.now.ended }
 {
-    if ripens_alone(groups, file, policy, stamps) {
+    if ripens_alone(groups, file, policy, floor == 0, stamps) {
         return None;
     }
     near_moment(
@@ -75,63 +90,93 @@ fn gained_moment(
         file,
         policy,
         &Some(now),
+        true,
         stamps.closed,
         stamps.ended.unwrap_or(now),
     )
 }
 
-// The ripe moment that the file's newest held version gets, of which these are the stamps, as the next one closes now; none
-// where a handle reads it.
+// What is told of the held version of a file that stands so that with the next one has as many newer ones as the floor asks; of
+// the newest where there is none.
+#[tactic(auto, using(crate::proofs::Words::nat_tests, crate::proofs::Asked::newest_gains))]
+fn gaining(
+    files: &Files,
+    file: FileId,
+    standing: &Standing,
+    floor: u64,
+    meter: &mut Meter,
+) -> Option<Stamps>
+    requires stands { Stands files.now file standing.now }
+    requires placed { AllLater ArePlaced files.now.versions }
+    requires meter { meter.old < 2 ^ 60 }
+    ensures value { result
+        ≡ option_map stamps_of (with_newer files.now.versions file (floor - 1)) }
+    ensures read { meter.new ≤ meter.old + 1 }
+{
+    if floor <= 1 {
+        return standing.newest;
+    }
+    files.with_newer(file, floor - 1, meter)
+}
+
+// The ripe moment that the version gets, of which these are the stamps, as the next one closes now; none where a handle reads it.
 #[tactic(auto, using(crate::proofs::Asked::former_told, crate::proofs::Words::nat_tests))]
 fn former_moment(
     files: &Files,
     groups: &Groups,
     file: FileId,
     policy: &Policy,
-    newest: &Stamps,
+    floor: u64,
+    gaining: &Stamps,
     now: Moment,
 ) -> Option<Moment>
     requires policy { policy_of files.now.files file ≡ Some policy.now }
-    requires newest { option_map stamps_of (newest_of files.now.versions file) ≡ Some newest.now }
-    ensures { result ≡ former_moment groups.now files.now file now }
+    requires gaining { option_map stamps_of (with_newer files.now.versions file (floor - 1))
+        ≡ Some gaining.now }
+    ensures { result ≡ former_moment groups.now files.now file floor now }
 {
-    if files.is_open(file, newest.number) {
+    if files.is_open(file, gaining.number) {
         return None;
     }
-    gained_moment(groups, file, policy, newest, now)
+    gained_moment(groups, file, policy, floor, gaining, now)
 }
 
 // The keys that come with the next version of a file that stands so, which closes now.
 #[tactic(auto, using(crate::proofs::Words::nat_tests))]
-fn new_keys(
+pub fn new_keys(
     files: &Files,
     groups: &Groups,
     file: FileId,
     standing: &Standing,
     now: Moment,
     is_live: bool,
+    meter: &mut Meter,
 ) -> NewKeys
-    requires { Stands files.now file standing.now }
-    ensures { result ≡ new_keys groups.now files.now file now is_live }
+    requires stands { Stands files.now file standing.now }
+    requires placed { AllLater ArePlaced files.now.versions }
+    requires meter { meter.old < 2 ^ 60 }
+    ensures keys { result ≡ new_keys groups.now files.now file now is_live }
+    ensures read { meter.new ≤ meter.old + 1 }
 {
     let policy = &standing.policy;
+    let floor = floor_in(policy, is_live);
     let own = if is_live {
         None
     } else {
-        near_moment(groups, file, policy, &None, now, now)
+        near_moment(groups, file, policy, &None, true, now, now)
     };
     let number = standing.next;
-    match &standing.newest {
-        Some(newest) => NewKeys {
+    match &gaining(files, file, standing, floor, meter) {
+        Some(gaining) => NewKeys {
             file,
-            newest: newest.number,
+            gaining: gaining.number,
             number,
-            former: former_moment(files, groups, file, policy, newest, now),
+            former: former_moment(files, groups, file, policy, floor, gaining, now),
             own,
         },
         None => NewKeys {
             file,
-            newest: VersionNo(0),
+            gaining: VersionNo(0),
             number,
             former: None,
             own,
@@ -162,7 +207,15 @@ pub fn end_moment(
     if stamps.ended.is_some() {
         return None;
     }
-    near_moment(groups, file, &standing.policy, &None, stamps.closed, now)
+    near_moment(
+        groups,
+        file,
+        &standing.policy,
+        &None,
+        true,
+        stamps.closed,
+        now,
+    )
 }
 
 // The file's next version stands in the files.
@@ -187,8 +240,60 @@ fn put_version(
     }
 }
 
-// The file, which stands so, has its next version, of so many bytes, which closes now, and the version before it ends. Where
-// memory is refused, all but the queue is as it was.
+// The file, which stands so, has its next version, of so many bytes, which closes now, and the version before it ends; the keys,
+// none of which was there, come with it. Where memory is refused, all is as it was.
+#[tactic(auto, using(crate::proofs::Words::nat_tests, crate::proofs::Appended::refused, crate::proofs::Appended::taken_back))]
+pub fn append_with(
+    rows: &mut Rows,
+    file: FileId,
+    standing: &Standing,
+    keys: &NewKeys,
+    source: Source,
+    bytes: u64,
+) -> Result<VersionNo, NoMemory>
+    requires booked { IsBooked rows.old.files rows.old.book }
+    requires absent { (k : Key) → is_new keys.now k ≡ true → has_key k rows.old.queue ≡ false }
+    requires roomy { IsRoomy rows.old }
+    requires there { 0 < next_of rows.old.files.files file }
+    requires stands { Stands rows.old.files file standing.now }
+    requires ready { IsReady rows.old.files rows.old.moment file source }
+    requires bytes { bytes ≡ length (content_of (source_cells rows.old.files file source)) }
+    requires short { bytes ≤ longest_content }
+    requires meter { rows.old.meter < 2 ^ 61 }
+    ensures number { IfOk result (λ number. number ≡ next_of rows.old.files.files file) }
+    ensures ok { OnOk result (world_of rows.new ≡ after_changes (world_of rows.old)
+        (appending rows.old.files rows.old.moment file source)) }
+    ensures err { OnErr result (rows.new
+        ≡ record rows.old { queue = rows.new.queue; meter = rows.new.meter }) }
+    ensures come { OnOk result ((k : Key) → has_key k rows.new.queue
+        ≡ (is_new keys.now k || has_key k rows.old.queue)) }
+    ensures same { OnErr result
+        ((k : Key) → has_key k rows.new.queue ≡ has_key k rows.old.queue) }
+    ensures book { IsBooked rows.new.files rows.new.book }
+    ensures limits { rows.new.limits ≡ rows.old.limits }
+{
+    let is_live = rows.names.is_live(file);
+    let now = rows.moment;
+    let kind = standing.policy.kind();
+    let before = blocks(&rows.files);
+    // All keys come before the version does, so that one that is refused is still without trace.
+    keys.put(&mut rows.queue)?;
+    let made = put_version(&mut rows.files, file, source, now, is_live, &mut rows.meter);
+    let number = match made {
+        Ok(number) => number,
+        Err(refused) => {
+            keys.take(&mut rows.queue);
+            return Err(refused);
+        }
+    };
+    rows.book.add(kind, one_version(bytes));
+    settle_blocks(&mut rows.book, &rows.files, kind, before);
+    rows.made.versions += 1;
+    Ok(number)
+}
+
+// The same, with the keys that the rows tell, so that the queue follows.
+#[tactic(auto, using(crate::proofs::Words::nat_tests))]
 pub fn append(
     rows: &mut Rows,
     file: FileId,
@@ -212,22 +317,14 @@ pub fn append(
     ensures tracked { IsTracked rows.new }
 {
     let is_live = rows.names.is_live(file);
-    let now = rows.moment;
-    let kind = standing.policy.kind();
-    let keys = new_keys(&rows.files, &rows.groups, file, standing, now, is_live);
-    let before = blocks(&rows.files);
-    // All keys come before the version does, so that one that is refused is still without trace.
-    keys.put(&mut rows.queue)?;
-    let made = put_version(&mut rows.files, file, source, now, is_live, &mut rows.meter);
-    let number = match made {
-        Ok(number) => number,
-        Err(refused) => {
-            keys.take(&mut rows.queue);
-            return Err(refused);
-        }
-    };
-    rows.book.add(kind, one_version(bytes));
-    settle_blocks(&mut rows.book, &rows.files, kind, before);
-    rows.made.versions += 1;
-    Ok(number)
+    let keys = new_keys(
+        &rows.files,
+        &rows.groups,
+        file,
+        standing,
+        rows.moment,
+        is_live,
+        &mut rows.meter,
+    );
+    append_with(rows, file, standing, &keys, source, bytes)
 }

@@ -11,7 +11,7 @@ ghost use Rattle.ele_state.specs.Home.{IsHome};
 
 use crate::State;
 use ele_lists::place_of;
-use ele_policy::{Interval, Policy};
+use ele_policy::{Floor, Interval, Policy};
 use ele_world::{DirId, DirectoryRow, Name, NoMemory, Target};
 
 // The place of the directory's row, by a binary search of the numbers.
@@ -55,7 +55,7 @@ pub fn default_in(directories: &[DirectoryRow], id: DirId) -> Policy
 {
     match directory_row(directories, id) {
         Some(row) => row.default,
-        None => Policy::Safe(Interval::DAY),
+        None => Policy::Safe(Interval::DAY, Floor::NONE),
     }
 }
 

@@ -29,7 +29,14 @@ fn ripe_moment(rows: &Rows, file: FileId, number: VersionNo) -> Option<Moment>
     if rows.files.is_open(file, number) {
         return None;
     }
-    free_moment(&rows.files, &rows.groups, file, number, &mut Meter::new())
+    free_moment(
+        &rows.files,
+        &rows.groups,
+        rows.names.is_live(file),
+        file,
+        number,
+        &mut Meter::new(),
+    )
 }
 
 impl State {

@@ -14,6 +14,7 @@ ghost use Rattle.ele_state.specs.Inside.{world_of, IsSound};
 ghost use Rattle.ele_state.specs.Queued.{IsTold};
 
 use crate::State;
+use crate::keys::floor_in;
 use crate::rows::Rows;
 use ele_files::Meter;
 use ele_groups::Groups;
@@ -128,7 +129,7 @@ fn cause(
     match policy {
         Policy::One => Cause::AtOnce,
         Policy::All => unreachable!(),
-        Policy::Safe(interval) => Cause::Age(*interval),
+        Policy::Safe(interval, _) => Cause::Age(*interval),
         Policy::Landmarks(ladder) => {
             let Some(next) = next else { unreachable!() };
             let level = ladder.level(since.seconds().saturating_sub(ended.seconds()));
@@ -145,21 +146,28 @@ fn ripe_past(cover: Cover, ripe: Option<Moment>) -> Option<Moment>
     cover.ripe_past(ripe?)
 }
 
-// What the policy makes at the moment of a version that closed and ended then, beside that next one, and that marks keep no more.
+// What the policy makes at the moment of a version that closed and ended then, beside that next one, where the floor is met or not,
+// and that marks keep no more.
+#[tactic(auto, using(crate::proofs::Words::nat_tests, crate::proofs::Fated::due_alone))]
 fn free_fate(
     cover: Cover,
     policy: &Policy,
     closed: Moment,
     ended: Moment,
     next: &Option<Stamps>,
+    floor_met: bool,
     now: Moment,
 ) -> Fate
-    ensures { IsFreeFate cover policy.now closed ended next.now now result }
+    ensures { IsFreeFate cover policy.now closed ended next.now floor_met now result }
 {
     policy.is_given();
-    let until = ripe_past(cover, ripe(policy, closed, ended, closing_of(next)));
+    let until = ripe_past(
+        cover,
+        ripe(policy, closed, ended, closing_of(next), floor_met),
+    );
     if let Some(since) = until {
         if since <= now {
+            let _within = since.seconds();
             let cause = cause(policy, closed, ended, next, since);
             return Fate::Due { since, cause };
         }
@@ -190,7 +198,9 @@ fn fate_of(rows: &Rows, file: FileId, stamps: &Stamps) -> Fate
         unreachable!()
     };
     let next = rows.files.next_held(file, number, &mut Meter::new());
-    free_fate(cover, &policy, closed, ended, &next, now)
+    let floor = floor_in(&policy, rows.names.is_live(file));
+    let floor_met = rows.files.has_newer(file, number, floor, &mut Meter::new());
+    free_fate(cover, &policy, closed, ended, &next, floor_met, now)
 }
 
 impl State {

@@ -12,7 +12,7 @@ use crate::State;
 use crate::book::blocks_fit;
 use crate::directory::default_in;
 use crate::rows::Rows;
-use ele_policy::{Interval, Policy};
+use ele_policy::{Floor, Interval, Policy};
 use ele_usage::Usage;
 use ele_world::{DirId, FileId, Name, NoMemory, Target};
 
@@ -44,7 +44,7 @@ impl State {
     {
         match self.rows.files.policy_of(file) {
             Some(policy) => policy,
-            None => Policy::Safe(Interval::DAY),
+            None => Policy::Safe(Interval::DAY, Floor::NONE),
         }
     }
 

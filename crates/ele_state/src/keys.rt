@@ -3,7 +3,7 @@ ghost use Rattle.std.specs.Prelude.{◌≡◌, ◌<◌, ◌≤◌, ◌+◌, ◌^
 ghost use Rattle.ele_due.specs.declared.key.Key.{Key};
 ghost use Rattle.ele_due.specs.HasKey.{has_key};
 ghost use Rattle.ele_world.specs.Cover.{cover_of};
-ghost use Rattle.ele_world.specs.Neighbours.{free_moment, near_moment};
+ghost use Rattle.ele_world.specs.Neighbours.{floor_in, free_moment, near_moment};
 ghost use Rattle.ele_state.specs.Queued.{IsRekeyed, is_entry, is_new, key_unless};
 
 use ele_due::DueQueue;
@@ -80,51 +80,78 @@ pub fn take_all(queue: &mut DueQueue, keys: &[Key])
     }
 }
 
-// The ripe moment that a version of the file has under the policy while no handle reads it, which closed and ended then, and
-// beside which the next one closed at that moment: not before the latest end of the marks that cover it; none where one keeps it
-// for ever, or where it is never due.
+// A policy, and the floor that is in force under it.
+#[derive(Clone, Copy)]
+pub struct Rule {
+    pub policy: Policy,
+    pub floor: u64,
+}
+
+// The floor that is in force under the policy in a file that is live or not.
+pub fn floor_in(policy: &Policy, is_live: bool) -> u64
+    ensures { result ≡ floor_in (Some policy.now) is_live }
+{
+    if is_live { policy.floor().number() } else { 0 }
+}
+
+// The ripe moment that a version of the file has under the policy while no handle reads it, which closed and ended then, beside
+// which the next one closed at that moment, and where the floor is met or not: not before the latest end of the marks that cover
+// it; none where one keeps it for ever, or where it is never due.
 pub fn near_moment(
     groups: &Groups,
     file: FileId,
     policy: &Policy,
     next_closed: &Option<Moment>,
+    floor_met: bool,
     closed: Moment,
     ended: Moment,
 ) -> Option<Moment>
     ensures { result
-        ≡ near_moment (cover_of groups.now file) (Some policy.now) next_closed.now
+        ≡ near_moment (cover_of groups.now file) (Some policy.now) next_closed.now floor_met
         closed ended }
 {
-    let ripe = ripe(policy, closed, ended, *next_closed)?;
+    let ripe = ripe(policy, closed, ended, *next_closed, floor_met)?;
     groups.cover(file, closed, Some(ended)).ripe_past(ripe)
 }
 
-// The ripe moment that the version has while no handle reads it; none where it isn't held, has no end, is marked for ever, or is
-// never due.
+// The ripe moment that the version has while no handle reads it, in a file that is live or not; none where it isn't held, has no
+// end, is marked for ever, has too few newer ones, or is never due.
 pub fn free_moment(
     files: &Files,
     groups: &Groups,
+    is_live: bool,
     file: FileId,
     number: VersionNo,
     meter: &mut Meter,
 ) -> Option<Moment>
     requires { meter.old < 2 ^ 59 }
-    ensures moment { result ≡ free_moment groups.now files.now.files files.now.versions file number }
-    ensures read { meter.new ≤ meter.old + 2 }
+    ensures moment { result
+        ≡ free_moment groups.now files.now.files is_live files.now.versions file number }
+    ensures read { meter.new ≤ meter.old + 3 }
 {
     let policy = files.policy_of(file)?;
     let stamps = files.stamps(file, number, meter)?;
     let ended = stamps.ended?;
+    let floor_met = files.has_newer(file, number, floor_in(&policy, is_live), meter);
     let next_closed = files.next_closing(file, number, meter);
     let closed = stamps.closed;
-    near_moment(groups, file, &policy, &next_closed, closed, ended)
+    near_moment(
+        groups,
+        file,
+        &policy,
+        &next_closed,
+        floor_met,
+        closed,
+        ended,
+    )
 }
 
-// The keys that come with a version: that of the file's newest held one, which may have ended before or ends now, and its own.
+// The keys that come with a version: that of the held one that with it has as many newer ones as the floor in force asks, or of
+// the newest, which may have ended before or ends now, and its own.
 #[derive(Clone, Copy)]
 pub struct NewKeys {
     pub file: FileId,
-    pub newest: VersionNo,
+    pub gaining: VersionNo,
     pub number: VersionNo,
     pub former: Option<Moment>,
     pub own: Option<Moment>,
@@ -136,14 +163,14 @@ impl NewKeys {
         ensures ok { OnOk result ((k : Key) → has_key k queue.new
             ≡ (is_new self.now k || has_key k queue.old)) }
         ensures err { OnErr result ((k : Key)
-            → (is_entry self.now.file self.now.newest self.now.former k ≡ true
+            → (is_entry self.now.file self.now.gaining self.now.former k ≡ true
             → has_key k queue.old ≡ false) → has_key k queue.new ≡ has_key k queue.old) }
     {
-        put(queue, self.file, self.newest, self.former)?;
+        put(queue, self.file, self.gaining, self.former)?;
         match put(queue, self.file, self.number, self.own) {
             Ok(()) => Ok(()),
             Err(refused) => {
-                take(queue, self.file, self.newest, self.former);
+                take(queue, self.file, self.gaining, self.former);
                 Err(refused)
             }
         }
@@ -155,6 +182,6 @@ impl NewKeys {
             ≡ (not (is_new self.now k) && has_key k queue.old) }
     {
         take(queue, self.file, self.number, self.own);
-        take(queue, self.file, self.newest, self.former);
+        take(queue, self.file, self.gaining, self.former);
     }
 }

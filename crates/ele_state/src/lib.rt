@@ -35,8 +35,8 @@ use ele_files::Files;
 pub use ele_files::Meter;
 use ele_groups::Groups;
 use ele_names::Names;
-use ele_policy::Interval;
 use ele_policy::laws::policies_are_lawful;
+use ele_policy::{Floor, Interval};
 use ele_usage::UsageBook;
 use ele_world::{
     Counts, DirId, DirectoryRow, Flat, Limits, ListOf, Moment, NoMemory, Policy, Which,
@@ -74,7 +74,7 @@ impl State {
         let mut directories = Vec::new(alloc);
         directories.push(DirectoryRow {
             id: DirId(0),
-            default: Policy::Safe(Interval::DAY),
+            default: Policy::Safe(Interval::DAY, Floor::NONE),
         })?;
         Ok(State {
             rows: Rows {

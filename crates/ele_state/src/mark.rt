@@ -2,10 +2,12 @@
 ghost use Rattle.std.specs.Prelude.{◌≡◌, ◌++◌, [], IfOk, OnOk};
 ghost use Rattle.std.specs.List.{cons_option, filter_map};
 ghost use Rattle.ele_world.specs.Cover.{cover_of};
+ghost use Rattle.ele_world.specs.World.{is_live};
+ghost use Rattle.ele_state.specs.Inside.{world_of};
 ghost use Rattle.ele_state.specs.declared.mark.Asked.TheVariants.{Standing};
 ghost use Rattle.ele_state.specs.Queued.{cover_asked, key_at, keys_at, moment_asked};
 
-use crate::keys::key_unless;
+use crate::keys::{floor_in, key_unless};
 use crate::rows::Rows;
 use ele_files::{Files, Meter};
 use ele_groups::Groups;
@@ -51,19 +53,20 @@ fn cover_asked(
     }
 }
 
-// The ripe moments that the file's version of these stamps has now, and as marks are asked; none where a handle reads it, where
-// it has no end, or is never due.
+// The ripe moments that the version of these stamps of the file, which is live or not, has now, and as marks are asked; none where
+// a handle reads it, where it has no end, or is never due.
 fn moments_at(
     files: &Files,
     groups: &Groups,
     asked: &Asked,
+    is_live: bool,
     file: FileId,
     stamps: &Stamps,
 ) -> (Option<Moment>, Option<Moment>)
-    ensures was { result.0 ≡ moment_asked Standing groups.now files.now file stamps.now.number
-        stamps.now.closed stamps.now.ended }
-    ensures then { result.1 ≡ moment_asked asked.now groups.now files.now file stamps.now.number
-        stamps.now.closed stamps.now.ended }
+    ensures was { result.0 ≡ moment_asked Standing groups.now files.now is_live file
+        stamps.now.number stamps.now.closed stamps.now.ended }
+    ensures then { result.1 ≡ moment_asked asked.now groups.now files.now is_live file
+        stamps.now.number stamps.now.closed stamps.now.ended }
 {
     if files.is_open(file, stamps.number) {
         return (None, None);
@@ -74,9 +77,11 @@ fn moments_at(
     let Some(policy) = files.policy_of(file) else {
         return (None, None);
     };
+    let floor = floor_in(&policy, is_live);
+    let floor_met = files.has_newer(file, stamps.number, floor, &mut Meter::new());
     let next_closed = files.next_closing(file, stamps.number, &mut Meter::new());
     let closed = stamps.closed;
-    let Some(ripe) = ripe(&policy, closed, ended, next_closed) else {
+    let Some(ripe) = ripe(&policy, closed, ended, next_closed, floor_met) else {
         return (None, None);
     };
     let standing = groups.cover(file, closed, Some(ended));
@@ -90,16 +95,17 @@ fn keys_of(
     files: &Files,
     groups: &Groups,
     asked: &Asked,
+    is_live: bool,
     file: FileId,
     mark: Moment,
 ) -> (Option<Key>, Option<Key>)
-    ensures come { result.0 ≡ key_at asked.now Standing groups.now files.now file mark }
-    ensures gone { result.1 ≡ key_at Standing asked.now groups.now files.now file mark }
+    ensures come { result.0 ≡ key_at asked.now Standing groups.now files.now is_live file mark }
+    ensures gone { result.1 ≡ key_at Standing asked.now groups.now files.now is_live file mark }
 {
     let Some(stamps) = files.version_at(file, mark, &mut Meter::new()) else {
         return (None, None);
     };
-    let (was, then) = moments_at(files, groups, asked, file, &stamps);
+    let (was, then) = moments_at(files, groups, asked, is_live, file, &stamps);
     let number = stamps.number;
     (
         key_unless(file, number, &then, &was),
@@ -127,12 +133,15 @@ fn add_keys(
     marks: &[Moment],
 ) -> Result<(), NoMemory>
     ensures come { OnOk result (come.new.items ≡ come.old.items
-        ++ filter_map (key_at asked.now Standing rows.now.groups rows.now.files file) marks.now) }
+        ++ filter_map (key_at asked.now Standing rows.now.groups rows.now.files
+        (is_live (world_of rows.now) file) file) marks.now) }
     ensures gone { OnOk result (gone.new.items ≡ gone.old.items
-        ++ filter_map (key_at Standing asked.now rows.now.groups rows.now.files file) marks.now) }
+        ++ filter_map (key_at Standing asked.now rows.now.groups rows.now.files
+        (is_live (world_of rows.now) file) file) marks.now) }
 {
+    let is_live = rows.names.is_live(file);
     for mark in marks {
-        let (comes, goes) = keys_of(&rows.files, &rows.groups, asked, file, *mark);
+        let (comes, goes) = keys_of(&rows.files, &rows.groups, asked, is_live, file, *mark);
         add_key(come, comes)?;
         add_key(gone, goes)?;
     }
@@ -148,9 +157,11 @@ pub fn keys_at(
     marks: &[Moment],
 ) -> Result<(Vec<Key>, Vec<Key>), NoMemory>
     ensures come { IfOk result (λ keys. keys.0.items
-        ≡ keys_at asked.now Standing rows.now.groups rows.now.files files.now marks.now) }
+        ≡ keys_at asked.now Standing rows.now.groups rows.now.files (is_live (world_of rows.now))
+        files.now marks.now) }
     ensures gone { IfOk result (λ keys. keys.1.items
-        ≡ keys_at Standing asked.now rows.now.groups rows.now.files files.now marks.now) }
+        ≡ keys_at Standing asked.now rows.now.groups rows.now.files (is_live (world_of rows.now))
+        files.now marks.now) }
 {
     let mut come = Vec::new(rows.alloc);
     let mut gone = Vec::new(rows.alloc);

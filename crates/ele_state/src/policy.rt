@@ -1,14 +1,20 @@
 //! The policy of a file, and the keys that another one brings.
-ghost use Rattle.std.specs.Prelude.{◌≡◌, ◌<◌, IfOk, OnOk, OnErr};
+ghost use Rattle.std.specs.Prelude.{◌≡◌, ◌<◌, Some, IfOk, OnOk, OnErr};
 ghost use Rattle.std.specs.List.{AllByRecursion, filter_map};
+ghost use Rattle.ele_due.specs.declared.key.Key.{Key};
+ghost use Rattle.ele_due.specs.HasKey.{has_key};
 ghost use Rattle.ele_policy.specs.Policy.{IsPolicy};
 ghost use Rattle.ele_world.specs.Change.{PutUnder, after_change};
+ghost use Rattle.ele_world.specs.Cover.{cover_of};
+ghost use Rattle.ele_world.specs.Neighbours.{moment_under, next_closing};
 ghost use Rattle.ele_world.specs.World.{next_of};
-ghost use Rattle.ele_state.specs.Queued.{IsTold, key_under, unread_under};
+ghost use Rattle.ele_state.specs.Inside.{IsSound};
+ghost use Rattle.ele_state.specs.Queued.{IsTold, is_held_back, key_under, rule_in, unread_under};
 
 use crate::State;
-use crate::keys::{key_unless, near_moment, put_all, take_all};
+use crate::keys::{Rule, floor_in, key_unless, near_moment, put_all, take_all};
 use crate::mark::add_key;
+use crate::rows::Rows;
 use ele_files::{Files, Meter};
 use ele_groups::Groups;
 use ele_policy::Policy;
@@ -31,11 +37,13 @@ impl State {
         let Some(was) = self.rows.files.policy_of(file) else {
             unreachable!()
         };
+        let is_live = self.rows.names.is_live(file);
         let (files, groups) = (&self.rows.files, &self.rows.groups);
         let usage = files.usage_of(file)?;
         let held = files.stamps_of_file(file)?;
         let held = held.as_slice();
-        let (come, gone) = rekeyed(self.rows.alloc, files, groups, file, &was, &policy, held)?;
+        let (one, other) = (rule_in(&was, is_live), rule_in(&policy, is_live));
+        let (come, gone) = rekeyed(self.rows.alloc, files, groups, file, &one, &other, held)?;
         // All keys come before one goes, so that one that is refused is still without trace.
         put_all(&mut self.rows.queue, &come)?;
         take_all(&mut self.rows.queue, &gone);
@@ -45,15 +53,56 @@ impl State {
     }
 }
 
-// The ripe moments that the file's version of these stamps has under the one policy and under the other; none where a handle
-// reads it.
+// The policy, with the floor that is in force under it in a file that is live or not.
+fn rule_in(policy: &Policy, is_live: bool) -> Rule
+    ensures { result ≡ rule_in policy.now is_live }
+{
+    Rule {
+        policy: *policy,
+        floor: floor_in(policy, is_live),
+    }
+}
+
+// The ripe moment under the rule of the file's version of these stamps, which ended then, while no handle reads it.
+#[tactic(auto, using(crate::proofs::Words::nat_tests, crate::proofs::Governed::under_told))]
+fn moment_under(
+    files: &Files,
+    groups: &Groups,
+    file: FileId,
+    rule: &Rule,
+    stamps: &Stamps,
+    next_closed: &Option<Moment>,
+    ended: Moment,
+) -> Option<Moment>
+    requires told { IsTold files.now file stamps.now }
+    requires ended { stamps.now.ended ≡ Some ended }
+    requires next { next_closed.now ≡ next_closing files.now.versions file stamps.now.number }
+    ensures { result ≡ moment_under (cover_of groups.now file) (Some rule.now.policy)
+        rule.now.floor files.now.versions file stamps.now.number }
+{
+    let number = stamps.number;
+    let floor_met = files.has_newer(file, number, rule.floor, &mut Meter::new());
+    let closed = stamps.closed;
+    near_moment(
+        groups,
+        file,
+        &rule.policy,
+        next_closed,
+        floor_met,
+        closed,
+        ended,
+    )
+}
+
+// The ripe moments that the file's version of these stamps has under the one rule and under the other; none where a handle reads
+// it.
 #[tactic(auto, using(crate::proofs::Words::nat_tests, crate::proofs::Governed::under_told))]
 fn moments_of(
     files: &Files,
     groups: &Groups,
     file: FileId,
-    one: &Policy,
-    other: &Policy,
+    one: &Rule,
+    other: &Rule,
     stamps: &Stamps,
 ) -> (Option<Moment>, Option<Moment>)
     requires { IsTold files.now file stamps.now }
@@ -69,22 +118,21 @@ fn moments_of(
         return (None, None);
     };
     let next = files.next_closing(file, stamps.number, &mut Meter::new());
-    let closed = stamps.closed;
     (
-        near_moment(groups, file, one, &next, closed, ended),
-        near_moment(groups, file, other, &next, closed, ended),
+        moment_under(files, groups, file, one, stamps, &next, ended),
+        moment_under(files, groups, file, other, stamps, &next, ended),
     )
 }
 
-// The keys that come and those that go, where the file's versions, of which these are the stamps, come from under the one policy
+// The keys that come and those that go, where the file's versions, of which these are the stamps, come from under the one rule
 // under the other: one walk, which looks at each once.
 fn rekeyed(
     alloc: Global,
     files: &Files,
     groups: &Groups,
     file: FileId,
-    one: &Policy,
-    other: &Policy,
+    one: &Rule,
+    other: &Rule,
     held: &[Stamps],
 ) -> Result<(Vec<Key>, Vec<Key>), NoMemory>
     requires { AllByRecursion (IsTold files.now file) held.now }
@@ -101,4 +149,41 @@ fn rekeyed(
         add_key(&mut gone, key_unless(file, stamps.number, &was, &is))?;
     }
     Ok((come, gone))
+}
+
+// The keys that the floor holds back of the file's versions under the policy; without a floor none is looked for.
+#[tactic(auto, using(crate::proofs::Words::nat_tests, crate::proofs::Governed::none_held_back))]
+pub fn held_back(
+    rows: &Rows,
+    file: FileId,
+    policy: &Policy,
+    floor: u64,
+) -> Result<Vec<Key>, NoMemory>
+    requires { IsSound rows.now }
+    ensures { IfOk result (λ keys. (k : Key) → has_key k keys.items
+        ≡ is_held_back rows.now.groups rows.now.files file policy.now floor k) }
+{
+    if floor == 0 {
+        return Ok(Vec::new(rows.alloc));
+    }
+    let (files, groups) = (&rows.files, &rows.groups);
+    let held = files.stamps_of_file(file)?;
+    let one = Rule {
+        policy: *policy,
+        floor,
+    };
+    let other = Rule {
+        policy: *policy,
+        floor: 0,
+    };
+    let (come, _gone) = rekeyed(
+        rows.alloc,
+        files,
+        groups,
+        file,
+        &one,
+        &other,
+        held.as_slice(),
+    )?;
+    Ok(come)
 }

@@ -87,9 +87,11 @@ impl State {
             ≡ after_change self.old.world (OpenHandle handle (Version file number))) }
         ensures err { OnErr result (self.new.world ≡ self.old.world) }
     {
+        let is_live = self.rows.names.is_live(file);
         let moment = free_moment(
             &self.rows.files,
             &self.rows.groups,
+            is_live,
             file,
             number,
             &mut self.rows.meter,
@@ -230,13 +232,28 @@ fn unread(
     ensures err { OnErr result (world_of rows.new ≡ world_of rows.old) }
     ensures tracked { IsTracked rows.new }
 {
-    let moment = free_moment(&rows.files, &rows.groups, file, number, &mut rows.meter);
+    let is_live = rows.names.is_live(file);
+    let moment = free_moment(
+        &rows.files,
+        &rows.groups,
+        is_live,
+        file,
+        number,
+        &mut rows.meter,
+    );
     put(&mut rows.queue, file, number, moment)?;
     rows.files.leave(handle);
     if !rows.files.is_open(file, number) {
         return Ok(None);
     }
-    let moment = free_moment(&rows.files, &rows.groups, file, number, &mut rows.meter);
+    let moment = free_moment(
+        &rows.files,
+        &rows.groups,
+        is_live,
+        file,
+        number,
+        &mut rows.meter,
+    );
     take(&mut rows.queue, file, number, moment);
     Ok(None)
 }

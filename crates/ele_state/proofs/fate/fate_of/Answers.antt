@@ -1,4 +1,4 @@
-use Rattle.ele_state.proofs.Words.{sym, ◌∙◌, subst, Cover, Groups}
+use Rattle.ele_state.proofs.Words.{refl, sym, ◌∙◌, subst, Cover, Groups}
 use Rattle.ele_state.proofs.Fated.{fate_free, fate_marked, fate_open, fate_ungoverned}
 use Rattle.ele_state.specs.Fated.{IsFreeFate}
 use Rattle.ele_state.proofs.fate.fate_of.Goals as goal
@@ -17,5 +17,5 @@ unreachable-requires c = fate_ungoverned c.args.rows.now c.args.file c.args.stam
 
 pub returns : goal.returns
 returns c =
-    let free = subst (λ (cover : Cover). IsFreeFate cover c.in-Some-policy_of.policy c.args.stamps.now.closed c.in-Some.ended c.next_held-next.result c.args.rows.now.moment c.free_fate.result) c.cover-cover.ensures c.free_fate.ensures in
-    fate_free c.args.rows.now c.args.file c.args.stamps.now c.requires.held c.in-Some.ended c.in-Some.is (sym c.is_open.ensures ∙ c.if-is_open.false) c.requires.sound c.in_default-first_mark.ensures.none c.in-Some-policy_of.policy (sym c.policy_of.ensures ∙ c.in-Some-policy_of.is) c.next_held-next.result c.next_held-next.ensures.value c.free_fate.result free
+    let free = subst (λ (cover : Cover). IsFreeFate cover c.in-Some-policy_of.policy c.args.stamps.now.closed c.in-Some.ended c.next_held-next.result c.has_newer-floor_met.result c.args.rows.now.moment c.free_fate.result) c.cover-cover.ensures c.free_fate.ensures in
+    fate_free c.args.rows.now c.args.file c.args.stamps.now c.requires.held c.in-Some.ended c.in-Some.is (sym c.is_open.ensures ∙ c.if-is_open.false) c.requires.sound c.in_default-first_mark.ensures.none c.in-Some-policy_of.policy (sym c.policy_of.ensures ∙ c.in-Some-policy_of.is) c.next_held-next.result c.next_held-next.ensures.value c.has_newer-floor_met.result (c.has_newer-floor_met.ensures.value ∙ rw c.floor_in-floor.ensures (rw c.is_live.ensures refl)) c.free_fate.result free

@@ -1,4 +1,4 @@
-use Rattle.ele_state.proofs.Words.{Option, [], ◌++◌, Key, Policy, Stamps, ap, sym, ◌∙◌, cons_option, filter_map, key_under, take}
+use Rattle.ele_state.proofs.Words.{Option, [], ◌++◌, Key, Rule, Stamps, ap, sym, ◌∙◌, cons_option, filter_map, key_under, take}
 use Rattle.ele_state.proofs.Marked.{one_more}
 use Rattle.ele_state.proofs.policy.rekeyed.Goals as goal
 
@@ -7,7 +7,7 @@ loop-stamps-preserved c =
     let held = c.args.held.now in
     let i = c.loop-stamps.stamps-index in
     let moments = c.moments_of-was.ensures in
-    let its : Policy → Policy → Stamps → Option Key = λ policy unless s. key_under c.args.groups.now c.args.files.now c.args.file policy unless s.number in
+    let its : Rule → Rule → Stamps → Option Key = λ rule unless s. key_under c.args.groups.now c.args.files.now c.args.file rule unless s.number in
     let comes = its c.args.other.now c.args.one.now in
     let goes = its c.args.one.now c.args.other.now in (
       c.in_ok-add_key.ensures
