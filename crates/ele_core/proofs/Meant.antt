@@ -3,7 +3,7 @@ use Rattle.ele_content.specs.Content.{content_of}
 use Rattle.ele_lists.specs.Lists.{AllLater}
 use Rattle.ele_state.specs.Told.{found_of}
 use Rattle.ele_time_path.specs.declared.tagged.TaggedPath.{TaggedPath}
-use Rattle.ele_world.proofs.Basics.{◌≡◌, ◌∙◌, ℕ, Bool, List, Result, Ok, Err, Some, refl, sym, ap, subst, all-found, arith, nat_tests, find, found_passes, option_map}
+use Rattle.ele_world.proofs.Basics.{◌≡◌, ℕ, Bool, List, Result, Ok, Err, Some, sym, ap, subst, all-found, arith, nat_tests, find, found_passes, option_map}
 use Rattle.ele_world.proofs.Meant.{is_at, is_meant, made_of, numbered_found}
 use Rattle.ele_world.proofs.Versions.{IsFound, all_found}
 use Rattle.ele_world.specs.WellFormed.{ArePlaced, IsWellFormed}
