@@ -11,8 +11,3 @@ floor_of policy = 0
 -- so many newer held versions are enough for it, in a file that is live or not: one without a live name has no floor in force
 abbrev pub meets_floor : Policy → Bool → ℕ → Bool
 meets_floor policy live newer = not live || nat_le (floor_of policy) newer
-
--- the policy with no floor
-abbrev pub without_floor : Policy → Policy
-without_floor (Safe interval floor) = Safe interval 0
-without_floor policy = policy

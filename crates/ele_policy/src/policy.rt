@@ -1,7 +1,7 @@
 //! The policies of files, and their kinds.
 //! A contract sees both as plain data.
 ghost use Rattle.std.specs.Prelude.{◌≡◌, Some};
-ghost use Rattle.ele_policy.specs.FloorOf.{floor_of, without_floor};
+ghost use Rattle.ele_policy.specs.FloorOf.{floor_of};
 ghost use Rattle.ele_policy.specs.Lawful.{IsLawful};
 ghost use Rattle.ele_policy.specs.Policy.{kind_of, IsPolicy};
 ghost use Rattle.ele_policy.specs.PolicyText.{kind_word, policy_word};
@@ -58,16 +58,6 @@ impl Policy {
         match self {
             Policy::Safe(_, floor) => *floor,
             Policy::One | Policy::All | Policy::Landmarks(_) => Floor::NONE,
-        }
-    }
-
-    /// The policy with no floor.
-    pub fn without_floor(&self) -> Policy
-        ensures { result ≡ without_floor self.now }
-    {
-        match self {
-            Policy::Safe(interval, _) => Policy::Safe(*interval, Floor::NONE),
-            Policy::One | Policy::All | Policy::Landmarks(_) => *self,
         }
     }
 

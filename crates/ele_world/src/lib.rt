@@ -31,7 +31,7 @@ pub use ele_content::Cell;
 pub use ele_due::Key;
 pub use ele_lists::{ByteList, ListOf};
 pub use ele_moment::{DirId, FileId, Handle, Moment, Name, NoMemory, VersionNo};
-pub use ele_policy::{Interval, Kind, Ladder, Policy};
+pub use ele_policy::{Floor, Interval, Kind, Ladder, Policy};
 pub use ele_time_path::{Path, PathAt, Tag, TaggedPath};
 pub use ele_usage::Usage;
 pub use entry::Entry;
