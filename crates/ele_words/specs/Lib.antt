@@ -6,4 +6,5 @@ pub mod RunEnds
 pub mod Status
 pub mod Storms
 pub mod StrictEnd
+pub mod SystemReason
 pub mod Watched

@@ -10,8 +10,10 @@ ghost use Rattle.ele_words.specs.RunEnds.{TellsRun, run_status};
 
 use crate::asked::Asked;
 use crate::forecasting::run_forecast;
+use crate::noted::Failing;
 use crate::storming::run_storm;
 use crate::strict::tell_end;
+use crate::system_reason::{SystemReason, tell_failed};
 use ele_runs::{Manner, RunEnd, ShellFault, run_in};
 use ele_script::{put, write_named};
 use ele_world::{Auditable, Explaining, Limits};
@@ -53,11 +55,25 @@ fn run_script<C: Explaining, R: Read, W: Write>(
     after_flush(ran, &flushed)
 }
 
-// Tells how a run ended, and the status to end with.
+// Why the system failed where its failure ended a run, if the end that failed knows.
+fn why_failed<R: Failing, W: Failing>(
+    ran: &Result<RunEnd, ShellFault>,
+    reader: &R,
+    writer: &W,
+) -> Option<SystemReason> {
+    match ran {
+        Err(ShellFault::ReadFault) => reader.why_failed(),
+        Err(ShellFault::WriteFault) => writer.why_failed(),
+        _ => None,
+    }
+}
+
+// Tells how a run ended, and why where the system failed, and the status to end with.
 fn tell_run<E: Write>(
     alloc: Global,
     manner: Manner,
     ran: &Result<RunEnd, ShellFault>,
+    why: Option<SystemReason>,
     errors: &mut E,
 ) -> u8
     ensures status { result ≡ run_status ran.now }
@@ -65,7 +81,7 @@ fn tell_run<E: Write>(
 {
     match ran {
         Ok(end) => tell_end(alloc, manner, end, errors),
-        Err(fault) => tell(Some(*fault), errors),
+        Err(fault) => tell_failed(*fault, why, errors),
     }
 }
 
@@ -80,8 +96,8 @@ pub(crate) fn write_text<W: Write>(text: &str, writer: &mut W) -> Result<(), She
     after_flush(Ok(()), &flushed)
 }
 
-// The status that the program ends with after a fault: 3 without memory, else 1.
-fn status(fault: ShellFault) -> u8
+/// The status that the program ends with after a fault: 3 without memory, else 1.
+pub(crate) fn status(fault: ShellFault) -> u8
     ensures { result ≡ fault_status fault }
 {
     match fault {
@@ -109,8 +125,8 @@ pub(crate) fn tell<E: Write>(fault: Option<ShellFault>, errors: &mut E) -> u8
 pub fn answer<
     C: Auditable + Explaining + Send,
     T: Threads + Wait + Clock + Sync,
-    R: Read,
-    W: Write,
+    R: Read + Failing,
+    W: Write + Failing,
     E: Write,
 >(
     rt: &T,
@@ -128,7 +144,8 @@ pub fn answer<
     match asked {
         Asked::Run(limits, manner) => {
             let ran = run_script::<C, R, W>(alloc, *manner, *limits, reader, writer);
-            tell_run(alloc, *manner, &ran, errors)
+            let why = why_failed(&ran, reader, writer);
+            tell_run(alloc, *manner, &ran, why, errors)
         }
         Asked::Storm(plan) => run_storm::<C, T, W, E>(rt, alloc, plan, watched, writer, errors),
         Asked::Forecast(ask) => run_forecast(alloc, ask, reader, writer, errors),

@@ -5,9 +5,13 @@
 mod asked;
 mod ends;
 mod forecasting;
+mod noted;
 mod storming;
 mod strict;
+mod system_reason;
 mod watched;
 
 pub use asked::{Asked, no_words, words};
 pub use ends::answer;
+pub use noted::{Failing, Noted};
+pub use system_reason::SystemReason;

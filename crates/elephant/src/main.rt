@@ -6,7 +6,7 @@
 ghost use Rattle.ele_words.specs.Asked.{IsAsked};
 
 use ele_core::Core;
-use ele_words::{Asked, answer, no_words, words};
+use ele_words::{Asked, Noted, answer, no_words, words};
 use std::io::{IsTerminal, Write};
 use std::process::ExitCode;
 
@@ -36,8 +36,8 @@ fn greet(rt: &HostRuntime, asked: &Asked) {
 fn main(rt: HostRuntime) -> ExitCode {
     let asked = asked_for(&rt);
     greet(&rt, &asked);
-    let mut input = rt.stdin();
-    let mut output = rt.stdout();
+    let mut input = Noted::new(rt.stdin());
+    let mut output = Noted::new(rt.stdout());
     let mut errors = rt.stderr();
     // A person at a terminal is told how far a storm is.
     let watched = errors.is_terminal();

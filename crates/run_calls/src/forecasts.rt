@@ -3,7 +3,7 @@ use crate::ends::{Full, SlowReader, SlowWriter};
 use ele_moment::Moment;
 use ele_outlook::{Ask, Form};
 use ele_policy::{Ladder, Policy};
-use ele_words::{Asked, answer};
+use ele_words::{Asked, Noted, answer};
 use empty_world::EmptyWorld;
 use std::alloc::Global;
 use std::io::{Read, Write};
@@ -70,7 +70,17 @@ fn foretell<T: Threads + Wait + Clock + Sync, R: Read, W: Write>(
     writer: &mut W,
     errors: &mut Vec<u8>,
 ) -> u8 {
-    answer::<EmptyWorld, T, R, W, Vec<u8>>(rt, alloc, asked, false, reader, writer, errors)
+    let mut reader = Noted::new(reader);
+    let mut writer = Noted::new(writer);
+    answer::<EmptyWorld, T, _, _, Vec<u8>>(
+        rt,
+        alloc,
+        asked,
+        false,
+        &mut reader,
+        &mut writer,
+        errors,
+    )
 }
 
 #[test]

@@ -1,7 +1,7 @@
 //! What the program writes, and how it ends.
 use ele_runs::Manner;
 use ele_storm::StormPlan;
-use ele_words::{Asked, answer};
+use ele_words::{Asked, Noted, answer};
 use ele_world::Limits;
 use empty_world::EmptyWorld;
 use std::alloc::Global;
@@ -57,7 +57,9 @@ fn do_over_empty<T: Threads + Wait + Clock + Sync, R: Read, W: Write, E: Write>(
     writer: &mut W,
     errors: &mut E,
 ) -> u8 {
-    answer::<EmptyWorld, T, R, W, E>(rt, alloc, asked, false, reader, writer, errors)
+    let mut reader = Noted::new(reader);
+    let mut writer = Noted::new(writer);
+    answer::<EmptyWorld, T, _, _, E>(rt, alloc, asked, false, &mut reader, &mut writer, errors)
 }
 
 fn make_late(alloc: Global, fails: bool) -> Late {
