@@ -1,5 +1,5 @@
 -- The numbers of names.
-use Rattle.ele_names.proofs.Words.{◌≡◌, ℕ, ◌<◌, true, not, ◌==◌, nat_lt, List, [], ◌∷◌, ◌++◌, length, slice_get, position, is_some, Option, Some, None, length_append, sym, ap, ◌∙◌, ◌⊎◌, arith, list_any, HashMap, get, keys, false≢true, true≢false, cases_lt, nat_tests, position_or_len_push, prefix_len-le-length, bytes_eq-Decides, some_index, NameRow, Target, is_named, Live, name_eq, place_in, number_in, KeepsPlaces}
+use Rattle.ele_names.proofs.Words.{◌≡◌, ℕ, ◌<◌, true, not, ◌==◌, nat_lt, List, [], ◌∷◌, ◌++◌, length, slice_get, position, is_some, Option, Some, None, length_append, sym, ap, ◌∙◌, ◌⊎◌, arith, list_any, HashMap, get, keys, false≢true, true≢false, cases_lt, keys_of, values_of, lookup, set_value_at, cond, nat_tests, position_or_len_push, prefix_len-le-length, bytes_eq-Decides, some_index, NameRow, Target, is_named, Live, name_eq, place_in, number_in, KeepsPlaces}
 
 pub exact : (k q : ℕ × List ℕ) → name_eq k q ≡ true → k ≡ q
 exact k q h = grind (arith, nat_tests, bytes_eq-Decides k.1 q.1)
@@ -57,3 +57,15 @@ module _ {S : Type 0} (by_name : HashMap (ℕ × List ℕ) (Option (Live Target)
   -- and what has none isn't
   pub missing : place_in (keys by_name) d n ≡ length (keys by_name) → get name_eq by_name (d, n) ≡ None
   missing end = grind (arith, nat_tests, get, name_eq, among, place_in, keys, is_some, nat_lt, true≢false)
+
+-- the value of a name stands at the place of its number
+module _ {X : Type 0} (k : ℕ × List ℕ) where
+  pub valued : (es : List ((ℕ × List ℕ) × X)) → place_in (keys_of es) k.0 k.1 < length (keys_of es) → slice_get (values_of es) (place_in (keys_of es) k.0 k.1) ≡ lookup (name_eq k) es
+  valued [] inside = absurd (omega (arith, inside))
+  valued (e ∷ es) inside = grind (arith, nat_tests, valued es)
+
+  -- and a value set there is set for that name alone
+  pub value_set : (es : List ((ℕ × List ℕ) × X)) (w : X) → place_in (keys_of es) k.0 k.1 < length (keys_of es) → (q : ℕ × List ℕ)
+      → lookup (name_eq q) (set_value_at es (place_in (keys_of es) k.0 k.1) w) ≡ cond (name_eq k q) (Some w) (lookup (name_eq q) es)
+  value_set [] w inside q = absurd (omega (arith, inside))
+  value_set (e ∷ es) w inside q = grind (arith, nat_tests, exact k e.0, exact q e.0, exact k q, itself q, value_set es w)

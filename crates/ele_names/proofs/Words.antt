@@ -38,8 +38,9 @@ pub use Rattle.ele_world.specs.declared.refusal.Refusal.TheVariants.{NoEntry}
 pub use Rattle.ele_world.specs.declared.rows.NameRow.{NameRow}
 pub use Rattle.ele_world.specs.declared.rows.Target.TheVariants.{Directory, File}
 pub use Rattle.ele_world.specs.declared.rows.Target.{Target}
-pub use Rattle.indexmap.proofs.CallerLemmas.{insert_entry-new, keys-insert_entry-present as keys_present}
+pub use Rattle.indexmap.proofs.CallerLemmas.{insert_entry-new, keys-with_value_at}
 pub use Rattle.indexmap.proofs.MapLemmas.{some_index}
+pub use Rattle.indexmap.specs.IndexMap.{set_value_at, with_value_at}
 pub use Rattle.std.proofs.Common.{Bool, Err, IsSome, List, None, Ok, Option, Some, [], ap, append-nil, append_assoc, arith, cond, drop, eqb, false, filter, filter_map, find, inl, inr, is_none, is_some, length, length-append as length_append, map, nat_le, nat_lt, not, position, refl, rules, slice_get, slice_set, subst, suc, sym, take, tests, true, zero, ℕ, ◌&&◌, ◌++◌, ◌+◌, ◌-◌, ◌<◌, ◌==◌, ◌^◌, ◌∙◌, ◌∷◌, ◌≡◌, ◌≤◌, ◌⊎◌}
 pub use Rattle.std.proofs.lemmas.Bool.Decides.{nat_tests}
 pub use Rattle.std.proofs.lemmas.Bool.{cases_lt, false≢true, true≢false}

@@ -98,24 +98,32 @@ impl Lives {
         *self.by_name.get(&(directory, *name))?
     }
 
-    // Sets the live row of a name that was given.
-    #[tactic(auto, using(crate::proofs::Words::nat_tests, crate::proofs::Numbers::not_missing, crate::proofs::Numbers::present, crate::proofs::Words::keys_present))]
-    fn set(&mut self, directory: DirId, name: &Name, live: Option<Live<Target>>)
-        requires { place_in (names_of self.old) directory name.now < length (names_of self.old) }
-        ensures names { names_of self.new ≡ names_of self.old }
-        ensures live { (d : ℕ) (n : List ℕ) → live_at self.new d n
-            ≡ cond (name_eq (directory, name.now) (d, n)) live (live_at self.old d n) }
-        ensures listed { self.new.in_directory ≡ self.old.in_directory }
+    /// The live row of the name of that number.
+    pub fn live_of(&self, number: u64) -> Option<Live<Target>>
+        requires { number < length (names_of self.now) }
+        ensures { (d : ℕ) (n : List ℕ) → place_in (names_of self.now) d n ≡ number
+            → result ≡ live_at self.now d n }
     {
-        if let Err(_refused) = self.by_name.insert((directory, *name), live) {
-            unreachable!()
-        }
+        self.by_name[number as usize]
     }
 
-    /// Takes in a live row of that serial number.
+    // Sets the live row of the name of that number.
+    fn set(&mut self, number: u64, live: Option<Live<Target>>)
+        requires { number < length (names_of self.old) }
+        ensures names { names_of self.new ≡ names_of self.old }
+        ensures live { (e : ℕ) (m : List ℕ) → place_in (names_of self.old) e m ≡ number
+            → (d : ℕ) (n : List ℕ) → live_at self.new d n
+            ≡ cond (name_eq (e, m) (d, n)) live (live_at self.old d n) }
+        ensures listed { self.new.in_directory ≡ self.old.in_directory }
+    {
+        self.by_name[number as usize] = live;
+    }
+
+    /// Takes in a live row of that serial number, of the name of that number.
     #[tactic(auto, using(crate::proofs::Words::nat_tests, crate::proofs::Given::listed_told, crate::proofs::Given::has_names, crate::proofs::Live::live_one, crate::proofs::Live::entered))]
-    pub fn enter(&mut self, row: &NameRow, serial: u64)
-        requires known { number_in (names_of self.old) row.now < length (names_of self.old) }
+    pub fn enter(&mut self, number: u64, row: &NameRow, serial: u64)
+        requires its { number_in (names_of self.old) row.now ≡ number }
+        requires known { number < length (names_of self.old) }
         requires listed { AreListed self.old }
         requires live { is_none row.now.death ≡ true }
         requires fits { live_in self.old.in_directory row.now.directory + 1 < 2 ^ 64 }
@@ -130,14 +138,15 @@ impl Lives {
             serial,
             target: row.target,
         };
-        self.set(row.directory, &row.name, Some(live));
+        self.set(number, Some(live));
         self.in_directory.add(number_of(row.directory));
     }
 
-    /// Takes out a row, if it was live. It takes no memory.
+    /// Takes out a row of the name of that number, if it was live. It takes no memory.
     #[tactic(auto, using(crate::proofs::Words::nat_tests, crate::proofs::Apart::named_live, crate::proofs::Live::own_name))]
-    pub fn leave(&mut self, row: &NameRow)
-        requires { number_in (names_of self.old) row.now < length (names_of self.old) }
+    pub fn leave(&mut self, number: u64, row: &NameRow)
+        requires its { number_in (names_of self.old) row.now ≡ number }
+        requires known { number < length (names_of self.old) }
         ensures names { names_of self.new ≡ names_of self.old }
         ensures listed { AreListed self.old → AreListed self.new }
         ensures counted { (was now : List NameRow) → Leaves row.now was now
@@ -147,25 +156,26 @@ impl Lives {
             → AreNumbered at self.old → AreNumbered to self.new }
     {
         if row.death.is_none() {
-            self.end(row.directory, &row.name);
+            self.end(number, row.directory);
         }
     }
 
-    /// Takes out the live row of the name. It takes no memory.
+    /// Takes out the live row of the name of that number, which stands in the directory. It takes no memory.
     #[tactic(auto, using(crate::proofs::Words::nat_tests, crate::proofs::Given::listed_told, crate::proofs::Apart::named_and_live, crate::proofs::Live::live_one, crate::proofs::Live::left, crate::proofs::Live::set_of_name, crate::proofs::Numbers::exact))]
-    pub fn end(&mut self, directory: DirId, name: &Name)
-        requires { place_in (names_of self.old) directory name.now < length (names_of self.old) }
+    pub fn end(&mut self, number: u64, directory: DirId)
+        requires { number < length (names_of self.old) }
         ensures names { names_of self.new ≡ names_of self.old }
         ensures listed { AreListed self.old → AreListed self.new }
         ensures counted { (row : NameRow) (was now : List NameRow)
-            → is_live_name directory name.now row ≡ true → Leaves row was now
+            → number_in (names_of self.old) row ≡ number → row.directory ≡ directory
+            → is_none row.death ≡ true → Leaves row was now
             → AreCounted was self.old → AreCounted now self.new }
         ensures numbered { (row : NameRow) (at to : ℕ → Option NameRow) (serial : ℕ)
-            → is_live_name directory name.now row ≡ true → at serial ≡ Some row
+            → number_in (names_of self.old) row ≡ number → at serial ≡ Some row
             → ((s : ℕ) → is_at (nat_cmp serial) s ≡ false → to s ≡ at s)
             → AreNumbered at self.old → AreNumbered to self.new }
     {
-        self.set(directory, name, None);
+        self.set(number, None);
         self.in_directory.take(directory.0);
     }
 }

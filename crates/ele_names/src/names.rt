@@ -88,7 +88,7 @@ impl Names {
             self.table.places.leave(number, &row, serial);
             return Err(refused);
         }
-        self.lives.enter(&row, serial);
+        self.lives.enter(number, &row, serial);
         Ok(())
     }
 
@@ -107,7 +107,7 @@ impl Names {
             unreachable!()
         };
         self.table.places.leave(number, &row, serial);
-        self.lives.leave(&row);
+        self.lives.leave(number, &row);
     }
 
     /// Ends the live name at the moment. It takes no memory.
@@ -117,12 +117,15 @@ impl Names {
         ensures { self.new
             ≡ update_first (is_live_name directory name.now) (dies moment) self.old }
     {
-        let Some(live) = self.lives.live(directory, name) else {
+        let Some(number) = self.lives.number(directory, name) else {
+            unreachable!()
+        };
+        let Some(live) = self.lives.live_of(number) else {
             unreachable!()
         };
         self.table.rows.end(live.serial, moment);
         self.table.places.end(live.target);
-        self.lives.end(directory, name);
+        self.lives.end(number, directory);
     }
 
     /// Takes out all rows of the file, live ones too. It takes no memory.
@@ -151,7 +154,7 @@ impl Names {
             unreachable!()
         };
         self.table.places.leave(number, &row, serial);
-        self.lives.leave(&row);
+        self.lives.leave(number, &row);
         true
     }
 

@@ -1,8 +1,8 @@
-use Rattle.ele_names.proofs.Lemmas.{not, ap, arith, nat_tests, named_dead, named_live, dead_one, dead_left, numbered_without, own_name}
+use Rattle.ele_names.proofs.Lemmas.{not, ap, arith, nat_tests, named_dead, dead_one, dead_left, numbered_without}
 use Rattle.ele_names.proofs.lives.Lives.leave.Goals as goal
 
 pub returns-then-is_none-clause-numbered : goal.returns-then-is_none-clause-numbered
-returns-then-is_none-clause-numbered c = λ at to serial. c.end.ensures.numbered c.args.row.now at to serial (grind (arith, nat_tests, named_live, own_name))
+returns-then-is_none-clause-numbered c = λ at to serial. c.end.ensures.numbered c.args.row.now at to serial c.requires.its
 
 pub returns-else-is_none-clause-counted : goal.returns-else-is_none-clause-counted
 returns-else-is_none-clause-counted c = λ was now leaves counts. record { named = λ d n. grind (arith, nat_tests, counts.named d n, dead_left c.args.row.now d n was now leaves); in_directory = λ d. grind (arith, nat_tests, dead_one, leaves.in_directory d, counts.in_directory d) }
