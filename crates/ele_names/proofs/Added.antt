@@ -1,5 +1,6 @@
 -- A row at the end of the others.
-use Rattle.ele_names.proofs.Words.{◌≡◌, ℕ, false, ◌+◌, ◌≤◌, ◌<◌, ◌^◌, cond, List, [], ◌∷◌, ◌++◌, length, Some, None, Option, refl, sym, ap, ◌∙◌, arith, AllByRecursion, IsStrictlySortedBy, option_map_or, nat_cmp, is_at, insert_entry, keys_of, values_of, nat_tests, map-append, value_at, is_placed, index_same, nat_cmp_total, lookup-insert_entry, sorted-insert_entry, all-push, all-weaker, later-push, pushed, not_yet, Directory, File, last_moment, Target, NameRow, Lives, Places, Table, AreCounted, AreNumbered, IsKept, IsTable, rows_of, AreIndexed, AreListed, KeepsPlaces, names_of, number_in, is_of, live_of, Follows, is_none, append-nil, Leaves, target_eq, true}
+use Rattle.ele_names.proofs.Words.{◌≡◌, ℕ, false, ◌+◌, ◌≤◌, ◌<◌, ◌^◌, cond, List, [], ◌∷◌, ◌++◌, length, Some, None, Option, refl, sym, ap, ◌∙◌, arith, AllByRecursion, IsStrictlySortedBy, option_map_or, nat_cmp, is_at, insert_entry, keys_of, values_of, nat_tests, map-append, value_at, is_placed, nat_cmp_total, lookup-insert_entry, sorted-insert_entry, all-push, all-weaker, later-push, pushed, not_yet, Directory, File, last_moment, Target, NameRow, Lives, Places, Table, AreCounted, AreNumbered, IsKept, IsTable, rows_of, AreIndexed, AreListed, KeepsPlaces, names_of, number_in, is_of, live_of, Follows, is_none, append-nil, Leaves, target_eq, true}
+use Rattle.ele_names.proofs.Indexed.{births_same}
 use Rattle.ele_names.proofs.Chained.{chained_same}
 use Rattle.ele_names.proofs.Live.{leaves_without, target_with, numbered_same}
 use Rattle.ele_names.proofs.Apart.{row_known}
@@ -7,7 +8,7 @@ use Rattle.ele_names.proofs.Apart.{row_known}
 -- the places are of whatever has the same rows
 pub placed_same : (names : List (ℕ × List ℕ)) (at to : ℕ → Option NameRow) (places : Places) → ((s : ℕ) → to s ≡ at s) → AreIndexed names at places → AreIndexed names to places
 placed_same names at to places same placed = record {
-  named = index_same at to places.by_name places.by_name placed.named (λ q r s. refl) (λ q r s. ap (λ o. option_map_or (λ row. is_placed nat_cmp (number_in names row) row.birth q r) o false) (sym (same s)));
+  named = births_same at to places.by_name places.by_name placed.named (λ below. below) (λ q r s. refl) (λ q r s. ap (λ o. option_map_or (λ row. is_placed nat_cmp (number_in names row) row.birth q r) o false) (sym (same s)));
   chained = chained_same is_of at to places.of_file (λ g s. ap (λ o. option_map_or (is_of g) o false) (same s)) placed.chained;
 }
 
@@ -40,7 +41,7 @@ module _ (old new : List (ℕ × List ℕ)) (keeps : KeepsPlaces old new) (table
     apart = is.apart;
     known = all-weaker (λ row. number_in old row < length old) (λ row. number_in new row < length new) (rows_of table) (λ row inside. (keeps.each row.directory row.name inside).1) is.known;
     placed = record {
-      named = record { each = λ q r s. is.placed.named.each q r s ∙ same q r s (value_at table.rows.entries s) refl };
+      named = record { each = λ q r s. is.placed.named.each q r s ∙ same q r s (value_at table.rows.entries s) refl; below = is.placed.named.below };
       chained = is.placed.chained;
     };
   } where

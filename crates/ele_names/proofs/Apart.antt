@@ -1,5 +1,5 @@
 -- Rows of one name are over when a later one is born, so the newest decides; and what the index by name says of them.
-use Rattle.ele_names.proofs.Words.{◌≡◌, ℕ, ◌≤◌, Bool, true, false, ◌&&◌, ◌==◌, List, [], ◌∷◌, Some, Option, is_none, refl, ap, sym, ◌∙◌, arith, find, AllByRecursion, bytes_eq, false≢true, nat_tests, bytes_eq-Decides, AllLater, last_passing, passing, later-weaker, find_last, last_moment, NameRow, is_named, covers, lives_past, is_live_name, is_born_by, Follows, ◌<◌, ◌^◌, length, None, nat_cmp, unsigned_tied, has, IsLastOf, value_at, is_placed, all-mid, split_at, found_key, later_at, none_last, is_last, not_true, Table, IsTable, rows_of, number_in, place_in}
+use Rattle.ele_names.proofs.Words.{◌≡◌, ℕ, ◌≤◌, Bool, true, false, ◌&&◌, ◌==◌, List, [], ◌∷◌, Some, Option, is_none, refl, ap, sym, ◌∙◌, arith, find, AllByRecursion, bytes_eq, false≢true, nat_tests, bytes_eq-Decides, AllLater, last_passing, passing, later-weaker, find_last, last_moment, NameRow, is_named, covers, lives_past, is_live_name, is_born_by, Follows, ◌<◌, ◌^◌, length, None, nat_cmp, unsigned_tied, has_birth, IsLastOf, value_at, is_placed, all-mid, split_at, found_key, later_at, none_last, is_last, not_true, Table, IsTable, rows_of, number_in, place_in}
 use Rattle.ele_names.proofs.Numbers.{named_place, one_place}
 
 pub equal : (a b : ℕ) → (a == b) ≡ true → a ≡ b
@@ -51,7 +51,7 @@ module _ (names : List (ℕ × List ℕ)) (table : Table) (is : IsTable names ta
     placed_named row r = grind (arith, nat_tests, unsigned_tied, one_place names (row.directory, row.name) (d, n))
 
     abbrev pub has_at : ℕ → ℕ → Bool
-    has_at = has nat_cmp table.places.by_name g
+    has_at = has_birth table.places.by_name g
 
     abbrev at : ℕ → Option NameRow
     at = value_at table.rows.entries

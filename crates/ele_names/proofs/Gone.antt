@@ -1,8 +1,9 @@
 -- A row between others that dies, or leaves.
-use Rattle.ele_names.proofs.Words.{◌≡◌, ℕ, ◌-◌, ◌≤◌, ◌<◌, ◌^◌, true, false, cond, not, List, [], ◌∷◌, ◌++◌, length, filter, Some, None, Option, is_none, refl, sym, subst, ap, ◌∙◌, arith, length_append, nat_cmp, is_at, insert_entry, keys_of, values_of, remove_entry, option_map_or, nat_tests, true≢false, nat_cmp_total, map-append, update_first, value_at, all-append, all-around, all-mid, all-exchange, later-around, later-without, later-exchange, update_first-at, all-weaker, lookup-insert_entry, filter-all, index_change, IsSplitAt, split_at, all_keys_without, all_from_each, found_key, last_moment, NameRow, Target, is_named, is_live_name, is_target_file, live_target, live_at, Live, Lives, place_in, Inside, Table, AreCounted, AreNumbered, Leaves, IsKept, rows_of, AreIndexed, AreListed, names_of, number_in, Follows, dies, IsLast, IsLastBelow, is_member, is_of, is_live_of, live_of, newest_in, target_eq, AreChained, same_from_push, filter-append}
+use Rattle.ele_names.proofs.Words.{◌≡◌, ℕ, ◌-◌, ◌≤◌, ◌<◌, ◌^◌, true, false, cond, not, List, [], ◌∷◌, ◌++◌, length, filter, Some, None, Option, is_none, refl, sym, subst, ap, ◌∙◌, arith, length_append, nat_cmp, is_at, insert_entry, keys_of, values_of, remove_entry, option_map_or, nat_tests, true≢false, nat_cmp_total, map-append, update_first, value_at, all-append, all-around, all-mid, all-exchange, later-around, later-without, later-exchange, update_first-at, all-weaker, lookup-insert_entry, filter-all, IsSplitAt, split_at, all_keys_without, all_from_each, found_key, last_moment, NameRow, Target, is_named, is_live_name, is_target_file, live_target, live_at, Live, Lives, place_in, Inside, Table, AreCounted, AreNumbered, Leaves, IsKept, rows_of, AreIndexed, AreListed, names_of, number_in, Follows, dies, IsLast, IsLastBelow, is_member, is_of, is_live_of, live_of, newest_in, target_eq, AreChained, same_from_push, filter-append}
 use Rattle.ele_names.proofs.Added.{placed_same}
 use Rattle.ele_names.proofs.Apart.{named_and_live, named_dead, named_live, same_name, row_known}
 use Rattle.ele_names.proofs.Chained.{chained_same}
+use Rattle.ele_names.proofs.Indexed.{births_change}
 use Rattle.ele_names.proofs.Live.{leaves_without, leaves_dead, live_one, target_without, LiveRow, same_serial, stands_live}
 use Rattle.ele_names.proofs.Numbers.{named_place}
 use Rattle.ele_names.proofs.Numbering.{rises_without, gone_at}
@@ -41,7 +42,7 @@ module _ (a : Inside) (kept : IsKept a.table a.lives) where
           apart = rw rows_are (later-exchange Follows c.before row (dies moment row) c.behind (λ b h. record { apart = h.apart; born = h.born }) (λ rows. all-weaker (Follows row) (Follows (dies moment row)) rows (λ b follows. grind (arith, nat_tests, is_none, true≢false))) (rw c.values at kept.is_table.apart));
           known = rw rows_are (let known = rw c.values at kept.is_table.known in all-exchange (λ row. number_in names row < length names) c.before row (dies moment row) c.behind (all-mid (λ row. number_in names row < length names) c.before row c.behind known) known);
           placed = record {
-            named = rw by_name (index_change (value_at t.rows.entries) s row (dies moment row) a.table.places.by_name kept.is_table.placed.named at (λ q r. refl) now);
+            named = rw by_name (births_change (value_at t.rows.entries) s row (dies moment row) a.table.places.by_name kept.is_table.placed.named at (λ q r. refl) now);
             chained = chained_same is_of (value_at es) (value_at t.rows.entries) t.places.of_file (λ g k. targets g k) (chained kept.is_table.placed.chained);
           };
         });

@@ -1,5 +1,7 @@
 pub mod Words
 pub mod Numbers
+pub mod Newest
+pub mod Indexed
 pub mod Apart
 pub mod Live
 pub mod Chained

@@ -4,7 +4,7 @@ pub use Rattle.ele_lists.proofs.Cuts.{update_first-at}
 pub use Rattle.ele_lists.proofs.Edits.{all-any, all-push, all-weaker, later-push}
 pub use Rattle.ele_lists.proofs.Entries.{lookup-insert_entry, sorted-insert_entry}
 pub use Rattle.ele_lists.proofs.Filters.{filter-all}
-pub use Rattle.ele_lists.proofs.Indexed.{at_itself, index_change, index_insert, index_remove, index_same, index_undo}
+pub use Rattle.ele_lists.proofs.Indexed.{at_itself}
 pub use Rattle.ele_lists.proofs.Lasts.{find_last}
 pub use Rattle.ele_lists.proofs.Serials.{IsRising, IsSplitAt, after_head, all_from_each, all_keys_without, found_key, is_last, later_at, none_last, not_true, not_yet, pushed, rest_rises, split_at}
 pub use Rattle.ele_lists.proofs.Sums.{any-count as any_count, sum_by-around, sum_by-same}
@@ -14,6 +14,9 @@ pub use Rattle.ele_lists.specs.Lists.{AllLater, update_first}
 pub use Rattle.ele_lists.specs.Serial.{is_placed, value_at}
 pub use Rattle.ele_lists.specs.Tally.{counted}
 pub use Rattle.ele_moment.specs.Last.{last_moment}
+pub use Rattle.ele_names.specs.Births.{AreBelow, AreBirthsOf, has_birth, is_born, is_up_to, newest_of}
+pub use Rattle.ele_names.specs.declared.births.Births.{Births}
+pub use Rattle.ele_names.specs.declared.births.Born.{Born}
 pub use Rattle.ele_names.specs.Chained.{IsLast, IsLastBelow, is_member, newest_in, live_in, AreChained, Gains, HasOlder, Keeps, Loses}
 pub use Rattle.ele_names.specs.Counted.{AreCounted, AreNumbered, Leaves, live_at}
 pub use Rattle.ele_names.specs.Kept.{IsKept, IsTable, is_born_by, rows_of}

@@ -3,9 +3,7 @@ use Rattle.std.specs.Prelude.{◌≡◌, ℕ, ◌<◌, ◌^◌, ◌&&◌, Bool, 
 use Rattle.std.specs.Bool.{nat_eq}
 use Rattle.std.specs.HashMap.{keys}
 use Rattle.std.specs.List.{position_or_len}
-use Rattle.std.specs.Ordering.{nat_cmp}
 use Rattle.std.specs.Str.{bytes_eq}
-use Rattle.ele_lists.specs.Serial.{IsIndexOf}
 use Rattle.ele_lists.specs.Tally.{counted}
 use Rattle.ele_world.specs.declared.rows.NameRow.{NameRow}
 use Rattle.ele_world.specs.declared.rows.Target.{Target}
@@ -13,6 +11,7 @@ use Rattle.ele_world.specs.declared.rows.Target.TheVariants.{Directory, File}
 use Rattle.ele_world.specs.World.{is_target_file}
 use Rattle.ele_names.specs.declared.lives.Lives.{Lives}
 use Rattle.ele_names.specs.declared.places.Places.{Places}
+use Rattle.ele_names.specs.Births.{AreBirthsOf}
 use Rattle.ele_names.specs.Chained.{AreChained, live_in}
 
 -- the two directories and names are one
@@ -50,5 +49,5 @@ live_of places (Directory directory) = counted nat_eq places.of_directory direct
 
 -- the rows of each name are found by their births, and those of each file are a chain
 pub record AreIndexed (names : List (ℕ × List ℕ)) (at : ℕ → Option NameRow) (places : Places) : Type 0 where
-  pub named : IsIndexOf nat_cmp (number_in names) (λ row. row.birth) at places.by_name
+  pub named : AreBirthsOf (number_in names) (λ row. row.birth) at places.by_name
   pub chained : AreChained is_of at places.of_file

@@ -2,6 +2,7 @@
 //! led. A contract sees the rows as their list in order of making, and how many were ever made.
 #![tactic(auto)]
 
+mod births;
 mod chains;
 mod lives;
 mod names;

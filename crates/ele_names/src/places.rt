@@ -11,8 +11,9 @@ ghost use Rattle.ele_names.specs.Chained.{AreChained, is_member};
 ghost use Rattle.ele_names.specs.Placed.{AreIndexed, is_of, live_of, number_in};
 ghost use Rattle.ele_names.specs.Targets.{is_live_of, target_eq};
 
+use crate::births::Births;
 use crate::chains::Chains;
-use ele_lists::{Index, Tally};
+use ele_lists::Tally;
 use ele_moment::{DirId, NoMemory};
 use ele_world::{NameRow, Target};
 use std::alloc::Global;
@@ -21,7 +22,7 @@ use std::alloc::Global;
 /// ones, and the count of those of one directory.
 #[derive(Drop)]
 pub struct Places {
-    pub by_name: Index<u64>,
+    pub by_name: Births,
     pub of_file: Chains,
     pub of_directory: Tally<DirId>,
 }
@@ -34,7 +35,7 @@ impl Places {
         ensures live { (t : Target) → live_of result t ≡ 0 }
     {
         Places {
-            by_name: Index::new(alloc),
+            by_name: Births::new(alloc),
             of_file: Chains::new(alloc),
             of_directory: Tally::new(alloc),
         }
@@ -52,7 +53,7 @@ impl Places {
 
     /// Puts a live row, newer than all others, at its places, by the number of its name, and counts
     /// it. `NoMemory` where there is no room; it then stands at none.
-    #[tactic(auto, using(crate::proofs::Words::nat_tests, crate::proofs::Words::index_same, crate::proofs::Words::index_undo))]
+    #[tactic(auto, using(crate::proofs::Words::nat_tests, crate::proofs::Indexed::births_same, crate::proofs::Indexed::births_undo))]
     pub fn enter(&mut self, number: u64, row: &NameRow, serial: u64) -> Result<(), NoMemory>
         requires { live_of self.old row.now.target + 1 < 2 ^ 64 }
         ensures ok { OnOk result ((names : List (ℕ × List ℕ)) (at : ℕ → Option NameRow)

@@ -1,0 +1,33 @@
+-- Where the rows of names stand, by birth. No public clause cites this module.
+use Rattle.std.specs.Prelude.{◌≡◌, ℕ, ◌<◌, ◌^◌, ◌==◌, ◌&&◌, ◌||◌, nat_lt, nat_le, Bool, true, false, Option, slice_get}
+use Rattle.std.specs.Option.{option_and_then, option_map_or}
+use Rattle.std.specs.Ordering.{nat_cmp}
+use Rattle.ele_lists.specs.Index.{has}
+use Rattle.ele_lists.specs.Serial.{is_placed}
+use Rattle.ele_names.specs.declared.births.Births.{Births}
+use Rattle.ele_names.specs.declared.births.Born.{Born}
+
+-- the newest row of the name with the number
+abbrev pub newest_of : Births → ℕ → Option Born
+newest_of births q = option_and_then (λ o. o) (slice_get births.newest.items q)
+
+-- it has that birth and that serial number
+abbrev pub is_born : ℕ → ℕ → Born → Bool
+is_born r s born = (born.birth == r) && (born.serial == s)
+
+-- they come no later than it does, by birth and then by serial number
+abbrev pub is_up_to : ℕ → ℕ → Born → Bool
+is_up_to r s born = nat_lt r born.birth || ((r == born.birth) && nat_le s born.serial)
+
+-- the serial number has_birth at the name and the birth
+abbrev pub has_birth : Births → ℕ → ℕ → ℕ → Bool
+has_birth births q r s = option_map_or (is_born r s) (newest_of births q) false || has nat_cmp births.older q r s
+
+-- no row that isn't its name's newest comes later than that
+pub record AreBelow (births : Births) : Type 0 where
+  pub each : (q r s : ℕ) → r < 2 ^ 64 → s < 2 ^ 64 → has nat_cmp births.older q r s ≡ true → option_map_or (is_up_to r s) (newest_of births q) false ≡ true
+
+-- each serial number has_birth at the name and the birth of its row, and no other
+pub record AreBirthsOf {X : Type 0} (name : X → ℕ) (birth : X → ℕ) (at : ℕ → Option X) (births : Births) : Type 0 where
+  pub each : (q r s : ℕ) → has_birth births q r s ≡ option_map_or (λ x. is_placed nat_cmp (name x) (birth x) q r) (at s) false
+  pub below : AreBelow births
