@@ -2,7 +2,8 @@
 use Rattle.ele_policy.specs.Ripe.{ripe_near}
 use Rattle.ele_world.proofs.Basics.{all-not_found}
 use Rattle.ele_world.proofs.Versions.{IsFound}
-use Rattle.ele_state.proofs.Words.{AllLater, ArePlaced, Bool, Cell, Cover, IfSome, IsLawful, IsQueued, Key, List, MayGrow, NewKeys, None, Option, Policy, Some, VersionRow, World, all-found, all_found, and-false, any-found, ap, arith, cond, cover_of, false, false≢true, find, floor_for, found_passes, gained_moment, gaining_is, gaining_was, has_key, has_newer, held_before, is_entry, is_live, is_moment, is_new, is_open, is_some, is_version, is_version_of, list_any, met_before, nat_tests, near_moment, new_keys, newer_held, next_after, next_before, next_of, not, one_with_newer, option_and_then, option_map_or, or-false, others_after, own_moment, policy_is, policy_of, refl, ripe_at, ripe_past, rows_of, subst, sym, touches, true, unwrap_or, with_newer, with_version, ◌&&◌, ◌-◌, ◌<◌, ◌==◌, ◌||◌, ◌∙◌, ◌∷◌, ◌≡◌, ℕ, []}
+use Rattle.ele_state.proofs.Words.{AllLater, ArePlaced, Bool, Cell, Cover, IfSome, IsLawful, IsQueued, Key, List, MayGrow, KeyChange, None, Option, Policy, Some, VersionRow, World, all-found, all_found, and-false, any-found, ap, arith, cond, cover_of, false, false≢true, find, floor_for, found_passes, gained_moment, gaining_is, gaining_was, has_key, has_newer, held_before, is_entry, is_live, is_moment, comes, is_open, is_some, is_version, is_version_of, list_any, met_before, nat_tests, near_moment, new_keys, newer_held, next_after, next_before, next_of, not, one_with_newer, option_and_then, option_map_or, or-false, others_after, own_moment, policy_is, policy_of, refl, ripe_at, ripe_past, rows_of, subst, sym, touches, true, unwrap_or, with_newer, with_version, ◌&&◌, ◌-◌, ◌<◌, ◌==◌, ◌||◌, ◌∙◌, ◌∷◌, ◌≡◌, ℕ, []}
+use Rattle.ele_state.proofs.Changes.{back_and_forth, none_any}
 use Rattle.ele_state.proofs.Following.{follows}
 
 -- ---- what the version gets that gains
@@ -31,10 +32,6 @@ gained cover (Some policy) floor now closed m (Some ended) given = gained_as m (
 
 -- ---- the held version that has so many newer ones
 
-not_held : (p : VersionRow → Bool) (rows : List VersionRow) → find p rows ≡ None → list_any p rows ≡ false
-not_held p [] none = refl
-not_held p (row ∷ rows) none = grind (arith, nat_tests, not_held p rows)
-
 module _ (versions : List VersionRow) (file newer : ℕ) where
   abbrev its : VersionRow → Bool
   its row = is_version_of file row && (newer_held versions file row.number == newer)
@@ -51,10 +48,10 @@ module _ (versions : List VersionRow) (file newer : ℕ) where
       record { found = subst (λ f. find (is_version f row.number) versions ≡ Some row) own found; least = grind (arith, nat_tests, passes) }
 
   -- no version has so many where none is found
-  none_has : (n : ℕ) → with_newer versions file newer ≡ None → has_newer versions file newer n ≡ false
+  pub none_has : (n : ℕ) → with_newer versions file newer ≡ None → has_newer versions file newer n ≡ false
   none_has n none = by (find (is_version file n) versions) refl where
     by : (o : Option VersionRow) → find (is_version file n) versions ≡ o → has_newer versions file newer n ≡ false
-    by None unheld = let held = not_held (is_version file n) versions unheld in rw held refl
+    by None unheld = let held = none_any (is_version file n) versions unheld in rw held refl
     by (Some row) found =
         let passes = found_passes (is_version file n) versions row found in
         let number : row.number ≡ n = grind (arith, nat_tests, passes) in
@@ -62,14 +59,14 @@ module _ (versions : List VersionRow) (file newer : ℕ) where
         grind (arith, nat_tests, passes, number, apart)
 
   -- and where one is, it alone has
-  one_alone : (row : VersionRow) (n : ℕ) → HasNewer row → has_newer versions file newer n ≡ (n == row.number)
+  pub one_alone : (row : VersionRow) (n : ℕ) → HasNewer row → has_newer versions file newer n ≡ (n == row.number)
   one_alone row n has = by (find (is_version file n) versions) refl where
     itself : list_any (is_version file row.number) versions ≡ true
     itself = any-found (is_version file row.number) (is_version file row.number) versions row has.found (found_passes (is_version file row.number) versions row has.found)
 
     by : (o : Option VersionRow) → find (is_version file n) versions ≡ o → has_newer versions file newer n ≡ (n == row.number)
     by None unheld =
-        let held = not_held (is_version file n) versions unheld in
+        let held = none_any (is_version file n) versions unheld in
         rw held (grind (arith, nat_tests, itself, held))
     by (Some other) found =
         let passes = found_passes (is_version file n) versions other found in
@@ -116,7 +113,7 @@ module _ (w : World) (file opened : ℕ) (cells : List Cell) (k : MayGrow w file
 
   -- the keys that come, where that is the one that gains
   abbrev comes_with : Bool → Option VersionRow → Key → Bool
-  comes_with live o j = is_entry file (option_map_or (λ (row : VersionRow). row.number) o 0) (option_and_then came o) j || is_entry file next (own live) j
+  comes_with live o j = is_entry file (option_map_or (λ (row : VersionRow). row.number) o 0) (option_and_then came o) j || (is_entry file next (own live) j || false)
 
   abbrev touched_with : Option VersionRow → ℕ → ℕ → Bool
   touched_with o f n = (f == file) && ((n == next) || option_map_or (λ (row : VersionRow). n == row.number) o false)
@@ -151,22 +148,22 @@ module _ (w : World) (file opened : ℕ) (cells : List Cell) (k : MayGrow w file
     has_then j = rw (touches_with j.file j.number gaining refl) (has_now j gaining refl)
 
     -- with the keys that come it has those of all versions
-    pub appended_queue : (keys : NewKeys) → keys ≡ new_keys w.groups (rows_of w) file w.now (is_live w file) → ((j : Key) → has_key j after ≡ (is_new keys j || has_key j queue)) → IsQueued appended after
+    pub appended_queue : (keys : List KeyChange) → keys ≡ new_keys w.groups (rows_of w) file w.now (is_live w file) → ((j : Key) → has_key j after ≡ (comes keys j || has_key j queue)) → IsQueued appended after
     appended_queue keys are edited = follows w appended queue after queued (touches w file) (others_after w file opened cells k) (λ j. edited j ∙ rw are (has_then j))
 
     -- none of which was there
-    pub none_there : (keys : NewKeys) → keys ≡ new_keys w.groups (rows_of w) file w.now (is_live w file) → (j : Key) → is_new keys j ≡ true → has_key j queue ≡ false
+    pub none_there : (keys : List KeyChange) → keys ≡ new_keys w.groups (rows_of w) file w.now (is_live w file) → (j : Key) → comes keys j ≡ true → has_key j queue ≡ false
     none_there keys are j is = queued j ∙ absent (is_live w file) j gaining refl (rw are at is)
 
 -- ---- keys that are refused
 
-module _ (keys : NewKeys) (before : List Key) (absent : (j : Key) → is_new keys j ≡ true → has_key j before ≡ false) where
-  -- the queue is as it was where they are taken out again, or the former alone came and went
-  pub taken_back : (between after : List Key) → ((j : Key) → has_key j between ≡ (is_new keys j || has_key j before)) → ((j : Key) → has_key j after ≡ (not (is_new keys j) && has_key j between)) → (j : Key) → has_key j after ≡ has_key j before
-  taken_back between after came went j = rw (went j, came j) (by (is_new keys j) (has_key j before) (absent j)) where
-    by : (a b : Bool) → (a ≡ true → b ≡ false) → (not a && (a || b)) ≡ b
+-- none of which was there, so the queue is as it was where they are taken out
+module _ (keys : List KeyChange) (before : List Key) (absent : (j : Key) → comes keys j ≡ true → has_key j before ≡ false) where
+  pub refused : (after : List Key) → ((j : Key) → has_key j after ≡ (not (comes keys j) && has_key j before)) → (j : Key) → has_key j after ≡ has_key j before
+  refused after went j = went j ∙ by (comes keys j) (has_key j before) (absent j) where
+    by : (a b : Bool) → (a ≡ true → b ≡ false) → (not a && b) ≡ b
     by true b none = sym (none refl)
     by false b none = refl
 
-  pub refused : (after : List Key) → ((j : Key) → (is_entry keys.file keys.gaining keys.former j ≡ true → has_key j before ≡ false) → has_key j after ≡ has_key j before) → (j : Key) → has_key j after ≡ has_key j before
-  refused after edited j = edited j (λ is. absent j (rw is refl))
+  pub taken_back : (between after : List Key) → ((j : Key) → has_key j between ≡ (comes keys j || has_key j before)) → ((j : Key) → has_key j after ≡ (not (comes keys j) && has_key j between)) → (j : Key) → has_key j after ≡ has_key j before
+  taken_back between after came went = refused after (λ j. went j ∙ rw (came j) (back_and_forth (comes keys j) (has_key j before)))

@@ -1,5 +1,5 @@
 -- What closing a handle leaves, as the step of the world has it.
-use Rattle.ele_state.proofs.Words.{◌≡◌, ◌<◌, ◌^◌, ◌||◌, ℕ, List, Bool, true, false, cond, ◌∷◌, length, is_some, Option, Some, None, Ok, refl, ap, sym, ◌∙◌, arith, find, false≢true, AllByRecursion, option_map, option_map_or, nat_tests, content_of, IsSound, NewKeys, IsQueued, is_new, new_keys, Rows, Key, has_key, cells_of_draft, is_live, may_grow, finishing, last_draft, leaving, left_by, opening_by, IsPast, Held, rows_of, with_rows, found_passes, all-found, all-weaker, Close, Closed, DraftRow, FileRow, Draft, EndDraft, ShutHandle, DropIdle, after_change, after_changes, has_other_writer, step, Counted, Drafts, Files, Handles, Versions, HasParts, dropped, all_keep, drafts-removed, World, file_by, file_written, has_draft, is_draft, next_of, reads_by, is_moment, in_order_of, open_still, shut_others, has_row, []}
+use Rattle.ele_state.proofs.Words.{◌≡◌, ◌<◌, ◌^◌, ◌||◌, ℕ, List, Bool, true, false, cond, ◌∷◌, length, is_some, Option, Some, None, Ok, refl, ap, sym, ◌∙◌, arith, find, false≢true, AllByRecursion, option_map, option_map_or, nat_tests, content_of, IsSound, KeyChange, IsQueued, comes, new_keys, Rows, Key, has_key, cells_of_draft, is_live, may_grow, finishing, last_draft, leaving, left_by, opening_by, IsPast, Held, rows_of, with_rows, found_passes, all-found, all-weaker, Close, Closed, DraftRow, FileRow, Draft, EndDraft, ShutHandle, DropIdle, after_change, after_changes, has_other_writer, step, Counted, Drafts, Files, Handles, Versions, HasParts, dropped, all_keep, drafts-removed, World, file_by, file_written, has_draft, is_draft, next_of, reads_by, is_moment, in_order_of, open_still, shut_others, has_row, []}
 use Rattle.ele_state.proofs.Appended.{appended_queue}
 use Rattle.ele_world.proofs.Others.{other_drafts}
 use Rattle.ele_world.specs.declared.rows.HandleRow.{HandleRow}
@@ -45,7 +45,7 @@ module _ (w : World) (handle file : ℕ) (reads : reads_by w.handles handle ≡ 
     file_there formed = grind (arith, nat_tests, is_final, all-found, found_passes, formed.holds Drafts)
 
     -- the keys that come with it are those of all versions
-    pub finished_queue : (formed : HasParts w) (queue after : List Key) (live : Bool) (keys : NewKeys) → IsQueued w queue → live ≡ is_live w file → keys ≡ new_keys w.groups (rows_of w) file w.now live → ((j : Key) → has_key j after ≡ (is_new keys j || has_key j queue))
+    pub finished_queue : (formed : HasParts w) (queue after : List Key) (live : Bool) (keys : List KeyChange) → IsQueued w queue → live ≡ is_live w file → keys ≡ new_keys w.groups (rows_of w) file w.now live → ((j : Key) → has_key j after ≡ (comes keys j || has_key j queue))
         → IsQueued (after_changes w (finishing (rows_of w) handle file opened)) after
     finished_queue formed queue after live keys queued lives are =
         let kept = all_keep (Close handle) w w (ShutHandle handle ∷ EndDraft file ∷ []) tt (tt, (is_final.alone, tt)) formed in

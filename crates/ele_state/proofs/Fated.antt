@@ -1,5 +1,6 @@
 -- What becomes of a held version: by the groups that have its file, and by what its policy alone makes of it.
 use Rattle.ele_state.proofs.Words.{IsLawful, floor_in, is_live, newer_held, ◌≡◌, ℕ, ◌<◌, ◌≤◌, ◌&&◌, Bool, true, false, List, [], ◌∷◌, Option, Some, None, IfSome, refl, ap, sym, subst, ◌∙◌, arith, nat_tests, nat_le, find, slice_get, take, length, list_any, option_map, option_map_or, AllByRecursion, AllLater, all-found, found_passes, bytes_eq-Decides, IsSound, IsTold, Rows, world_of, Held, Policy, GroupRow, Stamps, VersionRow, Versions, HasParts, World, Cover, MarkRow, cover_of, ripe_past, option_and_then, file_view, is_open, is_version, policy_of, ripe_at, stamps_of, in_order_of, ripe_at_is, ripe_at_near}
+use Rattle.ele_state.proofs.Changes.{none_any}
 use Rattle.ele_world.proofs.Basics.{zero, suc}
 use Rattle.ele_world.proofs.Words.{IsVersion, Now}
 use Rattle.std.specs.Str.{bytes_eq}
@@ -30,10 +31,6 @@ AreNamedApart rows = AllLater (λ (earlier : GroupRow) later. bytes_eq earlier.n
 own_name : (name : List ℕ) → bytes_eq name name ≡ true
 own_name name = (bytes_eq-Decides name name).1 refl
 
-found_any : {X : Type 0} (p : X → Bool) (xs : List X) → find p xs ≡ None → list_any p xs ≡ false
-found_any p [] none = refl
-found_any {X} p (x ∷ xs) none = grind (arith, nat_tests, found_any p xs)
-
 passed_any : {X : Type 0} (p : X → Bool) (xs : List X) (x : X) → find p xs ≡ Some x → list_any p xs ≡ true
 passed_any p [] x found = absurd (cc)
 passed_any {X} p (y ∷ ys) x found = grind (arith, nat_tests, passed_any p ys x)
@@ -60,7 +57,7 @@ module _ (rows : List GroupRow) (place : ℕ) (name files : List ℕ) (marks : L
   no_member is = let none : is_member file (row_of name files marks) ≡ false = sym member_is ∙ is in rw (at, none) refl
 
   pub no_mark : find (keeps_at closed ended now) marks ≡ None → Unmarked
-  no_mark is = let none = found_any (keeps_at closed ended now) marks is in rw (at, none) (grind (arith, nat_tests))
+  no_mark is = let none = none_any (keeps_at closed ended now) marks is in rw (at, none) (grind (arith, nat_tests))
 
   pub its_mark : (mark : MarkRow) → has_member rows name file ≡ true → find (keeps_at closed ended now) marks ≡ Some mark → IfSome (slice_get rows place) (MarksBy file closed ended now name mark)
   its_mark mark is found = rw at (let by : MarksBy file closed ended now name mark (row_of name files marks) = record { member = sym member_is ∙ is; named = refl; first = found } in by)
@@ -207,68 +204,54 @@ due_alone cover policy closed nearest met ended since given fits is = by (ripe_n
 
 -- ---- by what is told of it
 
--- the row of those stamps, under its own file and number
-pub record IsRow (h : Held) (file : ℕ) (stamps : Stamps) : Type 0 where
-  pub row : VersionRow
-  pub found : find (is_version file stamps.number) h.versions ≡ Some row
-  pub filed : row.file ≡ file
-  pub told : stamps_of row ≡ stamps
-
-pub row_told : (h : Held) (file : ℕ) (stamps : Stamps) → IsTold h file stamps → IsRow h file stamps
-row_told h file stamps told = by (find (is_version file stamps.number) h.versions) refl told where
-  by : (o : Option VersionRow) → find (is_version file stamps.number) h.versions ≡ o → option_map stamps_of o ≡ Some stamps → IsRow h file stamps
+-- what is so of the file and the stamps of each held row is so of what is told of one
+told_row : (h : Held) (P : ℕ → Stamps → Type 0) → ((row : VersionRow) → find (is_version row.file row.number) h.versions ≡ Some row → P row.file (stamps_of row)) → (file : ℕ) (stamps : Stamps) → IsTold h file stamps → P file stamps
+told_row h P each file stamps told = by (find (is_version file stamps.number) h.versions) refl told where
+  by : (o : Option VersionRow) → find (is_version file stamps.number) h.versions ≡ o → option_map stamps_of o ≡ Some stamps → P file stamps
   by None found is = absurd (cc)
-  by (Some row) found is = record { row = row; found = found; filed = grind (arith, nat_tests, found_passes (is_version file stamps.number) h.versions row found); told = cc }
+  by (Some row) found is =
+      let same : stamps_of row ≡ stamps = cc in
+      let number : row.number ≡ stamps.number = ap (λ (s : Stamps). s.number) same in
+      let filed : row.file ≡ file = grind (arith, nat_tests, found_passes (is_version file stamps.number) h.versions row found) in
+      let own : find (is_version row.file row.number) h.versions ≡ Some row = subst (λ (f : ℕ). find (is_version f row.number) h.versions ≡ Some row) (sym filed) (subst (λ (n : ℕ). find (is_version file n) h.versions ≡ Some row) (sym number) found) in
+      subst (P file) same (subst (λ (f : ℕ). P f (stamps_of row)) filed (each row own))
 
-module _ (rows : Rows) (file : ℕ) (stamps : Stamps) (told : IsTold rows.files file stamps) where
-  abbrev FateIs : Fate → Type 0
-  FateIs fate = HasFate (world_of rows) file stamps.number fate
+module _ (rows : Rows) where
+  abbrev w : World
+  w = world_of rows
 
-  pub fate_current : stamps.ended ≡ None → FateIs Current
-  fate_current none =
-      let its = row_told rows.files file stamps told in
-      record { row = its.row; held = its.found; is = ap (λ (s : Stamps). s.ended) its.told ∙ none }
+  -- the stamps of a version that has ended, and that no handle reads
+  abbrev IsUnread : ℕ → Stamps → ℕ → Type 0
+  IsUnread file stamps ended = (stamps.ended ≡ Some ended) × (is_open rows.files.handles file stamps.number ≡ false)
 
-  module _ (ended : ℕ) (ends : stamps.ended ≡ Some ended) where
-    its_end : (its : IsRow rows.files file stamps) → its.row.ended ≡ Some ended
-    its_end its = ap (λ (s : Stamps). s.ended) its.told ∙ ends
+  pub fate_current : (file : ℕ) (stamps : Stamps) → IsTold rows.files file stamps → stamps.ended ≡ None → HasFate w file stamps.number Current
+  fate_current = told_row rows.files (λ file stamps. stamps.ended ≡ None → HasFate w file stamps.number Current) (λ row found none. record { row = row; held = found; is = none })
 
-    pub fate_open : is_open rows.files.handles file stamps.number ≡ true → FateIs Open
-    fate_open opened =
-        let its = row_told rows.files file stamps told in
-        let number : its.row.number ≡ stamps.number = ap (λ (s : Stamps). s.number) its.told in
-        record { row = its.row; held = its.found; is = (rw (its_end its) refl, rw (its.filed, number) opened) }
+  pub fate_open : (file : ℕ) (stamps : Stamps) → IsTold rows.files file stamps → (ended : ℕ) → stamps.ended ≡ Some ended → is_open rows.files.handles file stamps.number ≡ true → HasFate w file stamps.number Open
+  fate_open = told_row rows.files (λ file stamps. (ended : ℕ) → stamps.ended ≡ Some ended → is_open rows.files.handles file stamps.number ≡ true → HasFate w file stamps.number Open)
+      (λ row found ended ends opened. record { row = row; held = found; is = (rw ends refl, opened) })
 
-    module _ (unread : is_open rows.files.handles file stamps.number ≡ false) where
-      pub fate_marked : (name : List ℕ) (mark : MarkRow) → IsMarkedBy rows.groups file stamps.closed (Some ended) rows.moment name mark → FateIs (Marked name mark)
-      fate_marked name mark marked =
-          let its = row_told rows.files file stamps told in
-          let number : its.row.number ≡ stamps.number = ap (λ (s : Stamps). s.number) its.told in
-          let closed : its.row.closed ≡ stamps.closed = ap (λ (s : Stamps). s.closed) its.told in
-          let ended_is : its.row.ended ≡ stamps.ended = ap (λ (s : Stamps). s.ended) its.told in
-          let own : IsMarkedBy rows.groups its.row.file its.row.closed its.row.ended rows.moment name mark = rw (its.filed, closed, ended_is, ends) marked in
-          record { row = its.row; held = its.found; is = (rw (its_end its) refl, rw (its.filed, number) unread, own) }
+  pub fate_marked : (file : ℕ) (stamps : Stamps) → IsTold rows.files file stamps → (ended : ℕ) → IsUnread file stamps ended → (name : List ℕ) (mark : MarkRow) → IsMarkedBy rows.groups file stamps.closed (Some ended) rows.moment name mark → HasFate w file stamps.number (Marked name mark)
+  fate_marked = told_row rows.files (λ file stamps. (ended : ℕ) → IsUnread file stamps ended → (name : List ℕ) (mark : MarkRow) → IsMarkedBy rows.groups file stamps.closed (Some ended) rows.moment name mark → HasFate w file stamps.number (Marked name mark))
+      (λ row found ended unread name mark marked. let own : IsMarkedBy rows.groups row.file row.closed row.ended rows.moment name mark = rw unread.0 marked in record { row = row; held = found; is = (rw unread.0 refl, unread.1, own) })
 
-      pub fate_free : IsSound rows → is_marked rows.groups file stamps.closed (Some ended) rows.moment ≡ false → (policy : Policy) → policy_of rows.files.files file ≡ Some policy
-          → (next : Option Stamps) → next ≡ option_map stamps_of (find (is_newer_of file stamps.number) rows.files.versions)
-          → (met : Bool) → met ≡ nat_le (floor_in (Some policy) (is_live (world_of rows) file)) (newer_held rows.files.versions file stamps.number)
-          → (fate : Fate) → IsFreeFate (cover_of rows.groups file stamps.closed (Some ended)) policy stamps.closed ended next met rows.moment fate → FateIs fate
-      fate_free sound unmarked policy filed next next_is met met_is fate is =
-          let its = row_told rows.files file stamps told in
-          let number : its.row.number ≡ stamps.number = ap (λ (s : Stamps). s.number) its.told in
-          let closed : its.row.closed ≡ stamps.closed = ap (λ (s : Stamps). s.closed) its.told in
-          let ended_is : its.row.ended ≡ stamps.ended = ap (λ (s : Stamps). s.ended) its.told in
-          let w = world_of rows in
-          record { row = its.row; held = its.found; is = free_is w sound.formed its.row (rw (its.filed, number) its.found) policy ended (its_end its) (rw (its.filed, number) unread) (rw (its.filed, closed, ended_is, ends) unmarked) (rw its.filed filed) next fate (rw (its.filed, number) next_is) (rw (its.filed, number, closed, ← met_is) is) }
+  module _ (sound : IsSound rows) where
+    -- what its policy alone makes of it, beside its next one, as it has that cover and the floor is met or not
+    abbrev IsFree : ℕ → Stamps → ℕ → Policy → Option Stamps → Bool → Fate → Type 0
+    IsFree file stamps ended policy next met fate = (policy_of rows.files.files file ≡ Some policy) × (next ≡ option_map stamps_of (find (is_newer_of file stamps.number) rows.files.versions))
+        × (met ≡ nat_le (floor_in (Some policy) (is_live w file)) (newer_held rows.files.versions file stamps.number)) × IsFreeFate (cover_of rows.groups file stamps.closed (Some ended)) policy stamps.closed ended next met rows.moment fate
 
-      pub fate_ungoverned : IsSound rows → policy_of rows.files.files file ≡ None → ⊥
-      fate_ungoverned sound none =
-          let its = row_told rows.files file stamps told in
-          governed (world_of rows) sound.formed its.row file stamps.number its.found (rw its.filed none)
+    pub fate_free : (file : ℕ) (stamps : Stamps) → IsTold rows.files file stamps → (ended : ℕ) → IsUnread file stamps ended → is_marked rows.groups file stamps.closed (Some ended) rows.moment ≡ false → (policy : Policy) (next : Option Stamps) (met : Bool) (fate : Fate) → IsFree file stamps ended policy next met fate → HasFate w file stamps.number fate
+    fate_free = told_row rows.files (λ file stamps. (ended : ℕ) → IsUnread file stamps ended → is_marked rows.groups file stamps.closed (Some ended) rows.moment ≡ false → (policy : Policy) (next : Option Stamps) (met : Bool) (fate : Fate) → IsFree file stamps ended policy next met fate → HasFate w file stamps.number fate)
+        (λ row found ended unread unmarked policy next met fate free.
+        record { row = row; held = found; is = free_is w sound.formed row found policy ended unread.0 unread.1 (rw unread.0 unmarked) free.0 next fate free.1 (rw (← free.2) free.3) })
+
+    pub fate_ungoverned : (file : ℕ) (stamps : Stamps) → IsTold rows.files file stamps → policy_of rows.files.files file ≡ None → ⊥
+    fate_ungoverned = told_row rows.files (λ file stamps. policy_of rows.files.files file ≡ None → ⊥) (λ row found. governed w sound.formed row row.file row.number found)
 
 -- what isn't found isn't held
 pub not_held : (rows : Rows) (file number : ℕ) → option_map stamps_of (find (is_version file number) rows.files.versions) ≡ None → is_held (world_of rows) file number ≡ false
-not_held rows file number none = found_any (is_version file number) rows.files.versions (by (find (is_version file number) rows.files.versions) none) where
+not_held rows file number none = none_any (is_version file number) rows.files.versions (by (find (is_version file number) rows.files.versions) none) where
   by : (o : Option VersionRow) → option_map stamps_of o ≡ None → o ≡ None
   by None is = refl
   by (Some row) is = absurd (cc)

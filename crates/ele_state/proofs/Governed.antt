@@ -1,44 +1,65 @@
 -- The keys and the book, once a file has another policy.
-use Rattle.ele_state.proofs.Words.{ripe_at, None, Rule, floor_of, is_held_back, is_live, is_open, nat_le, near_unmet, newer_held, no_floor, rule_in, ◌≤◌, IsTold, key_unless, ◌∙◌, Versions, all_found, ap, find, cover_of, moment_under, near_moment, next_closing, option_and_then, option_map, rows_of, ◌≡◌, ℕ, ◌<◌, ◌==◌, Bool, true, false, cond, not, ◌&&◌, ◌||◌, List, ◌∷◌, Option, Some, refl, sym, subst, arith, filter, map, AllByRecursion, filter_map, list_any, option_map_or, nat_tests, world_of, IsSound, IsQueued, is_under, key_under, unread_under, held_world, IsBooked, Rows, Key, has_key, is_key, Held, changed_at, found_passes, any-found, Kind, Policy, IsLawful, is_kind, kind_of, Usage, Book, sums_of, only_at, plus, Fits, IsWithin, GroupRow, Stamps, VersionRow, PutUnder, after_change, is_moment, is_version_of, stamps_of, file_usage, usage_of, usages, Bounded, World, is_version, next_of, policy_of, in_order_of, ripe_at_near, put_under_keeps, usage_same, usages_fit, [], HasParts, cons_option}
+use Rattle.ele_state.proofs.Words.{ripe_at, None, Rule, floor_of, is_live, is_open, nat_le, near_unmet, newer_held, no_floor, rule_in, ◌≤◌, IsTold, ◌∙◌, Versions, all_found, ap, find, cover_of, moment_under, near_moment, next_closing, option_and_then, option_map, rows_of, ◌≡◌, ℕ, ◌<◌, ◌==◌, Bool, true, false, cond, not, ◌&&◌, ◌||◌, List, ◌∷◌, Option, Some, refl, sym, subst, arith, filter, map, AllByRecursion, list_any, option_map_or, nat_tests, world_of, IsSound, IsQueued, is_under, unread_under, held_world, IsBooked, Rows, Key, has_key, Held, changed_at, found_passes, any-found, Kind, Policy, IsLawful, is_kind, kind_of, Usage, Book, sums_of, only_at, plus, Fits, IsWithin, GroupRow, Stamps, VersionRow, PutUnder, after_change, is_moment, is_version_of, stamps_of, file_usage, usage_of, usages, Bounded, World, is_version, next_of, policy_of, in_order_of, ripe_at_near, put_under_keeps, usage_same, usages_fit, [], HasParts, KeyChange, change_under, if_changed, comes, goes, is_entry, and-false, list_any-append}
+use Rattle.std.specs.List.{flat_map}
+use Rattle.ele_state.proofs.Changes.{change_comes, change_goes, none_any}
 use Rattle.ele_state.proofs.Booked.{booked, plus-cancel, same_kind}
 use Rattle.ele_world.proofs.PolicyUsage.{file_within, policy_usage}
 use Rattle.ele_world.proofs.PolicyMoments.{policy_others, policy_own}
 
 -- ---- the keys of a file's versions
 
-module _ (groups : List GroupRow) (h : Held) (file : ℕ) (rule other : Rule) where
-  abbrev its : ℕ → Option Key
-  its number = key_under groups h file rule other number
+and_or : (a b c : Bool) → ((a && c) || (b && c)) ≡ ((a || b) && c)
+and_or x0 b c = grind (arith, nat_tests)
 
-  its_key : (k : Key) (number : ℕ) (moment unless : Option ℕ) → option_map_or (is_key k) (key_unless file number moment unless) false ≡ ((number == k.number) && ((k.file == file) && (is_moment k.ripe moment && not (is_moment k.ripe unless))))
-  its_key k number x2 unless = grind (arith, nat_tests)
+module _ (groups : List GroupRow) (h : Held) (file : ℕ) (was is : Rule) (k : Key) where
+  abbrev its : Rule → Option ℕ
+  its rule = unread_under groups rule h file k.number
 
-  -- a version's key is the key exactly if its number is the key's and the key is one of those
-  is_its : (k : Key) (number : ℕ) → option_map_or (is_key k) (its number) false ≡ ((number == k.number) && is_under groups h file rule other k)
-  is_its k number = its_key k number (unread_under groups rule h file number) (unread_under groups other h file number) ∙ by (number == k.number) refl where
-    by : (b : Bool) → (number == k.number) ≡ b → (b && ((k.file == file) && (is_moment k.ripe (unread_under groups rule h file number) && not (is_moment k.ripe (unread_under groups other h file number))))) ≡ (b && is_under groups h file rule other k)
-    by false e = refl
-    by true e = let same : number ≡ k.number = grind (arith, nat_tests) in rw same refl
+  abbrev of_all : List Stamps → List KeyChange
+  of_all held = flat_map (λ stamps. if_changed (change_under groups h file was is stamps.number)) held
 
-  told_key : (rows : List VersionRow) (k : Key) → has_key k (filter_map (λ (s : Stamps). its s.number) (map stamps_of (filter (is_version_of file) rows))) ≡ (list_any (is_version file k.number) rows && is_under groups h file rule other k)
-  told_key [] k = refl
-  told_key (row ∷ rows) k = elim (row.file == file) as (λ b. (row.file == file) ≡ b → has_key k (filter_map (λ (s : Stamps). its s.number) (map stamps_of (cond b (row ∷ filter (is_version_of file) rows) (filter (is_version_of file) rows)))) ≡ (((b && (row.number == k.number)) || list_any (is_version file k.number) rows) && is_under groups h file rule other k)) [
-    | true ↦ λ e. more (its row.number) (is_its k row.number) (told_key rows k)
-    | false ↦ λ e. told_key rows k
-  ] refl where
-    rest : List Key
-    rest = filter_map (λ (s : Stamps). its s.number) (map stamps_of (filter (is_version_of file) rows))
+  -- what is asked of a change is asked of its number, its file and its moments
+  module _ (t : KeyChange → Bool) (g : Option ℕ → Option ℕ → Bool) (its_change : (number : ℕ) (one other : Option ℕ) → list_any t (if_changed (record { file = file; number = number; was = one; is = other })) ≡ ((number == k.number) && ((k.file == file) && g one other))) where
+    abbrev wanted : Bool
+    wanted = (k.file == file) && g (its was) (its is)
 
-    and_or : (a b c : Bool) → ((a && c) || (b && c)) ≡ ((a || b) && c)
-    and_or x0 b c = grind (arith, nat_tests)
+    is_its : (number : ℕ) → list_any t (if_changed (change_under groups h file was is number)) ≡ ((number == k.number) && wanted)
+    is_its number = its_change number (unread_under groups was h file number) (unread_under groups is h file number) ∙ by (number == k.number) refl where
+      by : (b : Bool) → (number == k.number) ≡ b → (b && ((k.file == file) && g (unread_under groups was h file number) (unread_under groups is h file number))) ≡ (b && wanted)
+      by false e = refl
+      by true e = let same : number ≡ k.number = grind (arith, nat_tests) in rw same refl
 
-    more : (o : Option Key) → option_map_or (is_key k) o false ≡ ((row.number == k.number) && is_under groups h file rule other k) → has_key k rest ≡ (list_any (is_version file k.number) rows && is_under groups h file rule other k)
-        → has_key k (cons_option o rest) ≡ (((row.number == k.number) || list_any (is_version file k.number) rows) && is_under groups h file rule other k)
-    more x0 is then = grind (arith, nat_tests, and_or)
+    told : (rows : List VersionRow) → list_any t (of_all (map stamps_of (filter (is_version_of file) rows))) ≡ (list_any (is_version file k.number) rows && wanted)
+    told [] = refl
+    told (row ∷ rows) = by (told rows) (row.file == file) where
+      rest : List Stamps
+      rest = map stamps_of (filter (is_version_of file) rows)
 
-  -- so those told of the file's versions are just those
-  pub keys_told : (keys : List Key) (held : List Stamps) → held ≡ map stamps_of (filter (is_version_of file) h.versions) → keys ≡ filter_map (λ (s : Stamps). its s.number) held → (k : Key) → has_key k keys ≡ is_under groups h file rule other k
-  keys_told keys held told is k = grind (arith, nat_tests, told_key h.versions k, any-found, found_passes, ap (has_key k) (is ∙ ap (filter_map (λ (s : Stamps). its s.number)) told))
+      by : list_any t (of_all rest) ≡ (list_any (is_version file k.number) rows && wanted) → (b : Bool)
+          → list_any t (of_all (map stamps_of (cond b (row ∷ filter (is_version_of file) rows) (filter (is_version_of file) rows)))) ≡ (((b && (row.number == k.number)) || list_any (is_version file k.number) rows) && wanted)
+      by before false = before
+      by before true = list_any-append t (if_changed (change_under groups h file was is row.number)) (of_all rest) ∙ rw (is_its row.number, before) (and_or (row.number == k.number) (list_any (is_version file k.number) rows) wanted)
+
+  -- a version that isn't held has none
+  unheld : (rule : Rule) → find (is_version file k.number) h.versions ≡ None → its rule ≡ None
+  unheld rule none = rw none (by (is_open h.handles file k.number)) where
+    by : (read : Bool) → cond {A = Option ℕ} read None None ≡ None
+    by true = refl
+    by false = refl
+
+  held_alone : (one other : Rule) → (list_any (is_version file k.number) h.versions && is_under groups h file one other k) ≡ is_under groups h file one other k
+  held_alone one other = by (find (is_version file k.number) h.versions) refl where
+    by : (o : Option VersionRow) → find (is_version file k.number) h.versions ≡ o → (list_any (is_version file k.number) h.versions && is_under groups h file one other k) ≡ is_under groups h file one other k
+    by None none = rw (none_any (is_version file k.number) h.versions none, unheld one none) (sym (and-false (k.file == file)))
+    by (Some row) some = rw (any-found (is_version file k.number) (is_version file k.number) h.versions row some (found_passes (is_version file k.number) h.versions row some)) refl
+
+  -- those that come and those that go are just those that a version has under the one rule alone
+  module _ (changes : List KeyChange) (held : List Stamps) (all : held ≡ map stamps_of (filter (is_version_of file) h.versions)) (are : changes ≡ of_all held) where
+    pub under_come : comes changes k ≡ is_under groups h file is was k
+    under_come = ap (λ cs. comes cs k) (are ∙ ap of_all all) ∙ told (λ c. is_entry c.file c.number c.is k) (λ one other. is_moment k.ripe other && not (is_moment k.ripe one)) (change_comes k file) h.versions ∙ held_alone is was
+
+    pub under_go : goes changes k ≡ is_under groups h file was is k
+    under_go = ap (λ cs. goes cs k) (are ∙ ap of_all all) ∙ told (λ c. is_entry c.file c.number c.was k) (λ one other. is_moment k.ripe one && not (is_moment k.ripe other)) (change_goes k file) h.versions ∙ held_alone was is
 
 -- what is told of a held version tells its moment
 pub under_told : (groups : List GroupRow) (policy : Policy) (floor : ℕ) (h : Held) (file : ℕ) (stamps : Stamps) → IsTold h file stamps
@@ -68,14 +89,6 @@ floored groups policy floor h file number given within = rw (no_floor (newer_hel
   by true false is o = refl
   by false false is None = refl
   by false false is (Some row) = held row.closed row.ended is
-
--- where there is no floor none is held back
-pub none_held_back : (groups : List GroupRow) (h : Held) (file : ℕ) (policy : Policy) (k : Key) → is_held_back groups h file policy 0 k ≡ false
-none_held_back groups h file policy k = by (k.file == file) (is_moment k.ripe (unread_under groups (record { policy = policy; floor = 0 }) h file k.number)) where
-  by : (own b : Bool) → (own && (b && not b)) ≡ false
-  by true true = refl
-  by true false = refl
-  by false b = refl
 
 -- so is each that is told of a file whose versions are in order
 all_told : (h : Held) (file : ℕ) (rows : List VersionRow) → AllByRecursion (λ row. find (is_version row.file row.number) h.versions ≡ Some row) rows → AllByRecursion (IsTold h file) (map stamps_of (filter (is_version_of file) rows))

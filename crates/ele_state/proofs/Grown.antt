@@ -1,5 +1,5 @@
 -- What a file's next version leaves, whatever its content comes from.
-use Rattle.ele_state.proofs.Words.{IsBooked, NoMemory, OnErr, OnOk, Result, Ok, Err, subst, sym, true, false, [], ◌≡◌, ℕ, ◌+◌, ◌<◌, ◌||◌, List, arith, refl, ◌∙◌, ap, Bool, Book, HasSource, Held, IsOwed, IsOwedBy, IsQueued, Kind, Policy, Some, kind_of, one_version, only_at, plus, policy_of, sums_of, IsReady, IsRoomy, IsSound, IsSource, IsTracked, Key, MayGrow, NewKeys, Rows, Source, World, after_changes, appending, blocks_of, cells_of_draft, cells_of_version, content_of, has_key, is_draft, is_live, is_new, length, may_grow, new_keys, next_of, next_version, remove_first, rows_after, source_cells, with_rows, world_of, drafts-removed}
+use Rattle.ele_state.proofs.Words.{IsBooked, NoMemory, OnErr, OnOk, Result, Ok, Err, subst, sym, true, false, [], ◌≡◌, ℕ, ◌+◌, ◌<◌, ◌||◌, List, arith, refl, ◌∙◌, ap, Bool, Book, HasSource, Held, IsOwed, IsOwedBy, IsQueued, Kind, Policy, Some, kind_of, one_version, only_at, plus, policy_of, sums_of, IsReady, IsRoomy, IsSound, IsSource, IsTracked, Key, MayGrow, KeyChange, Rows, Source, World, after_changes, appending, blocks_of, cells_of_draft, cells_of_version, content_of, has_key, is_draft, is_live, comes, length, may_grow, new_keys, next_of, next_version, remove_first, rows_after, source_cells, with_rows, world_of, drafts-removed}
 use Rattle.ele_state.proofs.Appended.{appended_queue, none_there}
 use Rattle.ele_state.proofs.Booked.{few, of_kind, owed_by}
 use Rattle.ele_state.proofs.Bounded.{rows_few, versions_few}
@@ -30,10 +30,10 @@ module _ (rows : Rows) (file : ℕ) where
   grows (Draft handle opened) there has = may_grow w file has.grows there
   grows (Version number) there has = has.grows
 
-  pub none_new : IsTracked rows → (source : Source) (live : Bool) (keys : NewKeys) → 0 < next_of h.files file → HasSource rows file source → live ≡ is_live w file → keys ≡ new_keys rows.groups h file rows.moment live → (j : Key) → is_new keys j ≡ true → has_key j rows.queue ≡ false
+  pub none_new : IsTracked rows → (source : Source) (live : Bool) (keys : List KeyChange) → 0 < next_of h.files file → HasSource rows file source → live ≡ is_live w file → keys ≡ new_keys rows.groups h file rows.moment live → (j : Key) → comes keys j ≡ true → has_key j rows.queue ≡ false
   none_new tracked source live keys there has lives are = none_there w file 0 [] (grows source there has) rows.queue [] tracked.queue keys (are ∙ ap (new_keys rows.groups h file rows.moment) lives)
 
-  pub grown_queue : IsTracked rows → (source : Source) (after : List Key) (live : Bool) (keys : NewKeys) → HasSource rows file source → live ≡ is_live w file → keys ≡ new_keys rows.groups h file rows.moment live → ((j : Key) → has_key j after ≡ (is_new keys j || has_key j rows.queue))
+  pub grown_queue : IsTracked rows → (source : Source) (after : List Key) (live : Bool) (keys : List KeyChange) → HasSource rows file source → live ≡ is_live w file → keys ≡ new_keys rows.groups h file rows.moment live → ((j : Key) → has_key j after ≡ (comes keys j || has_key j rows.queue))
       → IsQueued (after_changes w (appending h rows.moment file source)) after
   grown_queue tracked (Draft handle opened) after live keys has lives are = finished_queue w handle file has.ready.is.reads opened has.ready.is.changed has.grows rows.queue after live keys tracked.queue lives are
   grown_queue tracked (Version number) after live keys has lives are = appended_queue w file rows.moment (cells_of_version h file number) has.grows rows.queue after tracked.queue keys (are ∙ ap (new_keys rows.groups h file rows.moment) lives)
@@ -60,9 +60,9 @@ module _ (rows : Rows) (file : ℕ) where
 
 -- ---- once all has followed, or been refused
 
-module _ (rows : Rows) (file : ℕ) (tracked : IsTracked rows) (source : Source) (live : Bool) (keys : NewKeys) (has : HasSource rows file source) (lives : live ≡ is_live (world_of rows) file) (are : keys ≡ new_keys rows.groups rows.files file rows.moment live) where
+module _ (rows : Rows) (file : ℕ) (tracked : IsTracked rows) (source : Source) (live : Bool) (keys : List KeyChange) (has : HasSource rows file source) (lives : live ≡ is_live (world_of rows) file) (are : keys ≡ new_keys rows.groups rows.files file rows.moment live) where
   pub grown_tracked : (now : Rows) (result : Result ℕ NoMemory) → OnOk result (world_of now ≡ after_changes (world_of rows) (appending rows.files rows.moment file source)) → OnErr result (now ≡ record rows { queue = now.queue; meter = now.meter })
-      → OnOk result ((j : Key) → has_key j now.queue ≡ (is_new keys j || has_key j rows.queue)) → OnErr result ((j : Key) → has_key j now.queue ≡ has_key j rows.queue)
+      → OnOk result ((j : Key) → has_key j now.queue ≡ (comes keys j || has_key j rows.queue)) → OnErr result ((j : Key) → has_key j now.queue ≡ has_key j rows.queue)
       → IsBooked now.files now.book → now.limits ≡ rows.limits → IsTracked now
   grown_tracked now (Ok number) ok err come same booked limits = record {
     queue = subst (λ (v : World). IsQueued v now.queue) (sym ok) (grown_queue rows file tracked source now.queue live keys has lives are come);

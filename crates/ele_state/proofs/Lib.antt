@@ -1,12 +1,15 @@
 pub mod Words
 pub mod Settled
 pub mod Following
+pub mod Changes
+pub mod Freed
 pub mod Governed
 pub mod Bounded
 pub mod Booked
 pub mod Asked
 pub mod Appended
 pub mod NewNames
+pub mod Left
 pub mod Marked
 pub mod Made
 pub mod Fresh

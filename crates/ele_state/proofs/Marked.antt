@@ -1,8 +1,10 @@
--- The keys of versions that were current at marks: which keys these are, and that the queue follows where marks come and go.
-use Rattle.ele_state.proofs.Words.{floor_in, is_live, MakeGroup, append-nil, filter, filter-append, ◌≡◌, ℕ, ◌+◌, ◌<◌, ◌==◌, ◌++◌, length, get_or, take, and-false, and_assoc, append_assoc, Bool, true, false, cond, not, ◌&&◌, ◌||◌, List, ◌∷◌, Option, Some, None, refl, ap, sym, ◌∙◌, arith, find, filter_map, list_any, cons_option, AllByRecursion, option_map, option_map_or, take_more, filter_map-append, nat_tests, IsSound, Rows, world_of, IsQueued, Asked, Joined, Marked, Standing, Without, MarkRow, cover_asked, key_at, key_unless, keys_at, moment_asked, Key, has_key, is_key, Held, rows_of, all-found, found_passes, AllLater, is_moment, moment_under, covers_moment, had_life, lives_at, stamps_of, ArePlaced, HasParts, World, is_open, is_version, policy_of, GroupRow, Stamps, VersionRow, AddMark, AddMember, DropGroup, RemoveMark, RemoveMember, after_change, drop_moves, leave_moves, mark_moves, marks_of, member_moves, members_of, unmark_moves, MarksMove, is_covered, is_touched, in_order_of, ripe_at, ripe_at_near, any-filter_map, placed_of, [], option_and_then}
-use Rattle.std.proofs.lemmas.Grind.{flat_map-append}
+-- The moments of versions that were current at marks: which change with the groups, and that the queue follows.
+use Rattle.ele_state.proofs.Words.{floor_in, is_live, MakeGroup, append-nil, filter, filter-append, ◌≡◌, ℕ, ◌+◌, ◌<◌, ◌==◌, ◌++◌, length, get_or, take, and-false, and_assoc, append_assoc, Bool, true, false, cond, not, ◌&&◌, ◌||◌, List, ◌∷◌, Option, Some, None, refl, ap, sym, ◌∙◌, arith, find, filter_map, list_any, cons_option, AllByRecursion, option_map, option_map_or, take_more, filter_map-append, nat_tests, IsSound, Rows, world_of, IsQueued, Joined, Marked, MarkRow, Key, has_key, Held, rows_of, all-found, found_passes, AllLater, is_moment, moment_under, covers_moment, had_life, lives_at, stamps_of, ArePlaced, HasParts, World, is_open, is_version, policy_of, GroupRow, Stamps, VersionRow, after_change, drop_moves, leave_moves, mark_moves, marks_of, member_moves, members_of, unmark_moves, MarksMove, is_covered, is_touched, in_order_of, ripe_at, ripe_at_near, placed_of, [], option_and_then, GroupChange, KeyChange, Cover, Left, Unmarked, Dropped, HasLeaving, IsIn, change_at, change_by, change_of, changes_by, comes, goes, cover_after, files_of, moments_of, moment_by, unmarked_moment, if_changed, is_entry, near_moment, newer_held, next_closing, nat_le, ripe_past, cover_of, Policy}
+use Rattle.ele_state.proofs.Changes.{back_and_forth, change_comes, change_goes}
 use Rattle.std.specs.List.{flat_map}
-use Rattle.ele_world.specs.GroupRows.{is_member, new_group, has_member, is_marked_at}
+use Rattle.std.specs.Option.{option_eq}
+use Rattle.ele_policy.specs.Ripe.{ripe_near}
+use Rattle.ele_world.specs.GroupRows.{group_named, is_member, new_group, has_member}
 use Rattle.ele_world.proofs.SlotPlaces.{list_any-flat_map}
 
 -- ---- the version that was current at a moment, by its number
@@ -31,14 +33,6 @@ living_numbered file number moment g (x ∷ xs) placed = by (living_numbered fil
 
 -- ---- lists
 
--- with one item more it has what that gives
-pub one_more : {X : Type 0} (h : X → Option Key) (before : List Key) (xs : List X) (i : ℕ) (x : X) → i < length xs → x ≡ get_or xs i x → before ++ filter_map h (take (i + 1) xs) ≡ (before ++ filter_map h (take i xs)) ++ cons_option (h x) []
-one_more h before xs i x lt is =
-    ap (λ t. before ++ filter_map h t) (take_more xs i x lt) ∙ rw (← is, filter_map-append h (take i xs) (x ∷ [])) (sym (append_assoc before (filter_map h (take i xs)) (cons_option (h x) [])))
-
-pub keys_more : {X : Type 0} (f : X → List Key) (xs : List X) (i : ℕ) (x : X) → i < length xs → x ≡ get_or xs i x → flat_map f (take (i + 1) xs) ≡ flat_map f (take i xs) ++ f x
-keys_more f xs i x lt is = ap (flat_map f) (take_more xs i x lt) ∙ rw (← is, flat_map-append f (take i xs) (x ∷ [])) (ap (λ t. flat_map f (take i xs) ++ t) (append-nil (f x)))
-
 any-same : {X : Type 0} (p q : X → Bool) (xs : List X) → ((x : X) → p x ≡ q x) → list_any p xs ≡ list_any q xs
 any-same p q [] same = refl
 any-same p q (x ∷ xs) same = rw (same x, any-same p q xs same) refl
@@ -52,82 +46,103 @@ any-never : {X : Type 0} (xs : List X) → list_any (λ x. false) xs ≡ false
 any-never [] = refl
 any-never (x ∷ xs) = any-never xs
 
--- ---- the keys
+-- ---- the moments that change
 
--- the key's moment, by what is told of its version
-pub key_told : (one other : Asked) (groups : List GroupRow) (h : Held) (live : Bool) (file mark : ℕ) (stamps : Stamps) → option_map stamps_of (find (had_life file mark) h.versions) ≡ Some stamps
-    → key_at one other groups h live file mark ≡ key_unless file stamps.number (moment_asked one groups h live file stamps.number stamps.closed stamps.ended) (moment_asked other groups h live file stamps.number stamps.closed stamps.ended)
-key_told one other groups h live file mark stamps = by (find (had_life file mark) h.versions) where
-  by : (o : Option VersionRow) → option_map stamps_of o ≡ Some stamps
-      → option_and_then (λ row. key_unless file row.number (moment_asked one groups h live file row.number row.closed row.ended) (moment_asked other groups h live file row.number row.closed row.ended)) o
-      ≡ key_unless file stamps.number (moment_asked one groups h live file stamps.number stamps.closed stamps.ended) (moment_asked other groups h live file stamps.number stamps.closed stamps.ended)
+-- with a cover a version ripens when it does without one, or at the cover's end
+pub moment_told : (cover : ℕ → Option ℕ → Cover) (h : Held) (live : Bool) (file number closed ended : ℕ) → moment_by cover h live file number closed (Some ended) ≡ option_and_then (ripe_past (cover closed (Some ended))) (unmarked_moment h live file number closed ended)
+moment_told cover h live file number closed ended = by (is_open h.handles file number) (nat_le (floor_in (policy_of h.files file) live) (newer_held h.versions file number)) (policy_of h.files file) where
+  by : (read met : Bool) (o : Option Policy)
+      → cond read None (near_moment cover o (next_closing h.versions file number) met closed ended) ≡ option_and_then (ripe_past (cover closed (Some ended))) (cond read None (option_and_then (λ policy. ripe_near policy closed (next_closing h.versions file number) met ended) o))
+  by true met o = refl
+  by false met None = refl
+  by false met (Some policy) = refl
+
+-- none changes that doesn't ripen
+pub unripe_stays : (change : GroupChange) (groups : List GroupRow) (h : Held) (live : Bool) (file number closed ended : ℕ) → None ≡ unmarked_moment h live file number closed ended → [] ≡ change_at change groups h live file number closed (Some ended)
+unripe_stays change groups h live file number closed ended none = rw (moment_told (cover_of groups file) h live file number closed ended, moment_told (cover_after change groups file) h live file number closed ended, ← none) refl
+
+same_eq : (o : Option ℕ) → option_eq (λ a b. a == b) o o ≡ true
+same_eq None = refl
+same_eq (Some a) = grind (arith, nat_tests)
+
+-- nor one that is kept for as long
+pub kept_stays : (change : GroupChange) (groups : List GroupRow) (h : Held) (live : Bool) (file number closed ended : ℕ) → cover_of groups file closed (Some ended) ≡ cover_after change groups file closed (Some ended) → [] ≡ change_at change groups h live file number closed (Some ended)
+kept_stays change groups h live file number closed ended same =
+    rw (moment_told (cover_of groups file) h live file number closed ended, moment_told (cover_after change groups file) h live file number closed ended, ← same, same_eq (option_and_then (ripe_past (cover_of groups file closed (Some ended))) (unmarked_moment h live file number closed ended))) refl
+
+-- the change of a version's moment, by what is told of it
+pub change_told : (change : GroupChange) (groups : List GroupRow) (h : Held) (live : Bool) (file mark : ℕ) (stamps : Stamps) → option_map stamps_of (find (had_life file mark) h.versions) ≡ Some stamps
+    → change_by change groups h live file mark ≡ change_at change groups h live file stamps.number stamps.closed stamps.ended
+change_told change groups h live file mark stamps = by (find (had_life file mark) h.versions) where
+  by : (o : Option VersionRow) → option_map stamps_of o ≡ Some stamps → option_map_or (λ row. change_at change groups h live file row.number row.closed row.ended) o [] ≡ change_at change groups h live file stamps.number stamps.closed stamps.ended
   by None told = absurd cc
   by (Some row) told = let same : stamps_of row ≡ stamps = cc in rw (← same) refl
 
 -- there is none where no version was current then
-pub key_untold : (one other : Asked) (groups : List GroupRow) (h : Held) (live : Bool) (file mark : ℕ) → option_map stamps_of (find (had_life file mark) h.versions) ≡ None → None ≡ key_at one other groups h live file mark
-key_untold one other groups h live file mark = by (find (had_life file mark) h.versions) where
-  by : (o : Option VersionRow) → option_map stamps_of o ≡ None
-      → None ≡ option_and_then (λ row. key_unless file row.number (moment_asked one groups h live file row.number row.closed row.ended) (moment_asked other groups h live file row.number row.closed row.ended)) o
+pub change_untold : (change : GroupChange) (groups : List GroupRow) (h : Held) (live : Bool) (file mark : ℕ) → option_map stamps_of (find (had_life file mark) h.versions) ≡ None → change_by change groups h live file mark ≡ []
+change_untold change groups h live file mark = by (find (had_life file mark) h.versions) where
+  by : (o : Option VersionRow) → option_map stamps_of o ≡ None → option_map_or (λ row. change_at change groups h live file row.number row.closed row.ended) o [] ≡ []
   by None told = refl
   by (Some row) told = absurd cc
 
-module _ (one other : Asked) (groups : List GroupRow) (h : Held) (lives : ℕ → Bool) (placed : AllLater ArePlaced h.versions) (k : Key) where
-  -- it is the moment asked the one way alone
+module _ (change : GroupChange) (groups : List GroupRow) (h : Held) (lives : ℕ → Bool) (placed : AllLater ArePlaced h.versions) (k : Key) where
+  -- the moment of the version that has the key's number, with that cover
+  abbrev its : (ℕ → ℕ → Option ℕ → Cover) → Option ℕ
+  its cover = cond (is_open h.handles k.file k.number) None (moment_under (cover k.file) (policy_of h.files k.file) (floor_in (policy_of h.files k.file) (lives k.file)) h.versions k.file k.number)
+
+  -- what is asked of a change is asked of its number, its file and its moments
+  module _ (t : KeyChange → Bool) (g : Option ℕ → Option ℕ → Bool) (its_change : (file number : ℕ) (was is : Option ℕ) → list_any t (if_changed (record { file = file; number = number; was = was; is = is })) ≡ ((number == k.number) && ((k.file == file) && g was is))) where
+    abbrev has_moment : ℕ → VersionRow → Bool
+    has_moment file row = (k.file == file) && g (moment_by (cover_of groups file) h (lives file) file row.number row.closed row.ended) (moment_by (cover_after change groups file) h (lives file) file row.number row.closed row.ended)
+
+    passes : (file mark : ℕ) → list_any t (change_by change groups h (lives file) file mark) ≡ option_map_or (if_numbered k.number (has_moment file)) (find (had_life file mark) h.versions) false
+    passes file mark = by (find (had_life file mark) h.versions) where
+      by : (o : Option VersionRow) → list_any t (option_map_or (λ row. change_at change groups h (lives file) file row.number row.closed row.ended) o []) ≡ option_map_or (if_numbered k.number (has_moment file)) o false
+      by None = refl
+      by (Some row) = its_change file row.number (moment_by (cover_of groups file) h (lives file) file row.number row.closed row.ended) (moment_by (cover_after change groups file) h (lives file) file row.number row.closed row.ended)
+
+    abbrev is_its : List ℕ → Bool
+    is_its marks = is_covered marks h.versions k.file k.number && g (its (cover_of groups)) (its (cover_after change groups))
+
+    covered : (file : ℕ) (marks : List ℕ) (o : Option VersionRow) → list_any (λ mark. option_map_or (if_living mark (has_moment file)) o false) marks ≡ option_map_or (λ row. list_any (covers_moment row.closed row.ended) marks && has_moment file row) o false
+    covered file marks None = any-never marks
+    covered file marks (Some row) = any-and (covers_moment row.closed row.ended) (has_moment file row) marks
+
+    -- of one file
+    file_told : (file : ℕ) (marks : List ℕ) → list_any t (flat_map (change_by change groups h (lives file) file) marks) ≡ ((file == k.file) && is_its marks)
+    file_told file marks =
+        list_any-flat_map t (change_by change groups h (lives file) file) marks
+        ∙ any-same _ _ marks (λ mark. passes file mark ∙ living_numbered file k.number mark (has_moment file) h.versions placed)
+        ∙ covered file marks (find (is_version file k.number) h.versions)
+        ∙ by (file == k.file) refl where
+          own : (o : Option VersionRow) → find (is_version k.file k.number) h.versions ≡ o → option_map_or (λ row. list_any (covers_moment row.closed row.ended) marks && has_moment k.file row) o false ≡ is_its marks
+          own None e = rw e refl
+          own (Some row) e =
+              let number : row.number ≡ k.number = (let found = found_passes (is_version k.file k.number) h.versions row e in grind (arith, nat_tests)) in
+              let itself : (k.file == k.file) ≡ true = grind (arith, nat_tests) in
+              rw (e, itself, number) refl
+
+          by : (b : Bool) → (file == k.file) ≡ b → option_map_or (λ row. list_any (covers_moment row.closed row.ended) marks && has_moment file row) (find (is_version file k.number) h.versions) false ≡ (b && is_its marks)
+          by false apart = grind (arith, nat_tests, and-false)
+          by true same = let file_is : file ≡ k.file = grind (arith, nat_tests) in rw file_is (own (find (is_version k.file k.number) h.versions) refl)
+
+    -- of all: those of versions that the marks cover
+    told : (files marks : List ℕ) → list_any t (changes_by change groups h lives files marks) ≡ (is_touched files marks h.versions k.file k.number && g (its (cover_of groups)) (its (cover_after change groups)))
+    told files marks =
+        list_any-flat_map t (λ file. flat_map (change_by change groups h (lives file) file) marks) files
+        ∙ any-same _ _ files (λ file. file_told file marks)
+        ∙ any-and (λ file. file == k.file) (is_its marks) files
+        ∙ sym (and_assoc (list_any (λ file. file == k.file) files) (is_covered marks h.versions k.file k.number) (g (its (cover_of groups)) (its (cover_after change groups))))
+
+  -- it is the one moment alone
   abbrev is_alone : Option ℕ → Option ℕ → Bool
   is_alone moment unless = is_moment k.ripe moment && not (is_moment k.ripe unless)
 
-  -- the key is that of the version by its moment
-  abbrev has_moment : ℕ → VersionRow → Bool
-  has_moment file row = (k.file == file) && is_alone (moment_asked one groups h (lives file) file row.number row.closed row.ended) (moment_asked other groups h (lives file) file row.number row.closed row.ended)
+  comes_told : (files marks : List ℕ) → comes (changes_by change groups h lives files marks) k ≡ (is_touched files marks h.versions k.file k.number && is_alone (its (cover_after change groups)) (its (cover_of groups)))
+  comes_told = told (λ c. is_entry c.file c.number c.is k) (λ was is. is_alone is was) (change_comes k)
 
-  its_key : (file number : ℕ) (moment unless : Option ℕ) → option_map_or (is_key k) (key_unless file number moment unless) false ≡ ((number == k.number) && ((k.file == file) && is_alone moment unless))
-  its_key file number x2 unless = grind (arith, nat_tests)
-
-  passes : (file mark : ℕ) → option_map_or (is_key k) (key_at one other groups h (lives file) file mark) false ≡ option_map_or (if_numbered k.number (has_moment file)) (find (had_life file mark) h.versions) false
-  passes file mark = by (find (had_life file mark) h.versions) where
-    by : (o : Option VersionRow) → option_map_or (is_key k) (option_and_then (λ row. key_unless file row.number (moment_asked one groups h (lives file) file row.number row.closed row.ended) (moment_asked other groups h (lives file) file row.number row.closed row.ended)) o) false
-        ≡ option_map_or (if_numbered k.number (has_moment file)) o false
-    by None = refl
-    by (Some row) = its_key file row.number (moment_asked one groups h (lives file) file row.number row.closed row.ended) (moment_asked other groups h (lives file) file row.number row.closed row.ended)
-
-  -- the moment of the version that has the key's number
-  abbrev its : Asked → Option ℕ
-  its asked = cond (is_open h.handles k.file k.number) None (moment_under (cover_asked asked groups k.file) (policy_of h.files k.file) (floor_in (policy_of h.files k.file) (lives k.file)) h.versions k.file k.number)
-
-  abbrev is_its : List ℕ → Bool
-  is_its marks = is_covered marks h.versions k.file k.number && is_alone (its one) (its other)
-
-  covered : (file : ℕ) (marks : List ℕ) (o : Option VersionRow) → list_any (λ mark. option_map_or (if_living mark (has_moment file)) o false) marks ≡ option_map_or (λ row. list_any (covers_moment row.closed row.ended) marks && has_moment file row) o false
-  covered file marks None = any-never marks
-  covered file marks (Some row) = any-and (covers_moment row.closed row.ended) (has_moment file row) marks
-
-  -- of one file
-  file_keys : (file : ℕ) (marks : List ℕ) → has_key k (filter_map (key_at one other groups h (lives file) file) marks) ≡ ((file == k.file) && is_its marks)
-  file_keys file marks =
-      any-filter_map (is_key k) (key_at one other groups h (lives file) file) marks
-      ∙ any-same _ _ marks (λ mark. passes file mark ∙ living_numbered file k.number mark (has_moment file) h.versions placed)
-      ∙ covered file marks (find (is_version file k.number) h.versions)
-      ∙ by (file == k.file) refl where
-        own : (o : Option VersionRow) → find (is_version k.file k.number) h.versions ≡ o
-            → option_map_or (λ row. list_any (covers_moment row.closed row.ended) marks && ((k.file == k.file) && is_alone (moment_asked one groups h (lives k.file) k.file row.number row.closed row.ended) (moment_asked other groups h (lives k.file) k.file row.number row.closed row.ended))) o false ≡ is_its marks
-        own None e = rw e refl
-        own (Some row) e =
-            let number : row.number ≡ k.number = (let found = found_passes (is_version k.file k.number) h.versions row e in grind (arith, nat_tests)) in
-            let itself : (k.file == k.file) ≡ true = grind (arith, nat_tests) in
-            rw (e, itself, number) refl
-
-        by : (b : Bool) → (file == k.file) ≡ b → option_map_or (λ row. list_any (covers_moment row.closed row.ended) marks && has_moment file row) (find (is_version file k.number) h.versions) false ≡ (b && is_its marks)
-        by false apart = grind (arith, nat_tests, and-false)
-        by true same = let file_is : file ≡ k.file = grind (arith, nat_tests) in rw file_is (own (find (is_version k.file k.number) h.versions) refl)
-
-  -- of all: those of versions that the marks cover
-  pub keys_told : (files marks : List ℕ) → has_key k (keys_at one other groups h lives files marks) ≡ (is_touched files marks h.versions k.file k.number && is_alone (its one) (its other))
-  keys_told files marks =
-      list_any-flat_map (is_key k) (λ file. filter_map (key_at one other groups h (lives file) file) marks) files
-      ∙ any-same _ _ files (λ file. file_keys file marks)
-      ∙ any-and (λ file. file == k.file) (is_its marks) files
-      ∙ sym (and_assoc (list_any (λ file. file == k.file) files) (is_covered marks h.versions k.file k.number) (is_alone (its one) (its other)))
+  goes_told : (files marks : List ℕ) → goes (changes_by change groups h lives files marks) k ≡ (is_touched files marks h.versions k.file k.number && is_alone (its (cover_of groups)) (its (cover_after change groups)))
+  goes_told = told (λ c. is_entry c.file c.number c.was k) (λ was is. is_alone was is) (change_goes k)
 
 -- ---- the queue
 
@@ -146,41 +161,39 @@ unmoved true true false had own = refl
 unmoved true false true had own = sym (own refl)
 unmoved true false false had own = refl
 
-module _ (w v : World) (formed : HasParts w) (files marks : List ℕ) (queue : List Key) (queued : IsQueued w queue) (asked : Asked) (moves : MarksMove w v (cover_asked asked w.groups) files marks) where
-  abbrev comes : List Key
-  comes = keys_at asked Standing w.groups (rows_of w) (is_live w) files marks
-
-  abbrev goes : List Key
-  goes = keys_at Standing asked w.groups (rows_of w) (is_live w) files marks
+-- the world after a change of groups by which moments move so, of versions of these files that were current at these marks
+module _ (w v : World) (formed : HasParts w) (files marks : List ℕ) (queue : List Key) (queued : IsQueued w queue) (change : GroupChange) (moves : MarksMove w v (cover_after change w.groups) files marks) where
+  abbrev changes : List KeyChange
+  changes = changes_by change w.groups (rows_of w) (is_live w) files marks
 
   abbrev touched : Key → Bool
   touched k = is_touched files marks w.versions k.file k.number
 
-  -- whether it is the moment that a version has as marks are asked
-  abbrev is_now : Asked → Key → Bool
-  is_now way k = is_moment k.ripe (its way way w.groups (rows_of w) (is_live w) (placed_of w formed) k way)
+  -- whether it is the moment that a version has with that cover
+  abbrev is_now : (ℕ → ℕ → Option ℕ → Cover) → Key → Bool
+  is_now cover k = is_moment k.ripe (its change w.groups (rows_of w) (is_live w) (placed_of w formed) k cover)
 
-  had : (k : Key) → touched k ≡ true → has_key k queue ≡ is_now Standing k
+  had : (k : Key) → touched k ≡ true → has_key k queue ≡ is_now (cover_of w.groups) k
   had k own = queued k ∙ ap (is_moment k.ripe) (ripe_at_near w k.file k.number (in_order_of w formed))
 
-  then_has : (k : Key) → touched k ≡ true → is_moment k.ripe (ripe_at v k.file k.number) ≡ is_now asked k
+  then_has : (k : Key) → touched k ≡ true → is_moment k.ripe (ripe_at v k.file k.number) ≡ is_now (cover_after change w.groups) k
   then_has k own = ap (is_moment k.ripe) (moves.own k.file k.number own)
 
-  told_come : (k : Key) → has_key k comes ≡ (touched k && (is_now asked k && not (is_now Standing k)))
-  told_come k = keys_told asked Standing w.groups (rows_of w) (is_live w) (placed_of w formed) k files marks
+  come : (k : Key) → comes changes k ≡ (touched k && (is_now (cover_after change w.groups) k && not (is_now (cover_of w.groups) k)))
+  come k = comes_told change w.groups (rows_of w) (is_live w) (placed_of w formed) k files marks
 
-  told_go : (k : Key) → has_key k goes ≡ (touched k && (is_now Standing k && not (is_now asked k)))
-  told_go k = keys_told Standing asked w.groups (rows_of w) (is_live w) (placed_of w formed) k files marks
+  go : (k : Key) → goes changes k ≡ (touched k && (is_now (cover_of w.groups) k && not (is_now (cover_after change w.groups) k)))
+  go k = goes_told change w.groups (rows_of w) (is_live w) (placed_of w formed) k files marks
 
   -- once the keys have come that come, and those have gone that go, it follows
-  pub moved_queue : (between after : List Key) → ((k : Key) → has_key k between ≡ (has_key k comes || has_key k queue)) → ((k : Key) → has_key k after ≡ (not (has_key k goes) && has_key k between)) → IsQueued v after
+  moved_queue : (between after : List Key) → ((k : Key) → has_key k between ≡ (comes changes k || has_key k queue)) → ((k : Key) → has_key k after ≡ (not (goes changes k) && has_key k between)) → IsQueued v after
   moved_queue between after came went k =
-      went k ∙ rw (came k, told_come k, told_go k) (moved (touched k) (is_now Standing k) (is_now asked k) (has_key k queue) (is_moment k.ripe (ripe_at v k.file k.number))
+      went k ∙ rw (came k, come k, go k) (moved (touched k) (is_now (cover_of w.groups) k) (is_now (cover_after change w.groups) k) (has_key k queue) (is_moment k.ripe (ripe_at v k.file k.number))
       (λ apart. ap (is_moment k.ripe) (moves.others k.file k.number apart) ∙ sym (queued k)) (had k) (then_has k))
 
   -- and where they are refused, it is as it was
-  pub unmoved_queue : (after : List Key) → ((k : Key) → has_key k after ≡ (not (has_key k comes) && has_key k queue)) → IsQueued w after
-  unmoved_queue after back k = back k ∙ rw (told_come k) (unmoved (touched k) (is_now Standing k) (is_now asked k) (has_key k queue) (had k)) ∙ queued k
+  unmoved_queue : (after : List Key) → ((k : Key) → has_key k after ≡ (not (comes changes k) && has_key k queue)) → IsQueued w after
+  unmoved_queue after back k = back k ∙ rw (come k) (unmoved (touched k) (is_now (cover_of w.groups) k) (is_now (cover_after change w.groups) k) (has_key k queue) (had k)) ∙ queued k
 
 -- ---- the changes of groups
 
@@ -188,62 +201,45 @@ module _ (w v : World) (formed : HasParts w) (files marks : List ℕ) (queue : L
 pub group_made : (rows : Rows) (name : List ℕ) → IsSound rows → IsQueued (after_change (world_of rows) (MakeGroup name)) rows.queue
 group_made rows name sound k = sound.tracked.queue k ∙ ap (is_moment k.ripe) (rw (filter-append (is_member k.file) rows.groups (new_group name ∷ []), append-nil (filter (is_member k.file) rows.groups)) refl)
 
-module _ (rows : Rows) (name : List ℕ) (sound : IsSound rows) where
-  abbrev world : World
-  world = world_of rows
+regroups : (w : World) (change : GroupChange) → HasParts w → HasLeaving change w.groups → MarksMove w (after_change w (change_of change)) (cover_after change w.groups) (files_of change w.groups) (moments_of change w.groups)
+regroups w (Marked name mark) formed leaving = mark_moves w name mark formed
+regroups w (Unmarked name moment) formed leaving = unmark_moves w name moment formed leaving
+regroups w (Joined name file) formed leaving = member_moves w name file formed
+regroups w (Left name file) formed leaving = leave_moves w name file formed leaving
+regroups w (Dropped name) formed leaving = drop_moves w name formed
 
-  abbrev still : Option ℕ → Asked
-  still mark = Without name mark
+-- the files that lose a mark are in its group
+all_among : (xs ys : List ℕ) → ((file : ℕ) → list_any (λ member. member == file) xs ≡ true → list_any (λ member. member == file) ys ≡ true) → AllByRecursion (λ file. list_any (λ member. member == file) ys ≡ true) xs
+all_among [] ys among = tt
+all_among (x ∷ xs) ys among = (among x (grind (arith, nat_tests)), all_among xs ys (λ file there. among file (grind (arith, nat_tests, there))))
 
-  -- the keys of all files or marks of the group, or of one, came, then went, or were refused
-  abbrev Came : Asked → List ℕ → List ℕ → List Key → Type 0
-  Came asked files marks between = (k : Key) → has_key k between ≡ (has_key k (keys_at asked Standing rows.groups rows.files (is_live world) files marks) || has_key k rows.queue)
+all_members : (groups : List GroupRow) (name : List ℕ) → AllByRecursion (λ file. has_member groups name file ≡ true) (members_of groups name)
+all_members groups name = by (group_named groups name) where
+  by : (o : Option GroupRow) → AllByRecursion (λ file. option_map_or (is_member file) o false ≡ true) (option_map_or (λ row. row.members) o [])
+  by None = tt
+  by (Some row) = all_among row.members row.members (λ file there. there)
 
-  abbrev Went : Asked → List ℕ → List ℕ → List Key → List Key → Type 0
-  Went asked files marks between after = (k : Key) → has_key k after ≡ (not (has_key k (keys_at Standing asked rows.groups rows.files (is_live world) files marks)) && has_key k between)
+all_none : (xs : List ℕ) → AllByRecursion (λ file. Unit {0}) xs
+all_none [] = tt
+all_none (x ∷ xs) = (tt, all_none xs)
 
-  abbrev Back : Asked → List ℕ → List ℕ → List Key → Type 0
-  Back asked files marks after = (k : Key) → has_key k after ≡ (not (has_key k (keys_at asked Standing rows.groups rows.files (is_live world) files marks)) && has_key k rows.queue)
+pub all_in : (change : GroupChange) (groups : List GroupRow) → HasLeaving change groups → AllByRecursion (IsIn change groups) (files_of change groups)
+all_in (Marked name mark) groups leaving = all_none (members_of groups name)
+all_in (Unmarked name moment) groups leaving = all_members groups name
+all_in (Joined name file) groups leaving = (tt, tt)
+all_in (Left name file) groups leaving = (leaving, tt)
+all_in (Dropped name) groups leaving = all_members groups name
 
-  -- what came and was taken out again is refused
-  pub taken_back : (asked : Asked) (files marks : List ℕ) (between after : List Key) → Came asked files marks between
-      → ((k : Key) → has_key k after ≡ (not (has_key k (keys_at asked Standing rows.groups rows.files (is_live world) files marks)) && has_key k between)) → Back asked files marks after
-  taken_back asked files marks between after came back k = back k ∙ rw (came k) (by (has_key k (keys_at asked Standing rows.groups rows.files (is_live world) files marks)) (has_key k rows.queue)) where
-    by : (a b : Bool) → (not a && (a || b)) ≡ (not a && b)
-    by true b = refl
-    by false b = refl
+module _ (rows : Rows) (change : GroupChange) (sound : IsSound rows) (leaving : HasLeaving change rows.groups) where
+  abbrev keys : List KeyChange
+  keys = changes_by change rows.groups rows.files (is_live (world_of rows)) (files_of change rows.groups) (moments_of change rows.groups)
 
-  pub mark_queue : (mark : MarkRow) (between after : List Key) → Came (Marked mark.until) (members_of rows.groups name) (mark.at ∷ []) between → Went (Marked mark.until) (members_of rows.groups name) (mark.at ∷ []) between after
-      → IsQueued (after_change world (AddMark name mark)) after
-  mark_queue mark = moved_queue world _ sound.formed _ _ rows.queue sound.tracked.queue (Marked mark.until) (mark_moves world name mark sound.formed)
+  pub regrouped_queue : (between after : List Key) → ((k : Key) → has_key k between ≡ (comes keys k || has_key k rows.queue)) → ((k : Key) → has_key k after ≡ (not (goes keys k) && has_key k between)) → IsQueued (after_change (world_of rows) (change_of change)) after
+  regrouped_queue = moved_queue (world_of rows) _ sound.formed _ _ rows.queue sound.tracked.queue change (regroups (world_of rows) change sound.formed leaving)
 
-  pub unmarked_still : (mark : MarkRow) (after : List Key) → Back (Marked mark.until) (members_of rows.groups name) (mark.at ∷ []) after → IsQueued world after
-  unmarked_still mark = unmoved_queue world _ sound.formed _ _ rows.queue sound.tracked.queue (Marked mark.until) (mark_moves world name mark sound.formed)
+  pub refused_queue : (after : List Key) → ((k : Key) → has_key k after ≡ (not (comes keys k) && has_key k rows.queue)) → IsQueued (world_of rows) after
+  refused_queue = unmoved_queue (world_of rows) _ sound.formed _ _ rows.queue sound.tracked.queue change (regroups (world_of rows) change sound.formed leaving)
 
-  pub member_queue : (file : ℕ) (between after : List Key) → Came (Joined name) (file ∷ []) (marks_of rows.groups name) between → Went (Joined name) (file ∷ []) (marks_of rows.groups name) between after
-      → IsQueued (after_change world (AddMember name file)) after
-  member_queue file = moved_queue world _ sound.formed _ _ rows.queue sound.tracked.queue (Joined name) (member_moves world name file sound.formed)
-
-  pub unjoined_still : (file : ℕ) (after : List Key) → Back (Joined name) (file ∷ []) (marks_of rows.groups name) after → IsQueued world after
-  unjoined_still file = unmoved_queue world _ sound.formed _ _ rows.queue sound.tracked.queue (Joined name) (member_moves world name file sound.formed)
-
-  pub unmark_queue : (mark : ℕ) (between after : List Key) → is_marked_at rows.groups name mark ≡ true → Came (still (Some mark)) (members_of rows.groups name) (mark ∷ []) between → Went (still (Some mark)) (members_of rows.groups name) (mark ∷ []) between after
-      → IsQueued (after_change world (RemoveMark name mark)) after
-  unmark_queue mark between after marked = moved_queue world _ sound.formed _ _ rows.queue sound.tracked.queue (still (Some mark)) (unmark_moves world name mark sound.formed marked) between after
-
-  pub marked_still : (mark : ℕ) (after : List Key) → is_marked_at rows.groups name mark ≡ true → Back (still (Some mark)) (members_of rows.groups name) (mark ∷ []) after → IsQueued world after
-  marked_still mark after marked = unmoved_queue world _ sound.formed _ _ rows.queue sound.tracked.queue (still (Some mark)) (unmark_moves world name mark sound.formed marked) after
-
-  pub leave_queue : (file : ℕ) (between after : List Key) → has_member rows.groups name file ≡ true → Came (still None) (file ∷ []) (marks_of rows.groups name) between → Went (still None) (file ∷ []) (marks_of rows.groups name) between after
-      → IsQueued (after_change world (RemoveMember name file)) after
-  leave_queue file between after member = moved_queue world _ sound.formed _ _ rows.queue sound.tracked.queue (still None) (leave_moves world name file sound.formed member) between after
-
-  pub member_still : (file : ℕ) (after : List Key) → has_member rows.groups name file ≡ true → Back (still None) (file ∷ []) (marks_of rows.groups name) after → IsQueued world after
-  member_still file after member = unmoved_queue world _ sound.formed _ _ rows.queue sound.tracked.queue (still None) (leave_moves world name file sound.formed member) after
-
-  pub drop_queue : (between after : List Key) → Came (still None) (members_of rows.groups name) (marks_of rows.groups name) between → Went (still None) (members_of rows.groups name) (marks_of rows.groups name) between after
-      → IsQueued (after_change world (DropGroup name)) after
-  drop_queue = moved_queue world _ sound.formed _ _ rows.queue sound.tracked.queue (still None) (drop_moves world name sound.formed)
-
-  pub group_still : (after : List Key) → Back (still None) (members_of rows.groups name) (marks_of rows.groups name) after → IsQueued world after
-  group_still = unmoved_queue world _ sound.formed _ _ rows.queue sound.tracked.queue (still None) (drop_moves world name sound.formed)
+  -- so it is where they came and were taken out again
+  pub returned_queue : (between after : List Key) → ((k : Key) → has_key k between ≡ (comes keys k || has_key k rows.queue)) → ((k : Key) → has_key k after ≡ (not (comes keys k) && has_key k between)) → IsQueued (world_of rows) after
+  returned_queue between after came back = refused_queue after (λ k. back k ∙ rw (came k) (back_and_forth (comes keys k) (has_key k rows.queue)))

@@ -1,7 +1,9 @@
 -- A file that has a name again, and a version like its last one.
-use Rattle.ele_state.proofs.Words.{File, IsLawful, IsReady, Key, MayGrow, NewKeys, Policy, all-weaker, cond, cover_of, Cell, false≢true, floor_for, floor_in, floor_of, gaining_is, has_key, has_newer, in_order_of, is_held_back, is_live_name_of, is_moment, is_new, is_open, list_any-append, moments_stay, nat_le, near_floored, near_moment, new_keys, newer_held, next_after, next_closing, no_floor, not, not_found, option_and_then, or-false, others_after, policy_is, policy_of, ripe_at, ripe_at_near, unread_under, unwrap_or, with_version, ◌&&◌, ◌==◌, ◌||◌, ◌+◌, ◌∙◌, ap, subst, sym, after_change, after_changes, Append, Revive, IsHome, IsQueued, Shown, live_target, shown_of, ◌≡◌, ℕ, ◌-◌, ◌<◌, ◌≤◌, ◌++◌, Bool, true, false, List, ◌∷◌, length, IsSome, Option, None, Some, is_some, refl, arith, find, list_any, option_map, option_map_or, nat_tests, content_of, longest_content, world_of, IsSound, MayAppend, MayName, MayRevive, Rows, stamps_of, cells_of_version, all-found, found_passes, born_row, is_draft, is_version, may_grow, Versions, World, is_held, is_live, next_of, version_cells, versions_made, FileRow, Stamps, VersionRow, []}
+use Rattle.ele_state.proofs.Words.{File, IsLawful, IsReady, Key, MayGrow, KeyChange, Policy, all-weaker, cond, cover_of, Cell, false≢true, floor_for, floor_in, floor_of, gaining_is, has_key, has_newer, in_order_of, freed_moment, is_freed, is_live_name_of, is_moment, comes, is_open, list_any-append, moments_stay, nat_le, near_floored, near_moment, new_keys, newer_held, next_after, next_closing, no_floor, not, not_found, option_and_then, or-false, others_after, policy_is, policy_of, ripe_at, ripe_at_near, unread_under, unwrap_or, with_version, ◌&&◌, ◌==◌, ◌||◌, ◌+◌, ◌∙◌, ap, subst, sym, after_change, after_changes, Append, Revive, IsHome, IsQueued, Shown, live_target, shown_of, ◌≡◌, ℕ, ◌-◌, ◌<◌, ◌≤◌, ◌++◌, Bool, true, false, List, ◌∷◌, length, IsSome, Option, None, Some, is_some, refl, arith, find, list_any, option_map, option_map_or, nat_tests, content_of, longest_content, world_of, IsSound, MayAppend, MayName, MayRevive, Rows, stamps_of, cells_of_version, all-found, found_passes, born_row, is_draft, is_version, may_grow, Versions, World, is_held, is_live, next_of, version_cells, versions_made, FileRow, Stamps, VersionRow, []}
 use Rattle.ele_state.proofs.Appended.{appended_queue, none_there}
-use Rattle.ele_state.proofs.Governed.{floored, none_held_back}
+use Rattle.ele_state.proofs.Changes.{none_any}
+use Rattle.ele_state.proofs.Freed.{none_freed}
+use Rattle.ele_state.proofs.Governed.{floored}
 use Rattle.ele_state.proofs.Grown.{ready}
 use Rattle.ele_state.proofs.NewNames.{queue_stays}
 use Rattle.ele_state.proofs.Settled.{named as may_named}
@@ -63,10 +65,6 @@ module _ (rows : Rows) (file : ℕ) (stamps : Stamps) (sound : IsSound rows) (he
 or_true : (b : Bool) → (b || true) ≡ true
 or_true true = refl
 or_true false = refl
-
-none_any : (p : VersionRow → Bool) (rows : List VersionRow) → find p rows ≡ None → list_any p rows ≡ false
-none_any p [] none = refl
-none_any p (row ∷ rows) none = grind (arith, nat_tests, none_any p rows)
 
 -- no version has the number of its file's next one
 unnumbered : (files : List FileRow) (now file : ℕ) (row : VersionRow) → IsVersion files now row → is_version file (next_of files file) row ≡ false
@@ -220,43 +218,59 @@ module _ (rows : Rows) (directory : ℕ) (name : List ℕ) (file : ℕ) (sound :
             let number : n ≡ next_of w.files file = grind (arith, nat_tests, own) in
             rw number (next_after u file rows.moment cells named_grows ∙ rw live_now (sym (none_under (floor - 1) (next_of w.files file) none_next)))
 
-      pub floored_queue : (after : List Key) → ((k : Key) → has_key k after ≡ (not (is_held_back w.groups rows.files file policy (floor - 1) k) && has_key k rows.queue)) → IsQueued v after
-      floored_queue after edited k = edited k ∙ by (k.file == file) refl where
-        goes : (met : Bool) (m : ℕ) (o : Option ℕ) → (not (is_moment m o && not (is_moment m (cond met o None))) && is_moment m o) ≡ is_moment m (cond met o None)
-        goes true m o = by_b (is_moment m o) where
-          by_b : (b : Bool) → (not (b && not b) && b) ≡ b
-          by_b true = refl
-          by_b false = refl
-        goes false m o = by_b (is_moment m o) where
-          by_b : (b : Bool) → (not (b && true) && b) ≡ false
-          by_b true = refl
-          by_b false = refl
+      -- without a floor its moment is told by it alone
+      freed_is : (n : ℕ) → option_and_then (λ row. freed_moment w.groups rows.files file policy rows.moment row.number row.closed row.ended) (find (is_version file n) w.versions) ≡ free n
+      freed_is n = by_held (find (is_version file n) w.versions) refl where
+        by : (row : VersionRow) (read : Bool) (e : Option ℕ) → is_some e ≡ true
+            → cond read None (near_moment (cover_of w.groups file) (Some policy) None true row.closed (unwrap_or e rows.moment)) ≡ cond read None (option_and_then (near_moment (cover_of w.groups file) (Some policy) (next_closing w.versions file n) true row.closed) e)
+        by row true e is = refl
+        by row false None is = absurd (false≢true is)
+        by row false (Some ended) is = near_floored (cover_of w.groups file) (Some policy) true None (next_closing w.versions file n) true row.closed ended given some
 
-        by : (b : Bool) → (k.file == file) ≡ b → (not (is_held_back w.groups rows.files file policy (floor - 1) k) && has_key k rows.queue) ≡ is_moment k.ripe (ripe_at v k.file k.number)
+        by_held : (o : Option VersionRow) → find (is_version file n) w.versions ≡ o → option_and_then (λ row. freed_moment w.groups rows.files file policy rows.moment row.number row.closed row.ended) o ≡ free n
+        by_held None none = sym (none_under 0 n none)
+        by_held (Some row) found =
+            let number : row.number ≡ n = (let passes = found_passes (is_version file n) w.versions row found in grind (arith, nat_tests, passes)) in
+            rw (found, number, no_floor (newer_held w.versions file n)) (by row (is_open w.handles file n) row.ended (has_ended row n found))
+
+      pub floored_queue : (after : List Key) → ((k : Key) → has_key k after ≡ (not (is_freed w.groups rows.files file policy rows.moment (floor - 1) k) && has_key k rows.queue)) → IsQueued v after
+      floored_queue after edited k = edited k ∙ by (k.file == file) refl where
+        goes : (met b : Bool) → (not (not met && b) && b) ≡ (met && b)
+        goes true true = refl
+        goes true false = refl
+        goes false true = refl
+        goes false false = refl
+
+        kept_if : (met : Bool) (m : ℕ) (o : Option ℕ) → (met && is_moment m o) ≡ is_moment m (cond met o None)
+        kept_if true m o = refl
+        kept_if false m o = refl
+
+        by : (b : Bool) → (k.file == file) ≡ b → (not (is_freed w.groups rows.files file policy rows.moment (floor - 1) k) && has_key k rows.queue) ≡ is_moment k.ripe (ripe_at v k.file k.number)
         by false other = rw other (sound.tracked.queue k ∙ ap (is_moment k.ripe) (sym (other_files k.file k.number other)))
         by true own =
             let same : k.file ≡ file = grind (arith, nat_tests, own) in
             let had : has_key k rows.queue ≡ is_moment k.ripe (free k.number) = sound.tracked.queue k ∙ rw same (ap (is_moment k.ripe) (was k.number)) in
-            rw (own, had, same, now_is k.number, kept (floor - 1) k.number (omega arith)) (goes (nat_le (floor - 1) (newer_held w.versions file k.number)) k.ripe (free k.number))
+            let met = nat_le (floor - 1) (newer_held w.versions file k.number) in
+            rw (own, had, same, now_is k.number, kept (floor - 1) k.number (omega arith), freed_is k.number) (goes met (is_moment k.ripe (free k.number)) ∙ kept_if met k.ripe (free k.number))
 
     -- ---- either way
 
     -- none of the keys that come was there
-    pub revived_absent : (keys : NewKeys) → (floor ≡ 0 → keys ≡ new_keys w.groups rows.files file rows.moment true) → (1 ≤ floor → (k : Key) → is_new keys k ≡ false) → (k : Key) → is_new keys k ≡ true → has_key k rows.queue ≡ false
+    pub revived_absent : (keys : List KeyChange) → (floor ≡ 0 → keys ≡ new_keys w.groups rows.files file rows.moment true) → (1 ≤ floor → (k : Key) → comes keys k ≡ false) → (k : Key) → comes keys k ≡ true → has_key k rows.queue ≡ false
     revived_absent keys are none k is = by floor refl where
       by : (m : ℕ) → floor ≡ m → has_key k rows.queue ≡ false
       by zero least_is = none_there u file 0 [] named_grows rows.queue [] (named_queue least_is) keys (are least_is ∙ ap (new_keys w.groups rows.files file rows.moment) (sym live_now)) k is
       by (suc m) a = absurd (false≢true (sym (none (omega (arith, a)) k) ∙ is))
 
-    pub revived_queue : (keys : NewKeys) (between after : List Key) → (floor ≡ 0 → keys ≡ new_keys w.groups rows.files file rows.moment true) → (1 ≤ floor → (k : Key) → is_new keys k ≡ false)
-        → ((k : Key) → has_key k between ≡ (is_new keys k || has_key k rows.queue)) → ((k : Key) → has_key k after ≡ (not (is_held_back w.groups rows.files file policy (floor - 1) k) && has_key k between)) → IsQueued v after
+    pub revived_queue : (keys : List KeyChange) (between after : List Key) → (floor ≡ 0 → keys ≡ new_keys w.groups rows.files file rows.moment true) → (1 ≤ floor → (k : Key) → comes keys k ≡ false)
+        → ((k : Key) → has_key k between ≡ (comes keys k || has_key k rows.queue)) → ((k : Key) → has_key k after ≡ (not (is_freed w.groups rows.files file policy rows.moment (floor - 1) k) && has_key k between)) → IsQueued v after
     revived_queue keys between after are none came went = by floor refl where
       by : (m : ℕ) → floor ≡ m → IsQueued v after
       by zero least_is = λ k.
           let least : floor - 1 ≡ 0 = omega (arith, least_is) in
-          let all : has_key k after ≡ has_key k between = went k ∙ rw (least, none_held_back w.groups rows.files file policy k) refl in
+          let all : has_key k after ≡ has_key k between = went k ∙ rw (least, none_freed w.groups rows.files file policy rows.moment k) refl in
           all ∙ appended_queue u file rows.moment cells named_grows rows.queue between (named_queue least_is) keys (are least_is ∙ ap (new_keys w.groups rows.files file rows.moment) (sym live_now)) came k
-      by (suc m) a = let some : 1 ≤ floor = omega (arith, a) in floored_queue some after (λ k. went k ∙ ap (λ b. not (is_held_back w.groups rows.files file policy (floor - 1) k) && b) (came k ∙ rw (none some k) refl))
+      by (suc m) a = let some : 1 ≤ floor = omega (arith, a) in floored_queue some after (λ k. went k ∙ ap (λ b. not (is_freed w.groups rows.files file policy rows.moment (floor - 1) k) && b) (came k ∙ rw (none some k) refl))
 
 -- ---- with the name
 

@@ -1,5 +1,6 @@
 -- What the end of a file's name leaves of the keys and of the book.
-use Rattle.ele_state.proofs.Words.{◌&&◌, ◌==◌, ◌||◌, Bool, IsLawful, None, Option, Policy, and-false, ap, cond, cover_of, ended_at, ended_in_order, floor_in, floor_of, has_key, in_order_of, is_entry, is_held_back, is_moment, is_open, nat_le, near_moment, newer_held, next_closing, no_floor, not, option_and_then, or-false, policy_is, policy_of, refl, ripe_at, ripe_at_near, subst, unread_under, ◌≡◌, ℕ, ◌-◌, ◌<◌, true, false, List, Some, None, sym, ◌∙◌, arith, find, count_by, nat_tests, IsQueued, end_moment, held_world, IsBooked, IsSound, Rows, world_of, Key, Held, current_ended, all-found, found_passes, any-count, count-update_first, Book, EndFileName, after_change, with_end, without_name, is_live_name, live_target, Names, World, is_live, is_live_name_of, is_version, next_of, NameRow, File, ended_moment, other_moments, target_live}
+use Rattle.ele_state.proofs.Words.{◌&&◌, ◌==◌, ◌||◌, Bool, IsLawful, None, Option, Policy, and-false, ap, cond, cover_of, ended_at, ended_in_order, floor_in, floor_of, has_key, in_order_of, is_moment, is_open, nat_le, near_moment, newer_held, next_closing, no_floor, not, option_and_then, or-false, policy_is, policy_of, refl, ripe_at, ripe_at_near, subst, unread_under, ◌≡◌, ℕ, ◌-◌, ◌<◌, true, false, List, Some, None, sym, ◌∙◌, arith, find, count_by, nat_tests, IsQueued, held_world, IsBooked, IsSound, Rows, world_of, Key, Held, current_ended, all-found, found_passes, any-count, count-update_first, Book, EndFileName, after_change, with_end, without_name, is_live_name, live_target, Names, World, is_live, is_live_name_of, is_version, next_of, NameRow, File, ended_moment, other_moments, target_live, VersionRow, Versions, all-weaker, any-found, freed_moment, is_freed, near_floored, no_moment, not_found, unwrap_or, ◌≤◌}
+use Rattle.ele_state.proofs.Changes.{none_any}
 use Rattle.ele_state.proofs.Governed.{floored}
 use Rattle.ele_state.proofs.NewNames.{names_queue}
 use Rattle.ele_world.proofs.Basics.{find-update_other}
@@ -8,6 +9,9 @@ use Rattle.ele_world.proofs.Neighbours.{next_closing-ended}
 use Rattle.ele_world.proofs.Views.{policies_of}
 use Rattle.ele_world.proofs.Currents.{HasCurrent, has_current}
 use Rattle.ele_world.proofs.EndUsage.{usage_ended}
+use Rattle.ele_world.proofs.Words.{IsVersion}
+use Rattle.ele_world.specs.Neighbours.{is_newer_of}
+use Rattle.std.specs.Prelude.{max}
 
 -- an end that is set changes nothing of the book
 pub ended_book : (h : Held) (file now : ℕ) (book : Book) → IsBooked h book → IsBooked (current_ended h file now) book
@@ -60,101 +64,152 @@ module _ (rows : Rows) (directory : ℕ) (name : List ℕ) (file : ℕ) (sound :
     abbrev floor : ℕ
     floor = floor_of policy
 
+    abbrev newer : ℕ → ℕ
+    newer n = newer_held w.versions file n
+
     abbrev free : ℕ → Option ℕ
     free n = unread_under w.groups (record { policy = policy; floor = 0 }) rows.files file n
 
     given : IsLawful policy
     given = let all = policy_is w.files file (policies_of w sound.formed) in rw filed at all
 
-    current : HasCurrent w file
-    current = has_current w file sound.formed (target_live rows.names directory name (File file) stands)
-
     live_before : is_live w file ≡ true
     live_before = target_live rows.names directory name (File file) stands
 
+    current : HasCurrent w file
+    current = has_current w file sound.formed live_before
+
     -- what it was with the floor
-    was : (n : ℕ) → ripe_at w file n ≡ cond (nat_le floor (newer_held w.versions file n)) (free n) None
+    was : (n : ℕ) → ripe_at w file n ≡ cond (nat_le floor (newer n)) (free n) None
     was n = ripe_at_near w file n (in_order_of w sound.formed) ∙ rw (filed, live_before) (floored w.groups policy floor rows.files file n given (omega arith))
 
     -- and what it is without
-    freed : (n : ℕ) → (n == last) ≡ false → ripe_at v file n ≡ free n
-    freed n apart =
+    unfloored : (n : ℕ) → (n == last) ≡ false → ripe_at v file n ≡ free n
+    unfloored n apart =
         let ended_next : next_closing (with_end w file) file n ≡ next_closing w.versions file n = next_closing-ended (is_version file last) w.now w.versions file n in
         let found : find (is_version file n) (with_end w file) ≡ find (is_version file n) w.versions = find-update_other (is_version file last) (is_version file n) (ended_at w.now) w.versions (λ row is. grind (arith, nat_tests, apart, is)) in
-        ripe_at_near v file n (ended_in_order w directory name file sound.formed) ∙ rw (dead, filed, no_floor (newer_held (with_end w file) file n), no_floor (newer_held w.versions file n), ended_next, found) refl
-
-    last_free : free last ≡ None
-    last_free = rw current.found (by (is_open w.handles file last) (nat_le 0 (newer_held w.versions file last)) current.row.ended current.no_end) where
-      by : (read met : Bool) (e : Option ℕ) → e ≡ None → cond read None (option_and_then (near_moment (cover_of w.groups file) (Some policy) (next_closing w.versions file last) met current.row.closed) e) ≡ None
-      by true met e none = refl
-      by false met e none = rw none refl
-
-    ends : ripe_at v file last ≡ end_moment rows.groups rows.files file rows.moment
-    ends = ended_moment w directory name file current sound.formed dead ∙ sym (rw (current.found, current.no_end) refl)
+        ripe_at_near v file n (ended_in_order w directory name file sound.formed) ∙ rw (dead, filed, no_floor (newer_held (with_end w file) file n), no_floor (newer n), ended_next, found) refl
 
     others : (f n : ℕ) → (f == file) ≡ false → ripe_at v f n ≡ ripe_at w f n
     others f n other = other_moments w directory name file sound.formed f n (rw other refl) (ap (floor_in (policy_of w.files f)) (others_as_live w directory name file stands f other))
 
-    -- a key that the floor held back comes, and those that were there stay
-    comes : (met : Bool) (m : ℕ) (o : Option ℕ) → ((is_moment m o && not (is_moment m (cond met o None))) || is_moment m (cond met o None)) ≡ is_moment m o
-    comes true m o = by (is_moment m o) where
-      by : (b : Bool) → ((b && not b) || b) ≡ b
-      by true = refl
-      by false = refl
-    comes false m o = by (is_moment m o) where
-      by : (b : Bool) → ((b && true) || false) ≡ b
-      by true = refl
-      by false = refl
+    -- ---- the newest version is the current one
 
-    abbrev held_back : Key → Bool
-    held_back k = is_held_back rows.groups rows.files file policy floor k
+    not_past : (row : VersionRow) → IsVersion w.files w.now row → is_newer_of file last row ≡ false
+    not_past row is = let numbered = is.numbered in grind (arith, nat_tests, numbered)
 
-    kept : (n : ℕ) → unread_under w.groups (record { policy = policy; floor = floor }) rows.files file n ≡ cond (nat_le floor (newer_held w.versions file n)) (free n) None
-    kept n = floored w.groups policy floor rows.files file n given (omega arith)
+    none_newer : newer last ≡ 0
+    none_newer =
+        let none = none_any (is_newer_of file last) w.versions (not_found (is_newer_of file last) w.versions (all-weaker (IsVersion w.files w.now) (λ row. is_newer_of file last row ≡ false) w.versions not_past (sound.formed.holds Versions).each)) in
+        grind (arith, nat_tests, none, any-count (is_newer_of file last) w.versions)
 
-    own_now : (k : Key) → k.file ≡ file → (b : Bool) → (k.number == last) ≡ b
-        → (is_entry file last (end_moment rows.groups rows.files file rows.moment) k || (held_back k || has_key k rows.queue)) ≡ is_moment k.ripe (ripe_at v file k.number)
-    own_now k own true its =
-        let itself : (k.file == file) ≡ true = grind (arith, nat_tests, own) in
-        let number : k.number ≡ last = grind (arith, nat_tests, its) in
-        let none : has_key k rows.queue ≡ false = sound.tracked.queue k ∙ rw (own, number, was last, last_free) (by_none (nat_le floor (newer_held w.versions file last)) k.ripe) in
-        rw (none, itself, its, number, last_free, ends) (or-false (is_moment k.ripe (end_moment rows.groups rows.files file rows.moment))) where
-          by_none : (met : Bool) (m : ℕ) → is_moment m (cond met None None) ≡ false
-          by_none true m = refl
-          by_none false m = refl
-    own_now k own false apart =
-        let itself : (k.file == file) ≡ true = grind (arith, nat_tests, own) in
-        let had : has_key k rows.queue ≡ is_moment k.ripe (cond (nat_le floor (newer_held w.versions file k.number)) (free k.number) None) = sound.tracked.queue k ∙ rw own (ap (is_moment k.ripe) (was k.number)) in
-        rw (had, itself, apart, freed k.number apart, kept k.number) (comes (nat_le floor (newer_held w.versions file k.number)) k.ripe (free k.number))
+    module _ (n : ℕ) (row : VersionRow) (found : find (is_version file n) w.versions ≡ Some row) (apart : (n == last) ≡ false) where
+      its : IsVersion w.files w.now row
+      its = all-found (is_version file n) (IsVersion w.files w.now) w.versions row found (sound.formed.holds Versions).each
 
-    pub ended_queue : (after : List Key) → ((k : Key) → has_key k after ≡ (is_entry file last (end_moment rows.groups rows.files file rows.moment) k || (held_back k || has_key k rows.queue))) → IsQueued (record (without_name w directory name) { versions = with_end w file }) after
-    ended_queue after edited = let queued : IsQueued v after = λ k. edited k ∙ by k (k.file == file) refl in subst (λ (u : World). IsQueued u after) ended_world queued where
-      ended_world : v ≡ record (without_name w directory name) { versions = with_end w file }
-      ended_world = rw dead refl
+      passes : is_version file n row ≡ true
+      passes = found_passes (is_version file n) w.versions row found
 
-      by : (k : Key) (b : Bool) → (k.file == file) ≡ b → (is_entry file last (end_moment rows.groups rows.files file rows.moment) k || (held_back k || has_key k rows.queue)) ≡ is_moment k.ripe (ripe_at v k.file k.number)
-      by k true own = let same : k.file ≡ file = grind (arith, nat_tests, own) in own_now k same (k.number == last) refl ∙ rw same refl
-      by k false other = rw other (sound.tracked.queue k ∙ ap (is_moment k.ripe) (sym (others k.file k.number other)))
+      some_newer : 1 ≤ newer n
+      some_newer =
+          let numbered = its.numbered in
+          let last_passes = found_passes (is_version file last) w.versions current.row current.found in
+          let is_newer : is_newer_of file n current.row ≡ true = grind (arith, nat_tests, numbered, passes, last_passes, apart) in
+          grind (arith, nat_tests, any-found (is_version file last) (is_newer_of file n) w.versions current.row current.found is_newer, any-count (is_newer_of file n) w.versions)
 
-    -- none of them was there, so where memory is refused all is as it was
-    pub still_queued : (after : List Key) → ((k : Key) → has_key k after ≡ (not (held_back k) && has_key k rows.queue)) → IsQueued w after
-    still_queued after edited k = edited k ∙ by (k.file == file) refl ∙ sound.tracked.queue k where
-      stays : (met : Bool) (m : ℕ) (o : Option ℕ) → (not (is_moment m o && not (is_moment m (cond met o None))) && is_moment m (cond met o None)) ≡ is_moment m (cond met o None)
-      stays true m o = by_b (is_moment m o) where
-        by_b : (b : Bool) → (not (b && not b) && b) ≡ b
-        by_b true = refl
-        by_b false = refl
-      stays false m o = and-false (not (is_moment m o && true))
+      has_ended : row.ended ≡ None → ⊥
+      has_ended none = let open_end = its.open_end none in grind (arith, nat_tests, open_end, passes, apart)
 
-      by : (b : Bool) → (k.file == file) ≡ b → (not (held_back k) && has_key k rows.queue) ≡ has_key k rows.queue
-      by false other = rw other refl
-      by true own =
-          let same : k.file ≡ file = grind (arith, nat_tests, own) in
-          let had : has_key k rows.queue ≡ is_moment k.ripe (cond (nat_le floor (newer_held w.versions file k.number)) (free k.number) None) = sound.tracked.queue k ∙ rw same (ap (is_moment k.ripe) (was k.number)) in
-          rw (own, had, kept k.number) (stays (nat_le floor (newer_held w.versions file k.number)) k.ripe (free k.number))
+    -- ---- the keys of the newest versions
 
--- ---- keys that are put in together
+    module _ (newest : ℕ) (is : newest ≡ max floor 1) where
+      abbrev then_is : ℕ → Option ℕ
+      then_is n = option_and_then (λ row. freed_moment w.groups rows.files file policy rows.moment row.number row.closed row.ended) (find (is_version file n) w.versions)
 
-pub back_and_forth : (a b : Bool) → (not a && (a || b)) ≡ (not a && b)
-back_and_forth true b = refl
-back_and_forth false b = refl
+      last_is : ripe_at v file last ≡ then_is last
+      last_is =
+          let number : current.row.number ≡ last = (let passes = found_passes (is_version file last) w.versions current.row current.found in grind (arith, nat_tests, passes)) in
+          ended_moment w directory name file current sound.formed dead ∙ rw (filed, current.found, current.no_end, number) refl
+
+      unheld : (n : ℕ) → find (is_version file n) w.versions ≡ None → free n ≡ None
+      unheld n none = rw none (by (is_open w.handles file n)) where
+        by : (read : Bool) → cond {A = Option ℕ} read None None ≡ None
+        by true = refl
+        by false = refl
+
+      free_is : (n : ℕ) (row : VersionRow) → find (is_version file n) w.versions ≡ Some row → 1 ≤ floor → (row.ended ≡ None → ⊥) → free n ≡ then_is n
+      free_is n row found some ended =
+          let number : row.number ≡ n = (let passes = found_passes (is_version file n) w.versions row found in grind (arith, nat_tests, passes)) in
+          rw (found, number, no_floor (newer n)) (by (is_open w.handles file n) row.ended ended) where
+            by : (read : Bool) (e : Option ℕ) → (e ≡ None → ⊥) → cond read None (option_and_then (near_moment (cover_of w.groups file) (Some policy) (next_closing w.versions file n) true row.closed) e) ≡ cond read None (near_moment (cover_of w.groups file) (Some policy) None true row.closed (unwrap_or e w.now))
+            by true e has = refl
+            by false None has = absurd (has refl)
+            by false (Some ended) has = near_floored (cover_of w.groups file) (Some policy) true (next_closing w.versions file n) None true row.closed ended given some
+
+      freed_few : (n : ℕ) → nat_le newest (newer n) ≡ false → ripe_at v file n ≡ then_is n
+      freed_few n few = by (n == last) refl where
+        by_held : (n == last) ≡ false → (o : Option VersionRow) → find (is_version file n) w.versions ≡ o → free n ≡ then_is n
+        by_held apart None none = unheld n none ∙ sym (rw none refl)
+        by_held apart (Some row) found =
+            let some : 1 ≤ newer n = some_newer n row found apart in
+            free_is n row found (grind (arith, nat_tests, few, some, is)) (has_ended n row found apart)
+
+        by : (b : Bool) → (n == last) ≡ b → ripe_at v file n ≡ then_is n
+        by true own = let same : n ≡ last = grind (arith, nat_tests, own) in rw same last_is
+        by false apart = unfloored n apart ∙ by_held apart (find (is_version file n) w.versions) refl
+
+      none_few : (n : ℕ) → nat_le newest (newer n) ≡ false → ripe_at w file n ≡ None
+      none_few n few = by (n == last) refl where
+        by_held : (n == last) ≡ false → (o : Option VersionRow) → find (is_version file n) w.versions ≡ o → ripe_at w file n ≡ None
+        by_held apart None none = was n ∙ rw (unheld n none) (by_met (nat_le floor (newer n))) where
+          by_met : (met : Bool) → cond {A = Option ℕ} met None None ≡ None
+          by_met true = refl
+          by_met false = refl
+        by_held apart (Some row) found =
+            let some : 1 ≤ newer n = some_newer n row found apart in
+            let unmet : nat_le floor (newer n) ≡ false = grind (arith, nat_tests, few, some, is) in
+            was n ∙ rw unmet refl
+
+        by : (b : Bool) → (n == last) ≡ b → ripe_at w file n ≡ None
+        by true own = let same : n ≡ last = grind (arith, nat_tests, own) in rw same (no_moment w directory name file current)
+        by false apart = by_held apart (find (is_version file n) w.versions) refl
+
+      kept_many : (n : ℕ) → nat_le newest (newer n) ≡ true → ripe_at v file n ≡ ripe_at w file n
+      kept_many n many = by (n == last) refl where
+        by : (b : Bool) → (n == last) ≡ b → ripe_at v file n ≡ ripe_at w file n
+        by true own = let same : n ≡ last = grind (arith, nat_tests, own) in absurd (grind (arith, nat_tests, many, none_newer, is, same))
+        by false apart = let met : nat_le floor (newer n) ≡ true = grind (arith, nat_tests, many, is) in unfloored n apart ∙ sym (was n ∙ rw met refl)
+
+      -- ---- the queue
+
+      abbrev comes_free : Key → Bool
+      comes_free k = is_freed rows.groups rows.files file policy rows.moment newest k
+
+      had : (k : Key) → k.file ≡ file → has_key k rows.queue ≡ is_moment k.ripe (ripe_at w file k.number)
+      had k own = sound.tracked.queue k ∙ rw own refl
+
+      own_now : (k : Key) → k.file ≡ file → (b : Bool) → nat_le newest (newer k.number) ≡ b → (comes_free k || has_key k rows.queue) ≡ is_moment k.ripe (ripe_at v file k.number)
+      own_now k own true many = rw (many, had k own, kept_many k.number many, and-false (k.file == file)) refl
+      own_now k own false few =
+          let itself : (k.file == file) ≡ true = grind (arith, nat_tests, own) in
+          rw (few, itself, had k own, none_few k.number few, freed_few k.number few) (or-false (is_moment k.ripe (then_is k.number)))
+
+      pub ended_queue : (after : List Key) → ((k : Key) → has_key k after ≡ (comes_free k || has_key k rows.queue)) → IsQueued (record (without_name w directory name) { versions = with_end w file }) after
+      ended_queue after edited = let queued : IsQueued v after = λ k. edited k ∙ by k (k.file == file) refl in subst (λ (u : World). IsQueued u after) ended_world queued where
+        ended_world : v ≡ record (without_name w directory name) { versions = with_end w file }
+        ended_world = rw dead refl
+
+        by : (k : Key) (b : Bool) → (k.file == file) ≡ b → (comes_free k || has_key k rows.queue) ≡ is_moment k.ripe (ripe_at v k.file k.number)
+        by k true own = let same : k.file ≡ file = grind (arith, nat_tests, own) in own_now k same (nat_le newest (newer k.number)) refl ∙ rw same refl
+        by k false other = rw other (sound.tracked.queue k ∙ ap (is_moment k.ripe) (sym (others k.file k.number other)))
+
+      -- none of them was there, so where memory is refused all is as it was
+      pub still_queued : (after : List Key) → ((k : Key) → has_key k after ≡ (not (comes_free k) && has_key k rows.queue)) → IsQueued w after
+      still_queued after edited k = edited k ∙ by (k.file == file) refl ∙ sound.tracked.queue k where
+        by_few : (own : k.file ≡ file) (b : Bool) → nat_le newest (newer k.number) ≡ b → (not (comes_free k) && has_key k rows.queue) ≡ has_key k rows.queue
+        by_few own true many = rw (many, and-false (k.file == file)) refl
+        by_few own false few = rw (had k own, none_few k.number few) (and-false (not (comes_free k)))
+
+        by : (b : Bool) → (k.file == file) ≡ b → (not (comes_free k) && has_key k rows.queue) ≡ has_key k rows.queue
+        by false other = rw other refl
+        by true own = by_few (grind (arith, nat_tests, own)) (nat_le newest (newer k.number)) refl

@@ -5,12 +5,12 @@ pub use Rattle.ele_state.specs.Inside.{IsSettled, IsSound, IsTracked, shown_of, 
 pub use Rattle.ele_state.specs.Shown.{Shown}
 pub use Rattle.ele_state.specs.Source.{Grows, HasSource, IsHeldAlone, IsLast, IsReady, IsRoomy, IsSource, appending, source_cells}
 pub use Rattle.ele_state.specs.declared.append.Source.{Source}
-pub use Rattle.ele_state.specs.Queued.{IsQueued, IsRekeyed, IsTold, key_unless, end_moment, former_moment, gained_moment, is_entry, is_held_back, is_new, is_under, key_at, key_under, keys_at, cover_asked, met_before, moment_asked, new_keys, own_moment, rule_in, unread_under}
+pub use Rattle.ele_state.specs.Queued.{IsQueued, IsRekeyed, IsTold, change_under, former_moment, freed_moment, gained_moment, is_entry, is_freed, is_under, met_before, new_keys, HasLeaving, IsIn, change_at, change_by, change_of, changes_by, comes, cover_after, files_of, goes, if_changed, moment_by, moments_of, unmarked_moment, own_moment, rule_in, unread_under}
 pub use Rattle.ele_state.specs.Tracked.{IsBooked, IsFew, IsOwed, IsOwedBy, blocks_of, held_world, of_file, one_version, only_blocks}
-pub use Rattle.ele_state.specs.declared.keys.NewKeys.{NewKeys}
 pub use Rattle.ele_state.specs.declared.keys.Rule.{Rule}
-pub use Rattle.ele_state.specs.declared.mark.Asked.{Asked}
-pub use Rattle.ele_state.specs.declared.mark.Asked.TheVariants.{Joined, Marked, Standing, Without}
+pub use Rattle.ele_state.specs.declared.keys.KeyChange.{KeyChange}
+pub use Rattle.ele_state.specs.declared.mark.GroupChange.{GroupChange}
+pub use Rattle.ele_state.specs.declared.mark.GroupChange.TheVariants.{Dropped, Joined, Left, Marked, Unmarked}
 pub use Rattle.ele_state.specs.declared.rows.Rows.{Rows}
 pub use Rattle.ele_due.specs.declared.key.Key.{Key}
 pub use Rattle.ele_files.specs.Closing.{IsPast, changed_opening, finishing, last_draft, leaving, left_by, left_of, opening_by}

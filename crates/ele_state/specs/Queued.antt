@@ -1,22 +1,25 @@
 -- The keys that follow the rows. No public clause cites this module.
-use Rattle.std.specs.Prelude.{◌≡◌, ℕ, ◌-◌, ◌==◌, nat_le, Bool, true, not, ◌&&◌, ◌||◌, List, Option, Some, None, is_some, find, option_and_then, unwrap_or, if◌then◌else◌}
-use Rattle.std.specs.List.{filter_map, flat_map}
-use Rattle.std.specs.Option.{option_map, option_map_or}
-use Rattle.ele_state.specs.declared.keys.NewKeys.{NewKeys}
+use Rattle.std.specs.Prelude.{◌≡◌, ℕ, ◌-◌, ◌==◌, nat_le, Bool, true, not, ◌&&◌, ◌||◌, List, [], ◌∷◌, Option, Some, None, is_some, find, option_and_then, unwrap_or, if◌then◌else◌}
+use Rattle.std.specs.List.{flat_map, list_any}
+use Rattle.std.specs.Option.{option_eq, option_map, option_map_or}
 use Rattle.ele_state.specs.declared.keys.Rule.{Rule}
-use Rattle.ele_state.specs.declared.mark.Asked.{Asked}
-use Rattle.ele_state.specs.declared.mark.Asked.TheVariants.{Standing, Marked, Joined, Without}
+use Rattle.ele_state.specs.declared.keys.KeyChange.{KeyChange}
+use Rattle.ele_state.specs.declared.mark.GroupChange.{GroupChange}
+use Rattle.ele_state.specs.declared.mark.GroupChange.TheVariants.{Marked, Unmarked, Joined, Left, Dropped}
 use Rattle.ele_due.specs.declared.key.Key.{Key}
 use Rattle.ele_due.specs.HasKey.{has_key}
 use Rattle.ele_files.specs.Held.{Held}
 use Rattle.ele_policy.specs.declared.policy.Policy.{Policy}
+use Rattle.ele_policy.specs.Ripe.{ripe_near}
 use Rattle.ele_world.specs.declared.cover.Cover.{Cover}
 use Rattle.ele_world.specs.declared.rows.FileRow.{FileRow}
 use Rattle.ele_world.specs.declared.rows.GroupRow.{GroupRow}
 use Rattle.ele_world.specs.Due.{ripe_at}
 use Rattle.ele_world.specs.Neighbours.{floor_in, is_moment, moment_under, near_moment, newer_held, next_closing, with_newer}
 use Rattle.ele_world.specs.Cover.{cover_of, cover_until, longer}
-use Rattle.ele_world.specs.GroupsAsked.{cover_with, cover_without}
+use Rattle.ele_world.specs.Change.{Change, AddMark, AddMember, DropGroup, RemoveMark, RemoveMember}
+use Rattle.ele_world.specs.GroupRows.{has_member, is_marked_at}
+use Rattle.ele_world.specs.GroupsAsked.{cover_with, cover_without, marks_of, members_of}
 use Rattle.ele_world.specs.Tagged.{had_life}
 use Rattle.ele_world.specs.Told.{stamps_of}
 use Rattle.ele_world.specs.declared.rows.Stamps.{Stamps}
@@ -35,15 +38,21 @@ abbrev pub IsRekeyed : ℕ → ℕ → Option ℕ → Option ℕ → List Key �
 IsRekeyed file number was is queue after =
     (k : Key) → has_key k after ≡ (is_entry file number is k || (not (is_entry file number was k) && has_key k queue))
 
+-- ---- moments that change
+
+-- the change, if it is one
+abbrev pub if_changed : KeyChange → List KeyChange
+if_changed change = if option_eq (λ a b. a == b) change.was change.is then [] else (change ∷ [])
+
+-- the key comes, or goes
+abbrev pub comes : List KeyChange → Key → Bool
+comes changes k = list_any (λ change. is_entry change.file change.number change.is k) changes
+
+abbrev pub goes : List KeyChange → Key → Bool
+goes changes k = list_any (λ change. is_entry change.file change.number change.was k) changes
+
 -- ---- what an append touches: the file's next version, and the held one that with it has as many newer ones as the floor in force
 -- asks; where none is in force, the newest
-
--- one of the keys of two versions of the file
-abbrev pub is_either : ℕ → ℕ → ℕ → Option ℕ → Option ℕ → Key → Bool
-is_either file gaining number former own k = is_entry file gaining former k || is_entry file number own k
-
-abbrev pub is_new : NewKeys → Key → Bool
-is_new keys k = is_either keys.file keys.gaining keys.number keys.former keys.own k
 
 -- whether with one newer version fewer than it the floor is met, as none is
 abbrev pub met_before : ℕ → Bool
@@ -67,25 +76,12 @@ abbrev pub own_moment : List GroupRow → List FileRow → ℕ → ℕ → Bool 
 own_moment groups files file now live = if live then None else near_moment (cover_of groups file) (policy_of files file) None true now now
 
 -- the keys of both
-abbrev pub new_keys : List GroupRow → Held → ℕ → ℕ → Bool → NewKeys
+abbrev pub new_keys : List GroupRow → Held → ℕ → ℕ → Bool → List KeyChange
 new_keys groups h file now live =
     let floor = floor_in (policy_of h.files file) live in
-    record {
-      file = file;
-      gaining = option_map_or (λ row. row.number) (with_newer h.versions file (floor - 1)) 0;
-      number = next_of h.files file;
-      former = former_moment groups h file floor now;
-      own = own_moment groups h.files file now live;
-    }
-
--- ---- what the end of a file's last name touches, with which no floor is in force any more
-
--- what the version before the file's next one gets, which ends then; none where it had ended or a handle reads it
-abbrev pub end_moment : List GroupRow → Held → ℕ → ℕ → Option ℕ
-end_moment groups h file now =
-    let last = next_of h.files file - 1 in
-    if is_open h.handles file last then None
-    else option_and_then (λ row. if is_some row.ended then None else near_moment (cover_of groups file) (policy_of h.files file) None true row.closed now) (find (is_version file last) h.versions)
+    let gaining = option_map_or (λ row. row.number) (with_newer h.versions file (floor - 1)) 0 in
+    record { file = file; number = gaining; was = None; is = former_moment groups h file floor now }
+    ∷ record { file = file; number = next_of h.files file; was = None; is = own_moment groups h.files file now live } ∷ []
 
 -- ---- what another policy touches, or another floor in force
 
@@ -102,47 +98,101 @@ unread_under groups rule h file number =
 abbrev pub IsTold : Held → ℕ → Stamps → Type 0
 IsTold h file stamps = option_map stamps_of (find (is_version file stamps.number) h.versions) ≡ Some stamps
 
--- the key with that moment, unless it is the other one
-abbrev pub key_unless : ℕ → ℕ → Option ℕ → Option ℕ → Option Key
-key_unless file number moment other =
-    option_and_then (λ m. if is_moment m other then None else Some (record { ripe = m; file = file; number = number })) moment
-
--- the key of the version under the one rule, unless it is that under the other
-abbrev pub key_under : List GroupRow → Held → ℕ → Rule → Rule → ℕ → Option Key
-key_under groups h file rule other number = key_unless file number (unread_under groups rule h file number) (unread_under groups other h file number)
+-- how the moment of a version changes that comes from under the one rule under the other
+abbrev pub change_under : List GroupRow → Held → ℕ → Rule → Rule → ℕ → KeyChange
+change_under groups h file was is number = record { file = file; number = number; was = unread_under groups was h file number; is = unread_under groups is h file number }
 
 -- the key is one that a version of the file has under the one rule and not under the other
 abbrev pub is_under : List GroupRow → Held → ℕ → Rule → Rule → Key → Bool
 is_under groups h file rule other k =
     (k.file == file) && (is_moment k.ripe (unread_under groups rule h file k.number) && not (is_moment k.ripe (unread_under groups other h file k.number)))
 
--- so is one that the floor holds back
-abbrev pub is_held_back : List GroupRow → Held → ℕ → Policy → ℕ → Key → Bool
-is_held_back groups h file policy floor k = is_under groups h file (record { policy = policy; floor = 0 }) (record { policy = policy; floor = floor }) k
+-- the moment of a version of the file under the policy where no floor keeps it and none is newer, or newer ones don't matter; it
+-- ends now if it hasn't; none where a handle reads it
+abbrev pub freed_moment : List GroupRow → Held → ℕ → Policy → ℕ → ℕ → ℕ → Option ℕ → Option ℕ
+freed_moment groups h file policy now number closed ended =
+    if is_open h.handles file number then None else near_moment (cover_of groups file) (Some policy) None true closed (unwrap_or ended now)
 
--- ---- what marks of groups touch
+-- so has the key, of one of the file's newest versions, so many
+abbrev pub is_freed : List GroupRow → Held → ℕ → Policy → ℕ → ℕ → Key → Bool
+is_freed groups h file policy now newest k =
+    let its = option_and_then (λ row. freed_moment groups h file policy now row.number row.closed row.ended) (find (is_version file k.number) h.versions) in
+    (k.file == file) && (not (nat_le newest (newer_held h.versions file k.number)) && is_moment k.ripe its)
 
--- for how long marks keep what was current of the file from the one moment until the other, as they are asked
-abbrev pub cover_asked : Asked → List GroupRow → ℕ → ℕ → Option ℕ → Cover
-cover_asked Standing groups file closed ended = cover_of groups file closed ended
-cover_asked (Marked until) groups file closed ended = longer (cover_until until) (cover_of groups file closed ended)
-cover_asked (Joined name) groups file closed ended = cover_with groups name file closed ended
-cover_asked (Without name mark) groups file closed ended = cover_without groups name mark file closed ended
+-- ---- what changes of groups touch
 
--- the moment of the file's version of that number that closed and ended then, as marks are asked, in a file that is live or not;
+-- what the change makes of the world
+abbrev pub change_of : GroupChange → Change
+change_of (Marked name mark) = AddMark name mark
+change_of (Unmarked name moment) = RemoveMark name moment
+change_of (Joined name file) = AddMember name file
+change_of (Left name file) = RemoveMember name file
+change_of (Dropped name) = DropGroup name
+
+-- the files whose versions it touches
+abbrev pub files_of : GroupChange → List GroupRow → List ℕ
+files_of (Marked name mark) groups = members_of groups name
+files_of (Unmarked name moment) groups = members_of groups name
+files_of (Joined name file) groups = file ∷ []
+files_of (Left name file) groups = file ∷ []
+files_of (Dropped name) groups = members_of groups name
+
+-- and the moments at which these were current
+abbrev pub moments_of : GroupChange → List GroupRow → List ℕ
+moments_of (Marked name mark) groups = mark.at ∷ []
+moments_of (Unmarked name moment) groups = moment ∷ []
+moments_of (Joined name file) groups = marks_of groups name
+moments_of (Left name file) groups = marks_of groups name
+moments_of (Dropped name) groups = marks_of groups name
+
+-- the file is in the group that loses it or a mark
+abbrev pub IsIn : GroupChange → List GroupRow → ℕ → Type 0
+IsIn (Marked name mark) groups file = Unit {0}
+IsIn (Unmarked name moment) groups file = has_member groups name file ≡ true
+IsIn (Joined name member) groups file = Unit {0}
+IsIn (Left name member) groups file = has_member groups name file ≡ true
+IsIn (Dropped name) groups file = has_member groups name file ≡ true
+
+-- the mark or the file that goes is there
+abbrev pub HasLeaving : GroupChange → List GroupRow → Type 0
+HasLeaving (Marked name mark) groups = Unit {0}
+HasLeaving (Unmarked name moment) groups = is_marked_at groups name moment ≡ true
+HasLeaving (Joined name file) groups = Unit {0}
+HasLeaving (Left name file) groups = has_member groups name file ≡ true
+HasLeaving (Dropped name) groups = Unit {0}
+
+-- for how long marks keep what was current of the file from the one moment until the other, once the groups have changed
+abbrev pub cover_after : GroupChange → List GroupRow → ℕ → ℕ → Option ℕ → Cover
+cover_after (Marked name mark) groups file closed ended = longer (cover_until mark.until) (cover_of groups file closed ended)
+cover_after (Unmarked name moment) groups file closed ended = cover_without groups name (Some moment) file closed ended
+cover_after (Joined name member) groups file closed ended = cover_with groups name file closed ended
+cover_after (Left name member) groups file closed ended = cover_without groups name None file closed ended
+cover_after (Dropped name) groups file closed ended = cover_without groups name None file closed ended
+
+-- when the file's version of that number ripens, which closed and ended then, in a file that is live or not, where no mark keeps it;
 -- none where a handle reads it
-abbrev pub moment_asked : Asked → List GroupRow → Held → Bool → ℕ → ℕ → ℕ → Option ℕ → Option ℕ
-moment_asked asked groups h live file number closed ended =
+abbrev pub unmarked_moment : Held → Bool → ℕ → ℕ → ℕ → ℕ → Option ℕ
+unmarked_moment h live file number closed ended =
+    let met = nat_le (floor_in (policy_of h.files file) live) (newer_held h.versions file number) in
+    if is_open h.handles file number then None
+    else option_and_then (λ policy. ripe_near policy closed (next_closing h.versions file number) met ended) (policy_of h.files file)
+
+-- when it ripens with that cover, if it has ended
+abbrev pub moment_by : (ℕ → Option ℕ → Cover) → Held → Bool → ℕ → ℕ → ℕ → Option ℕ → Option ℕ
+moment_by cover h live file number closed ended =
     let policy = policy_of h.files file in
     let met = nat_le (floor_in policy live) (newer_held h.versions file number) in
-    if is_open h.handles file number then None
-    else option_and_then (near_moment (cover_asked asked groups file) policy (next_closing h.versions file number) met closed) ended
+    if is_open h.handles file number then None else option_and_then (near_moment cover policy (next_closing h.versions file number) met closed) ended
 
--- the key of the version of the file that was current at the mark, as marks are asked the one way, unless it is that of the other
-abbrev pub key_at : Asked → Asked → List GroupRow → Held → Bool → ℕ → ℕ → Option Key
-key_at one other groups h live file mark =
-    option_and_then (λ row. key_unless file row.number (moment_asked one groups h live file row.number row.closed row.ended) (moment_asked other groups h live file row.number row.closed row.ended)) (find (had_life file mark) h.versions)
+-- how the moment of a version changes, of which these are the stamps
+abbrev pub change_at : GroupChange → List GroupRow → Held → Bool → ℕ → ℕ → ℕ → Option ℕ → List KeyChange
+change_at change groups h live file number closed ended =
+    if_changed (record { file = file; number = number; was = moment_by (cover_of groups file) h live file number closed ended; is = moment_by (cover_after change groups file) h live file number closed ended })
 
--- the keys of the versions of those files, of which the test tells which are live, that were current at those marks
-abbrev pub keys_at : Asked → Asked → List GroupRow → Held → (ℕ → Bool) → List ℕ → List ℕ → List Key
-keys_at one other groups h lives files marks = flat_map (λ file. filter_map (key_at one other groups h (lives file) file) marks) files
+-- how that of the file's version changes that was current at the mark, if it does
+abbrev pub change_by : GroupChange → List GroupRow → Held → Bool → ℕ → ℕ → List KeyChange
+change_by change groups h live file mark = option_map_or (λ row. change_at change groups h live file row.number row.closed row.ended) (find (had_life file mark) h.versions) []
+
+-- and those of all versions of those files, of which the test tells which are live, that were current at those marks
+abbrev pub changes_by : GroupChange → List GroupRow → Held → (ℕ → Bool) → List ℕ → List ℕ → List KeyChange
+changes_by change groups h lives files marks = flat_map (λ file. flat_map (change_by change groups h (lives file) file) marks) files

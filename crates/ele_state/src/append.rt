@@ -14,12 +14,12 @@ ghost use Rattle.ele_world.specs.Told.{stamps_of};
 ghost use Rattle.ele_world.specs.WellFormed.{ArePlaced};
 ghost use Rattle.ele_world.specs.World.{next_of, policy_of};
 ghost use Rattle.ele_state.specs.Inside.{world_of, IsTracked};
-ghost use Rattle.ele_state.specs.Queued.{end_moment, former_moment, gained_moment, is_new, met_before, new_keys};
+ghost use Rattle.ele_state.specs.Queued.{comes, former_moment, gained_moment, met_before, new_keys};
 ghost use Rattle.ele_state.specs.Source.{HasSource, IsReady, IsRoomy, appending, source_cells};
 ghost use Rattle.ele_state.specs.Tracked.{IsBooked};
 
 use crate::book::{blocks, one_version, settle_blocks};
-use crate::keys::{NewKeys, floor_in, near_moment};
+use crate::keys::{KeyChange, floor_in, near_moment, new_key, put_changed, take_back};
 use crate::rows::Rows;
 use ele_files::{Files, Meter, Standing};
 use ele_groups::Groups;
@@ -151,7 +151,7 @@ pub fn new_keys(
     now: Moment,
     is_live: bool,
     meter: &mut Meter,
-) -> NewKeys
+) -> [KeyChange; 2]
     requires stands { Stands files.now file standing.now }
     requires placed { AllLater ArePlaced files.now.versions }
     requires meter { meter.old < 2 ^ 60 }
@@ -165,57 +165,17 @@ pub fn new_keys(
     } else {
         near_moment(groups, file, policy, &None, true, now, now)
     };
-    let number = standing.next;
-    match &gaining(files, file, standing, floor, meter) {
-        Some(gaining) => NewKeys {
-            file,
-            gaining: gaining.number,
-            number,
-            former: former_moment(files, groups, file, policy, floor, gaining, now),
-            own,
-        },
-        None => NewKeys {
-            file,
-            gaining: VersionNo(0),
-            number,
-            former: None,
-            own,
-        },
-    }
-}
-
-// The ripe moment that the version before the next one of a file that stands so gets, which ends now; none where it isn't held or
-// has ended, or where a handle reads it.
-pub fn end_moment(
-    files: &Files,
-    groups: &Groups,
-    file: FileId,
-    standing: &Standing,
-    now: Moment,
-    meter: &mut Meter,
-) -> Option<Moment>
-    requires stands { Stands files.now file standing.now }
-    requires meter { meter.old < 2 ^ 60 }
-    ensures moment { result ≡ end_moment groups.now files.now file now }
-    ensures read { meter.new ≤ meter.old + 1 }
-{
-    let number = standing.next.before();
-    if files.is_open(file, number) {
-        return None;
-    }
-    let stamps = files.stamps(file, number, meter)?;
-    if stamps.ended.is_some() {
-        return None;
-    }
-    near_moment(
-        groups,
-        file,
-        &standing.policy,
-        &None,
-        true,
-        stamps.closed,
-        now,
-    )
+    let (number, former) = match &gaining(files, file, standing, floor, meter) {
+        Some(gaining) => {
+            let former = former_moment(files, groups, file, policy, floor, gaining, now);
+            (gaining.number, former)
+        }
+        None => (VersionNo(0), None),
+    };
+    [
+        new_key(file, number, former),
+        new_key(file, standing.next, own),
+    ]
 }
 
 // The file's next version stands in the files.
@@ -247,12 +207,12 @@ pub fn append_with(
     rows: &mut Rows,
     file: FileId,
     standing: &Standing,
-    keys: &NewKeys,
+    changes: &[KeyChange],
     source: Source,
     bytes: u64,
 ) -> Result<VersionNo, NoMemory>
     requires booked { IsBooked rows.old.files rows.old.book }
-    requires absent { (k : Key) → is_new keys.now k ≡ true → has_key k rows.old.queue ≡ false }
+    requires absent { (k : Key) → comes changes.now k ≡ true → has_key k rows.old.queue ≡ false }
     requires roomy { IsRoomy rows.old }
     requires there { 0 < next_of rows.old.files.files file }
     requires stands { Stands rows.old.files file standing.now }
@@ -266,7 +226,7 @@ pub fn append_with(
     ensures err { OnErr result (rows.new
         ≡ record rows.old { queue = rows.new.queue; meter = rows.new.meter }) }
     ensures come { OnOk result ((k : Key) → has_key k rows.new.queue
-        ≡ (is_new keys.now k || has_key k rows.old.queue)) }
+        ≡ (comes changes.now k || has_key k rows.old.queue)) }
     ensures same { OnErr result
         ((k : Key) → has_key k rows.new.queue ≡ has_key k rows.old.queue) }
     ensures book { IsBooked rows.new.files rows.new.book }
@@ -277,12 +237,12 @@ pub fn append_with(
     let kind = standing.policy.kind();
     let before = blocks(&rows.files);
     // All keys come before the version does, so that one that is refused is still without trace.
-    keys.put(&mut rows.queue)?;
+    put_changed(&mut rows.queue, changes)?;
     let made = put_version(&mut rows.files, file, source, now, is_live, &mut rows.meter);
     let number = match made {
         Ok(number) => number,
         Err(refused) => {
-            keys.take(&mut rows.queue);
+            take_back(&mut rows.queue, changes);
             return Err(refused);
         }
     };
@@ -317,7 +277,7 @@ pub fn append(
     ensures tracked { IsTracked rows.new }
 {
     let is_live = rows.names.is_live(file);
-    let keys = new_keys(
+    let changes = new_keys(
         &rows.files,
         &rows.groups,
         file,
@@ -326,5 +286,5 @@ pub fn append(
         is_live,
         &mut rows.meter,
     );
-    append_with(rows, file, standing, &keys, source, bytes)
+    append_with(rows, file, standing, &changes, source, bytes)
 }

@@ -6,8 +6,7 @@ ghost use Rattle.ele_world.specs.GroupRows.{has_group, has_member, is_marked_at}
 ghost use Rattle.ele_world.specs.World.{next_of};
 
 use crate::State;
-use crate::keys::{put_all, take_all};
-use crate::mark::{Asked, keys_at};
+use crate::mark::{GroupChange, regroup};
 use ele_world::{FileId, GroupList, MarkRow, Moment, Name, NoMemory};
 
 impl State {
@@ -59,7 +58,6 @@ impl State {
     /// The group of that name goes, and the versions that its marks cover have their keys as without it.
     ///
     /// `NoMemory` where memory is refused; the world stays.
-    #[tactic(auto, using(crate::proofs::Words::nat_tests))]
     pub fn drop_group(&mut self, name: &Name) -> Result<(), NoMemory>
         ensures ok { OnOk result
             (self.new.world ≡ after_change self.old.world (DropGroup name.now)) }
@@ -67,18 +65,13 @@ impl State {
     {
         let members = self.rows.groups.members(name)?;
         let marks = self.rows.groups.marks(name)?;
-        let asked = Asked::Without(*name, None);
-        let (come, gone) = keys_at(&self.rows, &asked, &members, &marks)?;
-        put_all(&mut self.rows.queue, &come)?;
-        take_all(&mut self.rows.queue, &gone);
-        self.rows.groups.take_group(name);
-        Ok(())
+        let change = GroupChange::Dropped(*name);
+        regroup(&mut self.rows, &change, &members, &marks)
     }
 
     /// The group of that name gets the file, whose versions that its marks cover have later keys, or none.
     ///
     /// `NoMemory` where memory is refused; the world stays.
-    #[tactic(auto, using(crate::proofs::Words::nat_tests))]
     pub fn add_member(&mut self, name: &Name, file: FileId) -> Result<(), NoMemory>
         requires there { 0 < next_of self.old.world.files file }
         requires other { has_member self.old.world.groups name.now file ≡ false }
@@ -88,21 +81,13 @@ impl State {
         ensures err { OnErr result (self.new.world ≡ self.old.world) }
     {
         let marks = self.rows.groups.marks(name)?;
-        let (come, gone) = keys_at(&self.rows, &Asked::Joined(*name), &[file], &marks)?;
-        put_all(&mut self.rows.queue, &come)?;
-        if let Err(refused) = self.rows.groups.add_member(name, file) {
-            take_all(&mut self.rows.queue, &come);
-            return Err(refused);
-        }
-        take_all(&mut self.rows.queue, &gone);
-        self.rows.made.members += 1;
-        Ok(())
+        let change = GroupChange::Joined(*name, file);
+        regroup(&mut self.rows, &change, &[file], &marks)
     }
 
     /// The group of that name loses the file, whose versions have their keys as without its marks.
     ///
     /// `NoMemory` where memory is refused; the world stays.
-    #[tactic(auto, using(crate::proofs::Words::nat_tests))]
     pub fn remove_member(&mut self, name: &Name, file: FileId) -> Result<(), NoMemory>
         requires { has_member self.old.world.groups name.now file ≡ true }
         ensures ok { OnOk result
@@ -110,19 +95,14 @@ impl State {
         ensures err { OnErr result (self.new.world ≡ self.old.world) }
     {
         let marks = self.rows.groups.marks(name)?;
-        let asked = Asked::Without(*name, None);
-        let (come, gone) = keys_at(&self.rows, &asked, &[file], &marks)?;
-        put_all(&mut self.rows.queue, &come)?;
-        take_all(&mut self.rows.queue, &gone);
-        self.rows.groups.take_member(name, file);
-        Ok(())
+        let change = GroupChange::Left(*name, file);
+        regroup(&mut self.rows, &change, &[file], &marks)
     }
 
     /// The group of that name is marked at a moment that has passed, until one that is to come, if the mark ends: the versions that
     /// it covers have their keys no earlier than that, or none.
     ///
     /// `NoMemory` where memory is refused; the world stays.
-    #[tactic(auto, using(crate::proofs::Words::nat_tests))]
     pub fn add_mark(&mut self, name: &Name, mark: &MarkRow) -> Result<(), NoMemory>
         requires past { mark.now.at < self.old.world.now }
         requires ahead { option_map_or (λ end. nat_le end self.old.world.now) mark.now.until false ≡ false }
@@ -133,21 +113,13 @@ impl State {
         ensures err { OnErr result (self.new.world ≡ self.old.world) }
     {
         let members = self.rows.groups.members(name)?;
-        let (come, gone) = keys_at(&self.rows, &Asked::Marked(mark.until), &members, &[mark.at])?;
-        put_all(&mut self.rows.queue, &come)?;
-        if let Err(refused) = self.rows.groups.add_mark(name, mark) {
-            take_all(&mut self.rows.queue, &come);
-            return Err(refused);
-        }
-        take_all(&mut self.rows.queue, &gone);
-        self.rows.made.marks += 1;
-        Ok(())
+        let change = GroupChange::Marked(*name, *mark);
+        regroup(&mut self.rows, &change, &members, &[mark.at])
     }
 
     /// The group of that name loses the mark, and the versions that it covers have their keys as without it.
     ///
     /// `NoMemory` where memory is refused; the world stays.
-    #[tactic(auto, using(crate::proofs::Words::nat_tests))]
     pub fn remove_mark(&mut self, name: &Name, mark: Moment) -> Result<(), NoMemory>
         requires { is_marked_at self.old.world.groups name.now mark ≡ true }
         ensures ok { OnOk result
@@ -155,11 +127,7 @@ impl State {
         ensures err { OnErr result (self.new.world ≡ self.old.world) }
     {
         let members = self.rows.groups.members(name)?;
-        let asked = Asked::Without(*name, Some(mark));
-        let (come, gone) = keys_at(&self.rows, &asked, &members, &[mark])?;
-        put_all(&mut self.rows.queue, &come)?;
-        take_all(&mut self.rows.queue, &gone);
-        self.rows.groups.take_mark(name, mark);
-        Ok(())
+        let change = GroupChange::Unmarked(*name, mark);
+        regroup(&mut self.rows, &change, &members, &[mark])
     }
 }

@@ -1,10 +1,10 @@
 //! How the queue of keys follows the files: keys come and go by the version that they are of.
-ghost use Rattle.std.specs.Prelude.{◌≡◌, ◌<◌, ◌≤◌, ◌+◌, ◌^◌, ◌||◌, ◌&&◌, not, false, true, Some, None, OnOk, OnErr};
+ghost use Rattle.std.specs.Prelude.{◌≡◌, ◌++◌, ◌<◌, ◌≤◌, ◌+◌, ◌^◌, ◌||◌, ◌&&◌, not, false, true, Some, None, OnOk, OnErr};
 ghost use Rattle.ele_due.specs.declared.key.Key.{Key};
 ghost use Rattle.ele_due.specs.HasKey.{has_key};
 ghost use Rattle.ele_world.specs.Cover.{cover_of};
 ghost use Rattle.ele_world.specs.Neighbours.{floor_in, free_moment, near_moment};
-ghost use Rattle.ele_state.specs.Queued.{IsRekeyed, is_entry, is_new, key_unless};
+ghost use Rattle.ele_state.specs.Queued.{IsRekeyed, comes, goes, if_changed, is_entry};
 
 use ele_due::DueQueue;
 use ele_files::{Files, Meter};
@@ -37,46 +37,68 @@ pub fn take(queue: &mut DueQueue, file: FileId, number: VersionNo, moment: Optio
     }
 }
 
-// The key of the file's version with that number and moment, unless the moment is the other one.
-pub fn key_unless(
-    file: FileId,
-    number: VersionNo,
-    moment: &Option<Moment>,
-    other: &Option<Moment>,
-) -> Option<Key>
-    ensures { result ≡ key_unless file number moment.now other.now }
-{
-    let Some(ripe) = *moment else {
-        return None;
-    };
-    if *other == Some(ripe) {
-        return None;
-    }
-    Some(Key { ripe, file, number })
+// The moment of a version changes: the key that it had goes, and another comes, where it has one.
+#[derive(Clone, Copy)]
+pub struct KeyChange {
+    pub file: FileId,
+    pub number: VersionNo,
+    pub was: Option<Moment>,
+    pub is: Option<Moment>,
 }
 
-// Puts in all the keys, or none where memory is refused; none of them is there.
-pub fn put_all(queue: &mut DueQueue, keys: &[Key]) -> Result<(), NoMemory>
-    ensures ok { OnOk result
-        ((k : Key) → has_key k queue.new ≡ (has_key k keys.now || has_key k queue.old)) }
-    ensures err { OnErr result
-        ((k : Key) → has_key k queue.new ≡ (not (has_key k keys.now) && has_key k queue.old)) }
+// The key of a version comes, which had none, if it has a moment.
+pub fn new_key(file: FileId, number: VersionNo, moment: Option<Moment>) -> KeyChange
+    ensures { result ≡ record { file = file; number = number; was = None; is = moment } }
 {
-    for key in keys {
-        if let Err(refused) = queue.insert(*key) {
-            take_all(queue, keys);
+    KeyChange {
+        file,
+        number,
+        was: None,
+        is: moment,
+    }
+}
+
+// Adds the change of a version's moment, if it changes.
+pub fn add_change(changes: &mut Vec<KeyChange>, change: KeyChange) -> Result<(), NoMemory>
+    ensures { OnOk result (changes.new.items ≡ changes.old.items ++ if_changed change) }
+{
+    if change.was != change.is {
+        changes.push(change)?;
+    }
+    Ok(())
+}
+
+// Puts in all keys that come, or none where memory is refused; none of them is there.
+pub fn put_changed(queue: &mut DueQueue, changes: &[KeyChange]) -> Result<(), NoMemory>
+    ensures ok { OnOk result
+        ((k : Key) → has_key k queue.new ≡ (comes changes.now k || has_key k queue.old)) }
+    ensures err { OnErr result
+        ((k : Key) → has_key k queue.new ≡ (not (comes changes.now k) && has_key k queue.old)) }
+{
+    for change in changes {
+        if let Err(refused) = put(queue, change.file, change.number, change.is) {
+            take_back(queue, changes);
             return Err(refused);
         }
     }
     Ok(())
 }
 
-// Takes out all the keys.
-pub fn take_all(queue: &mut DueQueue, keys: &[Key])
-    ensures { (k : Key) → has_key k queue.new ≡ (not (has_key k keys.now) && has_key k queue.old) }
+// Takes out all keys that came.
+pub fn take_back(queue: &mut DueQueue, changes: &[KeyChange])
+    ensures { (k : Key) → has_key k queue.new ≡ (not (comes changes.now k) && has_key k queue.old) }
 {
-    for key in keys {
-        let _was = queue.remove(key);
+    for change in changes {
+        take(queue, change.file, change.number, change.is);
+    }
+}
+
+// Takes out all keys that go.
+pub fn settle(queue: &mut DueQueue, changes: &[KeyChange])
+    ensures { (k : Key) → has_key k queue.new ≡ (not (goes changes.now k) && has_key k queue.old) }
+{
+    for change in changes {
+        take(queue, change.file, change.number, change.was);
     }
 }
 
@@ -144,44 +166,4 @@ pub fn free_moment(
         closed,
         ended,
     )
-}
-
-// The keys that come with a version: that of the held one that with it has as many newer ones as the floor in force asks, or of
-// the newest, which may have ended before or ends now, and its own.
-#[derive(Clone, Copy)]
-pub struct NewKeys {
-    pub file: FileId,
-    pub gaining: VersionNo,
-    pub number: VersionNo,
-    pub former: Option<Moment>,
-    pub own: Option<Moment>,
-}
-
-impl NewKeys {
-    // Puts in both keys, or neither where memory is refused.
-    pub fn put(&self, queue: &mut DueQueue) -> Result<(), NoMemory>
-        ensures ok { OnOk result ((k : Key) → has_key k queue.new
-            ≡ (is_new self.now k || has_key k queue.old)) }
-        ensures err { OnErr result ((k : Key)
-            → (is_entry self.now.file self.now.gaining self.now.former k ≡ true
-            → has_key k queue.old ≡ false) → has_key k queue.new ≡ has_key k queue.old) }
-    {
-        put(queue, self.file, self.gaining, self.former)?;
-        match put(queue, self.file, self.number, self.own) {
-            Ok(()) => Ok(()),
-            Err(refused) => {
-                take(queue, self.file, self.gaining, self.former);
-                Err(refused)
-            }
-        }
-    }
-
-    // Takes both out again.
-    pub fn take(&self, queue: &mut DueQueue)
-        ensures { (k : Key) → has_key k queue.new
-            ≡ (not (is_new self.now k) && has_key k queue.old) }
-    {
-        take(queue, self.file, self.number, self.own);
-        take(queue, self.file, self.gaining, self.former);
-    }
 }

@@ -1,172 +1,264 @@
-//! The keys of versions that were current at marks of groups.
-ghost use Rattle.std.specs.Prelude.{◌≡◌, ◌++◌, [], IfOk, OnOk};
-ghost use Rattle.std.specs.List.{cons_option, filter_map};
-ghost use Rattle.ele_world.specs.Cover.{cover_of};
+//! Changes of groups, and the moments of versions that were current at their marks.
+ghost use Rattle.std.specs.Prelude.{◌≡◌, ◌++◌, IfOk, OnOk, OnErr, Some, false, true};
+ghost use Rattle.std.specs.List.{AllByRecursion, flat_map};
+ghost use Rattle.std.specs.Str.{bytes_eq};
+ghost use Rattle.ele_lists.specs.Lists.{AllLater};
+ghost use Rattle.ele_world.specs.Bounds.{AreBounds};
+ghost use Rattle.ele_world.specs.Change.{after_change};
+ghost use Rattle.ele_world.specs.Cover.{cover_of, longer};
+ghost use Rattle.ele_world.specs.GroupRows.{has_member};
+ghost use Rattle.ele_world.specs.GroupsAsked.{cover_without};
+ghost use Rattle.ele_world.specs.May.{May};
 ghost use Rattle.ele_world.specs.World.{is_live};
-ghost use Rattle.ele_state.specs.Inside.{world_of};
-ghost use Rattle.ele_state.specs.declared.mark.Asked.TheVariants.{Standing};
-ghost use Rattle.ele_state.specs.Queued.{cover_asked, key_at, keys_at, moment_asked};
+ghost use Rattle.ele_state.specs.Inside.{world_of, IsSound, IsTracked};
+ghost use Rattle.ele_state.specs.Queued.{HasLeaving, IsIn, change_at, change_by, change_of, changes_by, cover_after, files_of, moments_of, unmarked_moment};
 
-use crate::keys::{floor_in, key_unless};
+use crate::keys::{KeyChange, add_change, floor_in, put_changed, settle, take_back};
 use crate::rows::Rows;
 use ele_files::{Files, Meter};
 use ele_groups::Groups;
 use ele_policy::ripe;
-use ele_world::{Cover, FileId, Key, Moment, Name, NoMemory, Stamps};
+use ele_world::{Cover, FileId, MarkRow, Moment, Name, NoMemory, Stamps};
 
-// Which marks are asked: those that stand, or those that will once groups have changed.
+// A change of the group of that name, by which marks keep versions for longer, or less long.
 #[derive(Clone, Copy)]
-pub enum Asked {
-    // Those that stand.
-    Standing,
-    // One more too, with that end.
-    Marked(Option<Moment>),
-    // Those that stand once the file is in the group.
-    Joined(Name),
-    // Those but that mark of the group, or all its marks.
-    Without(Name, Option<Moment>),
+pub enum GroupChange {
+    Marked(Name, MarkRow),
+    Unmarked(Name, Moment),
+    Joined(Name, FileId),
+    Left(Name, FileId),
+    Dropped(Name),
 }
 
-// For how long marks keep a version of the file that closed and ended then, as they are asked, where those that stand keep it for
-// so long: where marks only come, these aren't looked at again.
-fn cover_asked(
+// For how long marks keep a version, as groups stand and once they have changed.
+#[derive(Clone, Copy)]
+struct Covers {
+    was: Cover,
+    is: Cover,
+}
+
+// Where that mark of the group leaves, or all its marks do. What the others keep is asked first, since nothing is kept for longer
+// than for ever; and what leaves is asked of the group alone.
+#[tactic(auto, using(crate::proofs::Left::longer_again, crate::proofs::Left::always_again))]
+fn covers_without(
     groups: &Groups,
-    asked: &Asked,
-    standing: &Cover,
+    name: &Name,
+    mark: Option<Moment>,
     file: FileId,
     closed: Moment,
     ended: Moment,
-) -> Cover
-    requires { standing.now ≡ cover_of groups.now file closed (Some ended) }
-    ensures { result ≡ cover_asked asked.now groups.now file closed (Some ended) }
+) -> Covers
+    requires named { AllLater
+        (λ earlier later. bytes_eq earlier.name later.name ≡ false) groups.now }
+    requires member { has_member groups.now name.now file ≡ true }
+    ensures was { result.was ≡ cover_of groups.now file closed (Some ended) }
+    ensures is { result.is ≡ cover_without groups.now name.now mark file closed (Some ended) }
 {
-    match asked {
-        Asked::Standing => *standing,
-        Asked::Marked(until) => Cover::until(*until).longer(*standing),
-        Asked::Joined(name) => {
-            let of_group = groups.cover_by_group(name, closed, Some(ended));
-            of_group.longer(*standing)
-        }
-        Asked::Without(name, mark) => {
-            groups.cover_without(name, *mark, file, closed, Some(ended))
-        }
+    let is = &groups.cover_without(name, mark, file, closed, Some(ended));
+    if let Cover::Always = is {
+        return Covers {
+            was: Cover::Always,
+            is: Cover::Always,
+        };
+    }
+    let of_group = groups.cover_by_group(name, closed, Some(ended));
+    Covers {
+        was: of_group.longer(*is),
+        is: *is,
     }
 }
 
-// The ripe moments that the version of these stamps of the file, which is live or not, has now, and as marks are asked; none where
-// a handle reads it, where it has no end, or is never due.
-fn moments_at(
-    files: &Files,
+// Where marks come that keep for so long.
+fn covers_with(more: Cover, was: &Cover) -> Covers
+    ensures was { result.was ≡ was.now }
+    ensures is { result.is ≡ longer more was.now }
+{
+    Covers {
+        was: *was,
+        is: more.longer(*was),
+    }
+}
+
+// For how long marks keep a version of the file that closed and ended then.
+fn covers_after(
     groups: &Groups,
-    asked: &Asked,
+    change: &GroupChange,
+    file: FileId,
+    closed: Moment,
+    ended: Moment,
+) -> Covers
+    requires named { AllLater
+        (λ earlier later. bytes_eq earlier.name later.name ≡ false) groups.now }
+    requires member { IsIn change.now groups.now file }
+    ensures was { result.was ≡ cover_of groups.now file closed (Some ended) }
+    ensures is { result.is ≡ cover_after change.now groups.now file closed (Some ended) }
+{
+    match change {
+        GroupChange::Marked(_, mark) => {
+            let was = groups.cover(file, closed, Some(ended));
+            covers_with(Cover::until(mark.until), &was)
+        }
+        GroupChange::Joined(name, _) => {
+            let was = groups.cover(file, closed, Some(ended));
+            covers_with(groups.cover_by_group(name, closed, Some(ended)), &was)
+        }
+        GroupChange::Unmarked(name, mark) => {
+            covers_without(groups, name, Some(*mark), file, closed, ended)
+        }
+        GroupChange::Left(name, _) => { covers_without(groups, name, None, file, closed, ended) }
+        GroupChange::Dropped(name) => { covers_without(groups, name, None, file, closed, ended) }
+    }
+}
+
+// The ripe moment that the version of these stamps of the file, which is live or not and ended then, has where no mark keeps it; none
+// where a handle reads it, or where it is never due.
+fn unmarked_moment(
+    files: &Files,
     is_live: bool,
     file: FileId,
     stamps: &Stamps,
-) -> (Option<Moment>, Option<Moment>)
-    ensures was { result.0 ≡ moment_asked Standing groups.now files.now is_live file
-        stamps.now.number stamps.now.closed stamps.now.ended }
-    ensures then { result.1 ≡ moment_asked asked.now groups.now files.now is_live file
-        stamps.now.number stamps.now.closed stamps.now.ended }
+    ended: Moment,
+) -> Option<Moment>
+    ensures { result ≡ unmarked_moment files.now is_live file stamps.now.number
+        stamps.now.closed ended }
 {
     if files.is_open(file, stamps.number) {
-        return (None, None);
+        return None;
     }
-    let Some(ended) = stamps.ended else {
-        return (None, None);
-    };
-    let Some(policy) = files.policy_of(file) else {
-        return (None, None);
-    };
+    let policy = files.policy_of(file)?;
     let floor = floor_in(&policy, is_live);
     let floor_met = files.has_newer(file, stamps.number, floor, &mut Meter::new());
     let next_closed = files.next_closing(file, stamps.number, &mut Meter::new());
-    let closed = stamps.closed;
-    let Some(ripe) = ripe(&policy, closed, ended, next_closed, floor_met) else {
-        return (None, None);
-    };
-    let standing = groups.cover(file, closed, Some(ended));
-    let then = cover_asked(groups, asked, &standing, file, closed, ended);
-    (standing.ripe_past(ripe), then.ripe_past(ripe))
+    ripe(&policy, stamps.closed, ended, next_closed, floor_met)
 }
 
-// The keys that come and go, as marks are asked, of the file's version that was current at the mark.
-#[tactic(auto, using(crate::proofs::Words::nat_tests, crate::proofs::Marked::key_told, crate::proofs::Marked::key_untold))]
-fn keys_of(
-    files: &Files,
-    groups: &Groups,
-    asked: &Asked,
+// Adds how the moment of the version of these stamps changes. Where marks keep it for as long, nothing else is asked.
+fn add_change_of(
+    changes: &mut Vec<KeyChange>,
+    rows: &Rows,
+    change: &GroupChange,
     is_live: bool,
     file: FileId,
-    mark: Moment,
-) -> (Option<Key>, Option<Key>)
-    ensures come { result.0 ≡ key_at asked.now Standing groups.now files.now is_live file mark }
-    ensures gone { result.1 ≡ key_at Standing asked.now groups.now files.now is_live file mark }
+    stamps: &Stamps,
+) -> Result<(), NoMemory>
+    requires sound { IsSound rows.now }
+    requires member { IsIn change.now rows.now.groups file }
+    ensures { OnOk result (changes.new.items ≡ changes.old.items
+        ++ change_at change.now rows.now.groups rows.now.files is_live file stamps.now.number
+        stamps.now.closed stamps.now.ended) }
 {
-    let Some(stamps) = files.version_at(file, mark, &mut Meter::new()) else {
-        return (None, None);
+    let Some(ended) = stamps.ended else {
+        return Ok(());
     };
-    let (was, then) = moments_at(files, groups, asked, is_live, file, &stamps);
-    let number = stamps.number;
-    (
-        key_unless(file, number, &then, &was),
-        key_unless(file, number, &was, &then),
-    )
-}
-
-// Adds the key, if there is one.
-pub fn add_key(keys: &mut Vec<Key>, key: Option<Key>) -> Result<(), NoMemory>
-    ensures { OnOk result (keys.new.items ≡ keys.old.items ++ cons_option key []) }
-{
-    if let Some(key) = key {
-        keys.push(key)?;
+    let covers = covers_after(&rows.groups, change, file, stamps.closed, ended);
+    if covers.was == covers.is {
+        return Ok(());
     }
-    Ok(())
+    let Some(ripe) = unmarked_moment(&rows.files, is_live, file, stamps, ended) else {
+        return Ok(());
+    };
+    let change = KeyChange {
+        file,
+        number: stamps.number,
+        was: covers.was.ripe_past(ripe),
+        is: covers.is.ripe_past(ripe),
+    };
+    add_change(changes, change)
 }
 
-// Adds the keys that come and go of the file's versions that were current at the marks.
-fn add_keys(
-    come: &mut Vec<Key>,
-    gone: &mut Vec<Key>,
+// Adds how the moments change of the file's versions that were current at the marks.
+fn add_changes(
+    changes: &mut Vec<KeyChange>,
     rows: &Rows,
-    asked: &Asked,
+    change: &GroupChange,
     file: FileId,
     marks: &[Moment],
 ) -> Result<(), NoMemory>
-    ensures come { OnOk result (come.new.items ≡ come.old.items
-        ++ filter_map (key_at asked.now Standing rows.now.groups rows.now.files
-        (is_live (world_of rows.now) file) file) marks.now) }
-    ensures gone { OnOk result (gone.new.items ≡ gone.old.items
-        ++ filter_map (key_at Standing asked.now rows.now.groups rows.now.files
+    requires sound { IsSound rows.now }
+    requires member { IsIn change.now rows.now.groups file }
+    ensures { OnOk result (changes.new.items ≡ changes.old.items
+        ++ flat_map (change_by change.now rows.now.groups rows.now.files
         (is_live (world_of rows.now) file) file) marks.now) }
 {
     let is_live = rows.names.is_live(file);
     for mark in marks {
-        let (comes, goes) = keys_of(&rows.files, &rows.groups, asked, is_live, file, *mark);
-        add_key(come, comes)?;
-        add_key(gone, goes)?;
+        if let Some(stamps) = rows.files.version_at(file, *mark, &mut Meter::new()) {
+            add_change_of(changes, rows, change, is_live, file, &stamps)?;
+        }
     }
     Ok(())
 }
 
-// The keys that come and those that go, as marks are asked, of the versions of these files that were current at these marks. One
-// version may have its key there more than once.
-pub fn keys_at(
+// How the moments change of the versions of these files that were current at these marks. One version may stand there more than
+// once.
+fn changes_by(
     rows: &Rows,
-    asked: &Asked,
+    change: &GroupChange,
     files: &[FileId],
     marks: &[Moment],
-) -> Result<(Vec<Key>, Vec<Key>), NoMemory>
-    ensures come { IfOk result (λ keys. keys.0.items
-        ≡ keys_at asked.now Standing rows.now.groups rows.now.files (is_live (world_of rows.now))
-        files.now marks.now) }
-    ensures gone { IfOk result (λ keys. keys.1.items
-        ≡ keys_at Standing asked.now rows.now.groups rows.now.files (is_live (world_of rows.now))
+) -> Result<Vec<KeyChange>, NoMemory>
+    requires sound { IsSound rows.now }
+    requires members { AllByRecursion (IsIn change.now rows.now.groups) files.now }
+    ensures { IfOk result (λ changes. changes.items
+        ≡ changes_by change.now rows.now.groups rows.now.files (is_live (world_of rows.now))
         files.now marks.now) }
 {
-    let mut come = Vec::new(rows.alloc);
-    let mut gone = Vec::new(rows.alloc);
+    let mut changes = Vec::new(rows.alloc);
     for file in files {
-        add_keys(&mut come, &mut gone, rows, asked, *file, marks)?;
+        add_changes(&mut changes, rows, change, *file, marks)?;
     }
-    Ok((come, gone))
+    Ok(changes)
+}
+
+// The group changes, and what is made is counted.
+fn make(rows: &mut Rows, change: &GroupChange) -> Result<(), NoMemory>
+    requires may { May (world_of rows.old) (change_of change.now) }
+    requires bounds { AreBounds rows.old.limits }
+    ensures ok { OnOk result (world_of rows.new
+        ≡ after_change (world_of rows.old) (change_of change.now)) }
+    ensures err { OnErr result (rows.new ≡ rows.old) }
+    ensures kept { rows.new ≡ record rows.old { groups = rows.new.groups; made = rows.new.made } }
+{
+    match change {
+        GroupChange::Marked(name, mark) => {
+            rows.groups.add_mark(name, mark)?;
+            rows.made.marks += 1;
+        }
+        GroupChange::Unmarked(name, mark) => rows.groups.take_mark(name, *mark),
+        GroupChange::Joined(name, file) => {
+            rows.groups.add_member(name, *file)?;
+            rows.made.members += 1;
+        }
+        GroupChange::Left(name, file) => rows.groups.take_member(name, *file),
+        GroupChange::Dropped(name) => rows.groups.take_group(name),
+    }
+    Ok(())
+}
+
+// The group changes, of which these are the files and the marks that the change touches, and the queue follows.
+pub fn regroup(
+    rows: &mut Rows,
+    change: &GroupChange,
+    files: &[FileId],
+    marks: &[Moment],
+) -> Result<(), NoMemory>
+    requires sound { IsSound rows.old }
+    requires may { May (world_of rows.old) (change_of change.now) }
+    requires leaving { HasLeaving change.now rows.old.groups }
+    requires files { files.now ≡ files_of change.now rows.old.groups }
+    requires marks { marks.now ≡ moments_of change.now rows.old.groups }
+    ensures ok { OnOk result (world_of rows.new
+        ≡ after_change (world_of rows.old) (change_of change.now)) }
+    ensures err { OnErr result (world_of rows.new ≡ world_of rows.old) }
+    ensures tracked { IsTracked rows.new }
+{
+    let changes = changes_by(rows, change, files, marks)?;
+    // All keys come before one goes, so that one that is refused is still without trace.
+    put_changed(&mut rows.queue, &changes)?;
+    if let Err(refused) = make(rows, change) {
+        take_back(&mut rows.queue, &changes);
+        return Err(refused);
+    }
+    settle(&mut rows.queue, &changes);
+    Ok(())
 }

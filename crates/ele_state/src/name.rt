@@ -1,8 +1,6 @@
 //! Names that come, move and die.
-ghost use Rattle.std.specs.Prelude.{◌≡◌, ◌<◌, ◌||◌, ◌&&◌, OnOk, OnErr, IfOk, IfSome, Some, is_some, false, not};
+ghost use Rattle.std.specs.Prelude.{◌≡◌, ◌<◌, OnOk, OnErr, IfOk, IfSome, Some, is_some, false, not};
 ghost use Rattle.std.specs.List.{count_by, list_any};
-ghost use Rattle.ele_due.specs.declared.key.Key.{Key};
-ghost use Rattle.ele_due.specs.HasKey.{has_key};
 ghost use Rattle.ele_world.specs.Change.{AddName, EndFileName, MoveName, after_change};
 ghost use Rattle.ele_world.specs.May.{MayHaveMore};
 ghost use Rattle.ele_world.specs.NameRows.{is_live_in, last_dead};
@@ -12,15 +10,12 @@ ghost use Rattle.ele_world.specs.declared.rows.Target.TheVariants.{File};
 ghost use Rattle.ele_world.specs.World.{is_live_name_of};
 ghost use Rattle.ele_state.specs.Home.{IsHome, IsPresent};
 ghost use Rattle.ele_state.specs.Inside.{world_of, IsTracked, IsSound};
-ghost use Rattle.ele_state.specs.Queued.{is_entry};
 
 use crate::State;
-use crate::append::{end_moment, standing};
-use crate::keys::{put, put_all, take_all};
-use crate::policy::held_back;
+use crate::keys::put_changed;
+use crate::policy::freed;
 use crate::rows::Rows;
-use ele_due::DueQueue;
-use ele_world::{DirId, FileId, Key, ListOf, Moment, Name, NameList, NoMemory, Target, VersionNo};
+use ele_world::{DirId, FileId, ListOf, Moment, Name, NameList, NoMemory, Target};
 
 impl State {
     /// Whether the name is live there.
@@ -125,31 +120,8 @@ impl State {
     }
 }
 
-// Puts in the keys and that of the version with that moment, if there is one, or none where memory is refused; none of the keys is
-// there.
-#[tactic(auto, using(crate::proofs::Words::nat_tests, crate::proofs::Unlinked::back_and_forth))]
-fn put_ended(
-    queue: &mut DueQueue,
-    keys: &[Key],
-    file: FileId,
-    number: VersionNo,
-    moment: Option<Moment>,
-) -> Result<(), NoMemory>
-    ensures ok { OnOk result ((k : Key) → has_key k queue.new
-        ≡ (is_entry file number moment k || (has_key k keys.now || has_key k queue.old))) }
-    ensures err { OnErr result
-        ((k : Key) → has_key k queue.new ≡ (not (has_key k keys.now) && has_key k queue.old)) }
-{
-    put_all(queue, keys)?;
-    if let Err(refused) = put(queue, file, number, moment) {
-        take_all(queue, keys);
-        return Err(refused);
-    }
-    Ok(())
-}
-
 // The only name of the file dies, and its current version ends; with the name no floor is in force any more, and the versions that
-// it held back have their keys.
+// it kept have their keys.
 #[tactic(auto, using(crate::proofs::Words::nat_tests, crate::proofs::ClosedSteps::past, crate::proofs::Unlinked::name_there, crate::proofs::Unlinked::last_ends, crate::proofs::Unlinked::ended_queue, crate::proofs::Unlinked::ended_book))]
 fn end_last_name(
     rows: &mut Rows,
@@ -166,19 +138,13 @@ fn end_last_name(
     ensures err { OnErr result (world_of rows.new ≡ world_of rows.old) }
     ensures tracked { IsTracked rows.new }
 {
-    let standing = standing(&rows.files, file, &mut rows.meter);
-    let floor = standing.policy.floor().number();
-    let come = held_back(rows, file, &standing.policy, floor)?;
-    let moment = end_moment(
-        &rows.files,
-        &rows.groups,
-        file,
-        &standing,
-        rows.moment,
-        &mut rows.meter,
-    );
-    let last = standing.next.before();
-    put_ended(&mut rows.queue, &come, file, last, moment)?;
+    let Some(policy) = rows.files.policy_of(file) else {
+        unreachable!()
+    };
+    let floor = policy.floor().number();
+    // The newest version ends, and is the current one.
+    let changes = freed(rows, file, &policy, floor.max(1))?;
+    put_changed(&mut rows.queue, &changes)?;
     rows.names.kill(directory, name, rows.moment);
     rows.files.end_current(file, rows.moment, &mut rows.meter);
     Ok(())

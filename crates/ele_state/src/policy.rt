@@ -1,25 +1,24 @@
-//! The policy of a file, and the keys that another one brings.
+//! The policy of a file, and the moments that another one changes, or a floor that comes into force or goes.
 ghost use Rattle.std.specs.Prelude.{◌≡◌, ◌<◌, Some, IfOk, OnOk, OnErr};
-ghost use Rattle.std.specs.List.{AllByRecursion, filter_map};
+ghost use Rattle.std.specs.List.{AllByRecursion, flat_map};
 ghost use Rattle.ele_due.specs.declared.key.Key.{Key};
-ghost use Rattle.ele_due.specs.HasKey.{has_key};
+ghost use Rattle.ele_lists.specs.Lists.{AllLater};
 ghost use Rattle.ele_policy.specs.Policy.{IsPolicy};
 ghost use Rattle.ele_world.specs.Change.{PutUnder, after_change};
 ghost use Rattle.ele_world.specs.Cover.{cover_of};
 ghost use Rattle.ele_world.specs.Neighbours.{moment_under, next_closing};
+ghost use Rattle.ele_world.specs.WellFormed.{ArePlaced};
 ghost use Rattle.ele_world.specs.World.{next_of};
-ghost use Rattle.ele_state.specs.Inside.{IsSound};
-ghost use Rattle.ele_state.specs.Queued.{IsTold, is_held_back, key_under, rule_in, unread_under};
+ghost use Rattle.ele_state.specs.Queued.{IsTold, change_under, comes, freed_moment, if_changed, is_freed, rule_in};
 
 use crate::State;
-use crate::keys::{Rule, floor_in, key_unless, near_moment, put_all, take_all};
-use crate::mark::add_key;
+use crate::keys::{
+    KeyChange, Rule, add_change, floor_in, near_moment, new_key, put_changed, settle,
+};
 use crate::rows::Rows;
-use ele_files::{Files, Meter};
-use ele_groups::Groups;
+use ele_files::Meter;
 use ele_policy::Policy;
-use ele_world::{FileId, Key, Moment, NoMemory, Stamps};
-use std::alloc::Global;
+use ele_world::{FileId, Moment, NoMemory, Stamps};
 
 impl State {
     /// The file gets the policy, under which its versions have other keys and count for its kind.
@@ -38,15 +37,13 @@ impl State {
             unreachable!()
         };
         let is_live = self.rows.names.is_live(file);
-        let (files, groups) = (&self.rows.files, &self.rows.groups);
-        let usage = files.usage_of(file)?;
-        let held = files.stamps_of_file(file)?;
-        let held = held.as_slice();
+        let usage = self.rows.files.usage_of(file)?;
         let (one, other) = (rule_in(&was, is_live), rule_in(&policy, is_live));
-        let (come, gone) = rekeyed(self.rows.alloc, files, groups, file, &one, &other, held)?;
+        let held = self.rows.files.stamps_of_file(file)?;
+        let changes = changes_under(&self.rows, file, &one, &other, held.as_slice())?;
         // All keys come before one goes, so that one that is refused is still without trace.
-        put_all(&mut self.rows.queue, &come)?;
-        take_all(&mut self.rows.queue, &gone);
+        put_changed(&mut self.rows.queue, &changes)?;
+        settle(&mut self.rows.queue, &changes);
         self.rows.files.put_under(file, policy);
         self.rows.book.move_file(was.kind(), policy.kind(), usage);
         Ok(())
@@ -66,27 +63,28 @@ fn rule_in(policy: &Policy, is_live: bool) -> Rule
 // The ripe moment under the rule of the file's version of these stamps, which ended then, while no handle reads it.
 #[tactic(auto, using(crate::proofs::Words::nat_tests, crate::proofs::Governed::under_told))]
 fn moment_under(
-    files: &Files,
-    groups: &Groups,
+    rows: &Rows,
     file: FileId,
     rule: &Rule,
     stamps: &Stamps,
     next_closed: &Option<Moment>,
     ended: Moment,
 ) -> Option<Moment>
-    requires told { IsTold files.now file stamps.now }
+    requires told { IsTold rows.now.files file stamps.now }
     requires ended { stamps.now.ended ≡ Some ended }
-    requires next { next_closed.now ≡ next_closing files.now.versions file stamps.now.number }
-    ensures { result ≡ moment_under (cover_of groups.now file) (Some rule.now.policy)
-        rule.now.floor files.now.versions file stamps.now.number }
+    requires next { next_closed.now ≡ next_closing rows.now.files.versions file stamps.now.number }
+    ensures { result ≡ moment_under (cover_of rows.now.groups file) (Some rule.now.policy)
+        rule.now.floor rows.now.files.versions file stamps.now.number }
 {
-    let number = stamps.number;
-    let floor_met = files.has_newer(file, number, rule.floor, &mut Meter::new());
+    let (policy, floor) = (&rule.policy, rule.floor);
+    let floor_met = rows
+        .files
+        .has_newer(file, stamps.number, floor, &mut Meter::new());
     let closed = stamps.closed;
     near_moment(
-        groups,
+        &rows.groups,
         file,
-        &rule.policy,
+        policy,
         next_closed,
         floor_met,
         closed,
@@ -94,96 +92,90 @@ fn moment_under(
     )
 }
 
-// The ripe moments that the file's version of these stamps has under the one rule and under the other; none where a handle reads
-// it.
+// How the moment of the file's version of these stamps changes, which comes from under the one rule under the other; a handle that
+// reads it leaves it none.
 #[tactic(auto, using(crate::proofs::Words::nat_tests, crate::proofs::Governed::under_told))]
-fn moments_of(
-    files: &Files,
-    groups: &Groups,
-    file: FileId,
-    one: &Rule,
-    other: &Rule,
-    stamps: &Stamps,
-) -> (Option<Moment>, Option<Moment>)
-    requires { IsTold files.now file stamps.now }
-    ensures one { result.0
-        ≡ unread_under groups.now one.now files.now file stamps.now.number }
-    ensures other { result.1
-        ≡ unread_under groups.now other.now files.now file stamps.now.number }
+fn change_under(rows: &Rows, file: FileId, was: &Rule, is: &Rule, stamps: &Stamps) -> KeyChange
+    requires { IsTold rows.now.files file stamps.now }
+    ensures { result ≡ change_under rows.now.groups rows.now.files file was.now is.now
+        stamps.now.number }
 {
-    if files.is_open(file, stamps.number) {
-        return (None, None);
+    let number = stamps.number;
+    if rows.files.is_open(file, number) {
+        return new_key(file, number, None);
     }
     let Some(ended) = stamps.ended else {
-        return (None, None);
+        return new_key(file, number, None);
     };
-    let next = files.next_closing(file, stamps.number, &mut Meter::new());
-    (
-        moment_under(files, groups, file, one, stamps, &next, ended),
-        moment_under(files, groups, file, other, stamps, &next, ended),
+    let next = rows.files.next_closing(file, number, &mut Meter::new());
+    KeyChange {
+        file,
+        number,
+        was: moment_under(rows, file, was, stamps, &next, ended),
+        is: moment_under(rows, file, is, stamps, &next, ended),
+    }
+}
+
+// How the moments of the file's versions change, which come from under the one rule under the other: one walk, which looks at each
+// once.
+fn changes_under(
+    rows: &Rows,
+    file: FileId,
+    was: &Rule,
+    is: &Rule,
+    held: &[Stamps],
+) -> Result<Vec<KeyChange>, NoMemory>
+    requires { AllByRecursion (IsTold rows.now.files file) held.now }
+    ensures { IfOk result (λ changes. changes.items ≡ flat_map (λ stamps. if_changed
+        (change_under rows.now.groups rows.now.files file was.now is.now stamps.number)) held.now) }
+{
+    let mut changes = Vec::new(rows.alloc);
+    for stamps in held {
+        add_change(&mut changes, change_under(rows, file, was, is, stamps))?;
+    }
+    Ok(changes)
+}
+
+// The moment that the file's version of these stamps has under the policy where no floor keeps it, if it is the newest or others
+// don't matter; it ends now if it hasn't. None where a handle reads it.
+fn freed_moment(rows: &Rows, file: FileId, policy: &Policy, stamps: &Stamps) -> Option<Moment>
+    ensures { result ≡ freed_moment rows.now.groups rows.now.files file policy.now rows.now.moment
+        stamps.now.number stamps.now.closed stamps.now.ended }
+{
+    if rows.files.is_open(file, stamps.number) {
+        return None;
+    }
+    let ended = stamps.ended.unwrap_or(rows.moment);
+    near_moment(
+        &rows.groups,
+        file,
+        policy,
+        &None,
+        true,
+        stamps.closed,
+        ended,
     )
 }
 
-// The keys that come and those that go, where the file's versions, of which these are the stamps, come from under the one rule
-// under the other: one walk, which looks at each once.
-fn rekeyed(
-    alloc: Global,
-    files: &Files,
-    groups: &Groups,
-    file: FileId,
-    one: &Rule,
-    other: &Rule,
-    held: &[Stamps],
-) -> Result<(Vec<Key>, Vec<Key>), NoMemory>
-    requires { AllByRecursion (IsTold files.now file) held.now }
-    ensures come { IfOk result (λ keys. keys.0.items ≡ filter_map
-        (λ stamps. key_under groups.now files.now file other.now one.now stamps.number) held.now) }
-    ensures gone { IfOk result (λ keys. keys.1.items ≡ filter_map
-        (λ stamps. key_under groups.now files.now file one.now other.now stamps.number) held.now) }
-{
-    let mut come = Vec::new(alloc);
-    let mut gone = Vec::new(alloc);
-    for stamps in held {
-        let (was, is) = moments_of(files, groups, file, one, other, stamps);
-        add_key(&mut come, key_unless(file, stamps.number, &is, &was))?;
-        add_key(&mut gone, key_unless(file, stamps.number, &was, &is))?;
-    }
-    Ok((come, gone))
-}
-
-// The keys that the floor holds back of the file's versions under the policy; without a floor none is looked for.
-#[tactic(auto, using(crate::proofs::Words::nat_tests, crate::proofs::Governed::none_held_back))]
-pub fn held_back(
+// The keys of the file's newest versions, so many, as they come where no floor keeps these: under a policy with a floor no other
+// version matters.
+pub fn freed(
     rows: &Rows,
     file: FileId,
     policy: &Policy,
-    floor: u64,
-) -> Result<Vec<Key>, NoMemory>
-    requires { IsSound rows.now }
-    ensures { IfOk result (λ keys. (k : Key) → has_key k keys.items
-        ≡ is_held_back rows.now.groups rows.now.files file policy.now floor k) }
+    newest: u64,
+) -> Result<Vec<KeyChange>, NoMemory>
+    requires { AllLater ArePlaced rows.now.files.versions }
+    ensures { IfOk result (λ changes. (k : Key) → comes changes.items k ≡ is_freed rows.now.groups
+        rows.now.files file policy.now rows.now.moment newest k) }
 {
-    if floor == 0 {
-        return Ok(Vec::new(rows.alloc));
+    let mut changes = Vec::new(rows.alloc);
+    for newer in 0..newest {
+        if let Some(stamps) = rows.files.with_newer(file, newer, &mut Meter::new()) {
+            let moment = freed_moment(rows, file, policy, &stamps);
+            let change = new_key(file, stamps.number, moment);
+            add_change(&mut changes, change)?;
+        }
     }
-    let (files, groups) = (&rows.files, &rows.groups);
-    let held = files.stamps_of_file(file)?;
-    let one = Rule {
-        policy: *policy,
-        floor,
-    };
-    let other = Rule {
-        policy: *policy,
-        floor: 0,
-    };
-    let (come, _gone) = rekeyed(
-        rows.alloc,
-        files,
-        groups,
-        file,
-        &one,
-        &other,
-        held.as_slice(),
-    )?;
-    Ok(come)
+    Ok(changes)
 }

@@ -20,16 +20,16 @@ ghost use Rattle.ele_world.specs.WellFormed.{ArePlaced};
 ghost use Rattle.ele_world.specs.World.{has_draft, is_held, is_live, is_version, next_of};
 ghost use Rattle.ele_state.specs.Home.{IsHome};
 ghost use Rattle.ele_state.specs.Inside.{world_of, IsTracked, IsSound};
-ghost use Rattle.ele_state.specs.Queued.{is_new, new_keys};
+ghost use Rattle.ele_state.specs.Queued.{comes, new_keys};
 ghost use Rattle.ele_state.specs.Told.{found_of};
 
 use crate::State;
 use crate::append::{Source, append, append_with, new_keys, standing};
 use crate::book::{blocks, follow_blocks, take_version};
 use crate::file::drop_idle;
-use crate::keys::{NewKeys, take, take_all};
+use crate::keys::{KeyChange, new_key, take, take_back};
 use crate::path::file_in;
-use crate::policy::held_back;
+use crate::policy::freed;
 use crate::rows::Rows;
 use ele_files::{Files, Meter, Standing};
 use ele_groups::Groups;
@@ -171,25 +171,20 @@ fn revived_keys(
     standing: &Standing,
     now: Moment,
     meter: &mut Meter,
-) -> NewKeys
+) -> [KeyChange; 2]
     requires stands { Stands files.now file standing.now }
     requires placed { AllLater ArePlaced files.now.versions }
     requires meter { meter.old < 2 ^ 60 }
     ensures keys { floor_of standing.now.policy ≡ 0
         → result ≡ new_keys groups.now files.now file now true }
-    ensures none { 1 ≤ floor_of standing.now.policy → (k : Key) → is_new result k ≡ false }
+    ensures none { 1 ≤ floor_of standing.now.policy → (k : Key) → comes result k ≡ false }
     ensures read { meter.new ≤ meter.old + 1 }
 {
     if standing.policy.floor().number() == 0 {
         return new_keys(files, groups, file, standing, now, true, meter);
     }
-    NewKeys {
-        file,
-        gaining: VersionNo(0),
-        number: standing.next,
-        former: None,
-        own: None,
-    }
+    let next = standing.next;
+    [new_key(file, next, None), new_key(file, next, None)]
 }
 
 // The file, which has no live name, has that one again, and a version with the content of its last one.
@@ -223,13 +218,13 @@ fn revive_file(
     );
     let floor = standing.policy.floor().number();
     // With the name the floor is in force, and the new version counts.
-    let gone = held_back(rows, file, &standing.policy, floor.saturating_sub(1))?;
+    let gone = freed(rows, file, &standing.policy, floor.saturating_sub(1))?;
     // The name comes first: it can be taken back without memory.
     rows.names
         .add(directory, name, Target::File(file), rows.moment)?;
     match append_with(rows, file, &standing, &keys, Source::Version(last), bytes) {
         Ok(number) => {
-            take_all(&mut rows.queue, &gone);
+            take_back(&mut rows.queue, &gone);
             rows.made.names += 1;
             Ok(number)
         }

@@ -1,16 +1,25 @@
-use Rattle.ele_state.proofs.Words.{not, ap, floor_of, has_key, is_entry, is_held_back, ◌&&◌, ◌∙◌, ◌≡◌, ◌||◌}
-use Rattle.ele_state.proofs.Unlinked.{ended_book, ended_queue, last_ends, still_queued}
+use Rattle.ele_state.proofs.Words.{arith, nat_tests, placed_of, world_of, not, ap, comes, floor_of, has_key, sym, ◌&&◌, ◌∙◌, ◌≡◌, ◌||◌}
+use Rattle.ele_state.proofs.Unlinked.{ended_book, ended_queue, last_ends, name_there, still_queued}
+use Rattle.std.specs.Prelude.{max}
 use Rattle.ele_state.proofs.name.end_last_name.Goals as goal
 
-pub returns-in_err-put_ended-clause-tracked : goal.returns-in_err-put_ended-clause-tracked
-returns-in_err-put_ended-clause-tracked c =
+pub unreachable-requires : goal.unreachable-requires
+unreachable-requires c =
+    let there = name_there c.args.rows.now c.args.directory c.args.name.now c.args.file c.requires.sound c.requires.stands in
+    let none = sym c.policy_of.ensures ∙ c.in_default.is in
+    grind (arith, nat_tests, there, none)
+
+pub freed-requires : goal.freed-requires
+freed-requires c = placed_of (world_of c.args.rows.now) c.requires.sound.formed
+
+pub returns-in_err-put_changed-clause-tracked : goal.returns-in_err-put_changed-clause-tracked
+returns-in_err-put_changed-clause-tracked c =
     let rows = c.args.rows.now in
-    let policy = c.standing-standing.result.policy in
     let dead = last_ends rows c.args.directory c.args.name.now c.args.file c.requires.sound c.requires.stands c.requires.last in
-    let floor : c.number-floor.result ≡ floor_of policy = c.number-floor.ensures.value ∙ c.floor.ensures in
+    let newest : c.max.result ≡ max (floor_of c.in-Some.policy) 1 = c.max.ensures ∙ ap (λ n. max n 1) (c.number-floor.ensures.value ∙ c.floor.ensures) in
     record {
-      queue = still_queued rows c.args.directory c.args.name.now c.args.file c.requires.sound c.requires.stands dead policy c.standing-standing.ensures.stands.policy c.put_ended.new.queue
-          (λ k. c.in_err-put_ended.ensures.err k ∙ ap (λ b. not b && has_key k rows.queue) (ap (has_key k) c.deref.ensures.value ∙ c.in_ok-come.ensures k ∙ ap (λ f. is_held_back rows.groups rows.files c.args.file policy f k) floor));
+      queue = still_queued rows c.args.directory c.args.name.now c.args.file c.requires.sound c.requires.stands dead c.in-Some.policy (sym c.policy_of.ensures ∙ c.in-Some.is) c.max.result newest c.put_changed.new.queue
+          (λ k. c.in_err-put_changed.ensures.err k ∙ ap (λ b. not b && has_key k rows.queue) (ap (λ changes. comes changes k) c.deref.ensures.value ∙ c.in_ok-changes.ensures k));
       book = c.requires.sound.tracked.book;
       bounds = c.requires.sound.tracked.bounds;
     }
@@ -18,13 +27,11 @@ returns-in_err-put_ended-clause-tracked c =
 pub returns-clause-tracked : goal.returns-clause-tracked
 returns-clause-tracked c =
     let rows = c.args.rows.now in
-    let policy = c.standing-standing.result.policy in
     let dead = last_ends rows c.args.directory c.args.name.now c.args.file c.requires.sound c.requires.stands c.requires.last in
-    let floor : c.number-floor.result ≡ floor_of policy = c.number-floor.ensures.value ∙ c.floor.ensures in
+    let newest : c.max.result ≡ max (floor_of c.in-Some.policy) 1 = c.max.ensures ∙ ap (λ n. max n 1) (c.number-floor.ensures.value ∙ c.floor.ensures) in
     rw (c.kill.ensures, c.end_current.ensures.rows) (record {
-      queue = ended_queue rows c.args.directory c.args.name.now c.args.file c.requires.sound c.requires.stands dead policy c.standing-standing.ensures.stands.policy c.put_ended.new.queue
-          (λ k. rw (← c.end_moment-moment.ensures.moment, c.standing-standing.ensures.stands.next, ← c.before-last.ensures)
-          (c.in_ok-put_ended.ensures.ok k ∙ ap (λ b. is_entry c.args.file c.before-last.result c.end_moment-moment.result k || (b || has_key k rows.queue)) (ap (has_key k) c.deref.ensures.value ∙ c.in_ok-come.ensures k ∙ ap (λ f. is_held_back rows.groups rows.files c.args.file policy f k) floor)));
+      queue = ended_queue rows c.args.directory c.args.name.now c.args.file c.requires.sound c.requires.stands dead c.in-Some.policy (sym c.policy_of.ensures ∙ c.in-Some.is) c.max.result newest c.put_changed.new.queue
+          (λ k. c.in_ok-put_changed.ensures.ok k ∙ ap (λ b. b || has_key k rows.queue) (ap (λ changes. comes changes k) c.deref.ensures.value ∙ c.in_ok-changes.ensures k));
       book = ended_book rows.files c.args.file rows.moment rows.book c.requires.sound.tracked.book;
       bounds = c.requires.sound.tracked.bounds;
     })

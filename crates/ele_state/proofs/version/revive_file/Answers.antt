@@ -1,4 +1,4 @@
-use Rattle.ele_state.proofs.Words.{File, IsQueued, World, ap, cells_of_version, floor_of, has_key, is_held_back, not, placed_of, subst, sym, world_of, ◌&&◌, ◌-◌, ◌∙◌, ◌≡◌}
+use Rattle.ele_state.proofs.Words.{File, IsQueued, World, ap, cells_of_version, floor_of, comes, has_key, is_freed, not, placed_of, subst, sym, world_of, ◌&&◌, ◌-◌, ◌∙◌, ◌≡◌}
 use Rattle.ele_state.proofs.Grown.{roomy}
 use Rattle.ele_state.proofs.NewNames.{follows_new}
 use Rattle.ele_state.proofs.Revived.{named_source, revived_absent, revived_queue, revived_there, version_short}
@@ -9,6 +9,9 @@ standing-standing-requires-clause-there c = revived_there c.args.rows.now c.args
 
 pub revived_keys-keys-requires-clause-placed : goal.revived_keys-keys-requires-clause-placed
 revived_keys-keys-requires-clause-placed c = placed_of (world_of c.args.rows.now) c.requires.sound.formed
+
+pub freed-requires : goal.freed-requires
+freed-requires c = placed_of (world_of c.args.rows.now) c.requires.sound.formed
 
 pub add-requires : goal.add-requires
 add-requires c = follows_new c.args.rows.now c.args.directory c.args.name (File c.args.file) c.requires.sound c.requires.may.named.free
@@ -36,9 +39,9 @@ returns-in-Ok-clause-tracked c =
     let policy = c.standing-standing.result.policy in
     let floor : c.saturating_sub.result ≡ floor_of policy - 1 = c.saturating_sub.ensures ∙ ap (λ n. n - 1) (c.number-floor.ensures.value ∙ c.floor.ensures) in
     record {
-      queue = subst (λ (w : World). IsQueued w c.take_all.new.queue) (sym (rw c.in_ok-add.ensures.ok at c.in-Ok.ensures.ok))
-          (revived_queue rows c.args.directory c.args.name c.args.file c.requires.sound c.requires.may (cells_of_version rows.files c.args.file c.before-last.result) policy c.standing-standing.ensures.stands.policy c.revived_keys-keys.result c.append_with.new.rows.queue c.take_all.new.queue c.revived_keys-keys.ensures.keys c.revived_keys-keys.ensures.none c.in-Ok.ensures.come
-          (λ k. c.take_all.ensures k ∙ ap (λ b. not b && has_key k c.append_with.new.rows.queue) (ap (has_key k) c.deref.ensures.value ∙ c.in_ok-gone.ensures k ∙ ap (λ f. is_held_back rows.groups rows.files c.args.file policy f k) floor)));
+      queue = subst (λ (w : World). IsQueued w c.take_back.new.queue) (sym (rw c.in_ok-add.ensures.ok at c.in-Ok.ensures.ok))
+          (revived_queue rows c.args.directory c.args.name c.args.file c.requires.sound c.requires.may (cells_of_version rows.files c.args.file c.before-last.result) policy c.standing-standing.ensures.stands.policy c.revived_keys-keys.result c.append_with.new.rows.queue c.take_back.new.queue c.revived_keys-keys.ensures.keys c.revived_keys-keys.ensures.none c.in-Ok.ensures.come
+          (λ k. c.take_back.ensures k ∙ ap (λ b. not b && has_key k c.append_with.new.rows.queue) (ap (λ changes. comes changes k) c.deref.ensures.value ∙ c.in_ok-gone.ensures k ∙ ap (λ f. is_freed rows.groups rows.files c.args.file policy rows.moment f k) floor)));
       book = c.append_with.ensures.book;
       bounds = rw c.append_with.ensures.limits c.requires.sound.tracked.bounds;
     }

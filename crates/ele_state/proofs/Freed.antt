@@ -1,0 +1,54 @@
+-- The moments of a file's newest versions, where no floor keeps them.
+use Rattle.ele_state.proofs.Words.{Held, has_newer, freed_moment, is_entry, is_freed, ◌∙◌, ap, sym, subst, refl, ◌≡◌, ℕ, ◌+◌, ◌-◌, ◌==◌, nat_le, Bool, true, false, false≢true, not, not_found, ◌&&◌, ◌||◌, List, [], ◌∷◌, Option, Some, None, find, list_any, option_and_then, option_map, arith, nat_tests, and-false, or-false, AllLater, ArePlaced, VersionRow, GroupRow, Stamps, Policy, Key, stamps_of, is_version, is_version_of, is_moment, all-found, all_found, any-found, found_passes, newer_held, no_floor, with_newer, one_with_newer}
+use Rattle.ele_state.proofs.Appended.{HasNewer, none_has, one_alone, one_has}
+
+-- one more is one that has just so many newer ones
+step : (newest n : ℕ) (own m : Bool) → (own && (not (nat_le (newest + 1) n) && m)) ≡ ((own && (not (nat_le newest n) && m)) || (own && ((n == newest) && m)))
+step newest n own m = grind (arith, nat_tests)
+
+module _ (groups : List GroupRow) (h : Held) (file : ℕ) (policy : Policy) (now : ℕ) where
+  abbrev its : VersionRow → Option ℕ
+  its row = freed_moment groups h file policy now row.number row.closed row.ended
+
+  pub none_freed : (k : Key) → is_freed groups h file policy now 0 k ≡ false
+  none_freed k = rw (no_floor (newer_held h.versions file k.number)) (and-false (k.file == file))
+
+  module _ (placed : AllLater ArePlaced h.versions) (newest : ℕ) (k : Key) where
+    abbrev one_more : Bool
+    one_more = (k.file == file) && ((newer_held h.versions file k.number == newest) && is_moment k.ripe (option_and_then its (find (is_version file k.number) h.versions)))
+
+    -- it is asked of a held version alone
+    held_more : one_more ≡ ((k.file == file) && (has_newer h.versions file newest k.number && is_moment k.ripe (option_and_then its (find (is_version file k.number) h.versions))))
+    held_more = by (find (is_version file k.number) h.versions) refl where
+      by : (o : Option VersionRow) → find (is_version file k.number) h.versions ≡ o
+          → ((k.file == file) && ((newer_held h.versions file k.number == newest) && is_moment k.ripe (option_and_then its o))) ≡ ((k.file == file) && (has_newer h.versions file newest k.number && is_moment k.ripe (option_and_then its o)))
+      by None e = grind (arith, nat_tests, and-false)
+      by (Some row) e = rw (any-found (is_version file k.number) (is_version file k.number) h.versions row e (found_passes (is_version file k.number) h.versions row e)) refl
+
+    none_more : with_newer h.versions file newest ≡ None → one_more ≡ false
+    none_more none = held_more ∙ rw (none_has h.versions file newest k.number none) (and-false (k.file == file))
+
+    just_more : (row : VersionRow) → with_newer h.versions file newest ≡ Some row → one_more ≡ is_entry file row.number (its row) k
+    just_more row e = held_more ∙ rw (one_alone h.versions file newest row k.number has) (by (k.number == row.number) refl) where
+      has : HasNewer h.versions file newest row
+      has = one_has h.versions file newest row placed e
+
+      by : (b : Bool) → (k.number == row.number) ≡ b → ((k.file == file) && (b && is_moment k.ripe (option_and_then its (find (is_version file k.number) h.versions)))) ≡ (((k.file == file) && b) && is_moment k.ripe (its row))
+      by true same = let number : k.number ≡ row.number = grind (arith, nat_tests, same) in rw (number, has.found) (grind (arith, nat_tests))
+      by false apart = by_own (k.file == file) where
+        by_own : (own : Bool) → (own && false) ≡ ((own && false) && is_moment k.ripe (its row))
+        by_own true = refl
+        by_own false = refl
+
+    pub freed_same : option_map stamps_of (with_newer h.versions file newest) ≡ None → is_freed groups h file policy now (newest + 1) k ≡ is_freed groups h file policy now newest k
+    freed_same told = step newest (newer_held h.versions file k.number) (k.file == file) _ ∙ rw (none_more (by (with_newer h.versions file newest) told)) (or-false (is_freed groups h file policy now newest k)) where
+      by : (o : Option VersionRow) → option_map stamps_of o ≡ None → o ≡ None
+      by None e = refl
+      by (Some row) e = absurd cc
+
+    pub freed_more : (stamps : Stamps) → option_map stamps_of (with_newer h.versions file newest) ≡ Some stamps
+        → is_freed groups h file policy now (newest + 1) k ≡ (is_freed groups h file policy now newest k || is_entry file stamps.number (freed_moment groups h file policy now stamps.number stamps.closed stamps.ended) k)
+    freed_more stamps told = step newest (newer_held h.versions file k.number) (k.file == file) _ ∙ ap (λ b. is_freed groups h file policy now newest k || b) (by (with_newer h.versions file newest) refl told) where
+      by : (o : Option VersionRow) → with_newer h.versions file newest ≡ o → option_map stamps_of o ≡ Some stamps → one_more ≡ is_entry file stamps.number (freed_moment groups h file policy now stamps.number stamps.closed stamps.ended) k
+      by None e told = absurd cc
+      by (Some row) e told = let same : stamps_of row ≡ stamps = cc in rw (← same) (just_more row e)
