@@ -93,16 +93,21 @@ impl<C: Stepping> History<C> {
         ensures { MayRecord self.old event result self.new }
     {
         if self.is_full() {
-            return Err(Stop::HistoryFull);
+            return Err(stopped(event, Stop::HistoryFull));
         }
-        let Ok(answer) = ask(&mut self.core, &mut self.entries, &event) else {
-            return Err(Stop::NoMemory);
-        };
-        self.entries.push_reserved(Entry {
-            event,
-            reply: answer,
-        });
-        Ok(())
+        if self.entries.reserve(1).is_err() {
+            return Err(stopped(event, Stop::NoMemory));
+        }
+        match self.core.apply(&event) {
+            Ok(answer) => {
+                self.entries.push_reserved(Entry {
+                    event,
+                    reply: answer,
+                });
+                Ok(())
+            }
+            Err(_) => Err(stopped(event, Stop::NoMemory)),
+        }
     }
 
     /// Folds all entries into the base, which becomes a copy of the world, and gives back their
@@ -183,6 +188,14 @@ impl<C: Stepping> History<C> {
     {
         self.count() == self.base.limits.events()
     }
+}
+
+// Lets an event go that was stopped. What that takes of the stack, no event takes that is answered.
+#[inline(never)]
+fn stopped(_event: Event, stop: Stop) -> Stop
+    ensures { result ≡ stop }
+{
+    stop
 }
 
 // The core's answer, with room for its entry. Where memory is refused, the world is as it was.

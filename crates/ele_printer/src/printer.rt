@@ -56,7 +56,19 @@ impl<'w, W: Write> Printer<'w, W> {
         self.put_behind(bytes)
     }
 
+    /// Puts a byte behind the others. At a fault the writer took a front of all.
+    pub(crate) fn put_byte(&mut self, byte: u8) -> Result<(), WriteFault>
+        ensures { Prints W.contents self.old self.new (byte ∷ []) result }
+    {
+        if self.held.is_full() {
+            return self.put_behind(&[byte]);
+        }
+        self.held.push(byte);
+        Ok(())
+    }
+
     // Hands the bytes over before it puts others, which it holds if there is room for them.
+    #[inline(never)]
     fn put_behind(&mut self, bytes: &[u8]) -> Result<(), WriteFault>
         ensures { Prints W.contents self.old self.new bytes.now result }
     {
@@ -103,7 +115,7 @@ pub fn put_line<W: Write>(
         (line_text (first.now ∷ map (λ word. word.now) words.now)) result }
 {
     put_words(first, words, printer)?;
-    printer.put(b"\n")
+    printer.put_byte(b'\n')
 }
 
 /// Puts words with a space between each two. At a fault the writer took a front of all that was
@@ -127,6 +139,6 @@ pub fn put_words<W: Write>(
 pub fn put_word<W: Write>(word: &[u8], printer: &mut Printer<'_, W>) -> Result<(), WriteFault>
     ensures { Prints W.contents printer.old printer.new (32 ∷ word.now) result }
 {
-    printer.put(b" ")?;
+    printer.put_byte(b' ')?;
     printer.put(word)
 }

@@ -1,6 +1,7 @@
 mod Prelude
 mod Basics
 pub mod Commands
+pub mod Letters
 pub mod Behind
 pub mod Words
 pub mod Cuts

@@ -1,5 +1,5 @@
 -- The command that words begin with, looked for in a table. No public clause cites this module.
-use Rattle.std.specs.Prelude.{ℕ, List, [], ◌∷◌, Option, Some, None, map, if◌then◌else◌}
+use Rattle.std.specs.Prelude.{◌≡◌, ℕ, List, [], ◌∷◌, Option, Some, None, map, if◌then◌else◌}
 use Rattle.std.specs.Str.{bytes_eq}
 use Rattle.ele_printer.specs.declared.command.Command.{Command}
 use Rattle.ele_printer.specs.declared.command.Command.TheVariants.{Clock, Tick, MakeDir, RemoveDir, Create, Link, Unlink, Rename, Undelete, OpenWrite, OpenRead, Write, Truncate, Close, Revert, SetPolicy, Default, GroupMake, GroupDrop, GroupAdd, GroupRemove, Mark, Unmark, Clean, Read, Stat, Versions, ListNames, Restorable, Due, Usage, Groups, Pass, History, Trim}
@@ -22,8 +22,8 @@ find_command (named ∷ table) words = or_next named.1 (behind named.0 words) (f
 
 abbrev pub commands : List Command
 commands =
-    Write ∷ Read ∷ Close ∷ OpenWrite ∷ OpenRead ∷ Clock ∷ Tick ∷ Due ∷ Clean ∷ Pass ∷ Rename ∷ Unlink ∷ Undelete ∷ Create ∷ Stat ∷ Mark ∷ Unmark ∷ MakeDir ∷ RemoveDir ∷ Link
-    ∷ Truncate ∷ Revert ∷ SetPolicy ∷ Default ∷ GroupMake ∷ GroupDrop ∷ GroupAdd ∷ GroupRemove ∷ Versions ∷ ListNames ∷ Restorable ∷ Usage ∷ Groups ∷ History ∷ Trim ∷ []
+    Close ∷ Clock ∷ Clean ∷ Create ∷ Due ∷ Default ∷ GroupMake ∷ GroupDrop ∷ GroupAdd ∷ GroupRemove ∷ Groups ∷ History ∷ Link ∷ ListNames ∷ Mark ∷ MakeDir ∷ OpenWrite ∷ OpenRead ∷ Pass ∷ SetPolicy
+    ∷ Read ∷ Rename ∷ Revert ∷ RemoveDir ∷ Restorable ∷ Stat ∷ Tick ∷ Truncate ∷ Trim ∷ Unlink ∷ Undelete ∷ Unmark ∷ Usage ∷ Versions ∷ Write ∷ []
 
 -- a command with its name
 abbrev pub named : Command → List (List ℕ) × Command
@@ -32,3 +32,13 @@ named command = (command_words command, command)
 -- the command in front of the words, and the words behind it
 unfoldable pub command_of : List (List ℕ) → Option (Command × List (List ℕ))
 command_of words = find_command (map named commands) words
+
+-- the first letter of the words, if the first of them has one
+abbrev pub first_letter : List (List ℕ) → Option ℕ
+first_letter ((letter ∷ word) ∷ words) = Some letter
+first_letter words = None
+
+-- of words that begin with the letter, these rows find the command
+abbrev pub FindsAll : ℕ → List Command → Type 0
+FindsAll letter rows =
+    (word : List ℕ) (words : List (List ℕ)) → find_command (map named rows) ((letter ∷ word) ∷ words) ≡ command_of ((letter ∷ word) ∷ words)

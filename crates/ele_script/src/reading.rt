@@ -154,9 +154,21 @@ fn line_of(alloc: Global, words: &[&[u8]]) -> Result<Line, LineFault>
     line_behind(alloc, command, behind)
 }
 
-// What the words behind a command make of it. Each arm makes its line at once, so that no event is
-// moved on its way.
+// What the words behind a command make of it. Lines of the clock and of the queue come most often,
+// and are read without the room on the stack that the others take.
 fn line_behind(alloc: Global, command: Command, words: &[&[u8]]) -> Result<Line, LineFault>
+    ensures { ReadsLine command (map (λ word. word.now) words.now) result }
+{
+    match command {
+        Command::Clock => moment(words).map(|moment| Line::Event(Event::Clock(moment))),
+        Command::Due => nothing(words).map(|()| Line::Event(Event::Due)),
+        _ => line_behind_any(alloc, command, words),
+    }
+}
+
+// The same of any command. Each arm makes its line at once, so that no event is moved on its way.
+#[inline(never)]
+fn line_behind_any(alloc: Global, command: Command, words: &[&[u8]]) -> Result<Line, LineFault>
     ensures { ReadsLine command (map (λ word. word.now) words.now) result }
 {
     match command {

@@ -6,4 +6,4 @@ pub returns-in_err-put_words : goal.returns-in_err-put_words
 returns-in_err-put_words g c = puts_err _ c.from_residual.result refl c.from_residual.ensures.0 c.in_err-put_words.ensures
 
 pub returns : goal.returns
-returns g c = puts_then _ _ c.put.result refl c.in_ok-put_words.ensures c.put.ensures
+returns g c = puts_then _ _ c.put_byte.result refl c.in_ok-put_words.ensures c.put_byte.ensures

@@ -1,0 +1,24 @@
+-- The command in front of words, by the first letter of the first of them.
+use Rattle.ele_script.proofs.Basics.{nat_tests, arith, ◌≡◌, ◌≢◌, ℕ, List, [], ◌∷◌, map, refl, Some, None}
+use Rattle.ele_script.proofs.Prelude.{Command, find_command, named}
+use Rattle.ele_script.specs.CommandOf.{command_of, first_letter, FindsAll}
+
+-- words without a first letter name none
+pub no_letter : (words : List (List ℕ)) → first_letter words ≡ None → command_of words ≡ None
+unfolding command_of
+no_letter [] none = refl
+no_letter ([] ∷ words) none = refl
+no_letter ((letter ∷ word) ∷ words) none = absurd cc
+
+-- the rows of the letter find what the table finds
+pub by_letter : (words : List (List ℕ)) (letter : ℕ) (rows : List Command) → first_letter words ≡ Some letter → FindsAll letter rows → find_command (map named rows) words ≡ command_of words
+by_letter [] letter rows some finds = absurd cc
+by_letter ([] ∷ words) letter rows some finds = absurd cc
+by_letter ((first ∷ word) ∷ words) letter rows some finds =
+    let same : first ≡ letter = cc in
+    rw same (finds word words)
+
+-- no name begins with another letter than these
+pub none_begin : (letter : ℕ) → letter ≢ 99 → letter ≢ 100 → letter ≢ 103 → letter ≢ 104 → letter ≢ 108 → letter ≢ 109 → letter ≢ 111 → letter ≢ 112 → letter ≢ 114 → letter ≢ 115 → letter ≢ 116 → letter ≢ 117 → letter ≢ 118 → letter ≢ 119 → FindsAll letter []
+unfolding command_of
+none_begin letter a b c d e f g h i j k l m n = λ word words. grind (arith, nat_tests)
