@@ -4,7 +4,7 @@ pub use Rattle.ele_names.proofs.Added.{kept_over, kept_placed, kept_pushed, live
 pub use Rattle.ele_names.proofs.Apart.{named_and_live, named_dead, named_live, row_known, none_newest}
 pub use Rattle.ele_names.proofs.Chained.{chained_entered, chained_left, chained_told, cut_kept, newest_known, none_behind, own_pushed, same_seen, set_seen}
 pub use Rattle.ele_names.proofs.Indexed.{births_insert, births_remove}
-pub use Rattle.ele_names.proofs.Live.{dead_one, leaves_without, live_one, target_with, counted_same, dead_left, numbered_same, numbered_with, numbered_without, others_live, own_name, set_of_name}
+pub use Rattle.ele_names.proofs.Live.{dead_one, leaves_without, live_one, target_with, counted_same, dead_left, numbered_same, numbered_with, numbered_without, others_live, own_name}
 pub use Rattle.ele_names.proofs.Given.{listed_kept, listed_pushed, names_counted, names_pushed, same_live}
 pub use Rattle.ele_names.proofs.Gone.{fewer, found, found_known, found_target, is_newest, its_file, its_name, kept_dead, kept_without, killed, last_gone, none_of_file, others_stay}
 pub use Rattle.ele_names.proofs.Numbering.{at_last, from_values, none_past, without_last}

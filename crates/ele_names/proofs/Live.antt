@@ -1,7 +1,7 @@
 -- The live rows by directory and name, and counts of them, where one comes or goes.
-use Rattle.ele_names.proofs.Words.{◌≡◌, ℕ, Bool, true, false, cond, List, Some, None, Option, is_none, refl, sym, ap, ◌∙◌, arith, option_map, nat_cmp, is_at, nat_tests, NameRow, Target, is_named, is_live_name, live_target, Live, Lives, AreCounted, AreNumbered, Leaves, live_at, name_eq, live_in, ◌+◌, ◌-◌, ◌==◌, ◌&&◌, not, nat_lt, [], ◌∷◌, ◌++◌, count_by, list_any, AllByRecursion, AllLater, all-append, later-around, all-any, all-weaker, sum_by-around, sum_by-same, any_count, IsKept, Table, live_of, rows_of, Directory, File, is_live_name_of, is_target_file, is_live_in, is_target_directory, is_live_directory, is_live_of, Follows, target_eq}
+use Rattle.ele_names.proofs.Words.{◌≡◌, ℕ, Bool, true, false, cond, List, Some, None, Option, is_none, refl, sym, ◌∙◌, arith, option_map, nat_cmp, is_at, nat_tests, NameRow, Target, is_named, is_live_name, live_target, Live, Lives, AreCounted, AreNumbered, Leaves, live_at, live_in, ◌+◌, ◌-◌, ◌==◌, ◌&&◌, not, nat_lt, [], ◌∷◌, ◌++◌, count_by, list_any, AllByRecursion, AllLater, all-append, later-around, all-any, all-weaker, sum_by-around, sum_by-same, any_count, IsKept, Table, live_of, rows_of, Directory, File, is_live_name_of, is_target_file, is_live_in, is_target_directory, is_live_directory, is_live_of, Follows, target_eq}
 use Rattle.ele_names.proofs.Apart.{named_dead, named_live, named_and_live, same_name}
-use Rattle.ele_names.proofs.Numbers.{exact, itself}
+use Rattle.ele_names.proofs.Numbers.{itself}
 
 pub same_serial : (a b : ℕ) → is_at (nat_cmp a) b ≡ true → a ≡ b
 same_serial a b h = grind (arith, nat_tests)
@@ -19,10 +19,6 @@ numbered_same at to old new same named was = grind (arith, nat_tests, same, name
 
 pub own_name : (row : NameRow) → is_named row.directory row.name row ≡ true
 own_name row = itself (row.directory, row.name)
-
--- a row has a name where it has that of the row
-pub set_of_name : (row : NameRow) (d : ℕ) (n : List ℕ) → is_named d n row ≡ true → (e : ℕ) (m : List ℕ) (live o p : Option (Live Target)) → p ≡ cond (name_eq (d, n) (e, m)) live o → p ≡ cond (is_named e m row) live o
-set_of_name row d n named e m live o p changed = rw (ap (λ (k : ℕ × List ℕ). name_eq k (e, m)) (exact (row.directory, row.name) (d, n) named)) changed
 
 module _ (row : NameRow) (d : ℕ) (n : List ℕ) where
   unnamed : is_named d n row ≡ false → is_live_name d n row ≡ false

@@ -127,7 +127,8 @@ impl Births {
         self.set(number, Some(Born { birth, serial }));
     }
 
-    /// The last row of the name that was born by that many seconds: its birth and its serial number.
+    /// The last row of the name that was born by that many seconds, as its birth and its serial
+    /// number.
     pub fn last(&self, number: u64, birth: u64) -> Option<(u64, u64)>
         requires { AreBelow self.now }
         ensures some { IfSome result (λ e. IsLastOf (has_birth self.now number) birth e.0 e.1) }

@@ -160,8 +160,9 @@ impl Lives {
         }
     }
 
-    /// Takes out the live row of the name of that number, which stands in the directory. It takes no memory.
-    #[tactic(auto, using(crate::proofs::Words::nat_tests, crate::proofs::Given::listed_told, crate::proofs::Apart::named_and_live, crate::proofs::Live::live_one, crate::proofs::Live::left, crate::proofs::Live::set_of_name, crate::proofs::Numbers::exact))]
+    /// Takes out the live row of the name of that number, which stands in the directory. It takes
+    /// no memory.
+    #[tactic(auto, using(crate::proofs::Words::nat_tests, crate::proofs::Given::listed_told, crate::proofs::Apart::named_and_live, crate::proofs::Live::live_one, crate::proofs::Live::left))]
     pub fn end(&mut self, number: u64, directory: DirId)
         requires { number < length (names_of self.old) }
         ensures names { names_of self.new ≡ names_of self.old }
