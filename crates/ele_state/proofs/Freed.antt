@@ -1,5 +1,5 @@
 -- The moments of a file's newest versions, where no floor keeps them.
-use Rattle.ele_state.proofs.Words.{Held, has_newer, freed_moment, is_entry, is_freed, ◌∙◌, ap, sym, subst, refl, ◌≡◌, ℕ, ◌+◌, ◌-◌, ◌==◌, nat_le, Bool, true, false, false≢true, not, not_found, ◌&&◌, ◌||◌, List, [], ◌∷◌, Option, Some, None, find, list_any, option_and_then, option_map, arith, nat_tests, and-false, or-false, AllLater, ArePlaced, VersionRow, GroupRow, Stamps, Policy, Key, stamps_of, is_version, is_version_of, is_moment, all-found, all_found, any-found, found_passes, newer_held, no_floor, with_newer, one_with_newer}
+use Rattle.ele_state.proofs.Words.{Held, has_newer, freed_moment, is_entry, is_freed, ◌∙◌, ap, refl, ◌≡◌, ℕ, ◌+◌, ◌-◌, ◌==◌, nat_le, Bool, true, false, not, ◌&&◌, ◌||◌, List, Option, Some, None, find, option_and_then, option_map, arith, nat_tests, and-false, or-false, AllLater, ArePlaced, VersionRow, GroupRow, Stamps, Policy, Key, stamps_of, is_version, is_moment, any-found, found_passes, newer_held, no_floor, with_newer}
 use Rattle.ele_state.proofs.Appended.{HasNewer, none_has, one_alone, one_has}
 
 -- one more is one that has just so many newer ones

@@ -1,5 +1,5 @@
 -- The moments of versions that were current at marks: which change with the groups, and that the queue follows.
-use Rattle.ele_state.proofs.Words.{floor_in, is_live, MakeGroup, append-nil, filter, filter-append, ◌≡◌, ℕ, ◌+◌, ◌<◌, ◌==◌, ◌++◌, length, get_or, take, and-false, and_assoc, append_assoc, Bool, true, false, cond, not, ◌&&◌, ◌||◌, List, ◌∷◌, Option, Some, None, refl, ap, sym, ◌∙◌, arith, find, filter_map, list_any, cons_option, AllByRecursion, option_map, option_map_or, take_more, filter_map-append, nat_tests, IsSound, Rows, world_of, IsQueued, Joined, Marked, MarkRow, Key, has_key, Held, rows_of, all-found, found_passes, AllLater, is_moment, moment_under, covers_moment, had_life, lives_at, stamps_of, ArePlaced, HasParts, World, is_open, is_version, policy_of, GroupRow, Stamps, VersionRow, after_change, drop_moves, leave_moves, mark_moves, marks_of, member_moves, members_of, unmark_moves, MarksMove, is_covered, is_touched, in_order_of, ripe_at, ripe_at_near, placed_of, [], option_and_then, GroupChange, KeyChange, Cover, Left, Unmarked, Dropped, HasLeaving, IsIn, change_at, change_by, change_of, changes_by, comes, goes, cover_after, files_of, moments_of, moment_by, unmarked_moment, if_changed, is_entry, near_moment, newer_held, next_closing, nat_le, ripe_past, cover_of, Policy}
+use Rattle.ele_state.proofs.Words.{floor_in, is_live, MakeGroup, append-nil, filter, filter-append, ◌≡◌, ℕ, ◌==◌, and-false, and_assoc, Bool, true, false, cond, not, ◌&&◌, ◌||◌, List, ◌∷◌, Option, Some, None, refl, ap, sym, ◌∙◌, arith, find, list_any, AllByRecursion, option_map, option_map_or, nat_tests, IsSound, Rows, world_of, IsQueued, Joined, Marked, Key, has_key, Held, rows_of, all-found, found_passes, AllLater, is_moment, moment_under, covers_moment, had_life, lives_at, stamps_of, ArePlaced, HasParts, World, is_open, is_version, policy_of, GroupRow, Stamps, VersionRow, after_change, drop_moves, leave_moves, mark_moves, member_moves, members_of, unmark_moves, MarksMove, is_covered, is_touched, in_order_of, ripe_at, ripe_at_near, placed_of, [], option_and_then, GroupChange, KeyChange, Cover, Left, Unmarked, Dropped, HasLeaving, IsIn, change_at, change_by, change_of, changes_by, comes, goes, cover_after, files_of, moments_of, moment_by, unmarked_moment, if_changed, is_entry, near_moment, newer_held, next_closing, nat_le, ripe_past, cover_of, Policy}
 use Rattle.ele_state.proofs.Changes.{back_and_forth, change_comes, change_goes}
 use Rattle.std.specs.List.{flat_map}
 use Rattle.std.specs.Option.{option_eq}

@@ -14,7 +14,7 @@ ghost use Rattle.ele_world.specs.Told.{stamps_of};
 ghost use Rattle.ele_world.specs.WellFormed.{ArePlaced};
 ghost use Rattle.ele_world.specs.World.{next_of, policy_of};
 ghost use Rattle.ele_state.specs.Inside.{world_of, IsTracked};
-ghost use Rattle.ele_state.specs.Queued.{comes, former_moment, gained_moment, met_before, new_keys};
+ghost use Rattle.ele_state.specs.Queued.{comes, former_moment, new_keys};
 ghost use Rattle.ele_state.specs.Source.{HasSource, IsReady, IsRoomy, appending, source_cells};
 ghost use Rattle.ele_state.specs.Tracked.{IsBooked};
 
@@ -68,34 +68,6 @@ fn ripens_alone(
     }
 }
 
-// The ripe moment that the version of these stamps gets, while that floor is in force, as the next one closes now; none where it
-// keeps the one that it had alone, as it does without a floor under every policy that looks at no other version.
-#[tactic(auto, using(crate::proofs::Words::nat_tests, crate::proofs::Asked::met_alone))]
-fn gained_moment(
-    groups: &Groups,
-    file: FileId,
-    policy: &Policy,
-    floor: u64,
-    stamps: &Stamps,
-    now: Moment,
-) -> Option<Moment>
-    ensures { result ≡ gained_moment (cover_of groups.now file) (Some policy.now) floor now
-        stamps.now.closed stamps.now.ended }
-{
-    if ripens_alone(groups, file, policy, floor == 0, stamps) {
-        return None;
-    }
-    near_moment(
-        groups,
-        file,
-        policy,
-        &Some(now),
-        true,
-        stamps.closed,
-        stamps.ended.unwrap_or(now),
-    )
-}
-
 // What is told of the held version of a file that stands so that with the next one has as many newer ones as the floor asks; of
 // the newest where there is none.
 #[tactic(auto, using(crate::proofs::Words::nat_tests, crate::proofs::Asked::newest_gains))]
@@ -119,8 +91,9 @@ fn gaining(
     files.with_newer(file, floor - 1, meter)
 }
 
-// The ripe moment that the version gets, of which these are the stamps, as the next one closes now; none where a handle reads it.
-#[tactic(auto, using(crate::proofs::Asked::former_told, crate::proofs::Words::nat_tests))]
+// The ripe moment that the version gets, of which these are the stamps, as the next one closes now; none where a handle reads it, or
+// where it keeps the one that it had alone, as it does without a floor under every policy that looks at no other version.
+#[tactic(auto, using(crate::proofs::Asked::former_told, crate::proofs::Asked::met_alone, crate::proofs::Words::nat_tests))]
 fn former_moment(
     files: &Files,
     groups: &Groups,
@@ -138,7 +111,11 @@ fn former_moment(
     if files.is_open(file, gaining.number) {
         return None;
     }
-    gained_moment(groups, file, policy, floor, gaining, now)
+    if ripens_alone(groups, file, policy, floor == 0, gaining) {
+        return None;
+    }
+    let (closed, ended) = (gaining.closed, gaining.ended.unwrap_or(now));
+    near_moment(groups, file, policy, &Some(now), true, closed, ended)
 }
 
 // The keys that come with the next version of a file that stands so, which closes now.

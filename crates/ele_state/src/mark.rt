@@ -5,7 +5,7 @@ ghost use Rattle.std.specs.Str.{bytes_eq};
 ghost use Rattle.ele_lists.specs.Lists.{AllLater};
 ghost use Rattle.ele_world.specs.Bounds.{AreBounds};
 ghost use Rattle.ele_world.specs.Change.{after_change};
-ghost use Rattle.ele_world.specs.Cover.{cover_of, longer};
+ghost use Rattle.ele_world.specs.Cover.{cover_of};
 ghost use Rattle.ele_world.specs.GroupRows.{has_member};
 ghost use Rattle.ele_world.specs.GroupsAsked.{cover_without};
 ghost use Rattle.ele_world.specs.May.{May};
@@ -68,17 +68,6 @@ fn covers_without(
     }
 }
 
-// Where marks come that keep for so long.
-fn covers_with(more: Cover, was: &Cover) -> Covers
-    ensures was { result.was ≡ was.now }
-    ensures is { result.is ≡ longer more was.now }
-{
-    Covers {
-        was: *was,
-        is: more.longer(*was),
-    }
-}
-
 // For how long marks keep a version of the file that closed and ended then.
 fn covers_after(
     groups: &Groups,
@@ -95,12 +84,17 @@ fn covers_after(
 {
     match change {
         GroupChange::Marked(_, mark) => {
-            let was = groups.cover(file, closed, Some(ended));
-            covers_with(Cover::until(mark.until), &was)
+            let was = &groups.cover(file, closed, Some(ended));
+            let is = Cover::until(mark.until).longer(*was);
+            Covers { was: *was, is }
         }
         GroupChange::Joined(name, _) => {
-            let was = groups.cover(file, closed, Some(ended));
-            covers_with(groups.cover_by_group(name, closed, Some(ended)), &was)
+            let was = &groups.cover(file, closed, Some(ended));
+            let of_group = groups.cover_by_group(name, closed, Some(ended));
+            Covers {
+                was: *was,
+                is: of_group.longer(*was),
+            }
         }
         GroupChange::Unmarked(name, mark) => {
             covers_without(groups, name, Some(*mark), file, closed, ended)

@@ -1,12 +1,12 @@
 //! The policy of a file, and the moments that another one changes, or a floor that comes into force or goes.
-ghost use Rattle.std.specs.Prelude.{◌≡◌, ◌<◌, Some, IfOk, OnOk, OnErr};
+ghost use Rattle.std.specs.Prelude.{◌≡◌, ◌<◌, nat_le, Some, IfOk, OnOk, OnErr};
 ghost use Rattle.std.specs.List.{AllByRecursion, flat_map};
 ghost use Rattle.ele_due.specs.declared.key.Key.{Key};
 ghost use Rattle.ele_lists.specs.Lists.{AllLater};
 ghost use Rattle.ele_policy.specs.Policy.{IsPolicy};
 ghost use Rattle.ele_world.specs.Change.{PutUnder, after_change};
 ghost use Rattle.ele_world.specs.Cover.{cover_of};
-ghost use Rattle.ele_world.specs.Neighbours.{moment_under, next_closing};
+ghost use Rattle.ele_world.specs.Neighbours.{near_moment, newer_held};
 ghost use Rattle.ele_world.specs.WellFormed.{ArePlaced};
 ghost use Rattle.ele_world.specs.World.{next_of};
 ghost use Rattle.ele_state.specs.Queued.{IsTold, change_under, comes, freed_moment, if_changed, is_freed, rule_in};
@@ -60,8 +60,8 @@ fn rule_in(policy: &Policy, is_live: bool) -> Rule
     }
 }
 
-// The ripe moment under the rule of the file's version of these stamps, which ended then, while no handle reads it.
-#[tactic(auto, using(crate::proofs::Words::nat_tests, crate::proofs::Governed::under_told))]
+// The ripe moment under the rule of the file's version of these stamps, which ended then, beside which the next one closed at that
+// moment, while no handle reads it.
 fn moment_under(
     rows: &Rows,
     file: FileId,
@@ -70,16 +70,14 @@ fn moment_under(
     next_closed: &Option<Moment>,
     ended: Moment,
 ) -> Option<Moment>
-    requires told { IsTold rows.now.files file stamps.now }
-    requires ended { stamps.now.ended ≡ Some ended }
-    requires next { next_closed.now ≡ next_closing rows.now.files.versions file stamps.now.number }
-    ensures { result ≡ moment_under (cover_of rows.now.groups file) (Some rule.now.policy)
-        rule.now.floor rows.now.files.versions file stamps.now.number }
+    ensures { result ≡ near_moment (cover_of rows.now.groups file) (Some rule.now.policy)
+        next_closed.now (nat_le rule.now.floor (newer_held rows.now.files.versions file
+        stamps.now.number)) stamps.now.closed ended }
 {
-    let (policy, floor) = (&rule.policy, rule.floor);
+    let (number, policy) = (stamps.number, &rule.policy);
     let floor_met = rows
         .files
-        .has_newer(file, stamps.number, floor, &mut Meter::new());
+        .has_newer(file, number, rule.floor, &mut Meter::new());
     let closed = stamps.closed;
     near_moment(
         &rows.groups,

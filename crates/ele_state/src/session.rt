@@ -233,7 +233,7 @@ fn unread(
     ensures tracked { IsTracked rows.new }
 {
     let is_live = rows.names.is_live(file);
-    let moment = free_moment(
+    let moment = &free_moment(
         &rows.files,
         &rows.groups,
         is_live,
@@ -241,20 +241,12 @@ fn unread(
         number,
         &mut rows.meter,
     );
-    put(&mut rows.queue, file, number, moment)?;
+    put(&mut rows.queue, file, number, *moment)?;
     rows.files.leave(handle);
     if !rows.files.is_open(file, number) {
         return Ok(None);
     }
-    let moment = free_moment(
-        &rows.files,
-        &rows.groups,
-        is_live,
-        file,
-        number,
-        &mut rows.meter,
-    );
-    take(&mut rows.queue, file, number, moment);
+    take(&mut rows.queue, file, number, *moment);
     Ok(None)
 }
 
