@@ -1,12 +1,11 @@
 -- The answer to a line, and its block.
-use Rattle.ele_runs.proofs.Basics.{◌≡◌, ◌≢◌, ℕ, ◌<◌, ◌≤◌, ◌+◌, Bool, true, false, List, [], ◌∷◌, length, Option, Some, None, Result, Ok, Err, ◌⊎◌, inl, inr, refl, sym, ap, subst, append_assoc, arith, nat_tests, ◌++◌, ◌-◌, ◌==◌, ◌∙◌, IsErr, length-append, slice_get}
+use Rattle.ele_runs.proofs.Basics.{◌≡◌, ◌≢◌, ℕ, ◌≤◌, ◌+◌, Bool, true, false, List, [], ◌∷◌, length, Option, Some, None, Result, Ok, Err, ◌⊎◌, inl, inr, refl, sym, ap, subst, append_assoc, arith, nat_tests, ◌++◌, ◌-◌, ◌∙◌, IsErr, length-append, slice_get}
 use Rattle.std.specs.Prelude.{not, ◌&&◌, if◌then◌else◌}
 use Rattle.std.specs.Option.{option_and_then}
 use Rattle.ele_world.specs.World.{World}
-use Rattle.ele_runs.proofs.Words.{Reply, Stop, HistoryFull, AppendsFront, Course, Outlet, Takes, TakesFront, Puts, HasRoom, recorded, MayReply, MayAnswer, as_entry, as_read, as_trim, IsBlock, IsTold, cut_block, cut_told, front_of, gone_on, heard, is_well, MayPass, Past, trimmed, PutsBlock, reply_to, world_of}
+use Rattle.ele_runs.proofs.Words.{Reply, Stop, HistoryFull, AppendsFront, Course, Outlet, Takes, TakesFront, Puts, HasRoom, IsNoted, recorded, MayReply, MayAnswer, as_entry, as_read, as_trim, IsTold, cut_told, front_of, heard, is_well, noting, MayPass, Past, PutsBlock, reply_to, world_of}
 use Rattle.ele_world.specs.declared.entry.Entry.{Entry}
 use Rattle.ele_world.specs.declared.event.Event.{Event}
-use Rattle.ele_world.specs.declared.refusal.Refusal.{Refusal}
 use Rattle.ele_world.specs.declared.refusal.Stop.TheVariants.{NoMemory}
 use Rattle.ele_world.specs.declared.reply.Reply.TheVariants as reply
 use Rattle.ele_script.specs.Spells.{Asks, AsksEvent}
@@ -15,8 +14,7 @@ use Rattle.ele_script.specs.declared.kind.WordKind.{WordKind}
 use Rattle.ele_script.specs.declared.question.Question.{Question}
 use Rattle.ele_script.specs.FirstFault.{IsFirstFault}
 use Rattle.ele_script.specs.Memory.{TakesMemory}
-use Rattle.ele_printer.specs.HistoryText.{history_text, trimmed_text}
-use Rattle.ele_printer.specs.Printed.{IsReplyText, stop_text, pass_text, bad_text}
+use Rattle.ele_printer.specs.Printed.{IsReplyText, stop_text, bad_text}
 use Rattle.ele_printer.specs.Why.{ahead_text, why_text}
 use Rattle.ele_script.specs.Words.{words_of}
 use Rattle.ele_printer.specs.declared.fault.LineFault.{LineFault}
@@ -38,7 +36,7 @@ use Rattle.ele_world.specs.declared.fate.Fate.{Fate}
 use Rattle.ele_world.specs.declared.fate.Fate.TheVariants as fate
 use Rattle.ele_runs.specs.Written.{WritesLast}
 use Rattle.ele_runs.proofs.InTime.{IsInTime, asked_in_time, some_text, told_in_time}
-use Rattle.ele_runs.proofs.Joins.{front_behind, front_then, takes_nil, takes_then}
+use Rattle.ele_runs.proofs.Joins.{front_behind, front_then, takes_then}
 
 -- what an event may be answered, the line that spells it may be
 pub may_answer : (before after : Past) (line : List ℕ) (event : Event) (r : Result Reply Stop)
@@ -311,16 +309,22 @@ heard_next before after line said past fine kept well is = rw is (record {
   after_is = λ text told. ap (λ (b : Bool). record before { past = past; number = before.number + 1; ended = before.manner.strict && not b }) (well text told);
 })
 
+-- what is told beside the answer, whatever its text is
+abbrev Notes : Course → Option (List ℕ) → Said → Option (List ℕ) → Option (List ℕ) → Type 0
+Notes after line said old new = (text : List ℕ) → IsSaidText after.past said text → IsNoted after.manner after.number line text old new
+
 -- and what is told for it is known
-told_next : (before after : Course) (line : Option (List ℕ)) (said : Said) (text : List ℕ) → before.ended ≡ false → HearsNext before line said after
-    → IsSaidText after.past said text → IsTold before line (said_front after.manner after.number said ++ text) after
-told_next before after line said text on hears is = record {
+told_next : (before after : Course) (line : Option (List ℕ)) (said : Said) (text : List ℕ) (old new : Option (List ℕ)) → before.ended ≡ false → HearsNext before line said after
+    → Notes after line said old new → IsSaidText after.past said text → IsTold (noting before old) line (said_front after.manner after.number said ++ text) (noting after new)
+told_next before after line said text old new on hears noted is = record {
   block = text;
   past = after.past;
+  notes = new;
   goes_on = on;
   is = hears.kept.block text is;
   told_is = ap (λ (w : List ℕ). w ++ text) (ap (λ (m : Manner). said_front m after.number said) hears.manner ∙ ap (λ (n : ℕ). said_front before.manner n said) hears.number ∙ hears.kept.front (before.number + 1));
-  after_is = hears.after_is text is;
+  noted = subst (λ (n : ℕ). IsNoted before.manner n line text old new) hears.number (subst (λ (m : Manner). IsNoted m after.number line text old new) hears.manner (noted text is));
+  after_is = ap (λ (course : Course). noting course new) (hears.after_is text is);
 }
 
 -- all of x was put, and then y or a front of it
@@ -339,33 +343,36 @@ puts_some a b x y (Err e) is p = record { same = p.same; front = front_more a b 
         record { front = q.front.front; back = q.front.back ++ y; parts = parts; written = q.front.written }
 
 -- the number in front and the text were put
-put_here : {A E : Type 0} (before after : Course) (line : Option (List ℕ)) (said : Said) (a b c : Outlet) (r : Result A E) → before.ended ≡ false → HearsNext before line said after
-    → Takes a b (said_front after.manner after.number said) → (text : List ℕ) × IsSaidText after.past said text × Puts b c text r → PutsBlock before line after a c r
-put_here before after line said a b c r on hears front told = record {
+put_here : {A E : Type 0} (before after : Course) (line : Option (List ℕ)) (said : Said) (old new : Option (List ℕ)) (a b c : Outlet) (r : Result A E) → before.ended ≡ false → HearsNext before line said after
+    → Notes after line said old new → Takes a b (said_front after.manner after.number said) → (text : List ℕ) × IsSaidText after.past said text × Puts b c text r
+    → PutsBlock (noting before old) line (noting after new) a c r
+put_here before after line said old new a b c r on hears noted front told = record {
   block = said_front after.manner after.number said ++ told.0;
-  is = told_next before after line said told.0 on hears told.1;
+  is = told_next before after line said told.0 old new on hears noted told.1;
   put = puts_both a b c (said_front after.manner after.number said) told.0 r front told.2;
 }
 
-pub block_put : {A E : Type 0} (before after view : Course) (line : Option (List ℕ)) (said : Said) (a b c : Outlet) (r : Result A E) → view ≡ after → before.ended ≡ false → HearsNext before line said after
-    → Takes a b (said_front view.manner view.number said) → (text : List ℕ) × IsSaidText view.past said text × Puts b c text r → PutsBlock before line after a c r
-block_put {A} {E} before after view line said a b c r is on hears front told =
-    subst (λ (course : Course). PutsBlock before line course a c r) is
-    (put_here before view line said a b c r on (subst (λ (course : Course). HearsNext before line said course) (sym is) hears) front told)
+pub block_put : {A E : Type 0} (before after view : Course) (line : Option (List ℕ)) (said : Said) (old new : Option (List ℕ)) (a b c : Outlet) (r : Result A E) → view ≡ after → before.ended ≡ false → HearsNext before line said after
+    → Notes after line said old new → Takes a b (said_front view.manner view.number said) → (text : List ℕ) × IsSaidText view.past said text × Puts b c text r
+    → PutsBlock (noting before old) line (noting after new) a c r
+block_put {A} {E} before after view line said old new a b c r is on hears noted front told =
+    subst (λ (course : Course). PutsBlock (noting before old) line (noting course new) a c r) is
+    (put_here before view line said old new a b c r on (subst (λ (course : Course). HearsNext before line said course) (sym is) hears) (subst (λ (course : Course). Notes course line said old new) (sym is) noted) front told)
 
 -- the writer failed in that number
-cut_here : {A E : Type 0} (before after : Course) (line : Option (List ℕ)) (said : Said) (a b : Outlet) (r : Result A E) → before.ended ≡ false → HearsNext before line said after
-    → HasText after.past said → IsErr r → TakesFront a b (said_front after.manner after.number said) → PutsBlock before line after a b r
-cut_here before after line said a b r on hears told is front = record {
+cut_here : {A E : Type 0} (before after : Course) (line : Option (List ℕ)) (said : Said) (old new : Option (List ℕ)) (a b : Outlet) (r : Result A E) → before.ended ≡ false → HearsNext before line said after
+    → Notes after line said old new → HasText after.past said → IsErr r → TakesFront a b (said_front after.manner after.number said) → PutsBlock (noting before old) line (noting after new) a b r
+cut_here before after line said old new a b r on hears noted told is front = record {
   block = said_front after.manner after.number said ++ told.0;
-  is = told_next before after line said told.0 on hears told.1;
+  is = told_next before after line said told.0 old new on hears noted told.1;
   put = puts_some a b (said_front after.manner after.number said) told.0 r is front;
 }
 
-pub block_cut : {A E : Type 0} (before after view : Course) (line : Option (List ℕ)) (said : Said) (a b : Outlet) (r : Result A E) → view ≡ after → before.ended ≡ false → HearsNext before line said after
-    → IsErr r → TakesFront a b (said_front view.manner view.number said) → PutsBlock before line after a b r
-block_cut {A} {E} before after view line said a b r same on hears is front =
-    cut_here before after line said a b r on hears hears.kept.has_text is (subst (λ (course : Course). TakesFront a b (said_front course.manner course.number said)) same front)
+pub block_cut : {A E : Type 0} (before after view : Course) (line : Option (List ℕ)) (said : Said) (old new : Option (List ℕ)) (a b : Outlet) (r : Result A E) → view ≡ after → before.ended ≡ false → HearsNext before line said after
+    → Notes after line said old new → IsErr r → TakesFront a b (said_front view.manner view.number said) → PutsBlock (noting before old) line (noting after new) a b r
+block_cut {A} {E} before after view line said old new a b r same on hears noted is front =
+    cut_here before after line said old new a b r on hears noted hears.kept.has_text is
+    (subst (λ (course : Course). TakesFront a b (said_front course.manner course.number said)) same front)
 
 -- what is held fails to be handed over, with what is told for a last line behind it
 pub finishes_front : {E : Type 0} (course : Course) (buffer : Option (List ℕ)) (a b c : Outlet) (r : Result RunEnd E) → IsErr r

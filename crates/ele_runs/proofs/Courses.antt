@@ -1,5 +1,5 @@
 -- What stays in a run, and which runs are ended.
-use Rattle.ele_runs.proofs.Basics.{◌≡◌, ◌⊎◌, inl, inr, Bool, true, false, ℕ, List, [], ◌∷◌, Option, refl, sym, ap, subst, ◌∙◌}
+use Rattle.ele_runs.proofs.Basics.{◌≡◌, ◌⊎◌, inl, inr, Bool, true, false, ℕ, List, [], ◌∷◌, Option, refl, sym, ap, ◌∙◌}
 use Rattle.ele_runs.proofs.Words.{AreTold, Course, IsTold, is_well, line_unless_long}
 use Rattle.std.specs.Prelude.{not, ◌&&◌}
 use Rattle.ele_runs.specs.declared.manner.Manner.{Manner}

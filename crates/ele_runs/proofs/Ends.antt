@@ -1,15 +1,18 @@
 -- How a run ends.
 use Rattle.ele_runs.proofs.Basics.{◌≡◌, ◌≢◌, true, length-append, ℕ, ◌+◌, ◌≤◌, List, [], ◌∷◌, ◌++◌, length, take, get_or, min, ◌-◌, Option, Some, None, Result, Ok, Err, refl, sym, ap, subst, ◌∙◌, arith, append_assoc, inl, inr, append-nil, length-take, nat_tests}
 use Rattle.ele_runs.proofs.Basics.{flat_map-append, cases_order, IfOk, AllByRecursion, Consumes, Keeps, Appends, IsAtEnd, Consumes-trans, Consumes-kept, Appends-trans}
-use Rattle.ele_runs.proofs.Words.{AppendsFront, Outlet, Takes, TakesFront, longest_line, cut_count, cut_told, end_by, most_lines, line_unless_long, IsUnbroken, whole_line, whole_lines, line_count, AreTold, AnswersLast, AnswersSome, Course}
+use Rattle.ele_runs.proofs.Words.{AppendsFront, Outlet, cut_note, Takes, TakesFront, longest_line, cut_count, cut_told, end_by, most_lines, line_unless_long, IsUnbroken, whole_line, whole_lines, line_count, AreTold, AnswersLast, AnswersSome, Course}
 use Rattle.ele_runs.specs.declared.fault.ShellFault.{ShellFault}
 use Rattle.ele_runs.specs.declared.fault.ShellFault.TheVariants.{ReadFault}
+use Rattle.ele_runs.specs.declared.end.EndLine.{EndLine}
 use Rattle.ele_runs.specs.declared.end.RunEnd.{RunEnd}
-use Rattle.ele_runs.specs.Telling.{EndsCut, EndsWhole, HasTold, Tells, ToldPastABound, ToldToAWriteFault, ToldToAnEnd, ToldToTheEnd}
+use Rattle.ele_runs.specs.Telling.{HasTold, Tells, ToldPastABound, ToldToAWriteFault, ToldToAnEnd, ToldToTheEnd}
 use Rattle.ele_runs.specs.Written.{RunsAt}
 use Rattle.ele_runs.specs.Taken.{TakesPiece}
 use Rattle.std.specs.Prelude.{Bool, false, nat_le, if◌then◌else◌}
 use Rattle.ele_runs.proofs.Courses.{clash, manner_stays, strict_run}
+use Rattle.std.proofs.KnownBytes.{Keeps-refl}
+use Rattle.ele_runs.proofs.Notes.{strict_cut}
 use Rattle.ele_runs.proofs.Joins.{told_append, front_behind, front_then, all_both, takes_over, takes_then}
 use Rattle.ele_runs.specs.declared.manner.Manner.{Manner}
 use Rattle.ele_runs.proofs.Ran.{RanSoFar, written_all, few_whole}
@@ -27,7 +30,7 @@ known_more None rest given taken = ([], tt)
 -- the writer failed in the blocks of these lines, whatever comes behind them
 fails_in : (start state : Course) (given part text : List ℕ) (lines : List (List ℕ)) (input rest old new : Option (List ℕ))
     → given ≡ whole_lines lines ++ part → AllByRecursion IsUnbroken lines → AreTold start lines text state → Consumes input rest given
-    → AppendsFront old new text → ToldToAWriteFault start input old new
+    → AppendsFront old new text → ToldToAWriteFault start input old new state.notes
 fails_in start state given part text lines input rest old new e whole blocks taken front =
     let more = known_more input rest given taken in
     record {
@@ -38,7 +41,7 @@ fails_in start state given part text lines input rest old new e whole blocks tak
       input_is = subst (λ (xs : List ℕ). Keeps input (Some xs)) (ap (λ (w : List ℕ). w ++ more.0) e ∙ append_assoc (whole_lines lines) part more.0) more.1;
       whole = whole;
       told = blocks;
-      written = inl front;
+      written = inl (front, Keeps-refl _);
     }
 
 -- a last line counts as its block does
@@ -65,13 +68,17 @@ never_ended course None e = rw e refl
 never_ended course (Some []) e = refl
 never_ended course (Some (byte ∷ bytes)) e = rw e refl
 
+-- a last line that ends a run
+abbrev cut_line : Option (List ℕ) → EndLine
+cut_line line = record { line = line; is_cut = true }
+
 ended_so : (test : Bool) (course : Course) (byte : ℕ) (bytes : List ℕ) → course.manner.strict ≡ true
-    → end_by course (if test then Some (byte ∷ bytes) else None) ≡ Some (if test then Some (byte ∷ bytes) else None)
+    → end_by course (if test then Some (byte ∷ bytes) else None) ≡ Some (cut_line (if test then Some (byte ∷ bytes) else None))
 ended_so true course byte bytes e = rw e refl
 ended_so false course byte bytes e = rw e refl
 
 ended_cut : (course : Course) (byte : ℕ) (bytes : List ℕ) → course.manner.strict ≡ true
-    → end_by course (line_unless_long (byte ∷ bytes)) ≡ Some (line_unless_long (byte ∷ bytes))
+    → end_by course (line_unless_long (byte ∷ bytes)) ≡ Some (cut_line (line_unless_long (byte ∷ bytes)))
 ended_cut course byte bytes e = ended_so (nat_le (length (byte ∷ bytes)) longest_line) course byte bytes e
 
 one_so : (test : Bool) (byte : ℕ) (bytes : List ℕ) → cut_count (if test then Some (byte ∷ bytes) else None) ≡ 1
@@ -91,7 +98,7 @@ handed_front a b c text p q = record { same = q.0 ∙ p.same; front = rw p.parts
 
 module _ {start state : Course} {room : ℕ} {buffer input mid : Option (List ℕ)} {old so_far : Outlet} (ran : RanSoFar start state room buffer input mid old so_far) where
   -- the writer failed as it was handed what is held
-  pub ends_over : (new : Outlet) → AppendsFront so_far.known new.known so_far.held → ToldToAWriteFault start input old.known new.known
+  pub ends_over : (new : Outlet) → AppendsFront so_far.known new.known so_far.held → ToldToAWriteFault start input old.known new.known state.notes
   ends_over new front =
       let parts : ran.text ≡ ran.put.sent ++ so_far.held = cc (ran.none, ran.put.parts) in
       fails_in start state ran.given ran.part ran.text ran.lines input mid old.known new.known ran.are.parts ran.are.whole ran.told ran.taken
@@ -99,7 +106,7 @@ module _ {start state : Course} {room : ℕ} {buffer input mid : Option (List �
 
   -- the reader failed
   pub ends_read : (rest : Option (List ℕ)) (most : ℕ) (piece : List ℕ) (fault : ShellFault) → so_far.held ≡ [] → TakesPiece mid rest most piece (Err fault)
-      → Tells start input rest old.known so_far.known (Err fault)
+      → Tells start input rest old.known so_far.known state.notes (Err fault)
   ends_read rest most piece ReadFault none keeps = record {
     given = ran.given;
     lines = ran.lines;
@@ -113,12 +120,13 @@ module _ {start state : Course} {room : ℕ} {buffer input mid : Option (List �
     told = ran.told;
     goes_on = ran.goes_on;
     written = written_all ran none;
+    noted = Keeps-refl _;
   }
   ends_read rest most piece fault none h = absurd h
 
   -- a byte stands behind as much as a script may be
   pub ends_past : (rest : Option (List ℕ)) (piece : List ℕ) (count : ℕ) → so_far.held ≡ [] → min room (most_lines - state.number) ≡ 0 → 1 ≤ length piece → count ≡ 1
-      → Consumes mid rest (take count piece) → ToldPastABound start input rest old.known so_far.known
+      → Consumes mid rest (take count piece) → ToldPastABound start input rest old.known so_far.known state.notes
   ends_past rest piece count none full some one took = record {
     given = ran.given;
     byte = get_or piece 0 0;
@@ -140,6 +148,7 @@ module _ {start state : Course} {room : ℕ} {buffer input mid : Option (List �
     told = ran.told;
     goes_on = ran.goes_on;
     written = written_all ran none;
+    noted = Keeps-refl _;
   }
 
   -- a last line counts as its block does
@@ -151,6 +160,9 @@ module _ {start state : Course} {room : ℕ} {buffer input mid : Option (List �
   cut_is : so_far.held ≡ [] → so_far.held ++ cut_told state buffer ≡ cut_told state (line_unless_long ran.part)
   cut_is e = ap (λ (w : List ℕ). w ++ cut_told state buffer) e ∙ ap (cut_told state) ran.keeps
 
+  note_is : (notes : Option (List ℕ)) → AppendsFront state.notes notes (cut_note state buffer) → AppendsFront state.notes notes (cut_note state (line_unless_long ran.part))
+  note_is notes told = subst (λ (b : Option (List ℕ)). AppendsFront state.notes notes (cut_note state b)) ran.keeps told
+
   all_taken : (rest : Option (List ℕ)) → Consumes mid rest [] → Consumes input rest ran.given
   all_taken rest took = subst (Consumes input rest) (append-nil ran.given) (Consumes-trans input mid rest ran.given [] ran.taken took)
 
@@ -161,10 +173,10 @@ module _ {start state : Course} {room : ℕ} {buffer input mid : Option (List �
       (subst (Appends so_far.known new.known) (cut_is none) done)
 
   -- the input ends, and no last line ends the run
-  ends_all : (rest : Option (List ℕ)) (new : Outlet) (count : ℕ) → so_far.held ≡ [] → Consumes mid rest [] → IsAtEnd rest
+  ends_all : (rest notes : Option (List ℕ)) (new : Outlet) (count : ℕ) → so_far.held ≡ [] → Consumes mid rest [] → IsAtEnd rest
       → count ≡ state.number + cut_count buffer → (start.manner.strict ≡ true → ran.part ≡ [])
-      → Appends so_far.known new.known (so_far.held ++ cut_told state buffer) → ToldToTheEnd start count input rest old.known new.known
-  ends_all rest new count none took at_end is uncut done =
+      → Appends so_far.known new.known (so_far.held ++ cut_told state buffer) → AppendsFront state.notes notes (cut_note state buffer) → ToldToTheEnd start count input rest old.known new.known notes
+  ends_all rest notes new count none took at_end is uncut done noted =
       let counted = counted_cut count is in
       record {
         given = ran.given;
@@ -182,13 +194,14 @@ module _ {start state : Course} {room : ℕ} {buffer input mid : Option (List �
         goes_on = ran.goes_on;
         uncut = uncut;
         written = all_written new none done;
+        noted = note_is notes noted;
       }
 
   -- it does
-  ends_cut : (rest : Option (List ℕ)) (new : Outlet) (count : ℕ) (kept : Option (List ℕ)) → so_far.held ≡ [] → Consumes mid rest [] → IsAtEnd rest
+  ends_cut : (rest notes : Option (List ℕ)) (new : Outlet) (count : ℕ) (kept : Option (List ℕ)) → so_far.held ≡ [] → Consumes mid rest [] → IsAtEnd rest
       → count ≡ state.number + 1 → kept ≡ buffer → start.manner.strict ≡ true → ran.part ≢ []
-      → Appends so_far.known new.known (so_far.held ++ cut_told state buffer) → ToldToAnEnd start count kept input rest old.known new.known
-  ends_cut rest new count kept none took at_end is same strict some done =
+      → Appends so_far.known new.known (so_far.held ++ cut_told state buffer) → Keeps state.notes notes → ToldToAnEnd start count (cut_line kept) input rest old.known new.known notes
+  ends_cut rest notes new count kept none took at_end is same strict some done noted =
       record {
         given = ran.given;
         lines = ran.lines;
@@ -200,38 +213,39 @@ module _ {start state : Course} {room : ℕ} {buffer input mid : Option (List �
         unbroken = ran.are.cut;
         count = omega (arith, is, ran.count);
         keeps = same ∙ ran.keeps;
-        by = inr (record { text = ran.text; course = state; parts = ran.are.parts; at_end = at_end; some = some; are = ran.told; goes_on = ran.goes_on; told_is = refl });
+        by = record { text = ran.text; course = state; parts = ran.are.parts; at_end = at_end; some = some; are = ran.told; goes_on = ran.goes_on; told_is = refl; noted = noted };
         written = all_written new none done;
       }
 
   -- whether it does is told
-  module _ (rest : Option (List ℕ)) (new : Outlet) (count : ℕ) (kept : Option (Option (List ℕ))) (none : so_far.held ≡ []) (took : Consumes mid rest []) (at_end : IsAtEnd rest)
-      (is : count ≡ state.number + cut_count buffer) (by : kept ≡ end_by state buffer) (done : Appends so_far.known new.known (so_far.held ++ cut_told state buffer)) where
+  module _ (rest notes : Option (List ℕ)) (new : Outlet) (count : ℕ) (kept : Option EndLine) (none : so_far.held ≡ []) (took : Consumes mid rest []) (at_end : IsAtEnd rest)
+      (is : count ≡ state.number + cut_count buffer) (by : kept ≡ end_by state buffer) (done : Appends so_far.known new.known (so_far.held ++ cut_told state buffer)) (noted : AppendsFront state.notes notes (cut_note state buffer)) where
     strict_is : state.manner.strict ≡ start.manner.strict
     strict_is = ap (λ (m : Manner). m.strict) (manner_stays start state ran.lines ran.text ran.told)
 
     buffer_is : (part : List ℕ) → ran.part ≡ part → buffer ≡ line_unless_long part
     buffer_is part e = ran.keeps ∙ ap line_unless_long e
 
-    by_part : (part : List ℕ) → ran.part ≡ part → (strict : Bool) → start.manner.strict ≡ strict → HasTold start input rest old.known new.known count kept
+    by_part : (part : List ℕ) → ran.part ≡ part → (strict : Bool) → start.manner.strict ≡ strict → HasTold start input rest old.known new.known notes count kept
     by_part part e false s =
-        subst (HasTold start input rest old.known new.known count) (sym (by ∙ never_ended state buffer (strict_is ∙ s)))
-        (ends_all rest new count none took at_end is (λ t. clash start.manner.strict t s) done)
+        subst (HasTold start input rest old.known new.known notes count) (sym (by ∙ never_ended state buffer (strict_is ∙ s)))
+        (ends_all rest notes new count none took at_end is (λ t. clash start.manner.strict t s) done noted)
     by_part [] e true s =
-        subst (HasTold start input rest old.known new.known count) (sym (by ∙ ap (end_by state) (buffer_is [] e))) (ends_all rest new count none took at_end is (λ t. e) done)
+        subst (HasTold start input rest old.known new.known notes count) (sym (by ∙ ap (end_by state) (buffer_is [] e))) (ends_all rest notes new count none took at_end is (λ t. e) done noted)
     by_part (byte ∷ bytes) e true s =
         let buffered = buffer_is (byte ∷ bytes) e in
-        let ended : end_by state buffer ≡ Some buffer = ap (end_by state) buffered ∙ ended_cut state byte bytes (strict_is ∙ s) ∙ ap Some (sym buffered) in
-        subst (HasTold start input rest old.known new.known count) (sym (by ∙ ended))
-        (ends_cut rest new count buffer none took at_end (is ∙ ap (λ (b : Option (List ℕ)). state.number + cut_count b) buffered ∙ ap (λ (m : ℕ). state.number + m) (counts_one byte bytes)) refl s (λ h. filled ran.part byte bytes e h) done)
+        let ended : end_by state buffer ≡ Some (cut_line buffer) =
+        ap (end_by state) buffered ∙ ended_cut state byte bytes (strict_is ∙ s) ∙ ap (λ (b : Option (List ℕ)). Some (cut_line b)) (sym buffered) in
+        subst (HasTold start input rest old.known new.known notes count) (sym (by ∙ ended))
+        (ends_cut rest notes new count buffer none took at_end (is ∙ ap (λ (b : Option (List ℕ)). state.number + cut_count b) buffered ∙ ap (λ (m : ℕ). state.number + m) (counts_one byte bytes)) refl s (λ h. filled ran.part byte bytes e h) done (strict_cut state buffer state.notes notes (strict_is ∙ s) noted))
 
-    pub ends_by : HasTold start input rest old.known new.known count kept
+    pub ends_by : HasTold start input rest old.known new.known notes count kept
     ends_by = by_part ran.part refl start.manner.strict refl
 
   -- the writer failed in the block of a last line without its line feed
-  pub ends_in_cut : (rest : Option (List ℕ)) (new : Outlet) → so_far.held ≡ [] → Consumes mid rest [] → IsAtEnd rest
-      → AppendsFront so_far.known new.known (so_far.held ++ cut_told state buffer) → ToldToAWriteFault start input old.known new.known
-  ends_in_cut rest new none took at_end front = record {
+  pub ends_in_cut : (rest notes : Option (List ℕ)) (new : Outlet) → so_far.held ≡ [] → Consumes mid rest [] → IsAtEnd rest
+      → AppendsFront so_far.known new.known (so_far.held ++ cut_told state buffer) → AppendsFront state.notes notes (cut_note state buffer) → ToldToAWriteFault start input old.known new.known notes
+  ends_in_cut rest notes new none took at_end front noted = record {
     lines = ran.lines;
     rest = ran.part;
     text = ran.text;
@@ -244,12 +258,13 @@ module _ {start state : Course} {room : ℕ} {buffer input mid : Option (List �
       ran.are.cut,
       front_behind old.known so_far.known new.known ran.text (cut_told state (line_unless_long ran.part)) (written_all ran none)
           (subst (AppendsFront so_far.known new.known) (cut_is none) front),
+      note_is notes noted,
     );
   }
 
   -- the writer failed in the blocks of the lines of a piece
   pub ends_in_piece : (after : Course) (rest : Option (List ℕ)) (new : Outlet) (piece : List ℕ) → Consumes mid rest piece
-      → AnswersSome state after ran.part piece so_far new → ToldToAWriteFault start input old.known new.known
+      → AnswersSome state after ran.part piece so_far new → ToldToAWriteFault start input old.known new.known after.notes
   ends_in_piece after rest new piece took did =
       fails_in start after (ran.given ++ piece) did.rest (ran.text ++ did.text) (ran.lines ++ did.lines) input rest old.known new.known
       (ap (λ (w : List ℕ). w ++ piece) ran.are.parts ∙ append_assoc (whole_lines ran.lines) ran.part piece ∙ ap (λ (w : List ℕ). whole_lines ran.lines ++ w) did.parts
@@ -262,7 +277,7 @@ module _ {start state : Course} {room : ℕ} {buffer input mid : Option (List �
   -- a line of a piece ended the run
   pub ends_last : (after : Course) (rest : Option (List ℕ)) (new over : Outlet) (piece : List ℕ) (kept : Option (List ℕ)) → Consumes mid rest piece
       → AnswersLast state after ran.part piece kept so_far new → (over.writer ≡ new.writer) × (over.held ≡ []) × Appends new.known over.known new.held
-      → ToldToAnEnd start after.number kept input rest old.known over.known
+      → ToldToAnEnd start after.number (record { line = kept; is_cut = false }) input rest old.known over.known after.notes
   ends_last after rest new over piece kept took did handed =
       let parts = ap (λ (w : List ℕ). w ++ piece) ran.are.parts ∙ append_assoc (whole_lines ran.lines) ran.part piece ∙ ap (λ (w : List ℕ). whole_lines ran.lines ++ w) did.parts
       ∙ sym (append_assoc (whole_lines ran.lines) (whole_lines (did.lines ++ did.line ∷ [])) did.rest) in
@@ -278,20 +293,21 @@ module _ {start state : Course} {room : ℕ} {buffer input mid : Option (List �
         unbroken = did.unbroken;
         count = omega (arith, did.counted, ran.count, length-append ran.lines did.lines);
         keeps = did.keeps;
-        by = inl (record {
+        by = record {
           behind = did.rest;
           course = after;
           parts = parts ∙ ap (λ (w : List ℕ). w ++ did.rest) (sym (flat_map-append whole_line ran.lines (did.lines ++ did.line ∷ [])) ∙ ap whole_lines lines);
           are = subst (λ (xs : List (List ℕ)). AreTold start xs (ran.text ++ did.text) after) lines
               (told_append start state after ran.lines (did.lines ++ did.line ∷ []) ran.text did.text ran.told did.told);
           ended = did.ended;
-        });
+          noted = Keeps-refl _;
+        };
         written = takes_over old new over (ran.text ++ did.text) ran.none (takes_then old so_far new ran.text did.text ran.put did.put) handed.2;
       }
 
   -- the writer failed as it was handed that
   pub ends_in_last : (after : Course) (rest : Option (List ℕ)) (new over : Outlet) (piece : List ℕ) (kept : Option (List ℕ)) → Consumes mid rest piece
-      → AnswersLast state after ran.part piece kept so_far new → (over.writer ≡ new.writer) × AppendsFront new.known over.known new.held → ToldToAWriteFault start input old.known over.known
+      → AnswersLast state after ran.part piece kept so_far new → (over.writer ≡ new.writer) × AppendsFront new.known over.known new.held → ToldToAWriteFault start input old.known over.known after.notes
   ends_in_last after rest new over piece kept took did front =
       ends_in_piece after rest over piece took (record {
         lines = did.lines ++ did.line ∷ [];
@@ -304,12 +320,12 @@ module _ {start state : Course} {room : ℕ} {buffer input mid : Option (List �
       })
 
 -- what a run has done at each end
-pub has_told : (start : Course) (input rest old new : Option (List ℕ)) (r : Result RunEnd ShellFault) → Tells start input rest old new r
-    → IfOk r (λ ran. HasTold start input rest old new ran.lines ran.ended_by)
-has_told start input rest old new (Ok ran) h = h
-has_told start input rest old new (Err fault) h = tt
+pub has_told : (start : Course) (input rest old new notes : Option (List ℕ)) (r : Result RunEnd ShellFault) → Tells start input rest old new notes r
+    → IfOk r (λ ran. HasTold start input rest old new notes ran.lines ran.ended_by)
+has_told start input rest old new notes (Ok ran) h = h
+has_told start input rest old new notes (Err fault) h = tt
 
 -- and what the writer holds is what the printer's writer holds
-pub told_at : (start : Course) (input rest : Option (List ℕ)) (a b : Outlet) (old new : Option (List ℕ)) (r : Result RunEnd ShellFault) → RunsAt start input rest a b r
-    → a.known ≡ old → b.known ≡ new → Tells start input rest old new r
-told_at start input rest a b old new r h e f = rw (← e, ← f) h.1
+pub told_at : (start : Course) (input rest : Option (List ℕ)) (a b : Outlet) (old new notes : Option (List ℕ)) (r : Result RunEnd ShellFault) → RunsAt start input rest a b notes r
+    → a.known ≡ old → b.known ≡ new → Tells start input rest old new notes r
+told_at start input rest a b old new notes r h e f = rw (← e, ← f) h.1

@@ -9,6 +9,7 @@ pub mod FrontOfOutput
 pub mod InTime
 pub mod Joins
 pub mod Limits
+pub mod Notes
 pub mod OneAnswer
 pub mod OneOutput
 pub mod OnePass

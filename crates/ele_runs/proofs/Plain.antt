@@ -1,11 +1,12 @@
 -- What is told in the plain manner is what the lines are answered.
-use Rattle.ele_runs.proofs.Basics.{◌≡◌, ℕ, ◌+◌, List, [], ◌∷◌, ◌++◌, Option, Some, None, Result, Ok, Err, ◌⊎◌, inl, inr, refl, sym, ap, subst, ◌∙◌}
+use Rattle.ele_runs.proofs.Basics.{◌≡◌, ℕ, ◌+◌, List, [], ◌∷◌, ◌++◌, Option, Some, None, Err, inl, inr, refl, ap, subst, ◌∙◌}
 use Rattle.ele_runs.proofs.Courses.{manner_stays}
-use Rattle.ele_runs.proofs.Words.{AppendsFront, AreBlocks, AreTold, Course, IsBlock, IsTold, IsUnbroken, Past, begun, cut_block, cut_told, front_of, heard, line_unless_long, plain}
+use Rattle.ele_runs.proofs.Words.{AppendsFront, AreBlocks, AreTold, Course, IsBlock, IsTold, Past, begun, cut_block, cut_told, front_of, heard, line_unless_long, plain}
 use Rattle.ele_runs.specs.Explained.{IsBlockOf, asked_by}
 use Rattle.ele_runs.specs.Running.{RanPastABound, RanToAReadFault, RanToAWriteFault, RanToTheEnd}
 use Rattle.ele_runs.specs.Telling.{HasTold, ToldPastABound, ToldToAReadFault, ToldToAWriteFault, ToldToTheEnd}
 use Rattle.std.specs.Prelude.{IsErrOf}
+use Rattle.ele_runs.specs.declared.end.EndLine.{EndLine}
 use Rattle.ele_runs.specs.declared.end.RunEnd.{RunEnd}
 use Rattle.ele_runs.specs.declared.fault.ShellFault.{ShellFault}
 use Rattle.ele_runs.specs.declared.manner.Manner.{Manner}
@@ -35,17 +36,17 @@ pub as_run : (fault told : ShellFault) → IsErrOf {T = ℕ} (Err fault) told �
 as_run fault told is = let same : fault ≡ told = cc in ap (λ (f : ShellFault). Err f) same
 
 -- from the beginning
-module _ (start : Past) where
-  blocks_of : (lines : List (List ℕ)) (text : List ℕ) (course : Course) → AreTold (begun plain start) lines text course → AreBlocks start lines text course.past
-  blocks_of lines text course are = are_blocks (begun plain start) course lines text refl are
+module _ (start : Past) (notes : Option (List ℕ)) where
+  blocks_of : (lines : List (List ℕ)) (text : List ℕ) (course : Course) → AreTold (begun plain start notes) lines text course → AreBlocks start lines text course.past
+  blocks_of lines text course are = are_blocks (begun plain start notes) course lines text refl are
 
-  cut_of : (lines : List (List ℕ)) (text : List ℕ) (course : Course) (last : List ℕ) → AreTold (begun plain start) lines text course
+  cut_of : (lines : List (List ℕ)) (text : List ℕ) (course : Course) (last : List ℕ) → AreTold (begun plain start notes) lines text course
       → cut_told course (line_unless_long last) ≡ cut_block (line_unless_long last)
   cut_of lines text course last are =
-      bare course.manner (course.number + 1) (line_unless_long last) (cut_block (line_unless_long last)) (manner_stays (begun plain start) course lines text are)
+      bare course.manner (course.number + 1) (line_unless_long last) (cut_block (line_unless_long last)) (manner_stays (begun plain start notes) course lines text are)
 
-  to_the_end : (n : ℕ) (input rest old new : Option (List ℕ)) → ToldToTheEnd (begun plain start) n input rest old new → RanToTheEnd start n input rest old new
-  to_the_end n input rest old new ran = record {
+  to_the_end : (n : ℕ) (input rest old new after : Option (List ℕ)) → ToldToTheEnd (begun plain start notes) n input rest old new after → RanToTheEnd start n input rest old new
+  to_the_end n input rest old new after ran = record {
     given = ran.given;
     lines = ran.lines;
     last = ran.last;
@@ -66,12 +67,12 @@ module _ (start : Past) where
   }
 
   -- a plain run has no last line that ends it
-  pub ran_to_the_end : (n : ℕ) (ended_by : Option (Option (List ℕ))) (input rest old new : Option (List ℕ)) → HasTold (begun plain start) input rest old new n ended_by → RanToTheEnd start n input rest old new
-  ran_to_the_end n None input rest old new ran = to_the_end n input rest old new ran
-  ran_to_the_end n (Some kept) input rest old new ran = absurd (let never = ran.strict in cc)
+  pub ran_to_the_end : (n : ℕ) (ended_by : Option EndLine) (input rest old new after : Option (List ℕ)) → HasTold (begun plain start notes) input rest old new after n ended_by → RanToTheEnd start n input rest old new
+  ran_to_the_end n None input rest old new after ran = to_the_end n input rest old new after ran
+  ran_to_the_end n (Some end) input rest old new after ran = absurd (let never = ran.strict in cc)
 
-  pub ran_to_a_read_fault : (input rest old new : Option (List ℕ)) → ToldToAReadFault (begun plain start) input rest old new → RanToAReadFault start input rest old new
-  ran_to_a_read_fault input rest old new ran = record {
+  pub ran_to_a_read_fault : (input rest old new after : Option (List ℕ)) → ToldToAReadFault (begun plain start notes) input rest old new after → RanToAReadFault start input rest old new
+  ran_to_a_read_fault input rest old new after ran = record {
     given = ran.given;
     lines = ran.lines;
     part = ran.part;
@@ -85,8 +86,8 @@ module _ (start : Past) where
     written = ran.written;
   }
 
-  pub ran_past_a_bound : (input rest old new : Option (List ℕ)) → ToldPastABound (begun plain start) input rest old new → RanPastABound start input rest old new
-  ran_past_a_bound input rest old new ran = record {
+  pub ran_past_a_bound : (input rest old new after : Option (List ℕ)) → ToldPastABound (begun plain start notes) input rest old new after → RanPastABound start input rest old new
+  ran_past_a_bound input rest old new after ran = record {
     given = ran.given;
     byte = ran.byte;
     lines = ran.lines;
@@ -102,8 +103,8 @@ module _ (start : Past) where
     written = ran.written;
   }
 
-  pub ran_to_a_write_fault : (input old new : Option (List ℕ)) → ToldToAWriteFault (begun plain start) input old new → RanToAWriteFault start input old new
-  ran_to_a_write_fault input old new ran = record {
+  pub ran_to_a_write_fault : (input old new after : Option (List ℕ)) → ToldToAWriteFault (begun plain start notes) input old new after → RanToAWriteFault start input old new
+  ran_to_a_write_fault input old new after ran = record {
     lines = ran.lines;
     rest = ran.rest;
     text = ran.text;
@@ -112,7 +113,7 @@ module _ (start : Past) where
     whole = ran.whole;
     blocks = blocks_of ran.lines ran.text ran.course ran.told;
     written = elim ran.written [
-      | inl is ↦ inl is
+      | inl is ↦ inl is.0
       | inr is ↦ inr (is.0, subst (λ (w : List ℕ). AppendsFront old new (ran.text ++ w)) (cut_of ran.lines ran.text ran.course ran.rest ran.told) is.1)
     ];
   }

@@ -8,6 +8,7 @@ pub mod FrontOfOutput
 pub mod LineLength
 pub mod Lines
 pub mod Manner
+pub mod Note
 pub mod OneAnswer
 pub mod OneOutput
 pub mod Output
@@ -20,4 +21,5 @@ pub mod Taken
 pub mod Telling
 pub mod Told
 pub mod Unstopped
+pub mod WhyBad
 pub mod Written

@@ -1,5 +1,5 @@
 -- In which manner a run tells its answers.
-use Rattle.std.specs.Prelude.{ℕ, Bool, true, false, ◌==◌, ◌&&◌, List, [], ◌∷◌, ◌++◌, decimal, Option, Some, if◌then◌else◌}
+use Rattle.std.specs.Prelude.{ℕ, Bool, true, false, not, ◌==◌, ◌&&◌, List, [], ◌∷◌, ◌++◌, decimal, Option, Some, if◌then◌else◌}
 use Rattle.ele_runs.specs.declared.manner.Manner.{Manner}
 
 -- without any option
@@ -26,3 +26,8 @@ abbrev pub is_well : List ℕ → Bool
 is_well [] = true
 is_well (first ∷ []) = false
 is_well (first ∷ second ∷ rest) = (first == 111) && (second == 107)
+
+-- why a line is no command is told beside its block where lines are numbered; of the line that ends a strict run it is told
+-- at that end, and not here
+abbrev pub tells_reasons : Manner → Bool
+tells_reasons manner = manner.numbers && not manner.strict

@@ -75,7 +75,7 @@ pub record HearsNext (before : Course) (line : Option (List ℕ)) (said : Said) 
   pub kept : HearsKept before.manner before.past line said after.past
   pub manner : after.manner ≡ before.manner
   pub number : after.number ≡ before.number + 1
-  pub after_is : (text : List ℕ) → IsSaidText after.past said text → after ≡ gone_on before after.past text
+  pub after_is : (text : List ℕ) → IsSaidText after.past said text → after ≡ gone_on before after.past text before.notes
 
 -- what is meant is what the event is answered
 pub record Replies (before : Past) (event : Event) (said : Said) (after : Past) : Type 0 where

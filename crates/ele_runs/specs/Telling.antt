@@ -1,8 +1,9 @@
--- What a run in some manner has read and written when it ends.
+-- What a run in some manner has read and written when it ends, and `notes`, what is known to stand at the writer of reasons then.
 use Rattle.std.specs.Prelude.{◌≡◌, ◌≢◌, ℕ, ◌+◌, ◌≤◌, Bool, true, false, List, [], ◌∷◌, ◌++◌, length, Option, Some, None, Result, Ok, Err, ◌⊎◌}
 use Rattle.std.specs.List.{AllByRecursion}
 use Rattle.std.specs.Io.KnownBytes.{Appends, Consumes, Keeps, IsAtEnd}
 use Rattle.ele_printer.specs.Front.{AppendsFront}
+use Rattle.ele_runs.specs.declared.end.EndLine.{EndLine}
 use Rattle.ele_runs.specs.declared.end.RunEnd.{RunEnd}
 use Rattle.ele_runs.specs.declared.fault.ShellFault.{ShellFault}
 use Rattle.ele_runs.specs.declared.fault.ShellFault.TheVariants.{ReadFault, WriteFault, TooManyLines, NoMemory}
@@ -10,11 +11,12 @@ use Rattle.ele_runs.specs.Bounds.{most_lines, most_bytes}
 use Rattle.ele_runs.specs.Course.{Course}
 use Rattle.ele_runs.specs.LineLength.{line_unless_long}
 use Rattle.ele_runs.specs.Lines.{IsUnbroken, AreLines, whole_lines, line_count}
+use Rattle.ele_runs.specs.Note.{cut_note}
 use Rattle.ele_runs.specs.Running.{AreMost}
 use Rattle.ele_runs.specs.Told.{AreTold, cut_told}
 
 -- all input was read, n lines within the bounds; what is told for them was written, and none of them ended the run
-pub record ToldToTheEnd (start : Course) (n : ℕ) (input rest old new : Option (List ℕ)) : Type 0 where
+pub record ToldToTheEnd (start : Course) (n : ℕ) (input rest old new notes : Option (List ℕ)) : Type 0 where
   pub given : List ℕ
   pub lines : List (List ℕ)
   pub last : List ℕ
@@ -30,17 +32,19 @@ pub record ToldToTheEnd (start : Course) (n : ℕ) (input rest old new : Option 
   pub goes_on : course.ended ≡ false
   pub uncut : start.manner.strict ≡ true → last ≡ []
   pub written : Appends old new (text ++ cut_told course (line_unless_long last))
+  pub noted : AppendsFront course.notes notes (cut_note course (line_unless_long last))
 
 -- the whole line behind these ended the run, whatever of the input was read behind it
-pub record EndsWhole (start : Course) (given : List ℕ) (lines : List (List ℕ)) (line told : List ℕ) : Type 0 where
+pub record EndsWhole (start : Course) (given : List ℕ) (lines : List (List ℕ)) (line told : List ℕ) (notes : Option (List ℕ)) : Type 0 where
   pub behind : List ℕ
   pub course : Course
   pub parts : given ≡ whole_lines (lines ++ line ∷ []) ++ behind
   pub are : AreTold start (lines ++ line ∷ []) told course
   pub ended : course.ended ≡ true
+  pub noted : Keeps course.notes notes
 
 -- a last line without its line feed ended it, which is never run
-pub record EndsCut (start : Course) (given : List ℕ) (rest : Option (List ℕ)) (lines : List (List ℕ)) (line told : List ℕ) : Type 0 where
+pub record EndsCut (start : Course) (given : List ℕ) (rest : Option (List ℕ)) (lines : List (List ℕ)) (line told : List ℕ) (notes : Option (List ℕ)) : Type 0 where
   pub text : List ℕ
   pub course : Course
   pub parts : given ≡ whole_lines lines ++ line
@@ -49,9 +53,15 @@ pub record EndsCut (start : Course) (given : List ℕ) (rest : Option (List ℕ)
   pub are : AreTold start lines text course
   pub goes_on : course.ended ≡ false
   pub told_is : told ≡ text ++ cut_told course (line_unless_long line)
+  pub noted : Keeps course.notes notes
+
+-- the line that ended it is a last one without its line feed, or a whole one
+abbrev pub EndsBy : Bool → Course → List ℕ → Option (List ℕ) → List (List ℕ) → List ℕ → List ℕ → Option (List ℕ) → Type 0
+EndsBy true start given rest lines line told notes = EndsCut start given rest lines line told notes
+EndsBy false start given rest lines line told notes = EndsWhole start given lines line told notes
 
 -- a strict run was ended by its n-th line, and what is told for the lines up to that one was written
-pub record ToldToAnEnd (start : Course) (n : ℕ) (kept : Option (List ℕ)) (input rest old new : Option (List ℕ)) : Type 0 where
+pub record ToldToAnEnd (start : Course) (n : ℕ) (end : EndLine) (input rest old new notes : Option (List ℕ)) : Type 0 where
   pub given : List ℕ
   pub lines : List (List ℕ)
   pub line : List ℕ
@@ -61,12 +71,12 @@ pub record ToldToAnEnd (start : Course) (n : ℕ) (kept : Option (List ℕ)) (in
   pub whole : AllByRecursion IsUnbroken lines
   pub unbroken : IsUnbroken line
   pub count : n ≡ length lines + 1
-  pub keeps : kept ≡ line_unless_long line
-  pub by : EndsWhole start given lines line text ⊎ EndsCut start given rest lines line text
+  pub keeps : end.line ≡ line_unless_long line
+  pub by : EndsBy end.is_cut start given rest lines line text notes
   pub written : Appends old new text
 
 -- whole lines were read, and bytes of one more, all within the bounds; what is told for the whole lines was written
-pub record ToldToAReadFault (start : Course) (input rest old new : Option (List ℕ)) : Type 0 where
+pub record ToldToAReadFault (start : Course) (input rest old new notes : Option (List ℕ)) : Type 0 where
   pub given : List ℕ
   pub lines : List (List ℕ)
   pub part : List ℕ
@@ -79,9 +89,10 @@ pub record ToldToAReadFault (start : Course) (input rest old new : Option (List 
   pub told : AreTold start lines text course
   pub goes_on : course.ended ≡ false
   pub written : Appends old new text
+  pub noted : Keeps course.notes notes
 
 -- as much as a script may be was read, and a byte more; what is told for the whole lines within it was written
-pub record ToldPastABound (start : Course) (input rest old new : Option (List ℕ)) : Type 0 where
+pub record ToldPastABound (start : Course) (input rest old new notes : Option (List ℕ)) : Type 0 where
   pub given : List ℕ
   pub byte : ℕ
   pub lines : List (List ℕ)
@@ -96,10 +107,17 @@ pub record ToldPastABound (start : Course) (input rest old new : Option (List �
   pub told : AreTold start lines text course
   pub goes_on : course.ended ≡ false
   pub written : Appends old new text
+  pub noted : Keeps course.notes notes
 
--- the input begins with these whole lines, and a front of what is told for them was written; where the rest is a last
--- line without its line feed, the front may reach into what is told for it
-pub record ToldToAWriteFault (start : Course) (input old new : Option (List ℕ)) : Type 0 where
+-- a front of what is told for whole lines was written; where the rest is a last line without its line feed, the front may
+-- reach into what is told for it
+abbrev pub TellsFront : Course → List ℕ → List ℕ → Option (List ℕ) → Option (List ℕ) → Option (List ℕ) → Type 0
+TellsFront course text rest old new notes =
+    (AppendsFront old new text × Keeps course.notes notes)
+    ⊎ (IsUnbroken rest × AppendsFront old new (text ++ cut_told course (line_unless_long rest)) × AppendsFront course.notes notes (cut_note course (line_unless_long rest)))
+
+-- the input begins with these whole lines, and a front of what is told for them was written
+pub record ToldToAWriteFault (start : Course) (input old new notes : Option (List ℕ)) : Type 0 where
   pub lines : List (List ℕ)
   pub rest : List ℕ
   pub text : List ℕ
@@ -107,17 +125,17 @@ pub record ToldToAWriteFault (start : Course) (input old new : Option (List ℕ)
   pub input_is : Keeps input (Some (whole_lines lines ++ rest))
   pub whole : AllByRecursion IsUnbroken lines
   pub told : AreTold start lines text course
-  pub written : AppendsFront old new text ⊎ (IsUnbroken rest × AppendsFront old new (text ++ cut_told course (line_unless_long rest)))
+  pub written : TellsFront course text rest old new notes
 
 -- what a run has done that no fault ended: all lines, or up to the one that ended it
-abbrev pub HasTold : Course → Option (List ℕ) → Option (List ℕ) → Option (List ℕ) → Option (List ℕ) → ℕ → Option (Option (List ℕ)) → Type 0
-HasTold start input rest old new n None = ToldToTheEnd start n input rest old new
-HasTold start input rest old new n (Some kept) = ToldToAnEnd start n kept input rest old new
+abbrev pub HasTold : Course → Option (List ℕ) → Option (List ℕ) → Option (List ℕ) → Option (List ℕ) → Option (List ℕ) → ℕ → Option EndLine → Type 0
+HasTold start input rest old new notes n None = ToldToTheEnd start n input rest old new notes
+HasTold start input rest old new notes n (Some end) = ToldToAnEnd start n end input rest old new notes
 
 -- what a run has done, by how it ends
-abbrev pub Tells : Course → Option (List ℕ) → Option (List ℕ) → Option (List ℕ) → Option (List ℕ) → Result RunEnd ShellFault → Type 0
-Tells start input rest old new (Ok ran) = HasTold start input rest old new ran.lines ran.ended_by
-Tells start input rest old new (Err ReadFault) = ToldToAReadFault start input rest old new
-Tells start input rest old new (Err TooManyLines) = ToldPastABound start input rest old new
-Tells start input rest old new (Err WriteFault) = ToldToAWriteFault start input old new
-Tells start input rest old new (Err NoMemory) = ⊥
+abbrev pub Tells : Course → Option (List ℕ) → Option (List ℕ) → Option (List ℕ) → Option (List ℕ) → Option (List ℕ) → Result RunEnd ShellFault → Type 0
+Tells start input rest old new notes (Ok ran) = HasTold start input rest old new notes ran.lines ran.ended_by
+Tells start input rest old new notes (Err ReadFault) = ToldToAReadFault start input rest old new notes
+Tells start input rest old new notes (Err TooManyLines) = ToldPastABound start input rest old new notes
+Tells start input rest old new notes (Err WriteFault) = ToldToAWriteFault start input old new notes
+Tells start input rest old new notes (Err NoMemory) = ⊥

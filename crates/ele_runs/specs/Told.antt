@@ -6,16 +6,19 @@ use Rattle.ele_runs.specs.Course.{Course, gone_on}
 use Rattle.ele_runs.specs.Explained.{IsBlockOf, asked_by}
 use Rattle.ele_runs.specs.LineLength.{line_unless_long}
 use Rattle.ele_runs.specs.Manner.{front_of, heard}
+use Rattle.ele_runs.specs.Note.{IsNoted}
 
 -- what is told for the next line: the block of what is heard of it, with the line's number in front where lines are
--- numbered; no line is heard behind one that ended the run
+-- numbered, and beside it why it is a bad one; no line is heard behind one that ended the run
 pub record IsTold (before : Course) (line : Option (List ℕ)) (told : List ℕ) (after : Course) : Type 0 where
   pub block : List ℕ
   pub past : Past
+  pub notes : Option (List ℕ)
   pub goes_on : before.ended ≡ false
   pub is : IsBlockOf (asked_by before.manner (heard before.manner line)) before.past (heard before.manner line) block past
   pub told_is : told ≡ front_of before.manner (before.number + 1) (heard before.manner line) ++ block
-  pub after_is : after ≡ gone_on before past block
+  pub noted : IsNoted before.manner (before.number + 1) line block before.notes notes
+  pub after_is : after ≡ gone_on before past block notes
 
 -- what is told for whole lines, one after another
 abbrev pub AreTold : Course → List (List ℕ) → List ℕ → Course → Type 0

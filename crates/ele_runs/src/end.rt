@@ -8,6 +8,15 @@ pub struct RunEnd {
     /// How many lines there were, up to the one that ended the run; a last one without its line
     /// feed counts too.
     pub lines: u64,
-    /// The line that ended a strict run: it was answered `no`, `bad` or `stop`.
-    pub ended_by: Option<LineBuffer>,
+    /// The line that ended a strict run, if one did.
+    pub ended_by: Option<EndLine>,
+}
+
+/// The line that ended a strict run: it was answered `no`, `bad` or `stop`.
+#[derive(Drop)]
+pub struct EndLine {
+    /// The line as it is kept.
+    pub line: LineBuffer,
+    /// Whether it is a last line without its line feed, which is never run.
+    pub is_cut: bool,
 }

@@ -1,14 +1,17 @@
 //! The keeper of a run: a history, the answers to its lines, and the manner in which they are told.
-//! A contract sees a keeper as how far its run has got.
-ghost use Rattle.std.specs.Prelude.{◌≡◌, ◌+◌, ◌<◌, ◌^◌, false, IfOk};
+//! A contract sees a keeper as how far its run has got, by itself without what it tells of reasons.
+ghost use Rattle.std.specs.Prelude.{◌≡◌, ◌+◌, ◌<◌, ◌^◌, false, List, None, ℕ, IfOk};
 ghost use Rattle.std.specs.Option.{option_map};
 ghost use Rattle.ele_history.specs.Past.{fresh};
 ghost use Rattle.ele_printer.specs.Prints.{outlet};
-ghost use Rattle.ele_runs.specs.Course.{begun};
-ghost use Rattle.ele_runs.specs.Said.{HearsNext};
+ghost use Rattle.ele_printer.specs.Front.{AppendsFront};
+ghost use Rattle.ele_runs.specs.Course.{begun, noting};
+ghost use Rattle.ele_runs.specs.Note.{IsNoted, cut_note};
+ghost use Rattle.ele_runs.specs.Said.{HearsNext, IsSaidText};
 ghost use Rattle.ele_runs.specs.Written.{PutsBlock};
 
 use crate::manner::Manner;
+use crate::note::{tell_why, why_bad, why_cut};
 use crate::said::{Said, hear_kept};
 use ele_history::History;
 use ele_moment::NoMemory;
@@ -29,17 +32,18 @@ pub(crate) struct Keeper<C: Explaining> {
 }
 
 impl<C: Explaining> Model for Keeper<C> {
+    ghost use Rattle.std.specs.Prelude.{None};
     ghost use Rattle.ele_runs.specs.Course.{Course};
 
     ghost Value = { Course };
 
-    ghost view = { λ k. record { manner = k.manner; past = k.history; number = k.lines; ended = k.has_ended } };
+    ghost view = { λ k. record { manner = k.manner; past = k.history; number = k.lines; ended = k.has_ended; notes = None } };
 }
 
 impl<C: Explaining> Keeper<C> {
     /// The history of a fresh world, before the first line.
     pub(crate) fn new(alloc: Global, limits: Limits, manner: Manner) -> Result<Keeper<C>, NoMemory>
-        ensures { IfOk result (λ keeper. keeper ≡ begun manner (fresh limits)) }
+        ensures { IfOk result (λ keeper. keeper ≡ begun manner (fresh limits) None) }
     {
         let history = History::<C>::new(alloc, limits)?;
         Ok(Keeper {
@@ -84,19 +88,47 @@ impl<C: Explaining> Keeper<C> {
         said
     }
 
-    /// Answers the next line as it is kept, and puts what is told for it. At a fault the writer took
-    /// a front of all.
-    pub(crate) fn put_block<W: Write>(
+    // Tells why the line that was heard is no command, where reasons are told.
+    fn tell_reason<E: Write>(&self, line: Option<&[u8]>, said: &Said, reasons: &mut E)
+        ensures { (text : List ℕ) → IsSaidText self.now.past said.now text
+            → IsNoted self.now.manner self.now.number (option_map (λ line. line.now) line.entry)
+            text (E.contents reasons.old) (E.contents reasons.new) }
+    {
+        if let Said::Bad(_) = said
+            && self.manner.tells_reasons()
+        {
+            let why = why_bad(self.alloc, self.manner, line);
+            tell_why(self.alloc, self.lines, why, reasons);
+        }
+    }
+
+    /// Tells why a last line without its line feed is never run, where reasons are told.
+    pub(crate) fn tell_cut<E: Write>(&self, line: Option<&[u8]>, reasons: &mut E)
+        requires { self.now.number + 1 < 2 ^ 64 }
+        ensures { AppendsFront (E.contents reasons.old) (E.contents reasons.new)
+            (cut_note self.now (option_map (λ line. line.now) line.entry)) }
+    {
+        if self.manner.tells_reasons() {
+            tell_why(self.alloc, self.lines + 1, why_cut(line), reasons);
+        }
+    }
+
+    /// Answers the next line as it is kept: tells why it is no command, where reasons are told, and
+    /// puts what is told for it. At a fault the writer took a front of all.
+    pub(crate) fn put_block<W: Write, E: Write>(
         &mut self,
         line: Option<&[u8]>,
         printer: &mut Printer<'_, W>,
+        reasons: &mut E,
     ) -> Result<(), WriteFault>
         requires goes_on { self.old.ended ≡ false }
         requires few { self.old.number + 1 < 2 ^ 64 }
-        ensures { PutsBlock self.old (option_map (λ line. line.now) line.entry) self.new
+        ensures { PutsBlock (noting self.old (E.contents reasons.old))
+            (option_map (λ line. line.now) line.entry) (noting self.new (E.contents reasons.new))
             (outlet W.contents printer.old) (outlet W.contents printer.new) result }
     {
         let said = self.hear(line);
+        self.tell_reason(line, &said, reasons);
         said.put_front(self.manner, self.lines, printer)?;
         said.put(&self.history, printer)
     }

@@ -11,12 +11,14 @@ pub mod laws;
 mod line_buffer;
 mod lines;
 mod manner;
+mod note;
 mod piece;
 mod said;
 mod script;
 
-pub use end::RunEnd;
+pub use end::{EndLine, RunEnd};
 pub use fault::ShellFault;
 pub use line_buffer::LineBuffer;
 pub use manner::Manner;
+pub use note::{tell_why, why_bad, why_cut};
 pub use script::{run_in, run_over};

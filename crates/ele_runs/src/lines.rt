@@ -3,16 +3,19 @@
 ghost use Rattle.std.specs.Prelude.{◌≡◌, ◌+◌, ◌^◌, ◌<◌, ◌≤◌, ◌++◌, [], true, false, Some, length, OnOk, IfOk};
 ghost use Rattle.std.specs.Option.{option_map, option_and_then};
 ghost use Rattle.memchr.specs.Find.{IsFirstByte, is_byte};
+ghost use Rattle.ele_printer.specs.Front.{AppendsFront};
 ghost use Rattle.ele_printer.specs.Printed.{bad_text};
 ghost use Rattle.ele_printer.specs.Prints.{outlet, Prints};
 ghost use Rattle.ele_runs.specs.Block.{cut_count};
+ghost use Rattle.ele_runs.specs.Course.{noting};
 ghost use Rattle.ele_runs.specs.LineLength.{line_unless_long};
+ghost use Rattle.ele_runs.specs.Note.{cut_note};
 ghost use Rattle.ele_runs.specs.Piece.{AnswersPiece};
 ghost use Rattle.ele_runs.specs.Said.{said_front};
 ghost use Rattle.ele_runs.specs.Told.{cut_told};
 ghost use Rattle.ele_runs.specs.Written.{PutsBlock, WritesLast};
 
-use crate::end::RunEnd;
+use crate::end::{EndLine, RunEnd};
 use crate::keeper::Keeper;
 use crate::line_buffer::{LineBuffer, kept_line};
 use crate::said::Said;
@@ -22,30 +25,32 @@ use memchr::memchr;
 use std::io::Write;
 
 // Answers the line that ends with these bytes, and begins a new one, unless that line ended the run.
-fn put_whole<C: Explaining, W: Write>(
+fn put_whole<C: Explaining, W: Write, E: Write>(
     end: &[u8],
     buffer: &mut LineBuffer,
     keeper: &mut Keeper<C>,
     printer: &mut Printer<'_, W>,
+    reasons: &mut E,
 ) -> Result<(), WriteFault>
     requires goes_on { keeper.old.ended ≡ false }
     requires few { keeper.old.number + 1 < 2 ^ 64 }
-    ensures block { PutsBlock keeper.old
-        (option_and_then (λ line. line_unless_long (line ++ end.now)) buffer.old) keeper.new
+    ensures block { PutsBlock (noting keeper.old (E.contents reasons.old))
+        (option_and_then (λ line. line_unless_long (line ++ end.now)) buffer.old)
+        (noting keeper.new (E.contents reasons.new))
         (outlet W.contents printer.old) (outlet W.contents printer.new) result }
     ensures begun { OnOk result (keeper.new.ended ≡ false → buffer.new ≡ Some []) }
     ensures kept { OnOk result (keeper.new.ended ≡ true → buffer.new
         ≡ option_and_then (λ line. line_unless_long (line ++ end.now)) buffer.old) }
 {
     if buffer.is_empty() {
-        keeper.put_block(kept_line(end), printer)?;
+        keeper.put_block(kept_line(end), printer, reasons)?;
         if keeper.has_ended() {
             buffer.extend(end);
         }
         return Ok(());
     }
     buffer.extend(end);
-    keeper.put_block(buffer.line(), printer)?;
+    keeper.put_block(buffer.line(), printer, reasons)?;
     if !keeper.has_ended() {
         buffer.clear();
     }
@@ -61,20 +66,22 @@ fn line_end(bytes: &[u8]) -> Option<usize>
 
 /// Answers the lines that end in the piece, and keeps what is behind them, or the line that ended
 /// the run.
-pub(crate) fn answer_piece<C: Explaining, W: Write>(
+pub(crate) fn answer_piece<C: Explaining, W: Write, E: Write>(
     piece: &[u8],
     buffer: &mut LineBuffer,
     keeper: &mut Keeper<C>,
     printer: &mut Printer<'_, W>,
+    reasons: &mut E,
 ) -> Result<(), WriteFault>
     requires goes_on { keeper.old.ended ≡ false }
     requires few { keeper.old.number + length piece.now < 2 ^ 64 }
-    ensures { AnswersPiece keeper.old keeper.new buffer.old piece.now buffer.new
+    ensures { AnswersPiece (noting keeper.old (E.contents reasons.old))
+        (noting keeper.new (E.contents reasons.new)) buffer.old piece.now buffer.new
         (outlet W.contents printer.old) (outlet W.contents printer.new) result }
 {
     let mut rest = piece;
     'lines: while let Some(at) = line_end(rest) {
-        put_whole(&rest[..at], buffer, keeper, printer)?;
+        put_whole(&rest[..at], buffer, keeper, printer, reasons)?;
         if keeper.has_ended() {
             return Ok(());
         }
@@ -122,24 +129,32 @@ fn put_cut<C: Explaining, W: Write>(
     Ok(1)
 }
 
-/// Writes all that is held and what is told for a last line without its line feed, and tells how the
-/// run ended: that line counts unless it is empty, and ends a strict run then.
-pub(crate) fn finish<C: Explaining, W: Write>(
+/// Writes all that is held and what is told for a last line without its line feed, tells why that is
+/// never run, where reasons are told, and tells how the run ended: that line counts unless it is
+/// empty, and ends a strict run then.
+pub(crate) fn finish<C: Explaining, W: Write, E: Write>(
     buffer: LineBuffer,
     keeper: &Keeper<C>,
     printer: &mut Printer<'_, W>,
+    reasons: &mut E,
 ) -> Result<RunEnd, WriteFault>
     requires { keeper.now.number + 1 < 2 ^ 64 }
-    ensures { WritesLast keeper.now buffer (outlet W.contents printer.old)
+    ensures last { WritesLast keeper.now buffer (outlet W.contents printer.old)
         (outlet W.contents printer.new) result }
+    ensures noted { AppendsFront (E.contents reasons.old) (E.contents reasons.new)
+        (cut_note keeper.now buffer) }
 {
+    keeper.tell_cut(buffer.line(), reasons);
     let cut = put_cut(buffer.line(), keeper, printer)?;
     printer.hand_over()?;
     let lines = keeper.lines() + cut;
     if keeper.manner().strict && cut > 0 {
         return Ok(RunEnd {
             lines,
-            ended_by: Some(buffer),
+            ended_by: Some(EndLine {
+                line: buffer,
+                is_cut: true,
+            }),
         });
     }
     Ok(RunEnd {

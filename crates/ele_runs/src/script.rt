@@ -3,12 +3,12 @@
 ghost use Rattle.std.specs.Prelude.{◌≡◌, ◌≤◌, ◌-◌, [], false, Some, min, IfOk, IsErrOf, length};
 ghost use Rattle.ele_history.specs.Past.{fresh};
 ghost use Rattle.ele_printer.specs.Prints.{outlet};
-ghost use Rattle.ele_runs.specs.Course.{begun};
+ghost use Rattle.ele_runs.specs.Course.{begun, noting};
 ghost use Rattle.ele_runs.specs.Telling.{HasTold, Tells, ToldPastABound, ToldToAReadFault, ToldToAWriteFault};
 ghost use Rattle.ele_runs.specs.Written.{RunsAt};
 ghost use Rattle.ele_runs.specs.Running.{RanToTheEnd, RanToAReadFault, RanPastABound, RanToAWriteFault};
 
-use crate::end::RunEnd;
+use crate::end::{EndLine, RunEnd};
 use crate::fault::ShellFault;
 use crate::keeper::Keeper;
 use crate::line_buffer::LineBuffer;
@@ -18,7 +18,8 @@ use crate::piece::read_piece;
 use ele_script::Printer;
 use ele_world::{Explaining, Limits};
 use std::alloc::Global;
-use std::io::{Read, Write};
+use std::io;
+use std::io::{Read, Sink, Write};
 
 /// A script has at most so many lines.
 const MOST_LINES: u64 = 1_000_000;
@@ -58,29 +59,35 @@ fn most_of(left: u64) -> usize
 // How a run ended that this line ended.
 fn ended_by<C: Explaining>(line: LineBuffer, keeper: &Keeper<C>) -> RunEnd
     ensures lines { result.lines ≡ keeper.now.number }
-    ensures line { result.ended_by ≡ Some line }
+    ensures line { result.ended_by ≡ Some (record { line = line; is_cut = false }) }
 {
     RunEnd {
         lines: keeper.lines(),
-        ended_by: Some(line),
+        ended_by: Some(EndLine {
+            line,
+            is_cut: false,
+        }),
     }
 }
 
 // Reads pieces and answers their lines until the input ends, a line ends the run, a bound is
-// passed, or the reader or the writer fails. No piece is longer than what may still come, so that nothing is read behind the
-// byte that passes a bound.
-fn run_pieces<C: Explaining, R: Read, W: Write>(
+// passed, or the reader or the writer fails. No piece is longer than what may still come, so that
+// nothing is read behind the byte that passes a bound.
+fn run_pieces<C: Explaining, R: Read, W: Write, E: Write>(
     keeper: &mut Keeper<C>,
     reader: &mut R,
     printer: &mut Printer<'_, W>,
+    reasons: &mut E,
     piece: &mut [u8],
 ) -> Result<RunEnd, ShellFault>
     requires piece { length piece.old ≡ PIECE }
     requires none { (outlet W.contents printer.old).held ≡ [] }
     requires first { keeper.old.number ≡ 0 }
     requires goes_on { keeper.old.ended ≡ false }
-    ensures { RunsAt keeper.old (R.remaining reader.old) (R.remaining reader.new)
-        (outlet W.contents printer.old) (outlet W.contents printer.new) result }
+    ensures { RunsAt (noting keeper.old (E.contents reasons.old))
+        (R.remaining reader.old) (R.remaining reader.new)
+        (outlet W.contents printer.old) (outlet W.contents printer.new)
+        (E.contents reasons.new) result }
 {
     let mut buffer = LineBuffer::new();
     let mut room = MOST_BYTES;
@@ -89,12 +96,12 @@ fn run_pieces<C: Explaining, R: Read, W: Write>(
         let left = left_of(room, keeper.lines());
         let count = read_piece(reader, piece, most_of(left))?;
         if count == 0 {
-            return Ok(finish(buffer, keeper, printer)?);
+            return Ok(finish(buffer, keeper, printer, reasons)?);
         }
         if left == 0 {
             return Err(ShellFault::TooManyLines);
         }
-        answer_piece(&piece[..count], &mut buffer, keeper, printer)?;
+        answer_piece(&piece[..count], &mut buffer, keeper, printer, reasons)?;
         if keeper.has_ended() {
             printer.hand_over()?;
             return Ok(ended_by(buffer, keeper));
@@ -105,20 +112,22 @@ fn run_pieces<C: Explaining, R: Read, W: Write>(
 
 // Runs the script in pieces, over a printer of its own.
 #[tactic(auto, using(crate::proofs::Ends::told_at))]
-fn run_printed<C: Explaining, R: Read, W: Write>(
+fn run_printed<C: Explaining, R: Read, W: Write, E: Write>(
     keeper: &mut Keeper<C>,
     reader: &mut R,
     writer: &mut W,
+    reasons: &mut E,
     piece: &mut [u8],
 ) -> Result<RunEnd, ShellFault>
     requires piece { length piece.old ≡ PIECE }
     requires first { keeper.old.number ≡ 0 }
     requires goes_on { keeper.old.ended ≡ false }
-    ensures { Tells keeper.old (R.remaining reader.old) (R.remaining reader.new)
-        (W.contents writer.old) (W.contents writer.new) result }
+    ensures { Tells (noting keeper.old (E.contents reasons.old))
+        (R.remaining reader.old) (R.remaining reader.new)
+        (W.contents writer.old) (W.contents writer.new) (E.contents reasons.new) result }
 {
     let mut printer = Printer::new(writer);
-    run_pieces(keeper, reader, &mut printer, piece)
+    run_pieces(keeper, reader, &mut printer, reasons, piece)
 }
 
 /// Runs the script that the reader gives in some manner, as `run_over` does without any option, and
@@ -127,36 +136,43 @@ fn run_printed<C: Explaining, R: Read, W: Write>(
 /// counts, and comes back as it is kept. A last line without its line feed is such a line, and is
 /// never run as a remark either.
 ///
+/// A run with numbers that isn't strict also tells at the writer of reasons, before the block of
+/// each bad line, which word of it is at fault and why. Where that writer fails the run goes on.
+///
 /// The errors are those of `run_over`.
-pub fn run_in<C: Explaining, R: Read, W: Write>(
+pub fn run_in<C: Explaining, R: Read, W: Write, E: Write>(
     manner: Manner,
     alloc: Global,
     reader: &mut R,
     writer: &mut W,
+    reasons: &mut E,
     limits: Limits,
 ) -> Result<RunEnd, ShellFault>
-    ensures ok { IfOk result (λ ran. HasTold (begun manner (fresh limits))
+    ensures ok { IfOk result (λ ran. HasTold
+        (begun manner (fresh limits) (E.contents reasons.old))
         (R.remaining reader.old) (R.remaining reader.new)
-        (W.contents writer.old) (W.contents writer.new) ran.lines ran.ended_by) }
+        (W.contents writer.old) (W.contents writer.new) (E.contents reasons.new)
+        ran.lines ran.ended_by) }
     ensures read_fault { IsErrOf result ShellFault.ReadFault
-        → ToldToAReadFault (begun manner (fresh limits))
+        → ToldToAReadFault (begun manner (fresh limits) (E.contents reasons.old))
         (R.remaining reader.old) (R.remaining reader.new)
-        (W.contents writer.old) (W.contents writer.new) }
+        (W.contents writer.old) (W.contents writer.new) (E.contents reasons.new) }
     ensures too_many_lines { IsErrOf result ShellFault.TooManyLines
-        → ToldPastABound (begun manner (fresh limits))
+        → ToldPastABound (begun manner (fresh limits) (E.contents reasons.old))
         (R.remaining reader.old) (R.remaining reader.new)
-        (W.contents writer.old) (W.contents writer.new) }
+        (W.contents writer.old) (W.contents writer.new) (E.contents reasons.new) }
     ensures write_fault { IsErrOf result ShellFault.WriteFault
-        → ToldToAWriteFault (begun manner (fresh limits))
-        (R.remaining reader.old) (W.contents writer.old) (W.contents writer.new) }
+        → ToldToAWriteFault (begun manner (fresh limits) (E.contents reasons.old))
+        (R.remaining reader.old)
+        (W.contents writer.old) (W.contents writer.new) (E.contents reasons.new) }
     ensures no_memory { IsErrOf result ShellFault.NoMemory
-        → (reader.new ≡ reader.old) × (writer.new ≡ writer.old) }
+        → (reader.new ≡ reader.old) × (writer.new ≡ writer.old) × (reasons.new ≡ reasons.old) }
 {
     let Ok(mut piece) = vec![in alloc; 0u8; PIECE] else {
         return Err(ShellFault::NoMemory);
     };
     let mut keeper = Keeper::<C>::new(alloc, limits, manner)?;
-    run_printed(&mut keeper, reader, writer, piece.as_mut_slice())
+    run_printed(&mut keeper, reader, writer, reasons, piece.as_mut_slice())
 }
 
 /// Runs the script that the reader gives: answers each whole line at the writer, and answers how
@@ -194,7 +210,8 @@ pub fn run_over<C: Explaining, R: Read, W: Write>(
     ensures no_memory { IsErrOf result ShellFault.NoMemory
         → (reader.new ≡ reader.old) × (writer.new ≡ writer.old) }
 {
-    match run_in::<C, R, W>(Manner::plain(), alloc, reader, writer, limits) {
+    let mut nowhere = io::sink();
+    match run_in::<C, R, W, Sink>(Manner::plain(), alloc, reader, writer, &mut nowhere, limits) {
         Ok(ran) => Ok(ran.lines),
         Err(fault) => Err(fault),
     }

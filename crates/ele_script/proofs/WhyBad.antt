@@ -4,10 +4,10 @@ use Rattle.ele_script.proofs.Prelude.{OneMeaning, Command, LineFault, WordKind, 
 use Rattle.ele_script.proofs.Prelude.{IsFirstWordFault, FitsCommand, IsFaultOfWords, IsFirstFault, too_long, not_worded, of_words, no_command, of_word}
 use Rattle.ele_printer.specs.declared.command.Command.TheVariants.{Read}
 use Rattle.ele_script.specs.CommandOf.{command_of}
-use Rattle.ele_script.specs.Memory.{behind_takes, takes_memory}
+use Rattle.ele_script.specs.Memory.{behind_takes, takes_memory, word_takes}
 use Rattle.ele_script.specs.Reason.{IsFirstBadWord, IsReasonOfWords, fault_of, unknown_number}
 use Rattle.ele_script.specs.Reason as why
-use Rattle.ele_script.specs.ReasonFound.{AreOfKinds, IsCommand, TakesBehind, any_takes, word_takes}
+use Rattle.ele_script.specs.ReasonFound.{AreOfKinds, IsCommand, TakesBehind, any_takes}
 use Rattle.ele_script.specs.declared.reasons.Reason.{Reason}
 use Rattle.ele_script.specs.declared.reasons.Reason.TheVariants.{NoCommand, Words}
 use Rattle.std.specs.List.{list_any}

@@ -20,6 +20,11 @@ takes_memory SourceWord = true
 takes_memory BytesWord = true
 takes_memory PolicyWord = false
 
+-- a word of the kind takes memory
+abbrev pub word_takes : WordKind → List ℕ → Bool
+word_takes SourceWord word = begins_path word
+word_takes kind word = takes_memory kind
+
 -- a path or bytes stand behind the command; behind `read` the word is looked at
 abbrev pub behind_takes : Command → List (List ℕ) → Bool
 behind_takes Read arguments = list_any begins_path arguments

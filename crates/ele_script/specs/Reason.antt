@@ -15,11 +15,12 @@ use Rattle.ele_script.specs.Words.{ends_word, is_worded, longest_line, words_of}
 use Rattle.ele_script.specs.declared.reasons.Detail.{Detail}
 use Rattle.ele_script.specs.declared.reasons.Detail.TheVariants.{LeadingZero, TooLarge, NoSlash, Other}
 use Rattle.ele_script.specs.declared.reasons.Reason.{Reason}
-use Rattle.ele_script.specs.declared.reasons.Reason.TheVariants.{TooLong, Empty, Byte, NoCommand, Words, Word}
+use Rattle.ele_script.specs.declared.reasons.Reason.TheVariants.{TooLong, Cut, Empty, Byte, NoCommand, Words, Word}
 
 -- the fault by which the line is answered
 abbrev pub fault_of : Reason → LineFault
 fault_of TooLong = LineTooLong
+fault_of Cut = Syntax
 fault_of (Empty number) = Syntax
 fault_of (Byte number byte) = Syntax
 fault_of (NoCommand number) = Syntax
@@ -83,11 +84,15 @@ abbrev pub unknown_number : List (List ℕ) → ℕ
 unknown_number [] = 1
 unknown_number (word ∷ words) = if list_any (begins_command word) commands then 2 else 1
 
+-- the reason of a word that isn't of its kind, with its number
+abbrev pub IsWordReason : ℕ → WordKind → List ℕ → Reason → Type 0
+IsWordReason number kind word reason =
+    (fault : LineFault) × IsWordFault kind word fault × (reason ≡ Word number kind fault (detail_of kind word))
+
 -- the reason is of the first of these words that isn't of its kind, where so many stand before them
 abbrev pub IsFirstBadWord : ℕ → List WordKind → List (List ℕ) → Reason → Type 0
 IsFirstBadWord before (kind ∷ kinds) (word ∷ words) reason =
-    ((fault : LineFault) × IsWordFault kind word fault × (reason ≡ Word (before + 1) kind fault (detail_of kind word)))
-    ⊎ (IsOfKind kind word × IsFirstBadWord (before + 1) kinds words reason)
+    IsWordReason (before + 1) kind word reason ⊎ (IsOfKind kind word × IsFirstBadWord (before + 1) kinds words reason)
 IsFirstBadWord before kinds words reason = ⊥
 
 -- the reason of plain words: they begin with no command, other words than it takes stand behind it, or the first bad word

@@ -3,9 +3,8 @@ use Rattle.std.specs.Prelude.{◌≡◌, ℕ, Bool, true, false, ◌||◌, List,
 use Rattle.ele_printer.specs.declared.command.Command.{Command}
 use Rattle.ele_script.specs.Command.{kinds_behind}
 use Rattle.ele_script.specs.FirstFault.{FitsCommand, IsOfKind}
-use Rattle.ele_script.specs.Memory.{behind_takes, takes_memory}
-use Rattle.ele_script.specs.PathWord.{begins_path}
-use Rattle.ele_script.specs.Value.{WordKind, SourceWord}
+use Rattle.ele_script.specs.Memory.{behind_takes, word_takes}
+use Rattle.ele_script.specs.Value.{WordKind}
 
 -- each word is of its kind
 abbrev pub AreOfKinds : List WordKind → List (List ℕ) → Type 0
@@ -19,12 +18,7 @@ pub record IsCommand (words : List (List ℕ)) : Type 0 where
   pub fits : FitsCommand words command arguments
   pub are : AreOfKinds (kinds_behind command arguments) arguments
 
--- a word of the kind takes memory
-abbrev pub word_takes : WordKind → List ℕ → Bool
-word_takes SourceWord word = begins_path word
-word_takes kind word = takes_memory kind
-
--- one of the words does
+-- one of the words is read with memory
 abbrev pub any_takes : List WordKind → List (List ℕ) → Bool
 any_takes (kind ∷ kinds) (word ∷ words) = word_takes kind word || any_takes kinds words
 any_takes kinds words = false

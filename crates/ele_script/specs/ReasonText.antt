@@ -8,7 +8,7 @@ use Rattle.ele_script.specs.Value.{WordKind, NumberWord, MomentWord, NameWord, T
 use Rattle.ele_script.specs.declared.reasons.Detail.{Detail}
 use Rattle.ele_script.specs.declared.reasons.Detail.TheVariants.{LeadingZero, TooLarge, NoSlash, Other}
 use Rattle.ele_script.specs.declared.reasons.Reason.{Reason}
-use Rattle.ele_script.specs.declared.reasons.Reason.TheVariants.{TooLong, Empty, Byte, NoCommand, Words, Word}
+use Rattle.ele_script.specs.declared.reasons.Reason.TheVariants.{TooLong, Cut, Empty, Byte, NoCommand, Words, Word}
 
 -- what a command takes behind its name
 abbrev pub takes_text : Command → List ℕ
@@ -84,6 +84,7 @@ byte_text byte =
 -- why, without the place
 abbrev pub why_text : Reason → List ℕ
 why_text TooLong = codes "a line has at most 8192 bytes"
+why_text Cut = codes "it has no line feed"
 why_text (Empty number) = codes "one space too many stands here"
 why_text (Byte number byte) = byte_text byte
 why_text (NoCommand number) = codes "there is no such command"
@@ -92,6 +93,7 @@ why_text (Word number kind fault detail) = word_text kind fault detail
 
 abbrev pub place_text : Reason → List ℕ
 place_text TooLong = codes "length"
+place_text Cut = codes "end"
 place_text (Empty number) = codes "word " ++ decimal number
 place_text (Byte number byte) = codes "word " ++ decimal number
 place_text (NoCommand number) = codes "word " ++ decimal number

@@ -2,11 +2,11 @@
 ghost use Rattle.std.specs.Prelude.{◌≡◌, ◌⊎◌, ◌+◌, ◌<◌, ◌≤◌, ◌^◌, true, map, length, ℕ, List, Err, IfOk, IfErr, IfSome, IfNone, OnOk, OnErr};
 ghost use Rattle.std.specs.List.{list_all, list_any};
 ghost use Rattle.ele_script.specs.FirstFault.{IsFirstFault, IsOfKind, IsWordFault};
-ghost use Rattle.ele_script.specs.Memory.{TakesMemory};
+ghost use Rattle.ele_script.specs.Memory.{TakesMemory, word_takes};
 ghost use Rattle.ele_printer.specs.Command.{command_words};
 ghost use Rattle.ele_script.specs.CommandOf.{commands};
-ghost use Rattle.ele_script.specs.Reason.{IsFirstBadWord, IsReason, IsReasonOfWords, begins_command, digits_detail, detail_of, fault_of, is_digit, path_detail, unknown_number};
-ghost use Rattle.ele_script.specs.ReasonFound.{AreOfKinds, IsCommand, TakesBehind, any_takes, word_takes};
+ghost use Rattle.ele_script.specs.Reason.{IsFirstBadWord, IsReason, IsReasonOfWords, IsWordReason, begins_command, digits_detail, detail_of, fault_of, is_digit, path_detail, unknown_number};
+ghost use Rattle.ele_script.specs.ReasonFound.{AreOfKinds, IsCommand, TakesBehind, any_takes};
 ghost use Rattle.ele_script.specs.Words.{words_of};
 
 use crate::command::{COMMANDS, read_command};
@@ -108,14 +108,33 @@ fn bad_word(
         return Ok(None);
     };
     let number = before + 1;
-    match read_word(alloc, *kind, word) {
-        Ok(()) => bad_word(alloc, number, kinds, words),
+    let found = word_reason(alloc, number, *kind, word)?;
+    if found.is_some() {
+        return Ok(found);
+    }
+    bad_word(alloc, number, kinds, words)
+}
+
+/// Why a word isn't of its kind, with its number in the line; none where it is. `NoMemory` comes
+/// only where a word of the kind takes memory.
+pub fn word_reason(
+    alloc: Global,
+    number: u64,
+    kind: WordKind,
+    word: &[u8],
+) -> Result<Option<Reason>, NoMemory>
+    ensures some { IfOk result (λ found. IfSome found (IsWordReason number kind word.now)) }
+    ensures none { IfOk result (λ found. IfNone found (IsOfKind kind word.now)) }
+    ensures memory { OnErr result (word_takes kind word.now ≡ true) }
+{
+    match read_word(alloc, kind, word) {
+        Ok(()) => Ok(None),
         Err(LineFault::NoMemory) => Err(NoMemory),
         Err(fault) => Ok(Some(Reason::Word {
             number,
-            kind: *kind,
+            kind,
             fault,
-            detail: detail(*kind, word),
+            detail: detail(kind, word),
         })),
     }
 }

@@ -17,14 +17,14 @@ mod reasons;
 mod word;
 mod writing;
 
-pub use bad_word::reason;
+pub use bad_word::{reason, word_reason};
 pub use ele_printer::{
     LineFault, Printer, WriteFault, put, put_ahead, put_answer, put_fault, put_history, put_pass,
     put_reply, put_stop, put_trimmed, put_why, write_fault, write_named, write_pass, write_placed,
     write_reply,
 };
 pub use kind::WordKind;
-pub use question::{Question, read_question};
+pub use question::{Question, question_word, read_question};
 pub use reading::{LONGEST_LINE, Line, read_event, read_line};
 pub use reasons::{Detail, Reason};
 pub use word::policy as read_policy;

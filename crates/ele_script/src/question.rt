@@ -1,9 +1,11 @@
 //! Reading lines that ask for an explanation. A contract sees a line as its bytes, and what it asks
 //! for as itself.
 ghost use Rattle.std.specs.Prelude.{◌≡◌, None, IfSome, IfNone};
+ghost use Rattle.std.specs.Option.{option_map};
 ghost use Rattle.ele_script.specs.Question.{AsksQuestion, ReadsQuestion, asked_in};
 ghost use Rattle.ele_script.specs.Value.{MomentWord, TaggedWord};
 
+use crate::kind::WordKind;
 use crate::reading::words_in;
 use crate::word;
 use ele_printer::LineFault;
@@ -36,6 +38,23 @@ pub fn read_question(alloc: Global, line: &[u8]) -> Option<Result<Question, Line
     }
     if *first == b"ahead".as_slice() {
         return Some(read_ahead(word));
+    }
+    None
+}
+
+/// The word of a line that asks for an explanation, with the kind of words of which it should be.
+pub fn question_word(line: &[u8]) -> Option<(WordKind, &[u8])>
+    ensures { option_map (λ asked. (asked.0, asked.1.now)) result ≡ asked_in line.now }
+{
+    let words = words_in(line)?;
+    let [first, word] = words.as_slice() else {
+        return None;
+    };
+    if *first == b"why".as_slice() {
+        return Some((WordKind::Tagged, word));
+    }
+    if *first == b"ahead".as_slice() {
+        return Some((WordKind::Moment, word));
     }
     None
 }

@@ -26,6 +26,8 @@ pub enum Detail {
 pub enum Reason {
     /// The line has more than 8,192 bytes.
     TooLong,
+    /// The line has no line feed behind it, and is never run: only a run can tell.
+    Cut,
     /// The word has no bytes, as one space too many stands in the line.
     Empty(u64),
     /// This byte of the word stands in no line.
@@ -51,9 +53,11 @@ impl Reason {
         match self {
             Reason::TooLong => LineFault::LineTooLong,
             Reason::Word { fault, .. } => fault,
-            Reason::Empty(_) | Reason::Byte(_, _) | Reason::NoCommand(_) | Reason::Words(_) => {
-                LineFault::Syntax
-            }
+            Reason::Cut
+            | Reason::Empty(_)
+            | Reason::Byte(_, _)
+            | Reason::NoCommand(_)
+            | Reason::Words(_) => LineFault::Syntax,
         }
     }
 
@@ -63,6 +67,7 @@ impl Reason {
     {
         match self {
             Reason::TooLong => "a line has at most 8192 bytes",
+            Reason::Cut => "it has no line feed",
             Reason::Empty(_) => "one space too many stands here",
             Reason::Byte(_, b'\r') => "a carriage return stands in it",
             Reason::Byte(_, b'\t') => "a tab stands in it",
@@ -165,6 +170,7 @@ impl fmt::Display for Reason {
         let why = self.why();
         match *self {
             Reason::TooLong => write!(f, "length: {why}"),
+            Reason::Cut => write!(f, "end: {why}"),
             Reason::Words(_) => write!(f, "number of words: {why}"),
             Reason::Empty(number)
             | Reason::Byte(number, _)

@@ -1,4 +1,3 @@
-use Rattle.ele_runs.proofs.Basics.{Err, ap}
 use Rattle.ele_runs.proofs.Blocks.{hears_event, hears_fault, hears_trim}
 use Rattle.ele_runs.proofs.said.hear.Goals as goal
 

@@ -1,7 +1,7 @@
 use Rattle.ele_runs.proofs.Basics.{◌≡◌, ◌≤◌, length, take, arith, sym, ◌∙◌}
 use Rattle.std.proofs.lemmas.Result.{err_from_is_err_and}
 use Rattle.ele_runs.proofs.Words.{outlet}
-use Rattle.ele_runs.proofs.Ends.{ends_over, ends_past, ends_by, ends_in_cut, ends_in_last, ends_in_piece, ends_last, nothing_read, length_taken}
+use Rattle.ele_runs.proofs.Ends.{ends_over, ends_past, ends_by, ends_in_cut, ends_in_last, ends_in_piece, ends_last, ends_read, nothing_read, length_taken}
 use Rattle.ele_runs.proofs.Pieces.{all_of, last_of}
 use Rattle.ele_runs.proofs.Ran.{ran_none, ran_over, ran_on}
 use Rattle.ele_runs.proofs.script.run_pieces.Goals as goal
@@ -14,19 +14,25 @@ returns-in_err-hand_over g c =
     let p = err_from_is_err_and c.from_residual.result c.from_residual.ensures.1 in
     rw (p.1, p.2) (c.in_err-hand_over.ensures.0 ∙ c.pieces.invariant.put.same, ends_over c.pieces.invariant (outlet g.W.Write.contents c.hand_over.new.self) c.in_err-hand_over.ensures.1)
 
+pub returns-in_err-count : goal.returns-in_err-count
+returns-in_err-count g c =
+    let p = err_from_is_err_and c.from_residual-in_err-count.result c.from_residual-in_err-count.ensures.1 in
+    let ran = ran_over c.pieces.invariant c.in_ok-hand_over.ensures in
+    rw (p.1, p.2) (ran.put.same, ends_read ran _ c.most_of.result c.read_piece.new.piece _ c.in_ok-hand_over.ensures.1 c.in_err-count.ensures)
+
 pub returns-in_err-finish : goal.returns-in_err-finish
 returns-in_err-finish g c =
     let p = err_from_is_err_and c.from_residual-in_err-finish.result c.from_residual-in_err-finish.ensures.1 in
     let ran = ran_over c.pieces.invariant c.in_ok-hand_over.ensures in
     let none = nothing_read _ _ _ _ _ c.in_ok-count.ensures c.if-count-eq0.true in
-    rw (p.1, p.2) (c.in_err-finish.ensures.0 ∙ ran.put.same, ends_in_cut ran _ (outlet g.W.Write.contents c.finish.new.printer) c.in_ok-hand_over.ensures.1 none.0 none.1 c.in_err-finish.ensures.1)
+    rw (p.1, p.2) (c.in_err-finish.ensures.last.0 ∙ ran.put.same, ends_in_cut ran _ _ (outlet g.W.Write.contents c.finish.new.printer) c.in_ok-hand_over.ensures.1 none.0 none.1 c.in_err-finish.ensures.last.1 c.in_err-finish.ensures.noted)
 
 pub returns-then-count-eq0 : goal.returns-then-count-eq0
 returns-then-count-eq0 g c =
     let ran = ran_over c.pieces.invariant c.in_ok-hand_over.ensures in
     let none = nothing_read _ _ _ _ _ c.in_ok-count.ensures c.if-count-eq0.true in
-    let done = c.in_ok-finish.ensures in
-    (done.0 ∙ ran.put.same, ends_by ran _ (outlet g.W.Write.contents c.finish.new.printer) _ _ c.in_ok-hand_over.ensures.1 none.0 none.1 done.1 done.2 done.3)
+    let done = c.in_ok-finish.ensures.last in
+    (done.0 ∙ ran.put.same, ends_by ran _ _ (outlet g.W.Write.contents c.finish.new.printer) _ _ c.in_ok-hand_over.ensures.1 none.0 none.1 done.1 done.2 done.3 c.in_ok-finish.ensures.noted)
 
 pub returns-then-left-eq0 : goal.returns-then-left-eq0
 returns-then-left-eq0 g c =

@@ -1,0 +1,57 @@
+-- What is told beside a block.
+use Rattle.ele_runs.proofs.Basics.{◌≡◌, ℕ, List, [], ◌∷◌, ◌++◌, Option, Some, None, Result, Ok, Err, true, false, refl, sym, subst, ◌∙◌, Keeps, Appends, Appends-nil, append-nil}
+use Rattle.std.specs.Prelude.{Bool, IfSome, OnOk, OnErr, not, ◌&&◌, ◌+◌, if◌then◌else◌}
+use Rattle.std.proofs.KnownBytes.{Appends-kept, Keeps-refl}
+use Rattle.ele_runs.proofs.Words.{AppendsFront, Course, IsNoted, Past, cut_note, tells_reasons}
+use Rattle.ele_printer.specs.declared.fault.LineFault.{LineFault}
+use Rattle.ele_runs.specs.Answer.{Answer}
+use Rattle.ele_runs.specs.Block.{IsText}
+use Rattle.ele_runs.specs.Note as note
+use Rattle.ele_runs.specs.Said.{IsSaidText}
+use Rattle.ele_runs.specs.WhyBad.{IsToldReason, cut_reason, why_line}
+use Rattle.ele_runs.specs.declared.manner.Manner.{Manner}
+use Rattle.ele_runs.specs.declared.said.Said.TheVariants.{Bad}
+use Rattle.ele_script.specs.declared.reasons.Reason.{Reason}
+
+-- nothing is a front of whatever is told
+pub front_none : (old : Option (List ℕ)) (bytes : List ℕ) → AppendsFront old old bytes
+front_none old bytes = record { front = []; back = bytes; parts = refl; written = Appends-nil old }
+
+-- and nothing has no other front
+first_none : (front back : List ℕ) → [] ≡ front ++ back → front ≡ []
+first_none [] back parts = refl
+first_none (byte ∷ front) back parts = absurd cc
+
+appended_none : (old new : Option (List ℕ)) → Appends old new [] → Keeps old new
+appended_none None new is = tt
+appended_none (Some xs) None is = absurd is
+appended_none (Some xs) (Some ys) is = is ∙ append-nil xs
+
+pub front_of_none : (old new : Option (List ℕ)) → AppendsFront old new [] → Keeps old new
+front_of_none old new is = appended_none old new (subst (Appends old new) (first_none is.front is.back is.parts) is.written)
+
+-- all of a text or a front of it was written, and then a flush
+pub front_flushed : {A E : Type 0} (old mid new : Option (List ℕ)) (text : List ℕ) (r : Result A E) → OnOk r (Appends old mid text) → OnErr r (AppendsFront old mid text) → Keeps mid new → AppendsFront old new text
+front_flushed old mid new text (Ok x) all front same = record { front = text; back = []; parts = sym (append-nil text); written = Appends-kept old mid new text all same }
+front_flushed old mid new text (Err e) all front same =
+    record { front = front.front; back = front.back; parts = front.parts; written = Appends-kept old mid new front.front front.written same }
+
+-- the reason of a bad line was told
+pub noted_bad : (manner : Manner) (past : Past) (number : ℕ) (line : Option (List ℕ)) (fault : LineFault) (why : Option Reason) (old new : Option (List ℕ)) → tells_reasons manner ≡ true
+    → IfSome why (IsToldReason manner line) → AppendsFront old new (why_line number why) → (text : List ℕ) → IsSaidText past (Bad fault) text → IsNoted manner number line text old new
+noted_bad manner past number line fault None old new tells is told text said = note.nothing (front_of_none old new told)
+noted_bad manner past number line fault (Some why) old new tells is told text said = note.reason tells fault (subst (λ (a : Answer). IsText a text) said.1 said.2) why is told
+
+-- or nothing
+pub noted_nothing : (manner : Manner) (number : ℕ) (line : Option (List ℕ)) (old : Option (List ℕ)) (text : List ℕ) → IsNoted manner number line text old old
+noted_nothing manner number line old text = note.nothing (Keeps-refl old)
+
+-- in a strict run nothing is told of a last line
+quiet : (numbers strict : Bool) (text : List ℕ) → strict ≡ true → (if numbers && not strict then text else []) ≡ []
+quiet true true text is = refl
+quiet false true text is = refl
+quiet numbers false text is = absurd cc
+
+pub strict_cut : (course : Course) (last old new : Option (List ℕ)) → course.manner.strict ≡ true → AppendsFront old new (cut_note course last) → Keeps old new
+strict_cut course last old new strict told =
+    front_of_none old new (subst (AppendsFront old new) (quiet course.manner.numbers course.manner.strict (why_line (course.number + 1) (cut_reason last)) strict) told)

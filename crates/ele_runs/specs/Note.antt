@@ -1,0 +1,22 @@
+-- What a run tells of a line beside its block.
+use Rattle.std.specs.Prelude.{◌≡◌, ℕ, ◌+◌, List, [], Option, Some, true, if◌then◌else◌}
+use Rattle.std.specs.Io.KnownBytes.{Keeps}
+use Rattle.ele_printer.specs.Front.{AppendsFront}
+use Rattle.ele_printer.specs.Printed.{bad_text}
+use Rattle.ele_printer.specs.declared.fault.LineFault.{LineFault}
+use Rattle.ele_runs.specs.Course.{Course}
+use Rattle.ele_runs.specs.Manner.{tells_reasons}
+use Rattle.ele_runs.specs.WhyBad.{IsToldReason, cut_reason, why_line}
+use Rattle.ele_runs.specs.declared.manner.Manner.{Manner}
+use Rattle.ele_script.specs.declared.reasons.Reason.{Reason}
+
+-- nothing, or, where reasons are told and the block of the line with this number is that of a bad one, why it is; a writer that
+-- fails has a front of that, and the run goes on
+pub data IsNoted (manner : Manner) (number : ℕ) (line : Option (List ℕ)) (block : List ℕ) (old new : Option (List ℕ)) : Type 0 where
+  nothing : Keeps old new → IsNoted manner number line block old new
+  reason : tells_reasons manner ≡ true → (fault : LineFault) → block ≡ bad_text fault → (why : Reason) → IsToldReason manner line why → AppendsFront old new (why_line number (Some why))
+      → IsNoted manner number line block old new
+
+-- why a last line without its line feed is never run, where reasons are told
+abbrev pub cut_note : Course → Option (List ℕ) → List ℕ
+cut_note course last = if tells_reasons course.manner then why_line (course.number + 1) (cut_reason last) else []

@@ -1,0 +1,49 @@
+-- Why a line is no command, in the manner of the run, and how that is told.
+use Rattle.std.specs.Prelude.{◌≡◌, ℕ, List, [], ◌∷◌, ◌++◌, codes, decimal, Option, Some, None, true, ◌⊎◌}
+use Rattle.ele_printer.specs.declared.fault.LineFault.{LineFault}
+use Rattle.ele_runs.specs.Explained.{asked_by}
+use Rattle.ele_runs.specs.declared.manner.Manner.{Manner}
+use Rattle.ele_script.specs.FirstFault.{IsFirstFault, IsOfKind}
+use Rattle.ele_script.specs.Memory.{TakesMemory, word_takes}
+use Rattle.ele_script.specs.Reason.{IsReason, IsWordReason}
+use Rattle.ele_script.specs.ReasonText.{reason_text}
+use Rattle.ele_script.specs.declared.kind.WordKind.{WordKind}
+use Rattle.ele_script.specs.Words.{words_of}
+use Rattle.ele_script.specs.declared.reasons.Reason.{Reason}
+use Rattle.ele_script.specs.declared.reasons.Reason.TheVariants.{Cut, TooLong}
+
+-- the reason of a line: of its second word, if it asks for an explanation, or else of its first fault
+abbrev pub IsReasonBy : Option (WordKind × List ℕ) → List ℕ → Reason → Type 0
+IsReasonBy (Some asked) line why = IsWordReason 2 asked.0 asked.1 why
+IsReasonBy None line why = IsReason line why
+
+-- and of one as it is kept, in the manner of the run
+abbrev pub IsToldReason : Manner → Option (List ℕ) → Reason → Type 0
+IsToldReason manner None why = why ≡ TooLong
+IsToldReason manner (Some line) why = IsReasonBy (asked_by manner (Some line)) line why
+
+-- no reason is told where the word is as it should be, or the line is a command, and where there may have been no memory to
+-- read these
+abbrev pub HasNone : Option (WordKind × List ℕ) → List ℕ → Type 0
+HasNone (Some asked) line = IsOfKind asked.0 asked.1 ⊎ (word_takes asked.0 asked.1 ≡ true)
+HasNone None line = ((fault : LineFault) → ¬ IsFirstFault line fault) ⊎ TakesMemory (words_of line)
+
+abbrev pub IsUntold : Manner → Option (List ℕ) → Type 0
+IsUntold manner None = ⊥
+IsUntold manner (Some line) = HasNone (asked_by manner (Some line)) line
+
+-- so is what is told of why
+abbrev pub IsWhy : Manner → Option (List ℕ) → Option Reason → Type 0
+IsWhy manner line None = IsUntold manner line
+IsWhy manner line (Some why) = IsToldReason manner line why
+
+-- why a last line without its line feed is never run, unless it is empty
+abbrev pub cut_reason : Option (List ℕ) → Option Reason
+cut_reason None = Some TooLong
+cut_reason (Some []) = None
+cut_reason (Some (byte ∷ bytes)) = Some Cut
+
+-- the line that tells why: the number of the line, and which word of it is at fault and why
+abbrev pub why_line : ℕ → Option Reason → List ℕ
+why_line number None = []
+why_line number (Some why) = codes "elephant: line " ++ (decimal number ++ (codes ", " ++ (reason_text why ++ codes "\n")))
