@@ -1,12 +1,13 @@
 //! What the program does with what its words ask for, over a reader and two writers.
 //! A contract sees how a run ended, what the ends hold then, and the status.
-ghost use Rattle.std.specs.Prelude.{◌≡◌, Err, is_ok, if◌then◌else◌};
+ghost use Rattle.std.specs.Prelude.{◌≡◌, Err, IfErr, is_ok, if◌then◌else◌};
 ghost use Rattle.std.specs.Result.{result_err};
 ghost use Rattle.ele_history.specs.Past.{fresh};
 ghost use Rattle.ele_runs.specs.Course.{begun};
 ghost use Rattle.ele_words.specs.Status.{fault_status, status_of};
 ghost use Rattle.ele_words.specs.Ends.{HasRun, HasWritten, Tells, EndsWith};
 ghost use Rattle.ele_words.specs.RunEnds.{TellsRun, run_status};
+ghost use Rattle.ele_words.specs.SystemReason.{IsReasonOf};
 
 use crate::asked::Asked;
 use crate::forecasting::run_forecast;
@@ -60,11 +61,14 @@ fn why_failed<R: Failing, W: Failing>(
     ran: &Result<RunEnd, ShellFault>,
     reader: &R,
     writer: &W,
-) -> Option<SystemReason> {
+) -> Option<SystemReason>
+    ensures { IfErr ran.now (λ fault. IsReasonOf fault result) }
+{
     match ran {
+        Ok(_) => None,
         Err(ShellFault::ReadFault) => reader.why_failed(),
         Err(ShellFault::WriteFault) => writer.why_failed(),
-        _ => None,
+        Err(ShellFault::TooManyLines | ShellFault::NoMemory) => None,
     }
 }
 
@@ -76,6 +80,7 @@ fn tell_run<E: Write>(
     why: Option<SystemReason>,
     errors: &mut E,
 ) -> u8
+    requires { IfErr ran.now (λ fault. IsReasonOf fault why) }
     ensures status { result ≡ run_status ran.now }
     ensures told { TellsRun manner ran.now (E.contents errors.old) (E.contents errors.new) }
 {
