@@ -1,17 +1,10 @@
 -- What is told of the line that ended a run.
 use Rattle.std.proofs.Common.{◌≡◌, ℕ, List, [], ◌∷◌, ◌++◌, Option, Some, None, Result, Ok, Err, OnOk, OnErr, is_err, false, true, refl, sym, ap, ◌∙◌, append_assoc, codes, decimal}
 use Rattle.std.specs.Io.KnownBytes.{Appends}
-use Rattle.std.proofs.KnownBytes.{Appends-trans, Appends-nil}
+use Rattle.std.proofs.KnownBytes.{Appends-trans}
 use Rattle.ele_printer.specs.Front.{AppendsFront}
 use Rattle.ele_printer.specs.Printed.{line_text}
-use Rattle.ele_words.specs.StrictEnd.{IsToldReason, end_line, shown, why_line}
-use Rattle.std.specs.Prelude.{IfSome, is_some}
-use Rattle.ele_runs.specs.Explained.{asked_by}
-use Rattle.ele_runs.specs.declared.manner.Manner.{Manner}
-use Rattle.ele_script.specs.Reason.{IsReason}
-use Rattle.ele_script.specs.ReasonText.{reason_text}
-use Rattle.ele_script.specs.declared.reasons.Reason.{Reason}
-use Rattle.ele_words.proofs.Flushed.{whole_front}
+use Rattle.ele_words.specs.StrictEnd.{end_line, shown}
 
 -- bytes were written, and then a front of more
 front_behind : (old mid new : Option (List ℕ)) (bytes more : List ℕ) → Appends old mid bytes → AppendsFront mid new more → AppendsFront old new (bytes ++ more)
@@ -22,10 +15,6 @@ front_behind old mid new bytes more all is =
 front_of_more : (old new : Option (List ℕ)) (bytes more : List ℕ) → AppendsFront old new bytes → AppendsFront old new (bytes ++ more)
 front_of_more old new bytes more is =
     record { front = is.front; back = is.back ++ more; parts = ap (λ (ys : List ℕ). ys ++ more) is.parts ∙ append_assoc is.front is.back more; written = is.written }
-
--- nothing is a front of whatever is told
-pub front_none : (old : Option (List ℕ)) (bytes : List ℕ) → AppendsFront old old bytes
-front_none old bytes = record { front = []; back = bytes; parts = refl; written = Appends-nil old }
 
 -- the line that tells which line ended the run
 line_is : (number : ℕ) (line : Option (List ℕ)) (text : List ℕ) → text ≡ shown line → line_text (codes "elephant: line" ∷ decimal number ∷ codes "ended the run:" ∷ text ∷ []) ≡ end_line number line
@@ -42,20 +31,3 @@ pub end_cut : {A E : Type 0} (old new : Option (List ℕ)) (number : ℕ) (line 
     → OnErr r (AppendsFront old new (line_text (codes "elephant: line" ∷ decimal number ∷ codes "ended the run:" ∷ text ∷ []))) → is_err r ≡ true → AppendsFront old new (end_line number line ++ more)
 end_cut old new number line text more (Ok x) is front err = absurd cc
 end_cut old new number line text more (Err e) is front err = front_of_more old new (end_line number line) more (rw (line_is number line text is) at front)
-
--- the line that tells why, piece after piece
-pub why_is : (number : ℕ) (why : Reason) → codes "elephant: line " ++ (decimal number ++ (codes ", " ++ (reason_text why ++ codes "\n"))) ≡ why_line number (Some why)
-why_is number why = refl
-
--- all of a text or a front of it was written
-pub front_either : {A E : Type 0} (old new : Option (List ℕ)) (text : List ℕ) (r : Result A E) → OnOk r (Appends old new text) → OnErr r (AppendsFront old new text) → AppendsFront old new text
-front_either old new text (Ok x) all front = whole_front old new text all
-front_either old new text (Err e) all front = front
-
--- of a line that asks for no explanation the reason is told
-pub told_reason : (manner : Manner) (line : Option (List ℕ)) (text : List ℕ) (found : Option Reason) → line ≡ Some text → is_some (asked_by manner (Some text)) ≡ false → IfSome found (IsReason text) → IfSome found (IsToldReason manner line)
-told_reason manner line text None is plain some = tt
-told_reason manner line text (Some why) is plain some = rw is (none_of (asked_by manner (Some text)) plain, some) where
-  none_of : {A : Type 0} (o : Option A) → is_some o ≡ false → o ≡ None
-  none_of None h = refl
-  none_of (Some x) h = absurd cc

@@ -12,22 +12,24 @@ use Rattle.std.specs.List.{AllByRecursion}
 use Rattle.ele_runs.specs.Course.{Course}
 use Rattle.ele_runs.specs.LineLength.{line_unless_long}
 use Rattle.ele_runs.specs.Lines.{IsUnbroken, whole_lines}
-use Rattle.ele_runs.specs.Telling.{HasTold, ToldPastABound, ToldToAReadFault, ToldToAWriteFault}
+use Rattle.ele_runs.specs.Telling.{EndsBy, HasTold, ToldPastABound, ToldToAReadFault, ToldToAWriteFault}
 use Rattle.ele_runs.specs.Told.{cut_told}
+use Rattle.ele_runs.specs.declared.end.EndLine.{EndLine}
 use Rattle.ele_runs.specs.declared.end.RunEnd.{RunEnd}
 use Rattle.ele_runs.specs.declared.fault.ShellFault.{ShellFault}
 use Rattle.ele_runs.specs.declared.fault.ShellFault.TheVariants.{ReadFault, WriteFault, TooManyLines, NoMemory}
 use Rattle.ele_words.specs.Ends.{HasRun, HasWritten, fault_line}
 
 -- what a run says of each of its ends
-pub has_run : (start : Course) (input rest old new : Option (List ℕ)) (r : Result RunEnd ShellFault) → IfOk r (λ end. HasTold start input rest old new end.lines end.ended_by)
-    → (IsErrOf r ReadFault → ToldToAReadFault start input rest old new) → (IsErrOf r TooManyLines → ToldPastABound start input rest old new)
-    → (IsErrOf r WriteFault → ToldToAWriteFault start input old new) → (IsErrOf r NoMemory → Keeps input rest × Keeps old new) → HasRun start input rest old new r
-has_run start input rest old new (Ok end) ok read many write memory = ok
-has_run start input rest old new (Err ReadFault) ok read many write memory = read refl
-has_run start input rest old new (Err TooManyLines) ok read many write memory = many refl
-has_run start input rest old new (Err WriteFault) ok read many write memory = write refl
-has_run start input rest old new (Err NoMemory) ok read many write memory = memory refl
+pub has_run : (start : Course) (input rest old new notes : Option (List ℕ)) (r : Result RunEnd ShellFault) → IfOk r (λ end. HasTold start input rest old new notes end.lines end.ended_by)
+    → (IsErrOf r ReadFault → ToldToAReadFault start input rest old new notes) → (IsErrOf r TooManyLines → ToldPastABound start input rest old new notes)
+    → (IsErrOf r WriteFault → ToldToAWriteFault start input old new notes) → (IsErrOf r NoMemory → Keeps input rest × Keeps old new × Keeps start.notes notes)
+    → HasRun start input rest old new notes r
+has_run start input rest old new notes (Ok end) ok read many write memory = ok
+has_run start input rest old new notes (Err ReadFault) ok read many write memory = read refl
+has_run start input rest old new notes (Err TooManyLines) ok read many write memory = many refl
+has_run start input rest old new notes (Err WriteFault) ok read many write memory = write refl
+has_run start input rest old new notes (Err NoMemory) ok read many write memory = memory refl
 
 pub front_kept : (old mid new : Option (List ℕ)) (bytes : List ℕ) → AppendsFront old mid bytes → Keeps mid new → AppendsFront old new bytes
 front_kept old mid new bytes is same =
@@ -37,9 +39,9 @@ pub whole_front : (old new : Option (List ℕ)) (bytes : List ℕ) → Appends o
 whole_front old new bytes is = record { front = bytes; back = []; parts = sym (append-nil bytes); written = is }
 
 -- the writer holds what it held before it was flushed
-kept_told : (start : Course) (n : ℕ) (ended_by : Option (Option (List ℕ))) (input rest old mid new : Option (List ℕ)) → HasTold start input rest old mid n ended_by → Keeps mid new
-    → HasTold start input rest old new n ended_by
-kept_told start n None input rest old mid new ran same = record {
+kept_told : (start : Course) (n : ℕ) (ended_by : Option EndLine) (input rest old mid new notes : Option (List ℕ)) → HasTold start input rest old mid notes n ended_by → Keeps mid new
+    → HasTold start input rest old new notes n ended_by
+kept_told start n None input rest old mid new notes ran same = record {
   given = ran.given;
   lines = ran.lines;
   last = ran.last;
@@ -55,8 +57,9 @@ kept_told start n None input rest old mid new ran same = record {
   goes_on = ran.goes_on;
   uncut = ran.uncut;
   written = Appends-kept old mid new (ran.text ++ cut_told ran.course (line_unless_long ran.last)) ran.written same;
+  noted = ran.noted;
 }
-kept_told start n (Some line) input rest old mid new ran same = record {
+kept_told start n (Some end) input rest old mid new notes ran same = record {
   given = ran.given;
   lines = ran.lines;
   line = ran.line;
@@ -71,9 +74,10 @@ kept_told start n (Some line) input rest old mid new ran same = record {
   written = Appends-kept old mid new ran.text ran.written same;
 }
 
-kept : (start : Course) (input rest old mid new : Option (List ℕ)) (ended : Result RunEnd ShellFault) → HasRun start input rest old mid ended → Keeps mid new → HasRun start input rest old new ended
-kept start input rest old mid new (Ok end) ran same = kept_told start end.lines end.ended_by input rest old mid new ran same
-kept start input rest old mid new (Err ReadFault) ran same =
+kept : (start : Course) (input rest old mid new notes : Option (List ℕ)) (ended : Result RunEnd ShellFault) → HasRun start input rest old mid notes ended → Keeps mid new
+    → HasRun start input rest old new notes ended
+kept start input rest old mid new notes (Ok end) ran same = kept_told start end.lines end.ended_by input rest old mid new notes ran same
+kept start input rest old mid new notes (Err ReadFault) ran same =
     record {
       given = ran.given;
       lines = ran.lines;
@@ -87,8 +91,9 @@ kept start input rest old mid new (Err ReadFault) ran same =
       told = ran.told;
       goes_on = ran.goes_on;
       written = Appends-kept old mid new ran.text ran.written same;
+      noted = ran.noted;
     }
-kept start input rest old mid new (Err TooManyLines) ran same =
+kept start input rest old mid new notes (Err TooManyLines) ran same =
     record {
       given = ran.given;
       byte = ran.byte;
@@ -104,8 +109,9 @@ kept start input rest old mid new (Err TooManyLines) ran same =
       told = ran.told;
       goes_on = ran.goes_on;
       written = Appends-kept old mid new ran.text ran.written same;
+      noted = ran.noted;
     }
-kept start input rest old mid new (Err WriteFault) ran same =
+kept start input rest old mid new notes (Err WriteFault) ran same =
     record {
       lines = ran.lines;
       rest = ran.rest;
@@ -115,11 +121,11 @@ kept start input rest old mid new (Err WriteFault) ran same =
       whole = ran.whole;
       told = ran.told;
       written = elim ran.written [
-        | inl is ↦ inl (front_kept old mid new _ is same)
-        | inr is ↦ inr (is.0, front_kept old mid new _ is.1 same)
+        | inl is ↦ inl (front_kept old mid new _ is.0 same, is.1)
+        | inr is ↦ inr (is.0, front_kept old mid new _ is.1 same, is.2)
       ];
     }
-kept start input rest old mid new (Err NoMemory) ran same = (ran.0, Keeps-trans old mid new ran.1 same)
+kept start input rest old mid new notes (Err NoMemory) ran same = (ran.0, Keeps-trans old mid new ran.1 same, ran.2)
 
 -- all of a text was written or a front of it, and then a flush
 pub written_flushed : {A E : Type 0} (old mid new : Option (List ℕ)) (text : List ℕ) (r : Result A E) → OnOk r (Appends old mid text) → OnErr r (AppendsFront old mid text) → Keeps mid new → AppendsFront old new text
@@ -157,9 +163,37 @@ all_both : {A : Type 0} (P : A → Type 0) (a b : List A) → AllByRecursion P a
 all_both P [] b h g = g
 all_both P (x ∷ a) b h g = (h.0, all_both P a b h.1 g)
 
--- a run that ended in any way has got as far as one whose writer failed
-told_write_fault : (start : Course) (n : ℕ) (ended_by : Option (Option (List ℕ))) (input rest old new : Option (List ℕ)) → HasTold start input rest old new n ended_by → ToldToAWriteFault start input old new
-told_write_fault start n None input rest old new ran =
+-- where nothing was told a front was of whatever might have been
+front_of_kept : (old new : Option (List ℕ)) (bytes : List ℕ) → Keeps old new → AppendsFront old new bytes
+front_of_kept old new bytes same = record { front = []; back = bytes; parts = refl; written = Appends-kept old old new [] (Appends-nil old) same }
+
+-- a run that a line ended has got as far as one whose writer failed
+ended_write_fault : (start : Course) (is_cut : Bool) (input rest old new notes : Option (List ℕ)) (given : List ℕ) (lines : List (List ℕ)) (line text : List ℕ) → Consumes input rest given
+    → AllByRecursion IsUnbroken lines → IsUnbroken line → EndsBy is_cut start given rest lines line text notes → Appends old new text → ToldToAWriteFault start input old new notes
+ended_write_fault start false input rest old new notes given lines line text taken whole unbroken by written = record {
+  lines = lines ++ line ∷ [];
+  rest = by.behind ++ left rest;
+  text = text;
+  course = by.course;
+  input_is = taken_is input rest given (whole_lines (lines ++ line ∷ [])) by.behind taken by.parts;
+  whole = all_both IsUnbroken lines (line ∷ []) whole (unbroken, tt);
+  told = by.are;
+  written = inl (whole_front old new text written, by.noted);
+}
+ended_write_fault start true input rest old new notes given lines line text taken whole unbroken by written = record {
+  lines = lines;
+  rest = line;
+  text = by.text;
+  course = by.course;
+  input_is = all_is input rest given (whole_lines lines) line taken by.at_end by.parts;
+  whole = whole;
+  told = by.are;
+  written = inr (unbroken, subst (AppendsFront old new) by.told_is (whole_front old new text written), front_of_kept by.course.notes notes _ by.noted);
+}
+
+-- so has one that ended in any way
+told_write_fault : (start : Course) (n : ℕ) (ended_by : Option EndLine) (input rest old new notes : Option (List ℕ)) → HasTold start input rest old new notes n ended_by → ToldToAWriteFault start input old new notes
+told_write_fault start n None input rest old new notes ran =
     record {
       lines = ran.lines;
       rest = ran.last;
@@ -168,34 +202,14 @@ told_write_fault start n None input rest old new ran =
       input_is = all_is input rest ran.given (whole_lines ran.lines) ran.last ran.taken ran.at_end ran.are.parts;
       whole = ran.are.whole;
       told = ran.told;
-      written = inr (ran.are.cut, whole_front old new (ran.text ++ cut_told ran.course (line_unless_long ran.last)) ran.written);
+      written = inr (ran.are.cut, whole_front old new (ran.text ++ cut_told ran.course (line_unless_long ran.last)) ran.written, ran.noted);
     }
-told_write_fault start n (Some line) input rest old new ran = elim ran.by [
-  | inl by ↦ record {
-    lines = ran.lines ++ ran.line ∷ [];
-    rest = by.behind ++ left rest;
-    text = ran.text;
-    course = by.course;
-    input_is = taken_is input rest ran.given (whole_lines (ran.lines ++ ran.line ∷ [])) by.behind ran.taken by.parts;
-    whole = all_both IsUnbroken ran.lines (ran.line ∷ []) ran.whole (ran.unbroken, tt);
-    told = by.are;
-    written = inl (whole_front old new ran.text ran.written);
-  }
-  | inr by ↦ record {
-    lines = ran.lines;
-    rest = ran.line;
-    text = by.text;
-    course = by.course;
-    input_is = all_is input rest ran.given (whole_lines ran.lines) ran.line ran.taken by.at_end by.parts;
-    whole = ran.whole;
-    told = by.are;
-    written = inr (ran.unbroken, subst (AppendsFront old new) by.told_is (whole_front old new ran.text ran.written));
-  }
-]
+told_write_fault start n (Some end) input rest old new notes ran =
+    ended_write_fault start end.is_cut input rest old new notes ran.given ran.lines ran.line ran.text ran.taken ran.whole ran.unbroken ran.by ran.written
 
-as_write_fault : (start : Course) (input rest old new : Option (List ℕ)) (ended : Result RunEnd ShellFault) → HasRun start input rest old new ended → ToldToAWriteFault start input old new
-as_write_fault start input rest old new (Ok end) ran = told_write_fault start end.lines end.ended_by input rest old new ran
-as_write_fault start input rest old new (Err ReadFault) ran =
+as_write_fault : (start : Course) (input rest old new notes : Option (List ℕ)) (ended : Result RunEnd ShellFault) → HasRun start input rest old new notes ended → ToldToAWriteFault start input old new notes
+as_write_fault start input rest old new notes (Ok end) ran = told_write_fault start end.lines end.ended_by input rest old new notes ran
+as_write_fault start input rest old new notes (Err ReadFault) ran =
     record {
       lines = ran.lines;
       rest = ran.part ++ left rest;
@@ -204,9 +218,9 @@ as_write_fault start input rest old new (Err ReadFault) ran =
       input_is = taken_is input rest ran.given (whole_lines ran.lines) ran.part ran.taken ran.are.parts;
       whole = ran.are.whole;
       told = ran.told;
-      written = inl (whole_front old new ran.text ran.written);
+      written = inl (whole_front old new ran.text ran.written, ran.noted);
     }
-as_write_fault start input rest old new (Err TooManyLines) ran =
+as_write_fault start input rest old new notes (Err TooManyLines) ran =
     record {
       lines = ran.lines;
       rest = (ran.part ++ ran.byte ∷ []) ++ left rest;
@@ -216,10 +230,10 @@ as_write_fault start input rest old new (Err TooManyLines) ran =
           (ap (λ (zs : List ℕ). zs ++ ran.byte ∷ []) ran.are.parts ∙ append_assoc (whole_lines ran.lines) ran.part (ran.byte ∷ []));
       whole = ran.are.whole;
       told = ran.told;
-      written = inl (whole_front old new ran.text ran.written);
+      written = inl (whole_front old new ran.text ran.written, ran.noted);
     }
-as_write_fault start input rest old new (Err WriteFault) ran = ran
-as_write_fault start input rest old new (Err NoMemory) ran =
+as_write_fault start input rest old new notes (Err WriteFault) ran = ran
+as_write_fault start input rest old new notes (Err NoMemory) ran =
     record {
       lines = [];
       rest = left input;
@@ -228,15 +242,15 @@ as_write_fault start input rest old new (Err NoMemory) ran =
       input_is = untaken input;
       whole = tt;
       told = (refl, refl);
-      written = inl (whole_front old new [] (Appends-kept old old new [] (Appends-nil old) ran.1));
+      written = inl (whole_front old new [] (Appends-kept old old new [] (Appends-nil old) ran.1), ran.2);
     }
 
 -- a run, and then a flush
-pub run_flushed : (start : Course) (input rest old mid new : Option (List ℕ)) (ran : Result RunEnd ShellFault) (is_flushed : Bool) (ended : Result RunEnd ShellFault) → HasRun start input rest old mid ran → Keeps mid new
-    → ended ≡ (if is_flushed then ran else Err WriteFault) → HasRun start input rest old new ended
-run_flushed start input rest old mid new ran true ended has same is = rw is (kept start input rest old mid new ran has same)
-run_flushed start input rest old mid new ran false ended has same is =
-    rw is (kept start input rest old mid new (Err WriteFault) (as_write_fault start input rest old mid ran has) same)
+pub run_flushed : (start : Course) (input rest old mid new notes : Option (List ℕ)) (ran : Result RunEnd ShellFault) (is_flushed : Bool) (ended : Result RunEnd ShellFault)
+    → HasRun start input rest old mid notes ran → Keeps mid new → ended ≡ (if is_flushed then ran else Err WriteFault) → HasRun start input rest old new notes ended
+run_flushed start input rest old mid new notes ran true ended has same is = rw is (kept start input rest old mid new notes ran has same)
+run_flushed start input rest old mid new notes ran false ended has same is =
+    rw is (kept start input rest old mid new notes (Err WriteFault) (as_write_fault start input rest old mid notes ran has) same)
 
 -- all of a text was written
 pub text_flushed : {A : Type 0} (text : List ℕ) (old mid new : Option (List ℕ)) (x : A) (is_flushed : Bool) (ended : Result A ShellFault) → Appends old mid text → Keeps mid new → ended ≡ (if is_flushed then Ok x else Err WriteFault)

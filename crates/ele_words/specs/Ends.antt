@@ -32,7 +32,7 @@ pub record Ends (Done : Option ShellFault → Type 0) (before after : Option (Li
 -- by what was asked for; words that weren't understood are told with status 2
 abbrev pub EndsWith : Asked → Bool → Option (List ℕ) → Option (List ℕ) → Option (List ℕ) → Option (List ℕ) → Option (List ℕ) → Option (List ℕ) → ℕ → Type 0
 EndsWith (asked.Run limits manner) watched input rest old new before after status =
-    RunEnds (begun manner (fresh limits)) input rest old new before after status
+    RunEnds (begun manner (fresh limits) before) input rest old new after status
 EndsWith (asked.Storm plan) watched input rest old new before after status = Keeps input rest × EndsWatched watched plan old new before after status
 EndsWith (asked.Forecast ask) watched input rest old new before after status = ForecastEnds ask input rest old new before after status
 EndsWith (asked.Help text) watched input rest old new before after status =

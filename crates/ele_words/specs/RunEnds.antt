@@ -10,29 +10,32 @@ use Rattle.ele_runs.specs.declared.fault.ShellFault.TheVariants.{ReadFault, Writ
 use Rattle.ele_runs.specs.declared.manner.Manner.{Manner}
 use Rattle.ele_words.specs.Status.{fault_status}
 use Rattle.ele_words.specs.StrictEnd.{TellsEnd, end_status}
-use Rattle.ele_words.specs.SystemReason.{failed_line}
+use Rattle.ele_words.specs.SystemReason.{IsReasonOf, failed_line}
 use Rattle.ele_words.specs.declared.system_reason.SystemReason.{SystemReason}
 
--- what a run has done, by how it ended; without memory nothing was read or written
-abbrev pub HasRun : Course → Option (List ℕ) → Option (List ℕ) → Option (List ℕ) → Option (List ℕ) → Result RunEnd ShellFault → Type 0
-HasRun start input rest old new (Ok end) = HasTold start input rest old new end.lines end.ended_by
-HasRun start input rest old new (Err ReadFault) = ToldToAReadFault start input rest old new
-HasRun start input rest old new (Err TooManyLines) = ToldPastABound start input rest old new
-HasRun start input rest old new (Err WriteFault) = ToldToAWriteFault start input old new
-HasRun start input rest old new (Err NoMemory) = Keeps input rest × Keeps old new
+-- what a run has done, by how it ended, and `notes`, what stood at the other writer then; without memory nothing was read or
+-- written
+abbrev pub HasRun : Course → Option (List ℕ) → Option (List ℕ) → Option (List ℕ) → Option (List ℕ) → Option (List ℕ) → Result RunEnd ShellFault → Type 0
+HasRun start input rest old new notes (Ok end) = HasTold start input rest old new notes end.lines end.ended_by
+HasRun start input rest old new notes (Err ReadFault) = ToldToAReadFault start input rest old new notes
+HasRun start input rest old new notes (Err TooManyLines) = ToldPastABound start input rest old new notes
+HasRun start input rest old new notes (Err WriteFault) = ToldToAWriteFault start input old new notes
+HasRun start input rest old new notes (Err NoMemory) = Keeps input rest × Keeps old new × Keeps start.notes notes
 
 abbrev pub run_status : Result RunEnd ShellFault → ℕ
 run_status (Ok end) = end_status end.ended_by
 run_status (Err fault) = fault_status fault
 
--- which line ended it was told, or which fault, and why the system failed, where that is known
+-- which line ended it was told, or which fault, and why the system failed to read or to write, where that is known
 abbrev pub TellsRun : Manner → Result RunEnd ShellFault → Option (List ℕ) → Option (List ℕ) → Type 0
 TellsRun manner (Ok end) before after = TellsEnd manner end.lines end.ended_by before after
-TellsRun manner (Err fault) before after = (why : Option SystemReason) × AppendsFront before after (failed_line fault why)
+TellsRun manner (Err fault) before after =
+    (why : Option SystemReason) × IsReasonOf fault why × AppendsFront before after (failed_line fault why)
 
--- a run was done up to an end, which was told
-pub record RunEnds (start : Course) (input rest old new before after : Option (List ℕ)) (status : ℕ) : Type 0 where
+-- a run was done up to an end, which was told behind the reasons of bad lines
+pub record RunEnds (start : Course) (input rest old new after : Option (List ℕ)) (status : ℕ) : Type 0 where
   pub ended : Result RunEnd ShellFault
-  pub done : HasRun start input rest old new ended
+  pub notes : Option (List ℕ)
+  pub done : HasRun start input rest old new notes ended
   pub status_is : status ≡ run_status ended
-  pub told : TellsRun start.manner ended before after
+  pub told : TellsRun start.manner ended notes after

@@ -1,5 +1,5 @@
 -- How the program tells a fault, and why the system failed to read or to write.
-use Rattle.std.specs.Prelude.{List, ℕ, [], ◌∷◌, codes, decimal, Option, Some, None}
+use Rattle.std.specs.Prelude.{◌≡◌, List, ℕ, [], ◌∷◌, codes, decimal, Option, Some, None}
 use Rattle.ele_printer.specs.Printed.{line_text}
 use Rattle.ele_runs.specs.Fault.{number_of}
 use Rattle.ele_runs.specs.declared.fault.ShellFault.{ShellFault}
@@ -28,3 +28,10 @@ abbrev pub failed_line : ShellFault → Option SystemReason → List ℕ
 failed_line fault None = fault_line fault
 failed_line fault (Some why) =
     line_text (codes "elephant:" ∷ decimal (number_of fault) ∷ fault_front fault ∷ system_text why ∷ [])
+
+-- the system may have failed only where something was read or written
+abbrev pub IsReasonOf : ShellFault → Option SystemReason → Type 0
+IsReasonOf ReadFault why = Unit {0}
+IsReasonOf WriteFault why = Unit {0}
+IsReasonOf TooManyLines why = why ≡ None
+IsReasonOf NoMemory why = why ≡ None

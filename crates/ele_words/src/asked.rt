@@ -69,7 +69,8 @@ const SCRIPT: &str = "Tells the commands of scripts";
 const STRICT: &str = "Ends the run, with status 5, at the first line that isn't answered by `ok`, \
     and tells it on standard error, with the word at fault where it is `bad`";
 
-const NUMBERS: &str = "Puts the number of its line in front of each answer";
+const NUMBERS: &str = "Puts the number of its line in front of each answer, and tells on \
+    standard error the word at fault of each line that is `bad`";
 
 const REMARKS: &str = "Passes over lines that begin with `#`";
 

@@ -1,12 +1,13 @@
 //! What the program does with what its words ask for, over a reader and two writers.
 //! A contract sees how a run ended, what the ends hold then, and the status.
-ghost use Rattle.std.specs.Prelude.{◌≡◌, Err, is_ok, if◌then◌else◌};
+ghost use Rattle.std.specs.Prelude.{◌≡◌, Err, IfErr, is_ok, if◌then◌else◌};
 ghost use Rattle.std.specs.Result.{result_err};
 ghost use Rattle.ele_history.specs.Past.{fresh};
 ghost use Rattle.ele_runs.specs.Course.{begun};
 ghost use Rattle.ele_words.specs.Status.{fault_status, status_of};
 ghost use Rattle.ele_words.specs.Ends.{HasRun, HasWritten, Tells, EndsWith};
 ghost use Rattle.ele_words.specs.RunEnds.{TellsRun, run_status};
+ghost use Rattle.ele_words.specs.SystemReason.{IsReasonOf};
 
 use crate::asked::Asked;
 use crate::forecasting::run_forecast;
@@ -40,17 +41,19 @@ pub(crate) fn after_flush<T: Drop>(
 
 // Runs the script that the reader gives in this manner under these limits, and flushes what it
 // wrote, however it ended.
-fn run_script<C: Explaining, R: Read, W: Write>(
+fn run_script<C: Explaining, R: Read, W: Write, E: Write>(
     alloc: Global,
     manner: Manner,
     limits: Limits,
     reader: &mut R,
     writer: &mut W,
+    errors: &mut E,
 ) -> Result<RunEnd, ShellFault>
-    ensures { HasRun (begun manner (fresh limits)) (R.remaining reader.old) (R.remaining reader.new)
-        (W.contents writer.old) (W.contents writer.new) result }
+    ensures { HasRun (begun manner (fresh limits) (E.contents errors.old))
+        (R.remaining reader.old) (R.remaining reader.new)
+        (W.contents writer.old) (W.contents writer.new) (E.contents errors.new) result }
 {
-    let ran = run_in::<C, R, W>(manner, alloc, reader, writer, limits);
+    let ran = run_in::<C, R, W, E>(manner, alloc, reader, writer, errors, limits);
     let flushed = writer.flush();
     after_flush(ran, &flushed)
 }
@@ -60,11 +63,14 @@ fn why_failed<R: Failing, W: Failing>(
     ran: &Result<RunEnd, ShellFault>,
     reader: &R,
     writer: &W,
-) -> Option<SystemReason> {
+) -> Option<SystemReason>
+    ensures { IfErr ran.now (λ fault. IsReasonOf fault result) }
+{
     match ran {
+        Ok(_) => None,
         Err(ShellFault::ReadFault) => reader.why_failed(),
         Err(ShellFault::WriteFault) => writer.why_failed(),
-        _ => None,
+        Err(ShellFault::TooManyLines | ShellFault::NoMemory) => None,
     }
 }
 
@@ -76,6 +82,7 @@ fn tell_run<E: Write>(
     why: Option<SystemReason>,
     errors: &mut E,
 ) -> u8
+    requires { IfErr ran.now (λ fault. IsReasonOf fault why) }
     ensures status { result ≡ run_status ran.now }
     ensures told { TellsRun manner ran.now (E.contents errors.old) (E.contents errors.new) }
 {
@@ -120,7 +127,8 @@ pub(crate) fn tell<E: Write>(fault: Option<ShellFault>, errors: &mut E) -> u8
 }
 
 /// Does what was asked for: answers at the writer, and tells faults and words that weren't
-/// understood at the other, and there, where it is watched, how far a storm is too. The result is the
+/// understood at the other, and there, where it is watched, how far a storm is too, and of a run with
+/// numbers why its bad lines are no commands. The result is the
 /// status that the program ends with.
 pub fn answer<
     C: Auditable + Explaining + Send,
@@ -143,7 +151,7 @@ pub fn answer<
 {
     match asked {
         Asked::Run(limits, manner) => {
-            let ran = run_script::<C, R, W>(alloc, *manner, *limits, reader, writer);
+            let ran = run_script::<C, R, W, E>(alloc, *manner, *limits, reader, writer, errors);
             let why = why_failed(&ran, reader, writer);
             tell_run(alloc, *manner, &ran, why, errors)
         }

@@ -14,6 +14,8 @@ mod lines;
 #[cfg(test)]
 mod pieces;
 #[cfg(test)]
+mod reasons;
+#[cfg(test)]
 mod runs;
 #[cfg(test)]
 mod statuses;

@@ -6,7 +6,7 @@ use ele_core::Core;
 use ele_runs::{Manner, run_in};
 use ele_shell::run;
 use ele_world::Limits;
-use std::fs;
+use std::{fs, io};
 
 /// What names the scripts under the largest limits, a line each: NAME.script has its NAME.output.
 const ROWS: &str = "rows";
@@ -93,11 +93,12 @@ fn explained(rt: &HostRuntime, name: &str) -> Result<String> {
         ..Manner::plain()
     };
     let mut reader = script.as_slice();
-    match run_in::<Core, _, _>(
+    match run_in::<Core, _, _, _>(
         manner,
         rt.alloc(),
         &mut reader,
         &mut text,
+        &mut io::sink(),
         Limits::largest(),
     ) {
         Ok(_ran) => Ok(String::from_utf8(text)?),

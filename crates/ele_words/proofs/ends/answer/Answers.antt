@@ -7,6 +7,7 @@ pub returns-in-Run : goal.returns-in-Run
 returns-in-Run g c =
     rw c.in-Run.is (record {
       ended = c.run_script-ran.result;
+      notes = g.E.Write.contents c.run_script-ran.new.errors;
       done = c.run_script-ran.ensures;
       status_is = c.tell_run.ensures.status;
       told = c.tell_run.ensures.told;

@@ -1,5 +1,5 @@
 use Rattle.std.proofs.Common.{sym, ◌∙◌}
-use Rattle.ele_words.specs.StrictEnd.{why_line}
+use Rattle.ele_runs.specs.WhyBad.{why_line}
 use Rattle.ele_words.proofs.Ended.{end_cut, end_then}
 use Rattle.ele_words.proofs.strict.tell_line.Goals as goal
 
