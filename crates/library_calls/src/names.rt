@@ -14,7 +14,9 @@ fn a_name_lives_from_its_birth_to_its_death(rt: HostRuntime) -> Result<(), Fail>
     let mut names = Names::new(rt.alloc());
     names.add(root, name, file, Moment::START)?;
     assert_eq!(rt; names.list(root, Moment::START)?.len(), 1);
-    names.kill(root, &name, moment(3)?);
+    if let Some(found) = names.find(root, &name) {
+        names.kill(root, &name, &found, moment(3)?);
+    }
     assert!(rt; names.at(root, &name, moment(2)?) == Some(file));
     assert!(rt; names.at(root, &name, moment(3)?).is_none());
     assert!(rt; names.last_dead(root, &name) == Some(file));
