@@ -62,10 +62,11 @@ impl Core {
         ensures refused { OnErr result ((reply : Reply) → IsRead event.now reply self.new.rows_read) }
     {
         match event {
-            Event::Clock(to) => Ok(Reply::Now(self.clock(*to)?)),
-            Event::Due => Ok(Reply::DueList(self.due()?)),
-            _ => self.answer_any(event),
+            Event::Clock(to) => return Ok(Reply::Now(self.clock(*to)?)),
+            Event::Due => return Ok(Reply::DueList(self.due()?)),
+            _ => {}
         }
+        self.answer_any(event)
     }
 
     // The same of any event.

@@ -26,12 +26,12 @@ impl Core {
     pub fn remove_dir(&mut self, path: &Path) -> Result<(), Refusal>
         ensures { DoesAtOnce done self.old.world (event.RemoveDir path.now) result self.new.world }
     {
-        let (home, name, target) = passed!(self.state.placed_now(path));
-        let Target::Directory(directory) = target else {
+        let (home, name, found) = passed!(self.state.placed_now(path));
+        let Target::Directory(directory) = found.target() else {
             return Err(Refusal::NotDirectory);
         };
         passed!(unless(!self.state.is_empty(directory), Refusal::NotEmpty));
-        self.state.end_name(home, &name);
+        self.state.end_name(home, &name, &found);
         Ok(())
     }
 

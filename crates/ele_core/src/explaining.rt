@@ -9,7 +9,7 @@ use ele_world::{Explaining, Fate, KeyList, Moment, NoMemory, Refusal, TaggedPath
 impl Core {
     /// What becomes of the version that the path and its tag mean, and why, as `fate` tells it. It takes no memory. Refused:
     /// `Future`, `NoEntry`, `NotDirectory`, `IsDirectory`, `NoVersion`, `Forgotten`.
-    #[tactic(auto, using(crate::proofs::Meant::fate_is, crate::proofs::Meant::fate_refused))]
+    #[tactic(auto, using(crate::proofs::Meant::fate_is))]
     pub fn fate_at(&self, tagged: &TaggedPath) -> Result<Fate, Refusal>
         ensures { IsWhy self.now.world tagged.now result }
     {

@@ -88,10 +88,13 @@ impl Core {
         ensures read { IfOk result (λ reply. IsRead event.now reply self.new.rows_read) }
     {
         self.state.count_from(Meter::new());
-        match self.answer(event) {
-            Ok(reply) => Ok(reply),
-            Err(Halt::Refused(refusal)) => Ok(Reply::Refused(refusal)),
-            Err(Halt::NoMemory) => Err(NoMemory),
+        let halt = match self.answer(event) {
+            Ok(reply) => return Ok(reply),
+            Err(halt) => halt,
+        };
+        match halt {
+            Halt::Refused(refusal) => Ok(Reply::Refused(refusal)),
+            Halt::NoMemory => Err(NoMemory),
         }
     }
 

@@ -38,12 +38,12 @@ impl Core {
     pub fn unlink(&mut self, path: &Path) -> Result<(), Halt>
         ensures { Does done self.old.world (event.Unlink path.now) result self.new.world }
     {
-        let (directory, name, target) = passed!(self.state.placed_now(path));
-        let Target::File(file) = target else {
+        let (directory, name, found) = passed!(self.state.placed_now(path));
+        let Target::File(file) = found.target() else {
             return Err(Halt::Refused(Refusal::IsDirectory));
         };
         self.state.count_from(Meter::new());
-        Ok(self.state.end_file_name(directory, &name, file)?)
+        Ok(self.state.end_file_name(directory, &name, &found, file)?)
     }
 
     /// What stands at the first path has the second path as its name from now on. Refused: `IsRoot`, `NoEntry`, `NotDirectory`,
@@ -52,12 +52,13 @@ impl Core {
     pub fn rename(&mut self, from: &Path, to: &Path) -> Result<(), Halt>
         ensures { Does done self.old.world (event.Rename from.now to.now) result self.new.world }
     {
-        let (directory, name, moved) = passed!(self.state.placed_now(from));
-        let new = passed!(self.state.parent_now(to));
+        let (directory, name, found) = passed!(self.state.placed_now(from));
+        let (old, moved) = ((directory, name), found.target());
+        let new = passed!(self.state.parent_beside(to, from, &old));
         passed!(unless(self.state.stands_in(moved, to), Refusal::IntoItself));
         passed!(unless(self.state.is_taken(new.0, &new.1), Refusal::Exists));
         passed!(self.room_for(Which::Names));
-        Ok(self.state.move_name(&(directory, name), &new, moved)?)
+        Ok(self.state.move_name(&old, &new, &found)?)
     }
 
     /// The dead name at the path stands again for what it last stood for; a file that had no live name gets a version with the
@@ -66,8 +67,9 @@ impl Core {
     pub fn undelete(&mut self, path: &Path) -> Result<Option<VersionNo>, Halt>
         ensures { Does revived self.old.world (event.Undelete path.now) result self.new.world }
     {
-        let (directory, name) = passed!(self.free_place(path));
+        let (directory, name) = passed!(self.state.parent_now(path));
         let Some(lost) = self.state.last_dead(directory, &name) else {
+            passed!(unless(self.state.is_taken(directory, &name), Refusal::Exists));
             return Err(Halt::Refused(Refusal::NoEntry));
         };
         passed!(unless(!self.state.may_return(&lost), Refusal::NotRestorable));

@@ -45,7 +45,6 @@ impl Core {
         ensures { Does Bytes
             self.now.world (event.Read (source.Tagged tagged.now)) result self.now.world }
     {
-        self.formed();
         let (file, stamps) = passed!(self.state.version_at(tagged, &mut Meter::new()));
         let reads = Reads::Version(file, stamps.number);
         Ok(self.state.bytes_of(reads, &mut Meter::new())?)

@@ -1,5 +1,5 @@
 -- A file's next version is appended: the first one of a new file, or a held one that comes again.
-use Rattle.ele_files.proofs.Words.{AllByRecursion, AllLater, AllSessions, Append, Bool, Draft, File, FileRow, GotFile, HasAppended, Held, IsDraftKept, IsFileKept, IsLocal, IsRowOf, IsRowPast, IsStocked, Keeps, Layout, List, LogRow, None, Some, StockLaws, Store, VersionRow, World, [], after_change, all-both, all_found, all-map, all-push, all-weaker, ap, append_nil, arith, bucket_changes, empty_layout, ended_at, ended_rows, false, file_row, find, find-at, flat_map, flat_map-append, held_in, insert_before, is_file, is_id, is_live, is_version, is_version_after, later-push, local-after, local-insert_before, local-update_first, map, map-all, map-append, named_live, nat_tests, next_of, next_of-numbered_other, next_of-push, next_row, not_found, numbered_on, refl, row_in, row_stock, rows_in, rows_of, shown, stock_of, subst, sym, true, update_first, update_first-at, with_file, with_name, with_rows, ℕ, ◌++◌, ◌+◌, ◌-◌, ◌<◌, ◌∙◌, ◌∷◌, ◌≡◌, ◌≢◌, Became, HeldRows, IsPast, IsSome, LivesIn, Moves, Stays, cells_of_version, get_or, has_number, list_any, position, set}
+use Rattle.ele_files.proofs.Words.{AllByRecursion, AllLater, AllSessions, Append, Bool, Draft, File, FileRow, GotFile, HasAppended, Held, IsDraftKept, IsFileKept, IsLocal, IsRowOf, IsRowPast, IsStocked, Keeps, Layout, List, LogRow, None, Some, StockLaws, Store, VersionRow, World, [], after_change, all-both, all_found, all-map, all-push, all-weaker, ap, append_nil, arith, bucket_changes, content_of, empty_layout, ended_at, ended_rows, false, file_row, find, find-at, flat_map, flat_map-append, held_in, insert_before, is_file, is_id, is_live, is_version, is_version_after, later-push, length, local-after, local-insert_before, local-update_first, map, map-all, map-append, named_live, nat_tests, next_of, next_of-numbered_other, next_of-push, next_row, not_found, numbered_on, refl, row_in, row_stock, rows_in, rows_of, shown, stock_of, subst, sym, true, update_first, update_first-at, with_file, with_name, with_rows, ℕ, ◌++◌, ◌+◌, ◌-◌, ◌<◌, ◌∙◌, ◌∷◌, ◌≡◌, ◌≢◌, Became, HeldRows, IsPast, IsSome, LivesIn, Moves, Stays, cells_of_version, get_or, has_number, list_any, position, set}
 use Rattle.ele_files.proofs.Endings.{closed_kept, of_rows, its_kept, its_past}
 use Rattle.ele_files.proofs.Exchanges.{after, rise_over, files_over, rows_over, IsReached, reached}
 use Rattle.ele_files.proofs.Rows.{its_id, next_found, file_of, tagged, own_version, ended_shown, undrafted, no_file, version_none, version_of}
@@ -108,9 +108,10 @@ module _ (s : Store) (files : List File) (a : AllSessions) (kept : Keeps s files
         rows = rw (more_rows, flat_map-append (rows_in s) files (f ∷ []), none, append_nil (flat_map (rows_in s) files), next) refl
 
 -- what the files and the store are then
-pub record IsRestored (t : Store) (was : Held) (file restored now : ℕ) (live : Bool) (next : ℕ) (files : List File) (a : AllSessions) : Type 0 where
+pub record IsRestored (t : Store) (was : Held) (file restored now : ℕ) (live : Bool) (next size : ℕ) (files : List File) (a : AllSessions) : Type 0 where
   pub keeps : Keeps t files a
   pub number : next ≡ next_of was.files file
+  pub long : size ≡ length (content_of (cells_of_version was file restored))
   pub shows : Became was now file live (Append file now (cells_of_version was file restored) ∷ []) (held_in t files a)
 
 module _ (s : Store) (files : List File) (a : AllSessions) (kept : Keeps s files a) (file number : ℕ) (some : IsSome (find (is_version file number) (held_in s files a).versions)) where
@@ -151,9 +152,10 @@ module _ (s : Store) (files : List File) (a : AllSessions) (kept : Keeps s files
         cells : cells_of_version (held_in s files a) file number ≡ shown t row.cells
         cells = rw (version_of s file number files kept.rise f at.found, its_row) (sym (row_same s t files a kept file f at.found (has_number number) row its_row came.shows))
 
-        pub restored : IsRestored t (held_in s files a) file number now live f.next (set files i l) a
+        pub restored : IsRestored t (held_in s files a) file number now live f.next m.size (set files i l) a
         restored = record {
           keeps = rw (at.changed l appended.id appended.policy) (appended_keeps t files file f l at.found kept.rise kept.files_kept now now live row.cells f_appended (its_past s files a kept file i f place is now past) kept.laws a kept.drafts_kept (undrafted s file a.drafts alone) came.stocked);
           number = sym (next_found files file (Some f) at.found);
+          long = rw (same, version_of s file number files kept.rise f at.found, its_row) (sym (kept.laws.long s row.cells lives));
           shows = λ w time lives. rw (at.changed l appended.id appended.policy, cells) (appended_shows t files file f l at.found kept.rise kept.files_kept now now live row.cells f_appended (its_past s files a kept file i f place is now past) a (with_rows w (held_in s files a)) (sym (held_stays s t files a came.shows)) time lives);
         }

@@ -1,13 +1,12 @@
 -- What goes with a handle, and what the last writer of a changed draft leaves.
-use Rattle.ele_files.proofs.Words.{AllByRecursion, AllSessions, Became, Bool, Draft, EndDraft, File, HasAppended, Held, HeldRows, IsDraftKept, IsGivenUp, IsPast, Keeps, Layout, List, None, Ok, OnErr, Option, Reads, Result, Rises, ShutHandle, Some, Store, [], after_changes, all_found, all_not_found, all-remove_first, ap, arith, cells_of_draft, changed_at, closed, closed_of, closing, closing_of, cond, draft_in, draft_stock, false, file_by, file_closing, file_row, find, finishing, get_or, handle_in, held_in, is_draft, is_id, is_some, is_writer, last_draft, leaving, left_by, left_drafts, left_handles, left_of, list_any, map, nat_tests, next_of, next_row, opening_by, opening_of, option_and_then, option_map, position, refl, remove_first, remove_first-map, remove_first_unfound, row_stock, rows_of, set, stock_of, sym, true, with_rows, ℕ, ◌∙◌, ◌∷◌, ◌≡◌}
+use Rattle.ele_files.proofs.Words.{AllByRecursion, AllSessions, Became, Bool, Draft, EndDraft, Err, File, HasAppended, Held, HeldRows, IsDraftKept, IsGivenUp, IsPast, Keeps, Layout, List, None, Ok, OnErr, Option, Reads, Refusal, Result, Rises, ShutHandle, Some, Store, [], after_changes, all_found, all_not_found, all-remove_first, ap, arith, cells_of_draft, changed_at, closed, closed_of, closing, closing_of, cond, content_of, draft_in, draft_stock, false, file_by, file_closing, file_row, find, finishing, get_or, held_in, is_draft, is_id, is_some, is_writer, last_draft, leaving, left_by, left_drafts, left_handles, left_of, length, list_any, map, nat_tests, next_of, next_row, opening_by, opening_of, option_and_then, option_map, position, reads_by, refl, remove_first, remove_first-map, remove_first_unfound, row_stock, rows_of, set, stock_of, sym, true, with_rows, ℕ, ◌∙◌, ◌∷◌, ◌≡◌}
 use Rattle.ele_files.proofs.Drafts.{dropped, drafts_apart, its_file}
-use Rattle.ele_files.proofs.Stock.{IsSeen, draft_apart}
-use Rattle.ele_files.proofs.Rows.{draft_found, handle_file_shown, reads_by_shown, reads_of, left-shown, no_file, next_found, its_id, file_past}
+use Rattle.ele_files.proofs.Stock.{IsSeen, draft_apart, draft_lives}
+use Rattle.ele_files.proofs.Rows.{draft_found, no_file, next_found, its_id, file_past}
 use Rattle.ele_files.proofs.Appends.{appended_keeps, appended_shows}
 use Rattle.ele_files.proofs.Exchanges.{IsReached, reached}
-use Rattle.ele_sessions.specs.Sessions as sessions
-use Rattle.ele_sessions.specs.declared.reads.Reads.TheVariants as reads
 use Rattle.ele_world.specs.World as world
+use Rattle.ele_world.specs.declared.rows.Reads.TheVariants as reads
 
 -- the map that comes out with the handle
 abbrev pub given : AllSessions → ℕ → Option Layout
@@ -22,36 +21,31 @@ module _ (s : Store) (files : List File) (ss : AllSessions) (handle : ℕ) where
   shown = held_in s files ss
 
   pub last_shown : (file : ℕ) → last_draft shown handle file ≡ cond (list_any (is_writer file) (left_handles ss handle)) None (option_map (draft_in s) (find (is_draft file) ss.drafts))
-  last_shown file = rw (left-shown ss.handles handle file, draft_found s file ss.drafts) refl
-
-  pub handles_left : map handle_in (left_handles ss handle) ≡ remove_first (world.is_handle handle) shown.handles
-  handles_left = sym (remove_first-map handle_in (world.is_handle handle) (sessions.is_handle handle) (λ x. refl) ss.handles)
+  last_shown file = rw (draft_found s file ss.drafts) refl
 
   -- ---- what is asked before
 
   pub opening_shown : opening_of (option_map (λ answer. answer.0) (closing ss handle)) ≡ opening_by shown handle
-  opening_shown = grind (arith, nat_tests, handle_file_shown, last_shown)
+  opening_shown = grind (arith, nat_tests, last_shown)
 
   -- ---- the handle is left
 
   module _ (kept : Keeps s files ss) where
     module _ (t : Store) where
       pub leaves : IsGivenUp s t (given ss handle) → IsSeen t files (closed ss handle) (left_by shown handle)
-      leaves = rw (reads_by_shown ss.handles handle) (by (sessions.reads_by ss.handles handle)) where
+      leaves = by (reads_by ss.handles handle) where
         stays : (file : ℕ) (b : Bool) → left_drafts b file ss.drafts ≡ ss.drafts → t ≡ s → IsSeen t files (without_handle ss handle file b) (changed_at shown 0 (leaving handle file false))
-        stays file b drafts gone = grind (arith, nat_tests, handles_left)
+        stays file b drafts gone = grind (arith, nat_tests)
 
         ends : (file : ℕ) (b : Bool) (o : Option Draft) → find (is_draft file) ss.drafts ≡ o → IsGivenUp s t (file_closing b o).1 → IsSeen t files (without_handle ss handle file b) (changed_at shown 0 (leaving handle file (is_some (cond b None (option_map (draft_in s) o)))))
         ends file true o found gone = stays file true refl gone
         ends file false None found gone = stays file false (remove_first_unfound (is_draft file) ss.drafts (all_not_found (is_draft file) ss.drafts found)) gone
-        ends file false (Some d) found gone =
-            let seen = dropped s t files ss (without_handle ss handle file false) kept file d found gone refl in
-            record { keeps = seen.keeps; shows = seen.shows ∙ rw handles_left refl }
+        ends file false (Some d) found gone = dropped s t files ss (without_handle ss handle file false) kept file d found gone refl
 
-        by : (o : Option Reads) → IsGivenUp s t (option_and_then (λ answer. answer.1) (closing_of ss handle o)) → IsSeen t files (closed_of ss handle o) (left_of shown handle (reads_of o))
-        by None gone = record { keeps = rw gone kept; shows = rw gone refl }
-        by (Some (reads.Version file version)) gone = grind (arith, nat_tests, handles_left)
-        by (Some (reads.Draft file)) gone = rw (last_shown file) (ends file (list_any (is_writer file) (left_handles ss handle)) (find (is_draft file) ss.drafts) refl gone)
+        by : (o : Result Reads Refusal) → IsGivenUp s t (option_and_then (λ answer. answer.1) (closing_of ss handle o)) → IsSeen t files (closed_of ss handle o) (left_of shown handle o)
+        by (Err refusal) gone = record { keeps = rw gone kept; shows = rw gone refl }
+        by (Ok (reads.Version file version)) gone = grind (arith, nat_tests)
+        by (Ok (reads.Draft file)) gone = rw (last_shown file) (ends file (list_any (is_writer file) (left_handles ss handle)) (find (is_draft file) ss.drafts) refl gone)
 
 -- ---- a version is made of the draft
 
@@ -63,9 +57,10 @@ pub record IsLast (ss : AllSessions) (handle file opened : ℕ) : Type 0 where
   pub left : closed ss handle ≡ without_handle ss handle file false
 
 -- what the files and the sessions are then
-pub record IsFinished (s : Store) (was : Held) (handle file opened now : ℕ) (live : Bool) (next : ℕ) (files : List File) (ss : AllSessions) : Type 0 where
+pub record IsFinished (s : Store) (was : Held) (handle file opened now : ℕ) (live : Bool) (next size : ℕ) (files : List File) (ss : AllSessions) : Type 0 where
   pub keeps : Keeps s files ss
   pub number : next ≡ next_of was.files file
+  pub long : size ≡ length (content_of (cells_of_draft was file))
   pub shows : Became was now file live (finishing was handle file opened) (held_in s files ss)
 
 module _ (s : Store) (files : List File) (ss : AllSessions) (handle file opened : ℕ) (kept : Keeps s files ss) (writes : file_by (held_in s files ss).handles handle ≡ Ok file) (ends : opening_by (held_in s files ss) handle ≡ Some opened) where
@@ -73,13 +68,17 @@ module _ (s : Store) (files : List File) (ss : AllSessions) (handle file opened 
   rows = held_in s files ss
 
   pub is_last : IsLast ss handle file opened
-  is_last = grind (arith, nat_tests, handle_file_shown, last_shown s files ss handle file, writes, ends)
+  is_last = grind (arith, nat_tests, last_shown s files ss handle file, writes, ends)
 
   abbrev d : Draft
   d = is_last.draft
 
   pub its_map : given ss handle ≡ Some d.layout
   its_map = is_last.out
+
+  -- and how many bytes it has
+  its_length : d.layout.size ≡ length (content_of (cells_of_draft rows file))
+  its_length = rw (draft_found s file ss.drafts, is_last.found) (sym (kept.laws.long s d.layout (draft_lives s files ss kept file d is_last.found)))
 
   d_kept : IsDraftKept files d
   d_kept = all_found (is_draft file) (IsDraftKept files) ss.drafts d is_last.found kept.drafts_kept
@@ -109,6 +108,9 @@ module _ (s : Store) (files : List File) (ss : AllSessions) (handle file opened 
       f_appended : HasAppended f l now (next_row f.next opened now live d.layout)
       f_appended = grind (arith, nat_tests, its_map)
 
+      long : m.size ≡ length (content_of (cells_of_draft rows file))
+      long = let e = sym out ∙ its_map in let same : m ≡ d.layout = cc in rw same its_length
+
       tag_is : draft_stock d ≡ row_stock f.id (next_row f.next opened now live d.layout)
       tag_is = rw (its_next, next_is, is_file, its_id files file f at.found) refl
 
@@ -126,10 +128,10 @@ module _ (s : Store) (files : List File) (ss : AllSessions) (handle file opened 
           cells = rw (draft_found s file ss.drafts, is_last.found) refl
 
           left : rows_of (after_changes (with_rows w rows) (ShutHandle handle ∷ EndDraft file ∷ [])) ≡ held_in s files (without_handle ss handle file false)
-          left = rw (handles_left s files ss handle, remove_first-map (draft_in s) (world.is_draft file) (is_draft file) (λ x. refl) ss.drafts) refl
+          left = rw (remove_first-map (draft_in s) (world.is_draft file) (is_draft file) (λ x. refl) ss.drafts) refl
 
-      pub finished : Rises (λ (x : Draft). x.file) ss.drafts → IsFinished s rows handle file opened now live f.next (set files i l) (closed ss handle)
-      finished rise = record { keeps = keeps_it rise; number = sym next_is; shows = shows_it }
+      pub finished : Rises (λ (x : Draft). x.file) ss.drafts → IsFinished s rows handle file opened now live f.next m.size (set files i l) (closed ss handle)
+      finished rise = record { keeps = keeps_it rise; number = sym next_is; long = long; shows = shows_it }
 
 pub on_err : {T E : Type 0} (r : Result T E) (P : Type 0) → P → OnErr r P
 on_err x0 x1 p = grind (arith, nat_tests)

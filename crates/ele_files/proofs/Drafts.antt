@@ -1,9 +1,8 @@
 -- A draft goes, or gets another map by a write or a truncate.
 use Rattle.ele_files.proofs.Words.{AllByRecursion, AllLater, AllSessions, AreOrderly, Bool, Draft, DraftRow, File, Held, IsDraftKept, IsEarlier, IsFileKept, IsStocked, IsResized, IsRowOf, IsSomeAnd, Keeps, Layout, List, MatchBool, Moves, None, OnErr, OnOk, Option, Renews, Result, Rewrites, RewritesDraft, Rises, ShowsSame, Some, Stays, Store, Truncates, Writes, [], all-append, all-both, all-flat_map, all_found, all-left, all-map, all-remove_first, all-right, all-update_first, all-weaker, ap, arith, changed_by, cond, content_of, draft_by, draft_for, draft_in, draft_stock, eqb, false, false≢true, file_row, file_stock, find, fitted, fitted_by, fitted_of, flat_map, found_passes, handle_file, has_length, held_in, is_draft, is_file, length, map, nat_tests, next_of, option_map, option_map_or, refl, remove_first, remove_first-map, rewritten_by, row_stock, shown, stock_of, sym, true, update_first, update_first_same, written_by, written_of, ℕ, ◌<◌, ◌∙◌, ◌∷◌, ◌≡◌, ◌≢◌}
 use Rattle.ele_files.proofs.Stock.{IsSeen, drafts_same, held_stays, versions_same, draft_apart, draft_changed, draft_lives}
-use Rattle.ele_files.proofs.Rows.{handle_file_shown, draft_found}
+use Rattle.ele_files.proofs.Rows.{draft_found}
 use Rattle.ele_world.specs.World as world
-use Rattle.ele_files.specs.Held as held
 use Rattle.ele_sessions.specs.Changes as session
 
 -- the other drafts are of other files
@@ -95,8 +94,8 @@ module _ (s : Store) (files : List File) (a : AllSessions) (kept : Keeps s files
     rewrites : (handle : ℕ) (Made : Draft → Layout → Type 0) (change : ℕ → DraftRow → DraftRow) (after : Option ℕ → Held)
         → ((file : ℕ) → after (Some file) ≡ record rows { drafts = update_first (world.is_draft file) (change (next_of (map file_row files) file)) rows.drafts })
         → ((file : ℕ) → handle_file a.handles handle ≡ Some file → (r : RewritesDraft a.drafts b.drafts file Made) → IsNewMap (change r.was.number) r.was r.layout)
-        → Rewrites a b handle Made → IsSeen t files b (after (held.handle_file rows.handles handle))
-    rewrites handle Made change after is new h = rw (handle_file_shown a.handles handle) (by (handle_file a.handles handle) refl h.1) where
+        → Rewrites a b handle Made → IsSeen t files b (after (handle_file a.handles handle))
+    rewrites handle Made change after is new h = by (handle_file a.handles handle) refl h.1 where
       by : (o : Option ℕ) → handle_file a.handles handle ≡ o → IsSomeAnd o (λ file. RewritesDraft a.drafts b.drafts file Made) → IsSeen t files b (after o)
       by None e r = absurd r
       by (Some file) e r =
@@ -120,7 +119,7 @@ module _ (s : Store) (files : List File) (a : AllSessions) (kept : Keeps s files
           sym (ap (λ drafts. record rows { drafts = drafts }) (update_first_same (world.is_draft file) (fitted_by (next_of (map file_row files) file) size) rows.drafts (draft_in s d) (draft_found s file a.drafts ∙ ap (option_map (draft_in s)) found) (rw same refl)))
 
     truncated : (handle size : ℕ) (same : Bool) → has_length size (draft_by a handle) ≡ same → MatchBool same (session.Stays s t a b) (Rewrites a b handle (λ was. IsResized s t was.number size was.layout)) → IsSeen t files b (fitted rows handle size)
-    truncated handle size true e h = rw (handle_file_shown a.handles handle, ← fits_already (handle_file a.handles handle) size e) (stays h)
+    truncated handle size true e h = rw (← fits_already (handle_file a.handles handle) size e) (stays h)
     truncated handle size false e h = rewrites handle _ (λ number. fitted_by number size) (λ o. fitted_of rows o size) (λ file. refl)
         (λ file there r.
         let long : eqb r.was.layout.size size ≡ false = rw (there, r.found) at e in

@@ -1,9 +1,8 @@
 -- A handle that writes a file comes, and with the file's first handle a draft.
-use Rattle.ele_files.proofs.Words.{Held, AllSessions, Bool, Draft, File, IsDraftKept, IsFileKept, IsRowOf, Keeps, Layout, List, LivesIn, LogRow, MatchBool, Moves, None, OnErr, OnOk, Opens, Option, Result, Some, Stays, Store, Tagged, [], all_found, all-insert_before, ap, arith, draft_in, draft_stock, empty_layout, false, file_row, find, first_draft, flat_map, handle_in, held_in, insert_before, insert_before-map, is_draft, is_draft_after, is_id, has_number, is_version, length, length-append, length-map, list_any, map, map-append, nat_tests, new_draft, next_of, opened_by, option_map_or, refl, row_stock, rows_in, shown, stock_of, sum_by, sym, true, ℕ, ◌+◌, ◌-◌, ◌∙◌, ◌∷◌, ◌≡◌}
+use Rattle.ele_files.proofs.Words.{Held, AllSessions, Bool, Draft, File, IsDraftKept, IsFileKept, IsRowOf, Keeps, Layout, List, LivesIn, LogRow, MatchBool, Moves, None, OnErr, OnOk, Opens, Option, Result, Some, Stays, Store, Tagged, [], all_found, all-insert_before, ap, arith, draft_in, draft_stock, empty_layout, false, file_row, find, first_draft, flat_map, held_in, insert_before, insert_before-map, is_draft, is_draft_after, is_id, has_number, is_version, length, length-append, length-map, list_any, map, nat_tests, new_draft, next_of, opened_by, option_map_or, refl, row_stock, rows_in, shown, stock_of, sum_by, sym, true, ℕ, ◌+◌, ◌-◌, ◌∙◌, ◌∷◌, ◌≡◌}
 use Rattle.ele_files.proofs.Stock.{row_copied, row_same, IsSeen, held_stays, draft_begun, row_lives}
 use Rattle.ele_files.proofs.Rows.{its_id, next_found, version_of, any_draft}
 use Rattle.ele_sessions.specs.Opening as opening
-use Rattle.ele_sessions.specs.declared.reads.Reads.TheVariants as session
 use Rattle.ele_world.specs.World as world
 
 -- the map of the version before the next one, or that of no bytes
@@ -89,7 +88,7 @@ module _ (s : Store) (files : List File) (a : AllSessions) (kept : Keeps s files
       versions_on = ap (λ (h : Held). h.versions) (held_stays s t files a begins.stays.shows)
 
     pub opened : (there : Bool) → list_any (is_draft file) a.drafts ≡ there → MatchBool there (t ≡ s) (Moves s t [] (first_map f ∷ [])) → IsSeen t files (opening.opened_by a new) (opened_by (held_in s files a) file at)
-    opened true e h = grind (arith, nat_tests, map-append, any_draft)
+    opened true e h = grind (arith, nat_tests, any_draft)
     opened false e h = record {
       keeps = record {
         laws = kept.laws;
@@ -98,7 +97,7 @@ module _ (s : Store) (files : List File) (a : AllSessions) (kept : Keeps s files
         files_kept = kept.files_kept;
         drafts_kept = rw e (all-insert_before (is_draft_after file) (IsDraftKept files) new a.drafts new_kept kept.drafts_kept);
       };
-      shows = rw (map-append handle_in a.handles (record { number = a.opened + 1; reads = session.Draft file } ∷ []), any_draft s file a.drafts, e, versions_on h, drafts_on h) refl;
+      shows = rw (any_draft s file a.drafts, e, versions_on h, drafts_on h) refl;
     }
 
     -- whatever the call answers

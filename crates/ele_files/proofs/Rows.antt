@@ -1,11 +1,7 @@
--- What the rows show of the files, drafts and handles behind them.
-use Rattle.ele_files.proofs.Words.{AllByRecursion, AllLater, Draft, File, IsPast, IsRowPast, List, LogRow, NoHandle, None, Option, Refusal, Result, Some, Store, VersionRow, [], all-any, all_found, all-map, all-none, all-weaker, any-map, ap, arith, draft_in, ended_at, ended_by, ended_rows, eqb, false, file_or_fault, file_row, find, find-buckets, find-map, find-none, flat_map, flat_map-all, found_passes, handle_in, is_file, is_handle, is_id, has_number, is_open, is_version, list_any, map, map-all, nat_tests, next_of, ok_or, option_and_then, option_map, option_map_or, position, reads_by, reads_in, refl, remove_first, remove_first-map, row_in, rows_in, sym, true, update_first, update_first-map, ℕ, ◌-◌, ◌<◌, ◌∙◌, ◌∷◌, ◌≡◌, ◌≢◌}
-use Rattle.ele_files.specs.Held.{handle_file}
+-- What the rows show of the files and drafts behind them.
+use Rattle.ele_files.proofs.Words.{AllByRecursion, AllLater, Draft, File, IsPast, IsRowPast, List, LogRow, None, Option, Some, Store, VersionRow, all-any, all_found, all-map, all-none, all-weaker, any-map, ap, arith, draft_in, ended_at, ended_by, ended_rows, eqb, false, file_row, find, find-buckets, find-map, find-none, flat_map, flat_map-all, found_passes, is_file, is_id, has_number, is_version, list_any, map, map-all, nat_tests, next_of, option_and_then, option_map, option_map_or, position, refl, row_in, rows_in, sym, true, update_first, update_first-map, ℕ, ◌-◌, ◌<◌, ◌∙◌, ◌≡◌, ◌≢◌}
 use Rattle.ele_sessions.specs.Sessions as sessions
-use Rattle.ele_sessions.specs.declared.entries.OpenHandle.{OpenHandle}
-use Rattle.ele_sessions.specs.declared.reads.Reads as session
-use Rattle.ele_world.specs.declared.rows.Reads.{Reads}
-use Rattle.ele_world.specs.World.{is_draft, is_writer}
+use Rattle.ele_world.specs.World.{is_draft}
 
 -- ---- files
 
@@ -58,7 +54,7 @@ module _ (s : Store) (file number : ℕ) (files : List File) (rise : AllLater (�
   pub version_of : (f : File) → find (is_id file) files ≡ Some f → version ≡ option_map (row_in s f.id) (find (has_number number) f.log.rows)
   version_of f found = grind (arith, nat_tests, found_in, find-map, found_passes)
 
--- ---- drafts and handles
+-- ---- drafts
 
 pub draft_found : (s : Store) (file : ℕ) (ds : List Draft) → find (is_draft file) (map (draft_in s) ds) ≡ option_map (draft_in s) (find (sessions.is_draft file) ds)
 draft_found s file ds = find-map (draft_in s) (is_draft file) ds
@@ -69,28 +65,3 @@ any_draft s file ds = any-map (draft_in s) (is_draft file) ds
 -- no draft is of a file that has none
 pub undrafted : (s : Store) (file : ℕ) (ds : List Draft) → list_any (is_draft file) (map (draft_in s) ds) ≡ false → AllByRecursion (λ (d : Draft). d.file ≢ file) ds
 undrafted s file ds none = all-weaker (λ (d : Draft). sessions.is_draft file d ≡ false) (λ (d : Draft). d.file ≢ file) ds (λ d no same. grind (arith, nat_tests, no, same)) (all-none (sessions.is_draft file) ds (sym (any_draft s file ds) ∙ none))
-
--- what the sessions answer of a handle, as the rows say it
-abbrev pub reads_of : Option session.Reads → Result Reads Refusal
-reads_of o = ok_or (option_map reads_in o) NoHandle
-
-pub reads_by_shown : (hs : List OpenHandle) (number : ℕ) → reads_by (map handle_in hs) number ≡ reads_of (sessions.reads_by hs number)
-reads_by_shown hs number = grind (arith, nat_tests, find-map)
-
-pub handle_file_shown : (hs : List OpenHandle) (number : ℕ) → handle_file (map handle_in hs) number ≡ sessions.handle_file hs number
-handle_file_shown hs number = grind (arith, nat_tests, reads_by_shown)
-
-pub fault_shown : (hs : List OpenHandle) (number : ℕ) → file_or_fault (map handle_in hs) number ≡ sessions.file_by hs number
-fault_shown hs number = grind (arith, nat_tests, reads_by_shown)
-
--- a test of what handles read
-any-written : (hs : List OpenHandle) (file : ℕ) → list_any (is_writer file) (map handle_in hs) ≡ list_any (sessions.is_writer file) hs
-any-written [] file = refl
-any-written (h ∷ hs) file = grind (arith, nat_tests, any-written hs file)
-
-pub left-shown : (hs : List OpenHandle) (number file : ℕ) → list_any (is_writer file) (remove_first (is_handle number) (map handle_in hs)) ≡ list_any (sessions.is_writer file) (remove_first (sessions.is_handle number) hs)
-left-shown hs number file = ap (list_any (is_writer file)) (remove_first-map handle_in (is_handle number) (sessions.is_handle number) (λ x. refl) hs) ∙ any-written (remove_first (sessions.is_handle number) hs) file
-
-pub open_shown : (hs : List OpenHandle) (file number : ℕ) → is_open (map handle_in hs) file number ≡ list_any (sessions.is_reader file number) hs
-open_shown [] file number = refl
-open_shown (h ∷ hs) file number = grind (arith, nat_tests, open_shown hs file number)

@@ -13,8 +13,8 @@ pub use Rattle.ele_content.specs.Place.{Place, different, is_place}
 pub use Rattle.ele_content.specs.declared.cell.Cell.{Cell}
 pub use Rattle.ele_files.specs.Appending.{HasAppended, HasRows, IsGivenUp, IsRowPast, ended_by, ended_rows, next_row, opening_of}
 pub use Rattle.ele_files.specs.Closing.{IsPast, changed_opening, finishing, last_draft, leaving, left_by, left_of, opening_by}
-pub use Rattle.ele_files.specs.Held.{Became, GotFile, Held, cells_of_draft, cells_of_version, changed_at, current_ended, fault_of, file_or_fault, first_draft, fitted, fitted_of, is_bare, opened_by, rows_of, with_rows, without, without_file, written_by, written_of}
-pub use Rattle.ele_files.specs.Inside.{IsDraftKept, IsFileKept, IsRowOf, Keeps, draft_in, draft_stock, file_row, file_stock, handle_in, held_in, held_of, is_id, reads_in, row_in, row_stock, rows_in, stock_of}
+pub use Rattle.ele_files.specs.Held.{Became, GotFile, Held, cells_of_draft, cells_of_version, changed_at, current_ended, first_draft, fitted, fitted_of, is_bare, opened_by, rows_of, with_rows, without, without_file, written_by, written_of}
+pub use Rattle.ele_files.specs.Inside.{IsDraftKept, IsFileKept, IsRowOf, Keeps, draft_in, draft_stock, file_row, file_stock, held_in, held_of, is_id, row_in, row_stock, rows_in, stock_of}
 pub use Rattle.ele_files.specs.Meant.{row_living, row_meant, row_numbered, stamps_in, told_or_forgotten}
 pub use Rattle.ele_files.specs.Met.{Counts, Meets, is_key, log_bytes, log_places}
 pub use Rattle.ele_files.specs.declared.file.File.{File}
@@ -39,8 +39,7 @@ pub use Rattle.ele_sessions.specs.Closes.{closed, closed_of, closing, closing_of
 pub use Rattle.ele_sessions.specs.Opening.{Opens, new_draft, with_draft}
 pub use Rattle.ele_sessions.specs.Order.{Rises}
 pub use Rattle.ele_sessions.specs.Orderly.{AreOrderly}
-pub use Rattle.ele_sessions.specs.Sessions.{AllSessions, Draft, draft_by, draft_for, draft_of, handle_file, is_draft, is_draft_after, is_writer}
-pub use Rattle.ele_sessions.specs.declared.reads.Reads.{Reads}
+pub use Rattle.ele_sessions.specs.Sessions.{AllSessions, Draft, draft_by, draft_for, draft_of, handle_file, is_draft, is_draft_after}
 pub use Rattle.ele_time_path.specs.declared.tagged.Tag.{Tag}
 pub use Rattle.ele_world.proofs.Created.{named_live}
 pub use Rattle.ele_world.proofs.Files.{next_of-numbered_other, next_of-push}
@@ -53,13 +52,14 @@ pub use Rattle.ele_world.specs.NewPlaces.{is_among}
 pub use Rattle.ele_world.specs.Tagged.{had_closed, had_life, held_or_forgotten, last_number, version_living, version_meant, version_numbered}
 pub use Rattle.ele_world.specs.Told.{stamps_of}
 pub use Rattle.ele_world.specs.Usage.{bytes_in, places, places_from}
-pub use Rattle.ele_world.specs.World.{World, file_by, file_written, is_file, is_handle, is_live, is_open, is_version, is_version_after, next_of, policy_of, reads_by, reads_version, writes}
+pub use Rattle.ele_world.specs.World.{World, file_by, file_written, is_file, is_handle, is_live, is_open, is_version, is_version_after, is_writer, next_of, policy_of, reads_by, reads_version, writes}
 pub use Rattle.ele_world.specs.declared.Usage.{Usage}
 pub use Rattle.ele_world.specs.declared.refusal.Refusal.{Refusal}
 pub use Rattle.ele_world.specs.declared.refusal.Refusal.TheVariants.{NoHandle, NoVersion}
 pub use Rattle.ele_world.specs.declared.rows.DraftRow.{DraftRow}
 pub use Rattle.ele_world.specs.declared.rows.FileRow.{FileRow}
 pub use Rattle.ele_world.specs.declared.rows.HandleRow.{HandleRow}
+pub use Rattle.ele_world.specs.declared.rows.Reads.{Reads}
 pub use Rattle.ele_world.specs.declared.rows.Stamps.{Stamps}
 pub use Rattle.ele_world.specs.declared.rows.VersionRow.{VersionRow}
 pub use Rattle.std.proofs.Common.{Bool, Err, List, None, Ok, Option, Result, Some, [], ap, append-nil as append_nil, append_assoc, arith, cond, eqb, false, filter, find, flat_map, get_or, is_some, length, length-append, ltb, map, nat_lt, not, refl, reverse, subst, suc, sym, take, true, zero, ℕ, ◌&&◌, ◌*◌, ◌++◌, ◌+◌, ◌-◌, ◌<◌, ◌^◌, ◌||◌, ◌∙◌, ◌∷◌, ◌≡◌, ◌≢◌, ◌≤◌}

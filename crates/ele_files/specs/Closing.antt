@@ -9,7 +9,8 @@ use Rattle.ele_world.specs.declared.rows.VersionRow.{VersionRow}
 use Rattle.ele_world.specs.declared.rows.DraftRow.{DraftRow}
 use Rattle.ele_world.specs.Change.{Change, ShutHandle, EndDraft, Append}
 use Rattle.ele_world.specs.World.{is_draft, is_handle, is_writer, reads_by}
-use Rattle.ele_files.specs.Held.{Held, changed_at, handle_file, cells_of_draft}
+use Rattle.ele_sessions.specs.Sessions.{handle_file}
+use Rattle.ele_files.specs.Held.{Held, changed_at, cells_of_draft}
 
 -- the draft that goes with the handle: that of its file, where no other handle writes it
 abbrev pub last_draft : Held → ℕ → ℕ → Option DraftRow

@@ -1,15 +1,11 @@
 -- The rows of all files, and how they change.
-use Rattle.std.specs.Prelude.{◌≡◌, ℕ, ◌+◌, ◌==◌, Bool, false, not, ◌&&◌, List, [], ◌∷◌, length, Option, Some, None, Result, find, if◌then◌else◌}
+use Rattle.std.specs.Prelude.{◌≡◌, ℕ, ◌+◌, ◌==◌, Bool, false, not, ◌&&◌, List, [], ◌∷◌, length, Option, Some, None, find, if◌then◌else◌}
 use Rattle.std.specs.List.{list_any}
 use Rattle.std.specs.Option.{option_map_or}
-use Rattle.std.specs.Result.{result_ok, result_map_both}
 use Rattle.ele_policy.specs.declared.policy.Policy.{Policy}
 use Rattle.ele_content.specs.declared.cell.Cell.{Cell}
 use Rattle.ele_content.specs.Content.{content_of}
-use Rattle.ele_sessions.specs.declared.fault.SessionFault.{SessionFault}
-use Rattle.ele_sessions.specs.declared.fault.SessionFault.TheVariants as fault
-use Rattle.ele_world.specs.declared.refusal.Refusal.{Refusal}
-use Rattle.ele_world.specs.declared.refusal.Refusal.TheVariants.{NoHandle}
+use Rattle.ele_sessions.specs.Sessions.{handle_file}
 use Rattle.ele_world.specs.declared.rows.FileRow.{FileRow}
 use Rattle.ele_world.specs.declared.rows.VersionRow.{VersionRow}
 use Rattle.ele_world.specs.declared.rows.DraftRow.{DraftRow}
@@ -19,7 +15,7 @@ use Rattle.ele_world.specs.Bounds.{largest_bounds}
 use Rattle.ele_lists.specs.Lists.{remove_first}
 use Rattle.ele_world.specs.Change.{Change, MakeFile, OpenHandle, StartDraft, WriteDraft, TruncateDraft, Take, new_draft, with_end, after_changes}
 use Rattle.ele_world.specs.FileView.{is_version_of}
-use Rattle.ele_world.specs.World.{World, fresh_world, is_file, is_live, is_version, is_draft, file_by}
+use Rattle.ele_world.specs.World.{World, fresh_world, is_file, is_live, is_version, is_draft}
 
 -- files by id, versions by file and number, drafts by file, handles by number, and how many handles were ever opened
 pub record Held : Type 0 where
@@ -72,19 +68,6 @@ abbrev pub opened_by : Held → ℕ → ℕ → Held
 opened_by h file now =
     let number = h.opened + 1 in
     changed_at h now (if list_any (is_draft file) h.drafts then OpenHandle number (reads.Draft file) ∷ [] else StartDraft file ∷ OpenHandle number (reads.Draft file) ∷ [])
-
--- the file that is written through the handle, if there is one
-abbrev pub handle_file : List HandleRow → ℕ → Option ℕ
-handle_file rows number = result_ok (file_by rows number)
-
--- the fault of one who writes through a handle for which this is refused
-abbrev pub fault_of : Refusal → SessionFault
-fault_of NoHandle = fault.NoHandle
-fault_of other = fault.NotWriter
-
--- the file that is written through the handle, or the fault of one who writes through it
-abbrev pub file_or_fault : List HandleRow → ℕ → Result ℕ SessionFault
-file_or_fault rows number = result_map_both (λ file. file) fault_of (file_by rows number)
 
 -- with the bytes written through a handle of the file; no bytes change nothing
 abbrev pub written_of : Held → Option ℕ → ℕ → List ℕ → Held

@@ -11,15 +11,9 @@ use Rattle.ele_inode_log.specs.declared.row.VersionRow as log
 use Rattle.ele_inode_log.specs.Rows.{AreInOrder}
 use Rattle.ele_lists.specs.Lists.{AllLater}
 use Rattle.ele_sessions.specs.Sessions.{Draft, AllSessions}
-use Rattle.ele_sessions.specs.declared.entries.OpenHandle.{OpenHandle}
-use Rattle.ele_sessions.specs.declared.reads.Reads as session
-use Rattle.ele_sessions.specs.declared.reads.Reads.TheVariants as session_reads
 use Rattle.ele_world.specs.declared.rows.FileRow.{FileRow}
 use Rattle.ele_world.specs.declared.rows.VersionRow.{VersionRow}
 use Rattle.ele_world.specs.declared.rows.DraftRow.{DraftRow}
-use Rattle.ele_world.specs.declared.rows.HandleRow.{HandleRow}
-use Rattle.ele_world.specs.declared.rows.Reads.{Reads}
-use Rattle.ele_world.specs.declared.rows.Reads.TheVariants as reads
 use Rattle.ele_world.specs.World.{next_of}
 
 -- ---- what the fields show
@@ -43,19 +37,12 @@ rows_in s f = map (row_in s f.id) f.log.rows
 abbrev pub draft_in : Store → Draft → DraftRow
 draft_in s d = record { file = d.file; opened = d.opened; cells = shown s d.layout; changed = d.changed }
 
-abbrev pub reads_in : session.Reads → Reads
-reads_in (session_reads.Draft file) = reads.Draft file
-reads_in (session_reads.Version file number) = reads.Version file number
-
-abbrev pub handle_in : OpenHandle → HandleRow
-handle_in h = record { number = h.number; reads = reads_in h.reads }
-
 abbrev pub held_in : Store → List File → AllSessions → Held
 held_in s files sessions = record {
   files = map file_row files;
   versions = flat_map (rows_in s) files;
   drafts = map (draft_in s) sessions.drafts;
-  handles = map handle_in sessions.handles;
+  handles = sessions.handles;
   opened = sessions.opened;
 }
 

@@ -10,6 +10,13 @@ use ele_inode_log::{InodeLog, Meter, VersionRow};
 use ele_moment::{FileId, Moment, VersionNo};
 use ele_policy::Policy;
 
+/// A version that a file got: its number, and how many bytes it has.
+#[derive(Clone, Copy, Debug)]
+pub struct NewVersion {
+    pub number: VersionNo,
+    pub length: u64,
+}
+
 /// A file: its policy, the number that its next version gets, and its held versions.
 #[derive(Drop)]
 pub struct File {
@@ -39,7 +46,7 @@ impl File {
     }
 
     /// Appends the next version, which closes now, and ends at once where the file isn't live. The
-    /// version before it ends. There is room for it. The answer is its number.
+    /// version before it ends. There is room for it. The answer is its number and its length.
     pub fn append(
         &mut self,
         opened: Moment,
@@ -47,19 +54,20 @@ impl File {
         is_live: bool,
         cells: BlockMap,
         meter: &mut Meter,
-    ) -> VersionNo
+    ) -> NewVersion
         requires kept { IsFileKept self.old }
         requires past { AllByRecursion (IsRowPast now) self.old.log.rows }
         requires numbered { self.old.next < 2 ^ 62 }
         requires room { 1 ≤ self.old.log.spare }
         requires meter { meter.old < 2 ^ 62 }
-        ensures number { result ≡ self.old.next }
+        ensures number { result.number ≡ self.old.next }
+        ensures length { result.length ≡ cells.size }
         ensures appended { HasAppended self.old self.new now
             (next_row self.old.next opened now is_live cells) }
         ensures read { meter.new ≤ meter.old + 1 }
     {
         self.end_before(now, meter);
-        let number = self.next;
+        let (number, length) = (self.next, cells.length());
         let ended = if is_live { None } else { Some(now) };
         let row = VersionRow {
             number,
@@ -73,6 +81,6 @@ impl File {
             Err(_refused) => unreachable!(),
         }
         self.next = number.after();
-        number
+        NewVersion { number, length }
     }
 }

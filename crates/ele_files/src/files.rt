@@ -9,7 +9,6 @@ ghost use Rattle.ele_files.specs.Held.{Held, GotFile, changed_at, opened_by, wit
 ghost use Rattle.ele_files.specs.Inside.{is_id};
 ghost use Rattle.ele_inode_log.specs.Rows.{has_number};
 ghost use Rattle.ele_lists.specs.Lists.{AllLater};
-ghost use Rattle.ele_sessions.specs.Changes.{write_refusal_of, truncate_refusal_of};
 ghost use Rattle.ele_world.specs.Change.{OpenHandle};
 ghost use Rattle.ele_world.specs.declared.rows.Reads.TheVariants.{Version};
 ghost use Rattle.ele_world.specs.Usage.{places};

@@ -9,5 +9,6 @@ mod meant;
 
 pub use ele_inode_log::Meter;
 pub use ele_sessions::SessionFault;
+pub use file::NewVersion;
 pub use files::Files;
 pub use files::neighbours::Standing;

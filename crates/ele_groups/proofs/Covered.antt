@@ -1,6 +1,6 @@
 -- For how long marks keep, some of a group left out, one group after another.
 use Rattle.ele_groups.proofs.Basics.{◌≡◌, ℕ, suc, zero, Bool, true, false, ◌&&◌, ◌||◌, ◌+◌, ◌<◌, ◌==◌, ◌++◌, not, List, [], ◌∷◌, Option, Some, None, refl, sym, ◌∙◌, arith, length, get_or, take, take_more, filter, list_any, list_any-append, AllByRecursion, values_of, option_map_or, bytes_eq, bytes_eq-Decides, nat_tests, false≢true}
-use Rattle.ele_groups.proofs.Words.{Always, Cover, Free, GroupRow, MarkRow, Memberships, AreKept, Except, cover_but, cover_by, has, is_group, is_member, longer, marks_but, marks_left, names_of, row_at, row_cover}
+use Rattle.ele_groups.proofs.Words.{Always, Cover, Free, GroupRow, MarkRow, Membership, Memberships, AreKept, Except, cover_but, cover_by, has, is_group, is_member, longer, marks_but, marks_left, memberships_of, row_at, row_cover}
 use Rattle.ele_groups.proofs.Named.{Entries, any_value, no_value, none_any, same_name}
 use Rattle.ele_world.proofs.Covers.{exceeds, exceeds_by, exceeds_longer, exceeds_same, reaches}
 use Rattle.ele_world.proofs.GroupMarks.{any_over}
@@ -44,14 +44,14 @@ module _ (except : Option Except) (file closed : ℕ) (ended : Option ℕ) (es :
     abbrev IsIdle : List ℕ → Type 0
     IsIdle name = option_map_or covering (row_at es name) false ≡ false
 
-    idle : (name : List ℕ) (names : List (List ℕ)) → AllByRecursion IsIdle names → list_any (λ other. bytes_eq other name) names ≡ true → IsIdle name
+    idle : (name : List ℕ) (these : List Membership) → AllByRecursion (λ m. IsIdle m.name) these → list_any (λ other. bytes_eq other.name name) these ≡ true → IsIdle name
     idle name [] all h = absurd (false≢true h)
-    idle name (x ∷ xs) all h = grind (arith, nat_tests, same_name x name, all, idle name xs all.1)
+    idle name (x ∷ xs) all h = grind (arith, nat_tests, same_name x.name name, all, idle name xs all.1)
 
     module _ (memberships : Memberships) (kept : AreKept es memberships) where
       -- none of the file's groups covers
-      none_covers : AllByRecursion IsIdle (names_of memberships file) → list_any passes (values_of es) ≡ false
-      none_covers all = none_any passes (values_of es) (no_value passes es kept.apart (λ n. grind (arith, nat_tests, option_map_or, kept.placed.each file n, idle n (names_of memberships file) all)))
+      none_covers : AllByRecursion (λ m. IsIdle m.name) (memberships_of memberships file) → list_any passes (values_of es) ≡ false
+      none_covers all = none_any passes (values_of es) (no_value passes es kept.apart (λ n. grind (arith, nat_tests, option_map_or, kept.placed.each file n, idle n (memberships_of memberships file) all)))
 
       -- one of them does
       one_covers : (name : List ℕ) → has memberships file name ≡ true → option_map_or covering (row_at es name) false ≡ true → list_any passes (values_of es) ≡ true
@@ -61,10 +61,10 @@ module _ (except : Option Except) (file closed : ℕ) (ended : Option ℕ) (es :
   abbrev pub at_name : List ℕ → Cover
   at_name name = option_map_or (row_cover except closed ended) (row_at es name) Free
 
-  -- the longest of those of the names
-  abbrev pub at_names : List (List ℕ) → Cover
-  at_names [] = Free
-  at_names (name ∷ names) = longer (at_name name) (at_names names)
+  -- the longest of those of these groups
+  abbrev pub at_all : List Membership → Cover
+  at_all [] = Free
+  at_all (m ∷ these) = longer (at_name m.name) (at_all these)
 
   exceeds_at : (d : Cover) (name : List ℕ) → exceeds (at_name name) d ≡ option_map_or (covering d) (row_at es name) false
   exceeds_at d name = by (row_at es name) where
@@ -72,44 +72,48 @@ module _ (except : Option Except) (file closed : ℕ) (ended : Option ℕ) (es :
     by None = grind (arith, nat_tests)
     by (Some row) = exceeds_by closed ended d (marks_but except row)
 
-  exceeds_names : (d : Cover) (names : List (List ℕ)) → exceeds (at_names names) d ≡ list_any (λ name. option_map_or (covering d) (row_at es name) false) names
-  exceeds_names d [] = grind (arith, nat_tests)
-  exceeds_names d (name ∷ names) = grind (arith, nat_tests, exceeds_longer (at_name name) (at_names names) d, exceeds_at d name, exceeds_names d names)
+  -- whether the marks of that group of a file reach further
+  abbrev reaching : Cover → Membership → Bool
+  reaching d m = option_map_or (covering d) (row_at es m.name) false
 
-  pub names_more : (names : List (List ℕ)) (i : ℕ) (name : List ℕ) → i < length names → name ≡ get_or names i name → at_names (take (i + 1) names) ≡ longer (at_names (take i names)) (at_name name)
-  names_more names i name lt is = exceeds_same _ _ (λ d. rw (take_more names i name lt, ← is)
-      (exceeds_names d (take i names ++ name ∷ []) ∙ grind (arith, nat_tests, list_any-append, exceeds_longer (at_names (take i names)) (at_name name) d, exceeds_at d name, exceeds_names d (take i names))))
+  exceeds_all : (d : Cover) (these : List Membership) → exceeds (at_all these) d ≡ list_any (reaching d) these
+  exceeds_all d [] = grind (arith, nat_tests)
+  exceeds_all d (m ∷ these) = grind (arith, nat_tests, exceeds_longer (at_name m.name) (at_all these) d, exceeds_at d m.name, exceeds_all d these)
+
+  pub all_more : (these : List Membership) (i : ℕ) (m : Membership) → i < length these → m ≡ get_or these i m → at_all (take (i + 1) these) ≡ longer (at_all (take i these)) (at_name m.name)
+  all_more these i m lt is = exceeds_same _ _ (λ d. rw (take_more these i m lt, ← is)
+      (exceeds_all d (take i these ++ m ∷ []) ∙ grind (arith, nat_tests, list_any-append, exceeds_longer (at_all (take i these)) (at_name m.name) d, exceeds_at d m.name, exceeds_all d (take i these))))
 
   -- nothing is longer than for ever
-  pub stays_always : (names : List (List ℕ)) (i : ℕ) → at_names (take i names) ≡ Always → at_names names ≡ Always
+  pub stays_always : (these : List Membership) (i : ℕ) → at_all (take i these) ≡ Always → at_all these ≡ Always
   stays_always [] zero always = absurd cc
   stays_always [] (suc i) always = absurd cc
-  stays_always (name ∷ names) zero always = absurd cc
-  stays_always (name ∷ names) (suc i) always = longer_always (at_name name) (at_names (take i names)) (at_names names) (stays_always names i) always
+  stays_always (m ∷ these) zero always = absurd cc
+  stays_always (m ∷ these) (suc i) always = longer_always (at_name m.name) (at_all (take i these)) (at_all these) (stays_always these i) always
 
-  -- all names of the file give its cover
+  -- all groups of the file give its cover
   module _ (memberships : Memberships) (kept : AreKept es memberships) where
-    item_there : (name : List ℕ) (names : List (List ℕ)) → list_any (λ other. bytes_eq other name) (name ∷ names) ≡ true
-    item_there name names = grind (arith, nat_tests, bytes_eq-Decides)
+    item_there : (m : Membership) (these : List Membership) → list_any (λ other. bytes_eq other.name m.name) (m ∷ these) ≡ true
+    item_there m these = grind (arith, nat_tests, bytes_eq-Decides)
 
-    -- names among the file's, of which one covers or none
-    by_names : (d : Cover) (names : List (List ℕ)) → ((name : List ℕ) → list_any (λ other. bytes_eq other name) names ≡ true → has memberships file name ≡ true)
-        → (list_any (λ name. option_map_or (covering d) (row_at es name) false) names ≡ false → list_any (passes d) (values_of es) ≡ false)
-        → list_any (λ name. option_map_or (covering d) (row_at es name) false) names ≡ list_any (passes d) (values_of es)
-    by_names d [] among none = sym (none refl)
-    by_names d (name ∷ names) among none = by (option_map_or (covering d) (row_at es name) false) refl (by_names d names (λ n h. among n (grind (arith, nat_tests)))) where
-      by : (b : Bool) → option_map_or (covering d) (row_at es name) false ≡ b
-          → ((list_any (λ name. option_map_or (covering d) (row_at es name) false) names ≡ false → list_any (passes d) (values_of es) ≡ false) → list_any (λ name. option_map_or (covering d) (row_at es name) false) names ≡ list_any (passes d) (values_of es))
-          → (option_map_or (covering d) (row_at es name) false || list_any (λ name. option_map_or (covering d) (row_at es name) false) names) ≡ list_any (passes d) (values_of es)
-      by true own rest = rw own (sym (one_covers d memberships kept name (among name (item_there name names)) own))
+    -- groups among the file's, of which one covers or none
+    by_groups : (d : Cover) (these : List Membership) → ((name : List ℕ) → list_any (λ other. bytes_eq other.name name) these ≡ true → has memberships file name ≡ true)
+        → (list_any (reaching d) these ≡ false → list_any (passes d) (values_of es) ≡ false)
+        → list_any (reaching d) these ≡ list_any (passes d) (values_of es)
+    by_groups d [] among none = sym (none refl)
+    by_groups d (m ∷ these) among none = by (reaching d m) refl (by_groups d these (λ n h. among n (grind (arith, nat_tests)))) where
+      by : (b : Bool) → reaching d m ≡ b
+          → ((list_any (reaching d) these ≡ false → list_any (passes d) (values_of es) ≡ false) → list_any (reaching d) these ≡ list_any (passes d) (values_of es))
+          → (reaching d m || list_any (reaching d) these) ≡ list_any (passes d) (values_of es)
+      by true own rest = rw own (sym (one_covers d memberships kept m.name (among m.name (item_there m these)) own))
       by false own rest = rw own (rest (λ h. none (rw own h)))
 
-    all_idle : (d : Cover) (names : List (List ℕ)) → list_any (λ name. option_map_or (covering d) (row_at es name) false) names ≡ false → AllByRecursion (IsIdle d) names
+    all_idle : (d : Cover) (these : List Membership) → list_any (reaching d) these ≡ false → AllByRecursion (λ m. IsIdle d m.name) these
     all_idle d [] none = tt
-    all_idle d (name ∷ names) none = grind (arith, nat_tests, all_idle d names)
+    all_idle d (m ∷ these) none = grind (arith, nat_tests, all_idle d these)
 
-    pub all_names : at_names (names_of memberships file) ≡ cover_but except (values_of es) file closed ended
-    all_names = exceeds_same _ _ (λ d.
-        exceeds_names d (names_of memberships file)
-        ∙ by_names d (names_of memberships file) (λ name there. there) (λ none. none_covers d memberships kept (all_idle d (names_of memberships file) none))
+    pub all_groups : at_all (memberships_of memberships file) ≡ cover_but except (values_of es) file closed ended
+    all_groups = exceeds_same _ _ (λ d.
+        exceeds_all d (memberships_of memberships file)
+        ∙ by_groups d (memberships_of memberships file) (λ name there. there) (λ none. none_covers d memberships kept (all_idle d (memberships_of memberships file) none))
         ∙ sym (exceeds_by closed ended d _ ∙ any_over (reaches closed ended d) (is_member file) (marks_but except) (values_of es)))

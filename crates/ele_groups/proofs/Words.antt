@@ -1,8 +1,9 @@
 -- The words of the crates that proofs here use, in one place.
 pub use Rattle.ele_groups.specs.Except.{cover_but, marks_but, row_cover}
 pub use Rattle.ele_groups.specs.Kept.{AreKept, AreOf, IsNamed, changed_at, has_file, row_at}
-pub use Rattle.ele_groups.specs.Members.{has, names_of}
+pub use Rattle.ele_groups.specs.Members.{has, memberships_of}
 pub use Rattle.ele_groups.specs.Timed.{AreApart, AreMarksApart, AreTimed, IsFirst}
+pub use Rattle.ele_groups.specs.declared.memberships.Membership.{Membership}
 pub use Rattle.ele_groups.specs.declared.memberships.Memberships.{Memberships}
 pub use Rattle.ele_groups.specs.declared.span.Except.{Except}
 pub use Rattle.ele_moment.specs.Last.{last_moment}

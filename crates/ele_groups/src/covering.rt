@@ -2,13 +2,13 @@
 //! A contract sees the groups as their rows, each under its name.
 ghost use Rattle.std.specs.Prelude.{◌≡◌};
 ghost use Rattle.std.specs.Map.{values_of};
-ghost use Rattle.std.specs.Option.{option_map_or};
+ghost use Rattle.std.specs.Option.{option_copied, option_map_or};
 ghost use Rattle.ele_world.specs.declared.cover.Cover.TheVariants.{Free};
 ghost use Rattle.ele_groups.specs.Except.{cover_but, row_cover};
 ghost use Rattle.ele_groups.specs.Kept.{AreKept, row_at};
 
 use crate::group::Group;
-use crate::memberships::Memberships;
+use crate::memberships::{Membership, Memberships};
 use crate::span::Span;
 use ele_moment::{FileId, Name};
 use ele_world::Cover;
@@ -27,13 +27,35 @@ pub fn cover(
         span.now.closed span.now.ended }
 {
     let mut cover = Cover::Free;
-    for name in memberships.of(file) {
-        cover = cover.longer(cover_at(rows, name, span));
+    for membership in memberships.of(file) {
+        cover = cover.longer(cover_in(rows, membership, span));
         if let Cover::Always = cover {
             return Cover::Always;
         }
     }
     cover
+}
+
+// For how long marks of that group of a file keep, those aside that are left out.
+fn cover_in(rows: &IndexMap<Name, Group>, membership: &Membership, span: &Span) -> Cover
+    ensures { result
+        ≡ option_map_or (row_cover span.now.except span.now.closed span.now.ended)
+        (row_at rows.now.entries membership.now.name) Free }
+{
+    match group_of(rows, membership) {
+        Some(group) => group.cover(span),
+        None => Cover::Free,
+    }
+}
+
+// That group of a file. It is looked for where it stood first, since few groups are dropped.
+fn group_of<'a>(rows: &'a IndexMap<Name, Group>, membership: &Membership) -> Option<&'a Group>
+    ensures { option_copied result ≡ row_at rows.now.entries membership.now.name }
+{
+    match rows.get_index(membership.place) {
+        Some((name, group)) if *name == membership.name => Some(group),
+        _ => rows.get(&membership.name),
+    }
 }
 
 /// For how long marks of the group of that name keep, those aside that are left out.

@@ -1,6 +1,6 @@
 //! All groups.
 //! A contract sees them as the list of their rows in order of making.
-ghost use Rattle.std.specs.Prelude.{◌≡◌, ◌<◌, [], Some, None, false, length, filter, slice_get, IsTrue, IfSome, IfNone, IfOk, IfErr, OnOk, OnErr};
+ghost use Rattle.std.specs.Prelude.{◌≡◌, ◌<◌, [], Some, None, false, length, filter, slice_get, is_some, IsTrue, IfSome, IfNone, IfOk, IfErr, OnOk, OnErr};
 ghost use Rattle.std.specs.Map.{values_of};
 ghost use Rattle.std.specs.Option.{option_copied, option_map_or};
 ghost use Rattle.ele_world.specs.GroupRows.{group_named, has_group, has_member, is_marked_at, is_member, with_group, without_group, with_member, without_member, with_mark, without_mark, forgotten};
@@ -13,7 +13,7 @@ ghost use Rattle.ele_groups.specs.Rows.{row_of};
 use crate::covering::{cover, cover_at};
 use crate::fault::GroupFault;
 use crate::group::Group;
-use crate::memberships::Memberships;
+use crate::memberships::{Membership, Memberships};
 use crate::rows::{add_to, mark_at, remove_from, unmark_at};
 use crate::span::{Except, Span};
 use ele_lists::ListOf;
@@ -310,6 +310,13 @@ impl Groups {
         }
     }
 
+    // The place of the group of that name in order of making.
+    fn place(&self, name: &Name) -> Option<usize>
+        ensures { is_some result ≡ has_group self.now name.now }
+    {
+        self.rows.get_index_of(name)
+    }
+
     // The group of that name.
     fn named(&self, name: &Name) -> Option<&Group>
         ensures { option_copied result ≡ group_named self.now name.now }
@@ -343,10 +350,11 @@ impl Groups {
         ensures ok { OnOk result (self.new ≡ with_member name.now file self.old) }
         ensures err { OnErr result (self.new ≡ self.old) }
     {
-        if !self.has_group(name) {
+        let Some(place) = self.place(name) else {
             return Ok(());
-        }
-        self.memberships.insert(file, *name)?;
+        };
+        self.memberships
+            .insert(file, Membership { name: *name, place })?;
         if let Err(_refused) = add_to(&mut self.rows, name, file) {
             self.memberships.remove(file, name);
             return Err(NoMemory);
@@ -385,11 +393,11 @@ impl Groups {
             → length (filter (is_member file) self.new) < length (filter (is_member file) self.old) }
         ensures none { result ≡ false → forgotten file self.new ≡ self.new }
     {
-        let Some(name) = self.memberships.of(file).first().copied() else {
+        let Some(membership) = self.memberships.of(file).first().copied() else {
             return false;
         };
-        remove_from(&mut self.rows, &name, file);
-        self.memberships.remove(file, &name);
+        remove_from(&mut self.rows, &membership.name, file);
+        self.memberships.remove(file, &membership.name);
         true
     }
 }

@@ -190,7 +190,7 @@ impl<C: Stepping> History<C> {
     }
 }
 
-// Lets an event go that was stopped. What that takes of the stack, no event takes that is answered.
+// Lets go of an event that was stopped, outside of `record`, which needs no room for that then.
 #[inline(never)]
 fn stopped(_event: Event, stop: Stop) -> Stop
     ensures { result ≡ stop }

@@ -1,7 +1,9 @@
 -- Values in order of their serial numbers.
-use Rattle.ele_lists.proofs.Basics.{AllByRecursion, AllLater, Bool, Equal, Greater, Less, List, None, Some, [], arith, exact_unsigned, false, inl, inr, insert_entry, is_at, keys_of, last_passing, nat_cmp, nat_tests, refl, remove_entry, true, value_at, values_of, ℕ, ◌++◌, ◌<◌, ◌∷◌, ◌≡◌, ◌≤◌, ◌⊎◌}
-use Rattle.ele_lists.proofs.Indexed.{at_itself}
+use Rattle.ele_lists.proofs.Basics.{AllByRecursion, AllLater, Bool, Equal, Greater, Less, List, None, Some, [], ap, arith, exact_unsigned, false, inl, inr, insert_entry, is_at, is_eq, keys_of, last_passing, nat_cmp, nat_cmp_total, nat_tests, refl, remove_entry, tied_itself, true, value_at, values_of, ℕ, ◌++◌, ◌<◌, ◌∷◌, ◌≡◌, ◌≤◌, ◌⊎◌}
 use Rattle.std.specs.List.Sorted.{IsStrictlySortedBy}
+
+pub at_itself : (n : ℕ) → is_at (nat_cmp n) n ≡ true
+at_itself n = ap is_eq (tied_itself nat_cmp_total n)
 
 pub not_true : (b : Bool) → (b ≡ true → ⊥) → b ≡ false
 not_true b h = grind arith

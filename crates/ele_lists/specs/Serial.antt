@@ -15,7 +15,3 @@ value_at es s = lookup (is_at (nat_cmp s)) es
 -- whether a group and a rank are those
 abbrev pub is_placed : {G : Type 0} → (G → G → Ordering) → G → ℕ → G → ℕ → Bool
 is_placed cmp group rank q r = is_eq (ordering_then (cmp group q) (nat_cmp rank r))
-
--- the index has each serial number at the group and the rank of its value, and no other
-pub record IsIndexOf {G X : Type 0} (cmp : G → G → Ordering) (group : X → G) (rank : X → ℕ) (at : ℕ → Option X) (index : Index G) : Type 0 where
-  pub each : (q : G) (r s : ℕ) → has cmp index q r s ≡ option_map_or (λ x. is_placed cmp (group x) (rank x) q r) (at s) false

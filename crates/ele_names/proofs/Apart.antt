@@ -1,5 +1,5 @@
 -- Rows of one name are over when a later one is born, so the newest decides; and what the index by name says of them.
-use Rattle.ele_names.proofs.Words.{◌≡◌, ℕ, ◌≤◌, Bool, true, false, ◌&&◌, ◌==◌, List, [], ◌∷◌, Some, Option, is_none, refl, ap, sym, ◌∙◌, arith, find, AllByRecursion, bytes_eq, false≢true, nat_tests, bytes_eq-Decides, AllLater, last_passing, passing, later-weaker, find_last, last_moment, NameRow, is_named, covers, lives_past, is_live_name, is_born_by, Follows, ◌<◌, ◌^◌, length, None, nat_cmp, unsigned_tied, has_birth, IsLastOf, value_at, is_placed, all-mid, split_at, found_key, later_at, none_last, is_last, not_true, Table, IsTable, rows_of, number_in, place_in}
+use Rattle.ele_names.proofs.Words.{◌≡◌, ℕ, ◌≤◌, Bool, true, false, ◌&&◌, ◌==◌, List, [], ◌∷◌, Some, Option, is_none, is_some, live_target, refl, ap, sym, ◌∙◌, arith, find, AllByRecursion, bytes_eq, false≢true, nat_tests, bytes_eq-Decides, AllLater, last_passing, passing, later-weaker, find_last, last_moment, NameRow, is_named, covers, lives_past, is_live_name, is_born_by, Follows, ◌<◌, ◌^◌, length, None, nat_cmp, unsigned_tied, has_birth, IsLastOf, value_at, is_placed, all-mid, split_at, found_key, later_at, none_last, is_last, not_true, Table, IsTable, rows_of, number_in, place_in}
 use Rattle.ele_names.proofs.Numbers.{named_place, one_place}
 
 pub equal : (a b : ℕ) → (a == b) ≡ true → a ≡ b
@@ -31,6 +31,17 @@ module _ (d : ℕ) (n : List ℕ) (rows : List NameRow) (apart : AllLater Follow
       (later-weaker Follows (λ x y. is_born_by d n t x ≡ true → is_born_by d n t y ≡ true → lives_past t x ≡ false) rows
       (λ x y follows a b. grind (arith, nat_tests, same_name d n x y, follows.apart)) apart)
       ∙ ap (passing (lives_past t)) (sym is)
+
+  -- a name whose newest row is dead is live nowhere
+  live_by_newest : find (is_live_name d n) rows ≡ passing (λ row. is_none row.death) (last_passing (is_named d n) rows)
+  live_by_newest =
+      find_same (is_live_name d n) (λ row. is_named d n row && is_none row.death) rows (λ row. grind (arith, nat_tests))
+      ∙ find_last (is_named d n) (λ row. is_none row.death) rows
+      (later-weaker Follows (λ x y. is_named d n x ≡ true → is_named d n y ≡ true → is_none x.death ≡ false) rows
+      (λ x y follows a b. grind (arith, nat_tests, same_name d n x y, follows.apart)) apart)
+
+  pub dead_by_newest : (row : NameRow) → Some row ≡ last_passing (is_named d n) rows → is_some row.death ≡ true → live_target rows d n ≡ None
+  dead_by_newest row newest dead = grind (arith, nat_tests, live_by_newest, newest, dead)
 
 -- all rows are born by the greatest number of seconds
 pub born_by_end : (d : ℕ) (n : List ℕ) (rows : List NameRow) → AllByRecursion (λ row. row.birth ≤ last_moment) rows → last_passing (is_born_by d n 18446744073709551615) rows ≡ last_passing (is_named d n) rows

@@ -1,8 +1,8 @@
 -- A name more, which is live nowhere.
-use Rattle.ele_names.proofs.Words.{◌≡◌, ℕ, ◌<◌, ◌^◌, Bool, IsSome, false, cond, List, [], ◌∷◌, ◌++◌, length, slice_get, Option, Some, None, refl, sym, ap, ◌∙◌, arith, length_append, option_map_or, nat_cmp, is_at, get, keys_of, length-map, map-append, get_or_append_left, get_or_push, slice_get_past, slice_got, nat_tests, insert_entry-new, Target, Live, Lives, live_at, AreListed, name_eq, names_of, place_in, nat_eq, Gains, Keeps, newest_in}
+use Rattle.ele_names.proofs.Words.{same_from_push, false≢true, lookup, option_and_then, option_to_list, KeepsPlaces, keys-insert_entry-present, ◌≡◌, ℕ, ◌<◌, ◌^◌, Bool, IsSome, false, cond, List, [], ◌∷◌, ◌++◌, length, slice_get, Option, Some, None, refl, sym, ap, ◌∙◌, arith, length_append, option_map_or, nat_cmp, is_at, get, keys_of, length-map, map-append, get_or_append_left, get_or_push, slice_get_past, slice_got, nat_tests, insert_entry-new, Target, Live, Lives, live_at, AreListed, name_eq, names_of, place_in, nat_eq, Gains, Keeps, newest_in}
 use Rattle.indexmap.specs.IndexMap.{insert_entry}
 use Rattle.ele_names.proofs.Chained.{chained_entered, chained_kept, chained_none, chained_same, chained_told, newest_known}
-use Rattle.ele_names.proofs.Numbers.{at_place, exact, missing}
+use Rattle.ele_names.proofs.Numbers.{at_place, exact, missing, present}
 
 -- a name of the directory
 abbrev stands_in : ℕ → ℕ × List ℕ → Bool
@@ -18,10 +18,6 @@ module _ (old new : Lives) (d : ℕ) (n : List ℕ) (unknown : place_in (names_o
       ap keys_of (inserted ∙ insert_entry-new name_eq old.by_name (d, n) None (missing old.by_name d n unknown))
       ∙ map-append (λ (e : (ℕ × List ℕ) × Option (Live Target)). e.0) old.by_name.entries (((d, n), None) ∷ [])
 
-  -- the others are live as they were
-  pub same_live : ((k : ℕ × List ℕ) → get name_eq new.by_name k ≡ cond (name_eq (d, n) k) (Some None) (get name_eq old.by_name k)) → (e : ℕ) (m : List ℕ) → live_at new e m ≡ live_at old e m
-  same_live updated e m = grind (arith, nat_tests, updated (e, m), exact (d, n) (e, m), missing old.by_name d n unknown)
-
   -- and the name is the newest of its directory
   pub listed_pushed : length (names_of old) < 2 ^ 63 → names_of new ≡ names_of old ++ (d, n) ∷ [] → Gains d (length (names_of old)) old.in_directory new.in_directory → AreListed old → AreListed new
   listed_pushed few are gains was = record {
@@ -30,6 +26,26 @@ module _ (old new : Lives) (d : ℕ) (n : List ℕ) (unknown : place_in (names_o
         (λ g s. ap (λ o. option_map_or (stands_in g) o false) (ap (λ names. slice_get names s) are ∙ got_pushed (names_of old) (d, n) s))
         (chained_entered stands_in (slice_get (names_of old)) (length (names_of old)) (λ s le. slice_get_past (names_of old) s le) (d, n) d (λ g. refl) old.in_directory new.in_directory (omega (arith, few)) gains was.each);
   }
+
+module _ (old new : Lives) (d : ℕ) (n : List ℕ) where
+  -- a name that was given is given again, and the names stay
+  pub names_known : place_in (names_of old) d n < length (names_of old) → new.by_name.entries ≡ insert_entry name_eq old.by_name.entries (d, n) None → names_of new ≡ names_of old
+  names_known inside inserted = ap keys_of inserted ∙ keys-insert_entry-present name_eq old.by_name (d, n) None (present old.by_name d n inside)
+
+  -- one that is live nowhere leaves all live as they were
+  pub same_live : live_at old d n ≡ None → ((k : ℕ × List ℕ) → get name_eq new.by_name k ≡ cond (name_eq (d, n) k) (Some None) (get name_eq old.by_name k)) → (e : ℕ) (m : List ℕ) → live_at new e m ≡ live_at old e m
+  same_live dead updated e m = grind (arith, nat_tests, updated (e, m), exact (d, n) (e, m), dead)
+
+-- a name behind the others goes again
+pub popped : {X : Type 0} (xs ys : List X) (x : X) (o : Option X) → IsSome o → xs ++ x ∷ [] ≡ ys ++ option_to_list o → ys ≡ xs
+popped xs ys x (Some y) some is = (same_from_push ys xs y x (sym is)).0
+popped xs ys x None some is = absurd (false≢true some)
+
+pub same_entries : (old new : Lives) → new.by_name.entries ≡ old.by_name.entries → (e : ℕ) (m : List ℕ) → live_at new e m ≡ live_at old e m
+same_entries old new are e m = ap (λ (es : List ((ℕ × List ℕ) × Option (Live Target))). option_and_then (λ live. live) (lookup (name_eq (e, m)) es)) are
+
+pub places_stay : (old new : List (ℕ × List ℕ)) → new ≡ old → KeepsPlaces old new
+places_stay old new are = rw are (record { each = λ d n inside. (refl, inside) })
 
 -- how many names there are
 pub names_counted : (lives : Lives) → length lives.by_name.entries ≡ length (names_of lives)

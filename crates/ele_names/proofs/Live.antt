@@ -79,6 +79,12 @@ none_named : (d : ℕ) (n : List ℕ) (rows : List NameRow) → AllByRecursion (
 none_named d n [] none = refl
 none_named d n (row ∷ rows) none = rw none.0 (none_named d n rows none.1)
 
+-- a name that may be given is live nowhere
+pub free_known : (rows : List NameRow) (lives : Lives) (d : ℕ) (n : List ℕ) (born : NameRow) → is_named d n born ≡ true → AreCounted rows lives → AllByRecursion (λ row. Follows row born) rows → live_at lives d n ≡ None
+free_known rows lives d n born named counted follow =
+    let none = none_named d n rows (all-weaker (λ b. Follows b born) (λ b. is_live_name d n b ≡ false) rows (λ b follows. grind (arith, nat_tests, named, named_dead d n b, same_name d n b born, follows.apart)) follow) in
+    grind (arith, nat_tests, none, counted.named d n)
+
 module _ (row : NameRow) (before behind : List NameRow) (apart : AllLater Follows (before ++ row ∷ behind)) where
   module _ (d : ℕ) (n : List ℕ) where
     earlier : is_live_name d n row ≡ true → AllByRecursion (λ b. is_live_name d n b ≡ false) before

@@ -1,5 +1,5 @@
 -- The numbers of names.
-use Rattle.ele_names.proofs.Words.{◌≡◌, ℕ, ◌<◌, true, not, ◌==◌, nat_lt, List, [], ◌∷◌, ◌++◌, length, slice_get, position, is_some, Option, Some, None, length_append, sym, ap, ◌∙◌, ◌⊎◌, arith, list_any, HashMap, get, keys, false≢true, true≢false, cases_lt, keys_of, values_of, lookup, set_value_at, cond, nat_tests, position_or_len_push, prefix_len-le-length, bytes_eq-Decides, some_index, NameRow, Target, is_named, Live, name_eq, place_in, number_in, KeepsPlaces}
+use Rattle.ele_names.proofs.Words.{◌≡◌, ℕ, ◌≤◌, ◌<◌, true, false, slice_get_within, suc, zero, IsDistinct, IsDistinct-head, IsDistinct-tail, all-at, not, ◌==◌, nat_lt, List, [], ◌∷◌, ◌++◌, length, slice_get, position, is_some, Option, Some, None, length_append, sym, ap, ◌∙◌, ◌⊎◌, arith, list_any, HashMap, get, keys, false≢true, true≢false, cases_lt, keys_of, values_of, lookup, set_value_at, cond, nat_tests, position_or_len_push, prefix_len-le-length, bytes_eq-Decides, some_index, NameRow, Target, is_named, Live, name_eq, place_in, number_in, KeepsPlaces}
 
 pub exact : (k q : ℕ × List ℕ) → name_eq k q ≡ true → k ≡ q
 exact k q h = grind (arith, nat_tests, bytes_eq-Decides k.1 q.1)
@@ -21,6 +21,24 @@ pub at_place : (names : List (ℕ × List ℕ)) (d : ℕ) (n : List ℕ) → pla
 at_place [] d n inside = absurd (omega (arith, inside))
 at_place (x ∷ xs) d n inside = grind (arith, nat_tests, exact (d, n) x, at_place xs d n)
 
+-- and of names that differ no other one stands there
+there_is : (names : List (ℕ × List ℕ)) (i : ℕ) (k : ℕ × List ℕ) → IsDistinct name_eq names → slice_get names i ≡ Some k → place_in names k.0 k.1 ≡ i
+there_is [] i k apart is = absurd cc
+there_is (x ∷ xs) zero k apart is = grind (arith, nat_tests, itself k)
+there_is (x ∷ xs) (suc i) k apart is =
+    grind (arith, nat_tests, exact k x, itself k, all-at (λ y. name_eq x y ≡ false) xs i k is (IsDistinct-head name_eq x xs apart), there_is xs i k (IsDistinct-tail name_eq x xs apart) is)
+
+key_there : {X : Type 0} (es : List ((ℕ × List ℕ) × X)) (i : ℕ) (e : (ℕ × List ℕ) × X) → slice_get es i ≡ Some e → slice_get (keys_of es) i ≡ Some e.0
+key_there [] i e is = absurd cc
+key_there (f ∷ es) zero e is = grind (arith, nat_tests)
+key_there (f ∷ es) (suc i) e is = key_there es i e is
+
+pub has_number : {X : Type 0} (es : List ((ℕ × List ℕ) × X)) (i : ℕ) (e : (ℕ × List ℕ) × X) (k : ℕ × List ℕ) → IsDistinct name_eq (keys_of es) → slice_get es i ≡ Some e → name_eq e.0 k ≡ true
+    → (place_in (keys_of es) k.0 k.1 ≡ i) × (i < length (keys_of es))
+has_number es i e k apart is same =
+    let there = key_there es i e is in
+    (ap (λ (q : ℕ × List ℕ). place_in (keys_of es) q.0 q.1) (sym (exact e.0 k same)) ∙ there_is (keys_of es) i e.0 apart there, slice_get_within (keys_of es) i e.0 there)
+
 -- and is one of them
 pub any_known : (names : List (ℕ × List ℕ)) (d : ℕ) (n : List ℕ) → place_in names d n < length names → list_any (name_eq (d, n)) names ≡ true
 any_known [] d n inside = absurd (omega (arith, inside))
@@ -29,6 +47,9 @@ any_known (x ∷ xs) d n inside = grind (arith, nat_tests, any_known xs d n)
 -- a name has a number, or none
 pub known : (names : List (ℕ × List ℕ)) (d : ℕ) (n : List ℕ) → (place_in names d n < length names) ⊎ (place_in names d n ≡ length names)
 known names d n = grind (arith, nat_tests, cases_lt, place_in, prefix_len-le-length, not, name_eq)
+
+pub place_within : (names : List (ℕ × List ℕ)) (d : ℕ) (n : List ℕ) → place_in names d n ≤ length names
+place_within names d n = grind (arith, nat_tests, place_in, prefix_len-le-length, not, name_eq)
 
 module _ (names : List (ℕ × List ℕ)) where
   -- a name more behind the others leaves them their numbers

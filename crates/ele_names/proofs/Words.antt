@@ -4,9 +4,9 @@ pub use Rattle.ele_lists.proofs.Cuts.{update_first-at}
 pub use Rattle.ele_lists.proofs.Edits.{all-any, all-push, all-weaker, later-push}
 pub use Rattle.ele_lists.proofs.Entries.{lookup-insert_entry, sorted-insert_entry}
 pub use Rattle.ele_lists.proofs.Filters.{filter-all}
-pub use Rattle.ele_lists.proofs.Indexed.{at_itself}
 pub use Rattle.ele_lists.proofs.Lasts.{find_last}
-pub use Rattle.ele_lists.proofs.Serials.{IsRising, IsSplitAt, after_head, all_from_each, all_keys_without, found_key, is_last, later_at, none_last, not_true, not_yet, pushed, rest_rises, split_at}
+pub use Rattle.ele_lists.proofs.Serials.{IsRising, IsSplitAt, after_head, all_from_each, all_keys_without, at_itself, found_key, is_last, later_at, none_last, not_true, not_yet, pushed, rest_rises, split_at}
+pub use Rattle.ele_lists.proofs.Taken.{all-at}
 pub use Rattle.ele_lists.proofs.Sums.{any-count as any_count, sum_by-around, sum_by-same}
 pub use Rattle.ele_lists.specs.Index.{IsLastOf, has, is_entry}
 pub use Rattle.ele_lists.specs.Last.{last_passing, passing}
@@ -41,7 +41,7 @@ pub use Rattle.ele_world.specs.declared.refusal.Refusal.TheVariants.{NoEntry}
 pub use Rattle.ele_world.specs.declared.rows.NameRow.{NameRow}
 pub use Rattle.ele_world.specs.declared.rows.Target.TheVariants.{Directory, File}
 pub use Rattle.ele_world.specs.declared.rows.Target.{Target}
-pub use Rattle.indexmap.proofs.CallerLemmas.{insert_entry-new, keys-with_value_at}
+pub use Rattle.indexmap.proofs.CallerLemmas.{insert_entry-new, keys-insert_entry-present, keys-with_value_at}
 pub use Rattle.indexmap.proofs.MapLemmas.{some_index}
 pub use Rattle.indexmap.specs.IndexMap.{set_value_at, with_value_at}
 pub use Rattle.std.proofs.Common.{Bool, Err, IsSome, List, None, Ok, Option, Some, [], ap, append-nil, append_assoc, arith, cond, drop, eqb, false, filter, filter_map, find, inl, inr, is_none, is_some, length, length-append as length_append, map, nat_le, nat_lt, not, position, refl, rules, slice_get, slice_set, subst, suc, sym, take, tests, true, zero, ℕ, ◌&&◌, ◌++◌, ◌+◌, ◌-◌, ◌<◌, ◌==◌, ◌^◌, ◌∙◌, ◌∷◌, ◌≡◌, ◌≤◌, ◌⊎◌}
@@ -55,17 +55,18 @@ pub use Rattle.std.proofs.lemmas.List.Folds.{position_or_len_push}
 pub use Rattle.std.proofs.lemmas.List.Sums.{prefix_len-le-length}
 pub use Rattle.std.proofs.lemmas.List.{get_or_append_left, get_or_push, length-map, map-append, same_from_push}
 pub use Rattle.std.proofs.lemmas.List.Elements.{filter-append}
+pub use Rattle.std.proofs.lemmas.Map.Keys.{IsDistinct-head, IsDistinct-tail}
 pub use Rattle.std.proofs.lemmas.Map.Lookups.{CmpEqualImpliesEq, exact_bytes, exact_pairs, exact_unsigned}
 pub use Rattle.std.proofs.lemmas.Option.{slice_get-get_or as slice_got, slice_get_past, slice_get_read, slice_get_within}
 pub use Rattle.std.proofs.lemmas.Result.{err_from_is_err_and}
-pub use Rattle.std.proofs.lemmas.Slice.Eq.{bytes_eq-Decides}
+pub use Rattle.std.proofs.lemmas.Slice.Eq.{bytes_eq-Decides, slice_eq-Decides}
 pub use Rattle.std.specs.BTreeMap.{insert_entry, is_at}
 pub use Rattle.std.specs.Bool.{nat_eq}
 pub use Rattle.std.specs.Cmp.Lexicographic.{slice_cmp}
 pub use Rattle.std.specs.Cmp.{IsTotalOrder, unsigned_tied}
 pub use Rattle.std.specs.HashMap.{HashMap, get, keys}
 unfoldable pub use Rattle.std.specs.List.Sorted.{IsStrictlySortedBy}
-pub use Rattle.std.specs.List.{AllByRecursion, count_by, list_any}
+pub use Rattle.std.specs.List.{AllByRecursion, IsDistinct, count_by, list_any}
 pub use Rattle.std.specs.Map.{keys_of, lookup, remove_entry, values_of}
 pub use Rattle.std.specs.Option.{option_and_then, option_map, option_map_or, option_to_list}
 pub use Rattle.std.specs.Ordering.{is_eq, nat_cmp, ordering_then}

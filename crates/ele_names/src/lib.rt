@@ -4,6 +4,7 @@
 
 mod births;
 mod chains;
+mod found;
 mod lives;
 mod names;
 mod numbered;
@@ -12,5 +13,6 @@ mod table;
 mod walk;
 
 pub use ele_world::{NameRow, Target};
+pub use found::Found;
 pub use names::Names;
-pub use walk::{parent_now, placed_now, resolve_at, resolve_now, stands_in};
+pub use walk::{parent_beside, parent_now, placed_now, resolve_at, resolve_now, stands_in};

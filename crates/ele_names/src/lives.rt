@@ -1,6 +1,7 @@
 //! The names ever given, their live rows, and how many of these each directory has. A contract sees
 //! the names by number, and what the rest is of: a list of rows, and the row of each serial number.
-ghost use Rattle.std.specs.Prelude.{◌≡◌, ℕ, ◌<◌, ◌+◌, ◌^◌, true, false, [], List, Option, Some, None, cond, length, slice_get, IfSome, IfNone, IfOk, is_none};
+ghost use Rattle.std.specs.Prelude.{◌≡◌, ℕ, ◌<◌, ◌+◌, ◌^◌, true, false, [], List, Option, Some, None, cond, length, slice_get, IfSome, IfNone, IfOk, IsTrue, is_none};
+ghost use Rattle.std.specs.Option.{option_map};
 ghost use Rattle.std.specs.Ordering.{nat_cmp};
 ghost use Rattle.std.specs.BTreeMap.{is_at};
 ghost use Rattle.ele_world.specs.declared.rows.NameRow.{NameRow};
@@ -10,6 +11,7 @@ ghost use Rattle.ele_names.specs.Counted.{AreCounted, AreNumbered, Leaves, live_
 ghost use Rattle.ele_names.specs.Placed.{AreListed, KeepsPlaces, name_eq, names_of, number_in, place_in};
 
 use crate::chains::Chains;
+use crate::found::Found;
 use ele_moment::{DirId, Name, NoMemory};
 use ele_world::{NameRow, Target};
 use indexmap::IndexMap;
@@ -58,6 +60,46 @@ impl Lives {
         Some(number as u64)
     }
 
+    /// The number of the name, as `number` tells it. It looks first whether the name has the number
+    /// that is hinted at.
+    pub fn number_by(&self, hint: u64, directory: DirId, name: &Name) -> Option<u64>
+        ensures some { IfSome result (λ number.
+            (number ≡ place_in (names_of self.now) directory name.now)
+            × (number < length (names_of self.now))) }
+        ensures none { IfNone result (place_in (names_of self.now) directory name.now
+            ≡ length (names_of self.now)) }
+    {
+        if self.has(hint, directory, name) {
+            return Some(hint);
+        }
+        self.number(directory, name)
+    }
+
+    // Whether the number is that of the name.
+    fn has(&self, number: u64, directory: DirId, name: &Name) -> bool
+        ensures { IsTrue result → (number ≡ place_in (names_of self.now) directory name.now)
+            × (number < length (names_of self.now)) }
+    {
+        let len = self.by_name.len() as u64;
+        match self.by_name.get_index(number as usize) {
+            Some((key, _)) => number < len && *key == (directory, *name),
+            None => false,
+        }
+    }
+
+    /// The live row of the name, with the name's number.
+    pub fn find(&self, directory: DirId, name: &Name) -> Option<Found>
+        ensures { result ≡ option_map (λ live. live.target)
+            (live_at self.now directory name.now) }
+    {
+        let (number, _, live) = self.by_name.get_full(&(directory, *name))?;
+        let target = (*live)?.target;
+        Some(Found {
+            target,
+            number: number as u64,
+        })
+    }
+
     /// The name of that number.
     pub fn name(&self, number: u64) -> Option<(DirId, Name)>
         ensures { result ≡ slice_get (names_of self.now) number }
@@ -66,9 +108,10 @@ impl Lives {
         Some(*name)
     }
 
-    /// The number of the name; one that was never given gets the next.
+    /// The number of the name, which isn't live; one that was never given gets the next.
     #[tactic(auto, using(crate::proofs::Words::nat_tests, crate::proofs::Given::listed_told))]
     pub fn number_or_next(&mut self, directory: DirId, name: Name) -> Result<u64, NoMemory>
+        requires { live_at self.old directory name ≡ None }
         ensures number { IfOk result (λ number.
             (number ≡ place_in (names_of self.new) directory name)
             × (number < length (names_of self.new))) }
@@ -79,16 +122,17 @@ impl Lives {
         ensures numbered { (at : ℕ → Option NameRow)
             → AreNumbered at self.old → AreNumbered at self.new }
     {
-        if let Some(number) = self.number(directory, &name) {
+        let next = self.by_name.len() as u64;
+        let (number, _) = self.by_name.insert_full((directory, name), None)?;
+        let number = number as u64;
+        if number < next {
             return Ok(number);
         }
-        self.by_name.reserve(1)?;
-        let number = self.by_name.len() as u64;
-        self.in_directory.enter(directory.0, number)?;
-        if let Err(_refused) = self.by_name.insert((directory, name), None) {
-            unreachable!()
+        if let Err(refused) = self.in_directory.enter(directory.0, next) {
+            self.by_name.pop();
+            return Err(refused);
         }
-        Ok(number)
+        Ok(next)
     }
 
     /// The live row of the name.

@@ -19,6 +19,7 @@ ghost use Rattle.ele_names.specs.Listed.{by_name, name_cmp};
 ghost use Rattle.ele_names.specs.Placed.{is_of};
 ghost use Rattle.ele_names.specs.Rows.{born_row, dies, Follows};
 
+use crate::found::Found;
 use crate::lives::{Live, Lives};
 use crate::table::{Table, lives_past};
 use ele_moment::{DirId, FileId, Moment, Name, NoMemory};
@@ -110,14 +111,14 @@ impl Names {
         self.lives.leave(number, &row);
     }
 
-    /// Ends the live name at the moment. It takes no memory.
+    /// Ends the live name at the moment, which was found before. It takes no memory.
     #[tactic(auto, using(crate::proofs::Words::nat_tests, crate::proofs::Gone::found_known))]
-    pub fn kill(&mut self, directory: DirId, name: &Name, moment: Moment)
+    pub fn kill(&mut self, directory: DirId, name: &Name, found: &Found, moment: Moment)
         requires { IsSome (live_target self.old directory name.now) }
         ensures { self.new
             ≡ update_first (is_live_name directory name.now) (dies moment) self.old }
     {
-        let Some(number) = self.lives.number(directory, name) else {
+        let Some(number) = self.lives.number_by(found.number, directory, name) else {
             unreachable!()
         };
         let Some(live) = self.lives.live_of(number) else {
@@ -165,9 +166,18 @@ impl Names {
         target_of(self.lives.live(directory, name))
     }
 
-    /// What the newest row of the name stands for, if that row is dead.
+    /// What the live name stands for, to be ended.
+    pub fn find(&self, directory: DirId, name: &Name) -> Option<Found>
+        ensures { result ≡ live_target self.now directory name.now }
+    {
+        self.lives.find(directory, name)
+    }
+
+    /// What the newest row of the name stands for, if that row is dead. The name is not live then.
+    #[tactic(auto, using(crate::proofs::Words::nat_tests, crate::proofs::Apart::dead_by_newest))]
     pub fn last_dead(&self, directory: DirId, name: &Name) -> Option<Target>
-        ensures { result ≡ last_dead self.now directory name.now }
+        ensures value { result ≡ last_dead self.now directory name.now }
+        ensures free { IfSome result (λ _. live_target self.now directory name.now ≡ None) }
     {
         let row = self.newest(directory, name)?;
         if row.death.is_some() {
@@ -180,7 +190,8 @@ impl Names {
     // The newest row of the name.
     #[tactic(auto, using(crate::proofs::Apart::born_by_end))]
     fn newest(&self, directory: DirId, name: &Name) -> Option<NameRow>
-        ensures { result ≡ last_passing (is_named directory name.now) self.now }
+        ensures newest { result ≡ last_passing (is_named directory name.now) self.now }
+        ensures apart { AllLater Follows self.now }
     {
         self.newest_by(directory, name, u64::MAX)
     }

@@ -1,12 +1,13 @@
 //! Where a path leads, now or at an earlier moment.
 //! A contract sees the names as their rows, and a walk as the world's words say it.
-ghost use Rattle.std.specs.Prelude.{◌≡◌, ◌⊎◌, Ok, Err, IfOk, IfErr};
+ghost use Rattle.std.specs.Prelude.{◌≡◌, ◌-◌, ◌⊎◌, Ok, Err, IfOk, IfErr, length, take};
 ghost use Rattle.ele_world.specs.Walk.{walk_now, parent_now, comes_through, stands_in};
 ghost use Rattle.ele_world.specs.WalkAt.{walk_at, walk_covering};
 ghost use Rattle.ele_world.specs.World.{root};
 ghost use Rattle.ele_world.specs.declared.rows.Target.TheVariants.{Directory};
 ghost use Rattle.ele_names.specs.Stops.{StopsAtPlace};
 
+use crate::found::Found;
 use crate::names::Names;
 use ele_moment::{DirId, Moment, Name};
 use ele_time_path::Path;
@@ -53,19 +54,46 @@ pub fn parent_now(names: &Names, path: &Path) -> Result<(DirId, Name), Refusal>
     }
 }
 
+/// The directory that the path's last name stands in, and that name, as `parent_now` tells them,
+/// where they are known for another path. If the names before the last are the same in both, none
+/// is looked for again.
+#[tactic(auto, using(crate::proofs::Words::nat_tests, crate::proofs::Leads::beside))]
+pub fn parent_beside(
+    names: &Names,
+    path: &Path,
+    other: &Path,
+    known: &(DirId, Name),
+) -> Result<(DirId, Name), Refusal>
+    requires { parent_now names.now other.now ≡ Ok known.now }
+    ensures { result ≡ parent_now names.now path.now }
+{
+    let beside = before_last(path.names()) == before_last(other.names());
+    match path.names().last() {
+        Some(name) if beside => Ok((known.0, *name)),
+        _ => parent_now(names, path),
+    }
+}
+
+// The names before the last.
+fn before_last(path: &[Name]) -> &[Name]
+    ensures { result.now ≡ take (length path.now - 1) path.now }
+{
+    &path[..path.len().saturating_sub(1)]
+}
+
 /// The directory that the path's last name stands in, that name, and what it stands for, by one
 /// walk where `parent_now` and then `resolve_now` take two. It refuses as the first of them that
 /// refuses.
 #[tactic(auto, using(crate::proofs::Leads::leads_to, std::proofs::Common::inr, crate::proofs::Leads::stops_at))]
-pub fn placed_now(names: &Names, path: &Path) -> Result<(DirId, Name, Target), Refusal>
+pub fn placed_now(names: &Names, path: &Path) -> Result<(DirId, Name, Found), Refusal>
     ensures place { IfOk result (λ found. parent_now names.now path.now ≡ Ok (found.0, found.1)) }
     ensures leads { IfOk result (λ found. walk_now names.now path.now ≡ Ok found.2) }
     ensures refusal { IfErr result (λ refusal. (parent_now names.now path.now ≡ Err refusal)
         ⊎ StopsAtPlace names.now path.now refusal) }
 {
     let (directory, name) = parent_now(names, path)?;
-    match names.live(directory, &name) {
-        Some(target) => Ok((directory, name, target)),
+    match names.find(directory, &name) {
+        Some(found) => Ok((directory, name, found)),
         None => Err(Refusal::NoEntry),
     }
 }

@@ -1,6 +1,6 @@
 -- The entry that a search found, as the list of drafts shows it.
 use Rattle.ele_sessions.proofs.Basics.{◌≡◌, ℕ, true, false, length, eqb, List, get_or, Some, None, Result, Ok, Err, refl, sym, ap, ◌∙◌, set, map-set_same, find, remove, insert, list_any, position, unwrap_or, OnErr, IfErr, stands_by, is_behind, false≢true, remove_first, insert_before, find-position, find-none, find-shown, set-shown, remove-shown, any-shown, any-missing, find-missing, insert-shown, remove-place, arith, rises-map, all-not_found, remove_first-unfound}
-use Rattle.ele_sessions.proofs.Words.{Layout, Entry, OpenHandle, RewritesDraft, rewritten_by, IsAt, IsGap, drafts_of, draft_in, file_in, number_in, Draft, is_draft, is_draft_after, is_handle, Rises}
+use Rattle.ele_sessions.proofs.Words.{Layout, Entry, HandleRow, RewritesDraft, rewritten_by, IsAt, IsGap, drafts_of, draft_in, file_in, number_in, Draft, is_draft, is_draft_after, is_handle, Rises}
 
 -- a gap, of what a search says of it
 pub gap_of : {X : Type 0} (key : X → ℕ) (this : ℕ) (xs : List X) (r : Result ℕ ℕ) → IfErr r (λ at. position (stands_by key this) xs ≡ None) → IfErr r (λ at. unwrap_or (position (is_behind key this) xs) (length xs) ≡ at) → IfErr r (IsGap key this xs)
@@ -43,7 +43,7 @@ pub rises_in : (es : List Entry) → Rises (λ (d : Draft). d.file) (drafts_of e
 rises_in es rise = rises-map draft_in (λ (d : Draft). d.file) es rise
 
 -- the search for a handle found none
-pub no_handle : (hs : List OpenHandle) (number i : ℕ) → IsGap number_in number hs i → find (is_handle number) hs ≡ None
+pub no_handle : (hs : List HandleRow) (number i : ℕ) → IsGap number_in number hs i → find (is_handle number) hs ≡ None
 no_handle hs number i gap = find-none (is_handle number) hs gap.missing
 
 pub ruleset handle_steps = (find-none, find-position, remove-place, all-not_found, remove_first-unfound)

@@ -1,25 +1,25 @@
 -- That the fields keep their order and counts when a handle comes or goes.
-use Rattle.ele_sessions.proofs.Basics.{◌≡◌, ℕ, ◌+◌, ◌-◌, true, Ok, cond, nat_lt, List, [], ◌∷◌, ◌++◌, Some, None, ap, ◌∙◌, arith, list_any, find, length-append, nat_tests, remove_first, counted, Tally, remove_first-unfound, all-not_found, length-remove_first-le}
-use Rattle.ele_sessions.proofs.Words.{Layout, Store, RewritesDraft, Resizes, has_length, left_drafts, Keeps, reads_eq, reading, AreOrderly, Draft, AllSessions, is_handle, is_writer, is_draft, reads_by, file_by, OpenHandle, Reads}
-use Rattle.ele_sessions.specs.declared.reads.Reads.TheVariants as reads
+use Rattle.ele_sessions.proofs.Basics.{◌≡◌, ℕ, ◌+◌, ◌-◌, true, Ok, Err, cond, nat_lt, List, [], ◌∷◌, ◌++◌, Some, ap, ◌∙◌, arith, list_any, find, length-append, nat_tests, remove_first, counted, Tally, remove_first-unfound, all-not_found, length-remove_first-le}
+use Rattle.ele_sessions.proofs.Words.{Layout, Store, RewritesDraft, Resizes, has_length, left_drafts, Keeps, reads_eq, reading, AreOrderly, Draft, AllSessions, is_handle, is_writer, is_draft, reads_by, file_by, HandleRow, Reads, Refusal}
+use Rattle.ele_world.specs.declared.rows.Reads.TheVariants as reads
 use Rattle.ele_sessions.proofs.Counts.{reading-push, reading-left, any-writer}
 use Rattle.ele_sessions.proofs.Orders.{reader_left, writer_left, its_draft, rewritten}
 
 -- the handle of that number, by what is read through it
-pub record IsRead (hs : List OpenHandle) (number : ℕ) (what : Reads) : Type 0 where
-  pub handle : OpenHandle
+pub record IsRead (hs : List HandleRow) (number : ℕ) (what : Reads) : Type 0 where
+  pub handle : HandleRow
   pub found : find (is_handle number) hs ≡ Some handle
   pub is : handle.reads ≡ what
 
 -- a file that is written through the handle
-pub written_by : (hs : List OpenHandle) (number file : ℕ) → Ok file ≡ file_by hs number → Some (reads.Draft file) ≡ reads_by hs number
+pub written_by : (hs : List HandleRow) (number file : ℕ) → Ok file ≡ file_by hs number → Ok (reads.Draft file) ≡ reads_by hs number
 written_by hs number file is = grind (arith, nat_tests, is, reads_by)
 
-pub none_left : (hs : List OpenHandle) (number : ℕ) → None ≡ reads_by hs number → remove_first (is_handle number) hs ≡ hs
-none_left hs number none = grind (arith, nat_tests, remove_first-unfound, is_handle, all-not_found, find)
+pub none_left : (hs : List HandleRow) (number : ℕ) (refusal : Refusal) → Err refusal ≡ reads_by hs number → remove_first (is_handle number) hs ≡ hs
+none_left hs number refusal none = grind (arith, nat_tests, remove_first-unfound, is_handle, all-not_found, find)
 
 module _ (s : AllSessions) (counts : Tally Reads) (keeps : Keeps s counts) where
-  pub entered_keeps : (h : OpenHandle) (ds : List Draft) (ready counts' : Tally Reads) → AreOrderly (record { drafts = ds; handles = s.handles ++ h ∷ []; opened = s.opened + 1 }) → ((what : Reads) → counted reads_eq ready what ≡ counted reads_eq counts what) → ((what : Reads) → counted reads_eq counts' what ≡ counted reads_eq ready what + cond (reads_eq h.reads what) 1 0) → Keeps (record { drafts = ds; handles = s.handles ++ h ∷ []; opened = s.opened + 1 }) counts'
+  pub entered_keeps : (h : HandleRow) (ds : List Draft) (ready counts' : Tally Reads) → AreOrderly (record { drafts = ds; handles = s.handles ++ h ∷ []; opened = s.opened + 1 }) → ((what : Reads) → counted reads_eq ready what ≡ counted reads_eq counts what) → ((what : Reads) → counted reads_eq counts' what ≡ counted reads_eq ready what + cond (reads_eq h.reads what) 1 0) → Keeps (record { drafts = ds; handles = s.handles ++ h ∷ []; opened = s.opened + 1 }) counts'
   entered_keeps h ds ready counts' orderly same more = record {
     orderly = orderly;
     few = omega (arith, length-append s.handles (h ∷ []), keeps.few);
@@ -34,8 +34,8 @@ module _ (s : AllSessions) (counts : Tally Reads) (keeps : Keeps s counts) where
   resized_keeps t u ds file size = grind (arith, nat_tests, has_length, find, is_draft, rewritten_keeps)
 
   -- one handle fewer
-  module _ (number : ℕ) (what : Reads) (read : Some what ≡ reads_by s.handles number) where
-    abbrev rest : List OpenHandle
+  module _ (number : ℕ) (what : Reads) (read : Ok what ≡ reads_by s.handles number) where
+    abbrev rest : List HandleRow
     rest = remove_first (is_handle number) s.handles
 
     its : IsRead s.handles number what

@@ -5,28 +5,30 @@ use Rattle.ele_content.specs.Content.{longest_content}
 use Rattle.ele_blocks.specs.Changes.{IsWritten, IsResized}
 use Rattle.ele_blocks.specs.Layout.{Layout}
 use Rattle.ele_blocks.specs.Store.{Store}
-use Rattle.ele_sessions.specs.declared.fault.SessionFault.{SessionFault}
-use Rattle.ele_sessions.specs.declared.fault.SessionFault.TheVariants as fault
 use Rattle.ele_lists.specs.Lists.{update_first}
-use Rattle.ele_sessions.specs.Sessions.{Draft, AllSessions, is_draft, file_by, handle_file, draft_by}
+use Rattle.ele_sessions.specs.Sessions.{Draft, AllSessions, is_draft, handle_file, draft_by}
+use Rattle.ele_world.specs.World.{file_by}
+use Rattle.ele_world.specs.declared.refusal.Refusal.{Refusal}
+use Rattle.ele_world.specs.declared.refusal.Refusal.TheVariants.{TooBig}
+use Rattle.ele_world.specs.declared.rows.HandleRow.{HandleRow}
 
 -- why a write is refused, whatever memory there is
-abbrev pub write_refusal_of : Result ℕ SessionFault → ℕ → List ℕ → Option SessionFault
-write_refusal_of (Err fault) offset bytes = Some fault
+abbrev pub write_refusal_of : Result ℕ Refusal → ℕ → List ℕ → Option Refusal
+write_refusal_of (Err refusal) offset bytes = Some refusal
 write_refusal_of (Ok file) offset [] = None
 write_refusal_of (Ok file) offset (byte ∷ bytes) =
-    if nat_lt longest_content (offset + length (byte ∷ bytes)) then Some fault.TooBig else None
+    if nat_lt longest_content (offset + length (byte ∷ bytes)) then Some TooBig else None
 
-abbrev pub write_refusal : AllSessions → ℕ → ℕ → List ℕ → Option SessionFault
-write_refusal s handle offset bytes = write_refusal_of (file_by s.handles handle) offset bytes
+abbrev pub write_refusal : List HandleRow → ℕ → ℕ → List ℕ → Option Refusal
+write_refusal handles handle offset bytes = write_refusal_of (file_by handles handle) offset bytes
 
 -- why a truncate is refused, whatever memory there is
-abbrev pub truncate_refusal_of : Result ℕ SessionFault → ℕ → Option SessionFault
-truncate_refusal_of (Err fault) size = Some fault
-truncate_refusal_of (Ok file) size = if nat_lt longest_content size then Some fault.TooBig else None
+abbrev pub truncate_refusal_of : Result ℕ Refusal → ℕ → Option Refusal
+truncate_refusal_of (Err refusal) size = Some refusal
+truncate_refusal_of (Ok file) size = if nat_lt longest_content size then Some TooBig else None
 
-abbrev pub truncate_refusal : AllSessions → ℕ → ℕ → Option SessionFault
-truncate_refusal s handle size = truncate_refusal_of (file_by s.handles handle) size
+abbrev pub truncate_refusal : List HandleRow → ℕ → ℕ → Option Refusal
+truncate_refusal handles handle size = truncate_refusal_of (file_by handles handle) size
 
 -- the draft with another map, and changed
 abbrev pub rewritten_by : Layout → Draft → Draft

@@ -1,17 +1,19 @@
 -- What the closing of a handle answers, and what it makes of the drafts and handles.
-use Rattle.std.specs.Prelude.{ℕ, Bool, List, Option, Some, None, find, if◌then◌else◌}
+use Rattle.std.specs.Prelude.{ℕ, Bool, List, Option, Some, None, Result, Ok, Err, find, if◌then◌else◌}
 use Rattle.std.specs.List.{list_any}
 use Rattle.ele_blocks.specs.Layout.{Layout}
 use Rattle.ele_sessions.specs.declared.closing.Closing.{Closing}
 use Rattle.ele_sessions.specs.declared.closing.Closing.TheVariants.{StillOpen, Clean, Changed, Unread}
-use Rattle.ele_sessions.specs.declared.entries.OpenHandle.{OpenHandle}
-use Rattle.ele_sessions.specs.declared.reads.Reads.{Reads}
-use Rattle.ele_sessions.specs.declared.reads.Reads.TheVariants as reads
 use Rattle.ele_lists.specs.Lists.{remove_first}
-use Rattle.ele_sessions.specs.Sessions.{Draft, AllSessions, is_draft, is_handle, is_writer, reads_by}
+use Rattle.ele_sessions.specs.Sessions.{Draft, AllSessions, is_draft}
+use Rattle.ele_world.specs.World.{is_handle, is_writer, reads_by}
+use Rattle.ele_world.specs.declared.refusal.Refusal.{Refusal}
+use Rattle.ele_world.specs.declared.rows.HandleRow.{HandleRow}
+use Rattle.ele_world.specs.declared.rows.Reads.{Reads}
+use Rattle.ele_world.specs.declared.rows.Reads.TheVariants as reads
 
 -- the handles that are left
-abbrev pub left_handles : AllSessions → ℕ → List OpenHandle
+abbrev pub left_handles : AllSessions → ℕ → List HandleRow
 left_handles s handle = remove_first (is_handle handle) s.handles
 
 -- what a draft comes to when its last writer closes, and its map
@@ -28,11 +30,11 @@ abbrev pub file_closing : Bool → Option Draft → Closing × Option Layout
 file_closing stays draft = if stays then (StillOpen, None) else ending_of draft
 
 -- a handle that read a version leaves nothing behind
-abbrev pub closing_of : AllSessions → ℕ → Option Reads → Option (Closing × Option Layout)
-closing_of s handle None = None
-closing_of s handle (Some (reads.Draft file)) =
+abbrev pub closing_of : AllSessions → ℕ → Result Reads Refusal → Option (Closing × Option Layout)
+closing_of s handle (Err refusal) = None
+closing_of s handle (Ok (reads.Draft file)) =
     Some (file_closing (list_any (is_writer file) (left_handles s handle)) (find (is_draft file) s.drafts))
-closing_of s handle (Some (reads.Version file number)) = Some (Unread file number, None)
+closing_of s handle (Ok (reads.Version file number)) = Some (Unread file number, None)
 
 -- what closing the handle answers; none where there is no such handle
 abbrev pub closing : AllSessions → ℕ → Option (Closing × Option Layout)
@@ -41,13 +43,13 @@ closing s handle = closing_of s handle (reads_by s.handles handle)
 abbrev pub left_drafts : Bool → ℕ → List Draft → List Draft
 left_drafts stays file drafts = if stays then drafts else remove_first (is_draft file) drafts
 
-abbrev pub closed_of : AllSessions → ℕ → Option Reads → AllSessions
-closed_of s handle None = s
-closed_of s handle (Some (reads.Draft file)) = record s {
+abbrev pub closed_of : AllSessions → ℕ → Result Reads Refusal → AllSessions
+closed_of s handle (Err refusal) = s
+closed_of s handle (Ok (reads.Draft file)) = record s {
   drafts = left_drafts (list_any (is_writer file) (left_handles s handle)) file s.drafts;
   handles = left_handles s handle;
 }
-closed_of s handle (Some (reads.Version file number)) = record s { handles = left_handles s handle }
+closed_of s handle (Ok (reads.Version file number)) = record s { handles = left_handles s handle }
 
 -- all that is left when the handle is closed
 abbrev pub closed : AllSessions → ℕ → AllSessions

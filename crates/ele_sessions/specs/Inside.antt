@@ -5,8 +5,8 @@ use Rattle.std.specs.Option.{unwrap_or}
 use Rattle.ele_lists.specs.Keys.{stands_by, is_behind}
 use Rattle.ele_sessions.specs.declared.draft.Draft.{Draft as Fields}
 use Rattle.ele_sessions.specs.declared.entries.Entry.{Entry}
-use Rattle.ele_sessions.specs.declared.entries.OpenHandle.{OpenHandle}
 use Rattle.ele_sessions.specs.Sessions.{Draft}
+use Rattle.ele_world.specs.declared.rows.HandleRow.{HandleRow}
 
 -- the file's draft, with what is kept of it
 abbrev pub draft_with : ℕ → Fields → Draft
@@ -27,7 +27,7 @@ drafts_of entries = map draft_in entries
 abbrev pub file_in : Entry → ℕ
 file_in entry = entry.file
 
-abbrev pub number_in : OpenHandle → ℕ
+abbrev pub number_in : HandleRow → ℕ
 number_in handle = handle.number
 
 -- the first element of this key stands there

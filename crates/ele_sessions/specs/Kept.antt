@@ -3,20 +3,20 @@ use Rattle.std.specs.Prelude.{◌≡◌, ℕ, ◌≤◌, Bool, List, length}
 use Rattle.std.specs.List.{count_by}
 use Rattle.ele_lists.specs.declared.tally.Tally.{Tally}
 use Rattle.ele_lists.specs.Tally.{counted}
-use Rattle.ele_sessions.specs.contracts.reads.ReadsPartialEq.TheImpl.{eq-value}
-use Rattle.ele_sessions.specs.declared.entries.OpenHandle.{OpenHandle}
-use Rattle.ele_sessions.specs.declared.reads.Reads.{Reads}
 use Rattle.ele_sessions.specs.declared.sessions.Sessions.TheInside.{Inside}
 use Rattle.ele_sessions.specs.Inside.{drafts_of}
 use Rattle.ele_sessions.specs.Orderly.{AreOrderly}
 use Rattle.ele_sessions.specs.Sessions.{AllSessions}
+use Rattle.ele_world.specs.contracts.rows.ReadsPartialEq.TheImpl.{eq-value}
+use Rattle.ele_world.specs.declared.rows.HandleRow.{HandleRow}
+use Rattle.ele_world.specs.declared.rows.Reads.{Reads}
 
 -- the two are one
 abbrev pub reads_eq : Reads → Reads → Bool
 reads_eq = eq-value.it
 
 -- how many of the handles read this
-abbrev pub reading : Reads → List OpenHandle → ℕ
+abbrev pub reading : Reads → List HandleRow → ℕ
 reading what handles = count_by (λ handle. reads_eq handle.reads what) handles
 
 -- drafts and handles are orderly, and what handles read is counted

@@ -5,10 +5,10 @@ use Rattle.ele_blocks.specs.Layout.{Layout}
 use Rattle.ele_blocks.specs.Owes.{Moves}
 use Rattle.ele_blocks.specs.Store.{Store}
 use Rattle.ele_lists.specs.Lists.{insert_before}
-use Rattle.ele_sessions.specs.declared.entries.OpenHandle.{OpenHandle}
-use Rattle.ele_sessions.specs.declared.reads.Reads.{Reads}
-use Rattle.ele_sessions.specs.declared.reads.Reads.TheVariants as reads
 use Rattle.ele_sessions.specs.Sessions.{Draft, AllSessions, is_draft, is_draft_after}
+use Rattle.ele_world.specs.declared.rows.HandleRow.{HandleRow}
+use Rattle.ele_world.specs.declared.rows.Reads.{Reads}
+use Rattle.ele_world.specs.declared.rows.Reads.TheVariants as reads
 
 -- a draft that is opened now, with that map's content
 abbrev pub new_draft : ℕ → ℕ → ℕ → Layout → Draft
@@ -21,7 +21,7 @@ with_draft new drafts =
     if list_any (is_draft new.file) drafts then drafts else insert_before (is_draft_after new.file) new drafts
 
 -- the handles with the next one, by which that is read
-abbrev pub with_handle : AllSessions → Reads → List OpenHandle
+abbrev pub with_handle : AllSessions → Reads → List HandleRow
 with_handle s what = s.handles ++ record { number = s.opened + 1; reads = what } ∷ []
 
 -- one more handle, by which the file of the draft is written

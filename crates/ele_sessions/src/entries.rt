@@ -1,19 +1,18 @@
 //! The drafts by file id and the handles by number, each found by a binary search.
 //! A contract sees the lists of both.
-ghost use Rattle.std.specs.Prelude.{◌≡◌, ◌<◌, ◌+◌, ◌^◌, [], ◌∷◌, ◌++◌, Some, IfOk, IfErr, vec_len, vec_capacity, if◌then◌else◌};
+ghost use Rattle.std.specs.Prelude.{◌≡◌, ◌<◌, ◌+◌, ◌^◌, [], ◌∷◌, ◌++◌, Ok, IfOk, IfErr, vec_len, vec_capacity, if◌then◌else◌};
 ghost use Rattle.ele_lists.specs.Tally.{counted, room};
-ghost use Rattle.ele_sessions.specs.declared.reads.Reads.{Reads};
 ghost use Rattle.ele_sessions.specs.Inside.{IsAt, IsGap, file_in, number_in};
 ghost use Rattle.ele_sessions.specs.Kept.{reads_eq};
 ghost use Rattle.ele_sessions.specs.Order.{Rises};
-ghost use Rattle.ele_sessions.specs.Sessions.{is_handle, reads_by, file_written, file_by};
 ghost use Rattle.ele_lists.specs.Lists.{remove_first};
+ghost use Rattle.ele_world.specs.World.{is_handle, reads_by, file_written, file_by};
+ghost use Rattle.ele_world.specs.declared.rows.Reads.{Reads};
 
 use crate::draft::Draft;
-use crate::fault::SessionFault;
-use crate::reads::Reads;
 use ele_lists::{Keyed, Tally};
 use ele_moment::{FileId, Handle};
+use ele_world::{HandleRow, Reads, Refusal};
 
 /// A file's draft. It lies apart, so that few bytes move when another draft comes or goes.
 #[derive(Debug, Drop)]
@@ -22,26 +21,11 @@ pub struct Entry {
     pub draft: Box<Draft>,
 }
 
-/// An open handle, and what it reads.
-#[derive(Clone, Copy, Debug)]
-pub struct OpenHandle {
-    pub number: Handle,
-    pub reads: Reads,
-}
-
 impl Keyed for Entry {
     ghost key = { λ entry. entry.file };
 
     fn key(&self) -> u64 {
         self.file.0
-    }
-}
-
-impl Keyed for OpenHandle {
-    ghost key = { λ handle. handle.number };
-
-    fn key(&self) -> u64 {
-        self.number.0
     }
 }
 
@@ -55,7 +39,7 @@ pub fn place_of(drafts: &[Entry], file: FileId) -> Result<usize, usize>
 }
 
 /// The place of the handle of that number, or where it would stand.
-pub fn handle_place(handles: &[OpenHandle], number: Handle) -> Result<usize, usize>
+pub fn handle_place(handles: &[HandleRow], number: Handle) -> Result<usize, usize>
     requires { Rises number_in handles.now }
     ensures found { IfOk result (IsAt number_in number handles.now) }
     ensures gap { IfErr result (IsGap number_in number handles.now) }
@@ -64,7 +48,7 @@ pub fn handle_place(handles: &[OpenHandle], number: Handle) -> Result<usize, usi
 }
 
 /// One handle more, in reserved room. It is counted with those that read the same.
-pub fn enter(handles: &mut Vec<OpenHandle>, counts: &mut Tally<Reads>, handle: &OpenHandle)
+pub fn enter(handles: &mut Vec<HandleRow>, counts: &mut Tally<Reads>, handle: &HandleRow)
     requires room { vec_len handles.old < vec_capacity handles.old }
     requires counts_room { 0 < room counts.old }
     requires fits { counted reads_eq counts.old handle.now.reads + 1 < 2 ^ 64 }
@@ -76,48 +60,48 @@ pub fn enter(handles: &mut Vec<OpenHandle>, counts: &mut Tally<Reads>, handle: &
     counts.add(handle.reads);
 }
 
-/// The handle of that number goes. The answer is what was read through it, if there was one.
+/// The handle of that number goes. The answer is what was read through it. Refused: `NoHandle`.
 #[tactic(auto, using(crate::proofs::Found::handle_steps))]
-pub fn take_handle(handles: &mut Vec<OpenHandle>, number: Handle) -> Option<Reads>
+pub fn take_handle(handles: &mut Vec<HandleRow>, number: Handle) -> Result<Reads, Refusal>
     requires { Rises number_in handles.old.items }
     ensures reads { result ≡ reads_by handles.old.items number }
     ensures left { handles.new.items ≡ remove_first (is_handle number) handles.old.items }
 {
     let Ok(at) = handle_place(handles, number) else {
-        return None;
+        return Err(Refusal::NoHandle);
     };
-    Some(handles.remove(at).reads)
+    Ok(handles.remove(at).reads)
 }
 
-/// What is read through the handle.
+/// What is read through the handle. Refused: `NoHandle`.
 #[tactic(auto, using(crate::proofs::Found::handle_steps))]
-pub fn reads_by(handles: &[OpenHandle], number: Handle) -> Option<Reads>
+pub fn reads_by(handles: &[HandleRow], number: Handle) -> Result<Reads, Refusal>
     requires { Rises number_in handles.now }
     ensures { result ≡ reads_by handles.now number }
 {
     let Ok(at) = handle_place(handles, number) else {
-        return None;
+        return Err(Refusal::NoHandle);
     };
-    Some(handles[at].reads)
+    Ok(handles[at].reads)
 }
 
-// The file that a handle writes that reads this. Faults: `NotWriter`.
-fn file_written(reads: Reads) -> Result<FileId, SessionFault>
-    ensures { result ≡ file_written (Some reads) }
+// The file that a handle writes that reads this. Refused: `NotWriter`.
+fn file_written(reads: Reads) -> Result<FileId, Refusal>
+    ensures { result ≡ file_written (Ok reads) }
 {
     match reads {
         Reads::Draft(file) => Ok(file),
-        Reads::Version(_, _) => Err(SessionFault::NotWriter),
+        Reads::Version(_, _) => Err(Refusal::NotWriter),
     }
 }
 
-/// The file that is written through the handle. Faults: `NoHandle`, `NotWriter`.
-pub fn file_by(handles: &[OpenHandle], number: Handle) -> Result<FileId, SessionFault>
+/// The file that is written through the handle. Refused: `NoHandle`, `NotWriter`.
+pub fn file_by(handles: &[HandleRow], number: Handle) -> Result<FileId, Refusal>
     requires { Rises number_in handles.now }
     ensures { result ≡ file_by handles.now number }
 {
     match reads_by(handles, number) {
-        Some(reads) => file_written(reads),
-        None => Err(SessionFault::NoHandle),
+        Ok(reads) => file_written(reads),
+        Err(refusal) => Err(refusal),
     }
 }

@@ -1,20 +1,15 @@
-//! Why a write or a truncate is refused.
+//! Why a write or a truncate fails.
 //! A contract sees the variants.
 use ele_moment::NoMemory;
+use ele_world::Refusal;
 use thiserror::Error;
 
-/// Why a write or a truncate is refused. The drafts and the store are as they were.
+/// Why a write or a truncate fails. The drafts and the store are as they were.
 #[derive(Clone, Copy, Debug, PartialEq, Eq, Error)]
 pub enum SessionFault {
-    /// No open handle has that number.
-    #[error("no such handle")]
-    NoHandle,
-    /// The handle reads a version.
-    #[error("the handle doesn't write")]
-    NotWriter,
-    /// The content would have more than 1,048,576 bytes.
-    #[error("too big")]
-    TooBig,
+    /// It is refused, whatever memory there is.
+    #[error("refused: {0}")]
+    Refused(Refusal),
     /// Memory was refused.
     #[error("out of memory")]
     NoMemory,
@@ -28,5 +23,16 @@ impl From<NoMemory> for SessionFault {
 
     fn from(_refused: NoMemory) -> SessionFault {
         SessionFault::NoMemory
+    }
+}
+
+impl From<Refusal> for SessionFault {
+    ghost use Rattle.std.specs.Prelude.{◌≡◌};
+    ghost use Rattle.ele_sessions.specs.declared.fault.SessionFault.TheVariants as fault;
+
+    ghost from_gives = { λ refusal made. made ≡ fault.Refused refusal };
+
+    fn from(refusal: Refusal) -> SessionFault {
+        SessionFault::Refused(refusal)
     }
 }

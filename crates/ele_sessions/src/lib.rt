@@ -10,11 +10,8 @@ mod entries;
 mod fault;
 mod leaving;
 mod opening;
-mod reads;
 mod sessions;
 
 pub use closing::Closing;
-pub use entries::OpenHandle;
 pub use fault::SessionFault;
-pub use reads::Reads;
 pub use sessions::Sessions;

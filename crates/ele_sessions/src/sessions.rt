@@ -10,19 +10,20 @@ ghost use Rattle.ele_sessions.specs.Changes.{write_refusal, truncate_refusal, Wr
 ghost use Rattle.ele_sessions.specs.Closes.{closing, closed};
 ghost use Rattle.ele_sessions.specs.Opening.{new_draft, opened_by, reader_opened, Opens};
 ghost use Rattle.ele_sessions.specs.Sessions.{handle_file, draft_by};
+ghost use Rattle.ele_sessions.specs.declared.fault.SessionFault.TheVariants as fault;
 
 mod asking;
 
 use crate::changing::{truncate_draft, write_draft};
 use crate::closing::Closing;
-use crate::entries::{Entry, OpenHandle, enter, file_by, take_handle};
+use crate::entries::{Entry, enter, file_by, take_handle};
 use crate::fault::SessionFault;
 use crate::leaving::leave;
 use crate::opening::{Coming, join};
-use crate::reads::Reads;
 use ele_blocks::{BlockMap, BlockStore};
 use ele_lists::Tally;
 use ele_moment::{FileId, Handle, Moment, NoMemory, VersionNo};
+use ele_world::{HandleRow, Reads, Refusal};
 use std::alloc::Global;
 use std::marker::Model;
 
@@ -41,7 +42,7 @@ fn fits(offset: u64, len: usize) -> bool
 #[derive(Drop)]
 pub struct Sessions {
     drafts: Vec<Entry>,
-    handles: Vec<OpenHandle>,
+    handles: Vec<HandleRow>,
     counts: Tally<Reads>,
     opened: u64,
     alloc: Global,
@@ -105,7 +106,7 @@ impl Sessions {
         join(self.alloc, &mut self.drafts, store, coming, map)?;
         self.opened += 1;
         let number = Handle(self.opened);
-        let handle = OpenHandle {
+        let handle = HandleRow {
             number,
             reads: Reads::Draft(file),
         };
@@ -124,7 +125,7 @@ impl Sessions {
         self.counts.reserve()?;
         self.opened += 1;
         let number = Handle(self.opened);
-        let handle = OpenHandle {
+        let handle = HandleRow {
             number,
             reads: Reads::Version(file, version),
         };
@@ -134,9 +135,9 @@ impl Sessions {
 
     /// Writes the bytes from the offset on into the draft under the handle; zeros fill it up to the
     /// offset where it ends before. Even equal bytes mark the draft changed. No bytes change
-    /// nothing, whatever the offset. Faults, in this order: `NoHandle` where no open handle has
+    /// nothing, whatever the offset. Refused, in this order: `NoHandle` where no open handle has
     /// that number, `NotWriter` where it reads a version, `TooBig` where the bytes would end past
-    /// 1,048,576, `NoMemory`. A fault leaves all as it was.
+    /// 1,048,576. A fault leaves all as it was.
     #[tactic(auto, using(crate::proofs::Found::rises_in))]
     pub fn write(
         &mut self,
@@ -146,10 +147,10 @@ impl Sessions {
         bytes: &[u8],
     ) -> Result<(), SessionFault>
         requires { ForSome (draft_by self.old handle) (λ draft. LivesIn store.old draft.layout) }
-        ensures refused { ForSome (write_refusal self.old handle offset bytes.now)
-            (λ fault. IsErrOf result fault) }
-        ensures otherwise { IfNone (write_refusal self.old handle offset bytes.now)
-            (IsOkUnless result SessionFault.NoMemory) }
+        ensures refused { ForSome (write_refusal self.old.handles handle offset bytes.now)
+            (λ refusal. IsErrOf result (fault.Refused refusal)) }
+        ensures otherwise { IfNone (write_refusal self.old.handles handle offset bytes.now)
+            (IsOkUnless result fault.NoMemory) }
         ensures idle { IsSome (handle_file self.old.handles handle)
             → bytes.now ≡ [] → IsOk result }
         ensures writes { OnOk result
@@ -162,16 +163,16 @@ impl Sessions {
             return Ok(());
         }
         if !fits(offset, bytes.len()) {
-            return Err(SessionFault::TooBig);
+            return Err(SessionFault::Refused(Refusal::TooBig));
         }
         write_draft(&mut self.drafts, store, file, offset, bytes)?;
         Ok(())
     }
 
     /// Makes the content of the draft under the handle so many bytes long, and marks it changed;
-    /// where it has that length, nothing is changed. Faults, in this order: `NoHandle` where no
+    /// where it has that length, nothing is changed. Refused, in this order: `NoHandle` where no
     /// open handle has that number, `NotWriter` where it reads a version, `TooBig` for more than
-    /// 1,048,576 bytes, `NoMemory`. A fault leaves all as it was.
+    /// 1,048,576 bytes. A fault leaves all as it was.
     #[tactic(auto, using(crate::proofs::Found::rises_in))]
     pub fn truncate(
         &mut self,
@@ -180,10 +181,10 @@ impl Sessions {
         size: u64,
     ) -> Result<(), SessionFault>
         requires { ForSome (draft_by self.old handle) (λ draft. LivesIn store.old draft.layout) }
-        ensures refused { ForSome (truncate_refusal self.old handle size)
-            (λ fault. IsErrOf result fault) }
-        ensures otherwise { IfNone (truncate_refusal self.old handle size)
-            (IsOkUnless result SessionFault.NoMemory) }
+        ensures refused { ForSome (truncate_refusal self.old.handles handle size)
+            (λ refusal. IsErrOf result (fault.Refused refusal)) }
+        ensures otherwise { IfNone (truncate_refusal self.old.handles handle size)
+            (IsOkUnless result fault.NoMemory) }
         ensures idle { IsTrue (has_length size (draft_by self.old handle))
             → size ≤ longest_content → IsOk result }
         ensures truncates { OnOk result
@@ -193,7 +194,7 @@ impl Sessions {
     {
         let file = file_by(&self.handles, handle)?;
         if size > LONGEST_CONTENT {
-            return Err(SessionFault::TooBig);
+            return Err(SessionFault::Refused(Refusal::TooBig));
         }
         truncate_draft(&mut self.drafts, store, file, size)?;
         Ok(())
@@ -208,7 +209,10 @@ impl Sessions {
         ensures sessions { self.new ≡ closed self.old handle }
         ensures orderly { AreOrderly self.old }
     {
-        match take_handle(&mut self.handles, handle)? {
+        let Ok(reads) = take_handle(&mut self.handles, handle) else {
+            return None;
+        };
+        match reads {
             Reads::Draft(file) => {
                 self.counts.take(Reads::Draft(file));
                 let stays = self.counts.count(Reads::Draft(file)) > 0;

@@ -1,5 +1,5 @@
 -- The book of usage, as the files change.
-use Rattle.ele_state.proofs.Words.{IsFew, IsOwedBy, of_file, sym, TruncateDraft, WriteDraft, changed_at, nat_tests, ◌≡◌, ℕ, ◌+◌, ◌-◌, ◌<◌, ◌≤◌, ◌^◌, Bool, true, cond, List, ◌∷◌, length, Some, Ok, refl, ◌∙◌, arith, sum_by, world_of, IsSound, IsTracked, held_world, blocks_of, only_blocks, IsOwed, IsBooked, Rows, content_of, Held, rows_after, rows_of, opened_by, written_by, fitted, sum_by-map, Kind, Policy, kind_of, is_kind, Usage, Book, sums_of, only_at, nothing, plus, Fits, usage_of, is_file_of, bytes_in, ChangesOnly, World, VersionRow, MakeFile, created, made_is, policy_of, file_by, usage_changes, usage_same, within_files, within_versions, within_bytes, within_blocks, whole_files, whole_versions, whole_bytes, created_usage, only_at_is, []}
+use Rattle.ele_state.proofs.Words.{IsFew, IsOwedBy, of_file, TruncateDraft, WriteDraft, changed_at, nat_tests, ◌≡◌, ℕ, ◌+◌, ◌-◌, ◌<◌, ◌≤◌, ◌^◌, Bool, true, cond, List, ◌∷◌, length, Some, Ok, refl, ◌∙◌, arith, sum_by, world_of, IsSound, IsTracked, held_world, blocks_of, only_blocks, IsOwed, IsBooked, Rows, content_of, Held, rows_after, rows_of, opened_by, written_by, fitted, sum_by-map, Kind, Policy, kind_of, is_kind, Usage, Book, sums_of, only_at, nothing, plus, Fits, usage_of, is_file_of, bytes_in, ChangesOnly, World, VersionRow, MakeFile, created, made_is, policy_of, file_by, usage_changes, usage_same, within_files, within_versions, within_bytes, within_blocks, whole_files, whole_versions, whole_bytes, created_usage, only_at_is, []}
 use Rattle.ele_world.proofs.Others.{drafts-opened, drafts-updated, other_drafts}
 
 pub booked : (rows : Rows) → IsTracked rows → (k : Kind) → sums_of rows.book k ≡ usage_of (world_of rows) k
@@ -104,9 +104,6 @@ shift_fits files book kind before owed room few_before few_now = grind (arith, n
 
 pub shift_there : (files : Held) (book : Book) (kind : Kind) (before : ℕ) → IsOwedBy files book kind before → before - blocks_of files ≤ (sums_of book kind).blocks
 shift_there files book kind before owed = grind (arith, nat_tests, same_kind, owed kind)
-
-pub shifted : (files : Held) (book after : Book) (kind : Kind) (before : ℕ) → IsOwedBy files book kind before → ((k : Kind) → plus (sums_of after k) (only_at kind (only_blocks before) k) ≡ plus (sums_of book k) (only_at kind (only_blocks (blocks_of files)) k)) → IsBooked files after
-shifted files book after kind before owed is k = plus-cancel (sums_of after k) (usage_of (held_world files) k) (only_at kind (only_blocks before) k) (is k ∙ sym (owed k))
 
 pub and_nothing : (u : Usage) → plus u nothing ≡ u
 and_nothing u = grind (arith, nat_tests)

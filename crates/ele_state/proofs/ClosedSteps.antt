@@ -1,5 +1,5 @@
 -- What closing a handle leaves, as the step of the world has it.
-use Rattle.ele_state.proofs.Words.{◌≡◌, ◌<◌, ◌^◌, ◌||◌, ℕ, List, Bool, true, false, cond, ◌∷◌, length, is_some, Option, Some, None, Ok, refl, ap, sym, ◌∙◌, arith, find, false≢true, AllByRecursion, option_map, option_map_or, nat_tests, content_of, IsSound, KeyChange, IsQueued, comes, new_keys, Rows, Key, has_key, cells_of_draft, is_live, may_grow, finishing, last_draft, leaving, left_by, opening_by, IsPast, Held, rows_of, with_rows, found_passes, all-found, all-weaker, Close, Closed, DraftRow, FileRow, Draft, EndDraft, ShutHandle, DropIdle, after_change, after_changes, has_other_writer, step, Counted, Drafts, Files, Handles, Versions, HasParts, dropped, all_keep, drafts-removed, World, file_by, file_written, has_draft, is_draft, next_of, reads_by, is_moment, in_order_of, open_still, shut_others, has_row, []}
+use Rattle.ele_state.proofs.Words.{◌≡◌, ◌<◌, ◌^◌, ◌||◌, ℕ, List, Bool, true, false, cond, ◌∷◌, is_some, Option, Some, None, Ok, refl, ap, sym, ◌∙◌, arith, find, false≢true, AllByRecursion, option_map, option_map_or, nat_tests, IsSound, KeyChange, IsQueued, comes, new_keys, Rows, Key, has_key, cells_of_draft, is_live, may_grow, finishing, last_draft, leaving, left_by, opening_by, IsPast, Held, rows_of, with_rows, found_passes, all-found, all-weaker, Close, Closed, DraftRow, FileRow, Draft, EndDraft, ShutHandle, DropIdle, after_change, after_changes, has_other_writer, step, Counted, Drafts, Files, Handles, Versions, HasParts, dropped, all_keep, drafts-removed, World, file_by, file_written, has_draft, is_draft, next_of, reads_by, is_moment, in_order_of, open_still, shut_others, has_row, []}
 use Rattle.ele_state.proofs.Appended.{appended_queue}
 use Rattle.ele_world.proofs.Others.{other_drafts}
 use Rattle.ele_world.specs.declared.rows.HandleRow.{HandleRow}
@@ -37,9 +37,6 @@ module _ (w : World) (handle file : ℕ) (reads : reads_by w.handles handle ≡ 
 
     pub finished_step : step w (Close handle) ≡ (Closed (Some (next_of w.files file)), after_changes w (finishing (rows_of w) handle file opened))
     finished_step = let f = is_final in rw (reads, f.alone, f.found, f.changed, f.its_opening) refl
-
-    pub drafted : is_some (find (is_draft file) w.drafts) ≡ true
-    drafted = rw is_final.found refl
 
     pub file_there : HasParts w → 0 < next_of w.files file
     file_there formed = grind (arith, nat_tests, is_final, all-found, found_passes, formed.holds Drafts)
@@ -94,16 +91,10 @@ module _ (w : World) (handle file : ℕ) (reads : reads_by w.handles handle ≡ 
   pub left_queue : HasParts w → (queue : List Key) → IsQueued w queue → IsQueued (after_changes w (leaving handle file goes)) queue
   left_queue formed queue queued k = grind (arith, nat_tests, shut_others w handle (Draft file) reads (in_order_of w formed) k.file k.number refl, queued k)
 
--- ---- what is told of the file and of the draft
+-- ---- what is told of the file
 
 pub number_told : (o : Option FileRow) (n : ℕ) → Some n ≡ option_map (λ (row : FileRow). row.next) o → n ≡ option_map_or (λ (row : FileRow). row.next) o 0
 number_told x0 n e = grind (arith, nat_tests)
-
-pub bytes_told : (o : Option DraftRow) (n : ℕ) → Some n ≡ option_map (λ (row : DraftRow). length (content_of row.cells)) o → n ≡ length (content_of (option_map_or (λ (row : DraftRow). row.cells) o []))
-bytes_told x0 n e = grind (arith, nat_tests)
-
-pub undrafted : (o : Option DraftRow) → None ≡ option_map (λ (row : DraftRow). length (content_of row.cells)) o → is_some o ≡ true → ⊥
-undrafted x0 e there = grind (arith, nat_tests)
 
 -- ---- what a well-formed world says of the versions that may end
 

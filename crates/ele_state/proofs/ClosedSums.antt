@@ -1,11 +1,12 @@
 -- What the book of usage has, once a handle is closed.
-use Rattle.ele_state.proofs.Words.{None, only_at, left_by, opening_by, with_rows, Closed, Close, DropIdle, IsBooked, after_change, step, nat_tests, ◌≡◌, ℕ, ◌+◌, ◌-◌, ◌≤◌, ◌<◌, ◌^◌, cond, List, length, Ok, refl, sym, arith, content_of, longest_content, world_of, IsSound, IsRoomy, held_world, blocks_of, one_version, IsOwed, Rows, Held, cells_of_draft, insert_before, update_first, DraftRow, all-found, length-update_first, length-insert_before, Kind, Book, sums_of, nothing, plus, Fits, VersionRow, ended_at, with_end, is_file_of, bytes_in, Drafts, ChangesOnly, Draft, World, reads_by, is_version, is_version_after, next_of, versions-finished, kinds-numbered, files-numbered, sum_by-insert_before, sum_by-update_same, Bool, Usage, usage_of, subst, ap, ◌∙◌, IsQueued, HasParts}
+use Rattle.ele_state.proofs.Words.{None, only_at, left_by, opening_by, with_rows, Closed, Close, DropIdle, IsBooked, after_change, step, nat_tests, ◌≡◌, ℕ, ◌+◌, ◌-◌, ◌≤◌, ◌<◌, ◌^◌, cond, List, length, Ok, refl, sym, arith, content_of, longest_content, world_of, IsSound, IsRoomy, held_world, blocks_of, one_version, IsOwed, Rows, Held, Source, source_cells, insert_before, update_first, DraftRow, all-found, length-update_first, length-insert_before, Kind, Book, sums_of, nothing, plus, Fits, VersionRow, ended_at, with_end, is_file_of, bytes_in, Drafts, Versions, ChangesOnly, Draft, World, reads_by, is_version, is_version_after, next_of, versions-finished, kinds-numbered, files-numbered, sum_by-insert_before, sum_by-update_same, Bool, Usage, usage_of, subst, ap, ◌∙◌, IsQueued, HasParts}
 use Rattle.ele_state.proofs.Booked.{few_blocks, owed, drafts_owed, and_nothing, size, bytes_are}
 use Rattle.ele_state.proofs.ClosedSteps.{leaves, left_keeps, left_queue, left_step, left_world}
 use Rattle.ele_world.proofs.Others.{other_drafts}
 use Rattle.ele_world.specs.Change.{numbered_on}
 use Rattle.ele_world.specs.World.{is_file}
 use Rattle.ele_world.specs.declared.rows.HandleRow.{HandleRow}
+use Rattle.ele_state.specs.declared.append.Source.TheVariants as source
 
 -- the book has the version of the file's kind
 abbrev pub HasAdded : Held → ℕ → Book → Book → ℕ → Type 0
@@ -57,8 +58,9 @@ module _ (rows : Rows) (handle file : ℕ) (sound : IsSound rows) (reads : reads
 
 -- ---- bounds
 
-pub draft_short : (rows : Rows) → IsSound rows → (file bytes : ℕ) → bytes ≡ length (content_of (cells_of_draft rows.files file)) → bytes ≤ longest_content
-draft_short rows sound file bytes is = grind (arith, nat_tests, all-found, sound.formed.holds Drafts)
+pub source_short : (rows : Rows) → IsSound rows → (file : ℕ) (source : Source) → length (content_of (source_cells rows.files file source)) ≤ longest_content
+source_short rows sound file (source.Draft handle opened) = grind (arith, nat_tests, all-found, sound.formed.holds Drafts)
+source_short rows sound file (source.Version number) = grind (arith, nat_tests, all-found, sound.formed.holds Versions)
 
 pub version_fits : (rows : Rows) → IsBooked rows.files rows.book → IsRoomy rows → (bytes before : ℕ) → bytes ≤ longest_content → before ≡ blocks_of rows.files → before < 2 ^ 64 → (k : Kind) → Fits (plus (sums_of rows.book k) (one_version bytes))
 version_fits rows booked roomy bytes before short is bound k = grind (arith, nat_tests, roomy.sums k, few_blocks rows booked k)

@@ -1,73 +1,61 @@
 -- The keys and the book, once a file has another policy.
-use Rattle.ele_state.proofs.Words.{ripe_at, None, Rule, floor_of, is_live, is_open, nat_le, near_unmet, newer_held, no_floor, rule_in, ◌≤◌, IsTold, ◌∙◌, Versions, all_found, ap, find, cover_of, moment_under, near_moment, next_closing, option_and_then, option_map, rows_of, ◌≡◌, ℕ, ◌<◌, ◌==◌, Bool, true, false, cond, not, ◌&&◌, ◌||◌, List, ◌∷◌, Option, Some, refl, sym, subst, arith, filter, map, AllByRecursion, list_any, nat_tests, world_of, IsSound, IsQueued, is_under, unread_under, held_world, IsBooked, Rows, Key, has_key, Held, changed_at, found_passes, any-found, Kind, Policy, IsLawful, is_kind, kind_of, Usage, Book, sums_of, only_at, plus, Fits, IsWithin, GroupRow, Stamps, VersionRow, PutUnder, after_change, is_moment, is_version_of, stamps_of, file_usage, usage_of, usages, Bounded, World, is_version, next_of, policy_of, in_order_of, ripe_at_near, put_under_keeps, usage_same, usages_fit, [], HasParts, KeyChange, change_under, if_changed, comes, goes, is_entry, and-false, list_any-append}
-use Rattle.std.specs.List.{flat_map}
-use Rattle.ele_state.proofs.Changes.{change_comes, change_goes, none_any}
+use Rattle.ele_state.proofs.Words.{AreChanges, false≢true, get_or, is_one, is_own, length, take, ◌+◌, None, Rule, floor_of, is_live, is_open, nat_le, near_unmet, newer_held, no_floor, rule_in, ◌≤◌, IsTold, ◌∙◌, Versions, all_found, ap, find, cover_of, near_moment, next_closing, option_and_then, option_map, rows_of, ◌≡◌, ℕ, ◌<◌, ◌==◌, Bool, true, false, cond, ◌&&◌, ◌||◌, List, ◌∷◌, Option, Some, refl, sym, subst, arith, filter, map, AllByRecursion, list_any, nat_tests, world_of, IsSound, unread_under, held_world, IsBooked, Rows, Held, changed_at, found_passes, any-found, Kind, Policy, IsLawful, is_kind, kind_of, Usage, Book, sums_of, only_at, plus, Fits, IsWithin, GroupRow, Stamps, VersionRow, PutUnder, after_change, is_version_of, stamps_of, file_usage, usage_of, usages, Bounded, World, is_version, next_of, policy_of, in_order_of, ripe_at_near, put_under_keeps, usage_same, usages_fit, [], HasParts, KeyChange, if_changed}
+use Rattle.std.proofs.lemmas.List.Folds.{list_any_more}
+use Rattle.ele_state.proofs.Asked.{under_told}
+use Rattle.ele_state.proofs.Changes.{Move, one_changes, one_stays, wider}
 use Rattle.ele_state.proofs.Booked.{booked, plus-cancel, same_kind}
 use Rattle.ele_world.proofs.PolicyUsage.{file_within, policy_usage}
 use Rattle.ele_world.proofs.PolicyMoments.{policy_others, policy_own}
 
 -- ---- the keys of a file's versions
 
-and_or : (a b c : Bool) → ((a && c) || (b && c)) ≡ ((a || b) && c)
-and_or x0 b c = grind (arith, nat_tests)
+-- the version is one of the file of which these stamps are
+abbrev pub is_among : ℕ → List Stamps → ℕ → ℕ → Bool
+is_among file held owner number = (owner == file) && list_any (λ stamps. stamps.number == number) held
 
-module _ (groups : List GroupRow) (h : Held) (file : ℕ) (was is : Rule) (k : Key) where
-  abbrev its : Rule → Option ℕ
-  its rule = unread_under groups rule h file k.number
+module _ (groups : List GroupRow) (h : Held) (file : ℕ) (was is : Rule) where
+  abbrev AreOf : (ℕ → ℕ → Bool) → List KeyChange → Type 0
+  AreOf touched changes = AreChanges touched (unread_under groups was h) (unread_under groups is h) changes
 
-  abbrev of_all : List Stamps → List KeyChange
-  of_all held = flat_map (λ stamps. if_changed (change_under groups h file was is stamps.number)) held
+  -- of a version by what is told of it
+  module _ (stamps : Stamps) (told : IsTold h file stamps) where
+    abbrev told_under : Rule → Option ℕ
+    told_under rule = cond (is_open h.handles file stamps.number) None (option_and_then (near_moment (cover_of groups file) (Some rule.policy) (next_closing h.versions file stamps.number) (nat_le rule.floor (newer_held h.versions file stamps.number)) stamps.closed) stamps.ended)
 
-  -- what is asked of a change is asked of its number, its file and its moments
-  module _ (t : KeyChange → Bool) (g : Option ℕ → Option ℕ → Bool) (its_change : (number : ℕ) (one other : Option ℕ) → list_any t (if_changed (record { file = file; number = number; was = one; is = other })) ≡ ((number == k.number) && ((k.file == file) && g one other))) where
-    abbrev wanted : Bool
-    wanted = (k.file == file) && g (its was) (its is)
+    has : (rule : Rule) → unread_under groups rule h file stamps.number ≡ told_under rule
+    has rule = ap (cond (is_open h.handles file stamps.number) None) (under_told h file stamps told (cover_of groups file) (Some rule.policy) rule.floor)
 
-    is_its : (number : ℕ) → list_any t (if_changed (change_under groups h file was is number)) ≡ ((number == k.number) && wanted)
-    is_its number = its_change number (unread_under groups was h file number) (unread_under groups is h file number) ∙ by (number == k.number) refl where
-      by : (b : Bool) → (number == k.number) ≡ b → (b && ((k.file == file) && g (unread_under groups was h file number) (unread_under groups is h file number))) ≡ (b && wanted)
-      by false e = refl
-      by true e = let same : number ≡ k.number = grind (arith, nat_tests) in rw same refl
+    pub stays_under : told_under is ≡ told_under was → AreOf (is_one file stamps.number) []
+    stays_under same = one_stays _ _ file stamps.number (has is ∙ same ∙ sym (has was))
 
-    told : (rows : List VersionRow) → list_any t (of_all (map stamps_of (filter (is_version_of file) rows))) ≡ (list_any (is_version file k.number) rows && wanted)
-    told [] = refl
-    told (row ∷ rows) = by (told rows) (row.file == file) where
-      rest : List Stamps
-      rest = map stamps_of (filter (is_version_of file) rows)
+    pub changes_under : (one other : Option ℕ) → told_under was ≡ one → told_under is ≡ other → AreOf (is_one file stamps.number) (if_changed (Some (record { file = file; number = stamps.number; was = one; is = other })))
+    changes_under one other before then = one_changes _ _ file stamps.number one other (has was ∙ before) (has is ∙ then)
 
-      by : list_any t (of_all rest) ≡ (list_any (is_version file k.number) rows && wanted) → (b : Bool)
-          → list_any t (of_all (map stamps_of (cond b (row ∷ filter (is_version_of file) rows) (filter (is_version_of file) rows)))) ≡ (((b && (row.number == k.number)) || list_any (is_version file k.number) rows) && wanted)
-      by before false = before
-      by before true = list_any-append t (if_changed (change_under groups h file was is row.number)) (of_all rest) ∙ rw (is_its row.number, before) (and_or (row.number == k.number) (list_any (is_version file k.number) rows) wanted)
+  -- one that isn't held has none
+  unheld : (owner number : ℕ) (rule : Rule) → list_any (is_version owner number) h.versions ≡ false → unread_under groups rule h owner number ≡ None
+  unheld owner number rule none = by (find (is_version owner number) h.versions) refl where
+    by : (o : Option VersionRow) → find (is_version owner number) h.versions ≡ o → unread_under groups rule h owner number ≡ None
+    by None is = rw is (both (is_open h.handles owner number)) where
+      both : (read : Bool) → cond {A = Option ℕ} read None None ≡ None
+      both true = refl
+      both false = refl
+    by (Some row) is = absurd (false≢true (sym none ∙ any-found (is_version owner number) (is_version owner number) h.versions row is (found_passes (is_version owner number) h.versions row is)))
 
-  -- a version that isn't held has none
-  unheld : (rule : Rule) → find (is_version file k.number) h.versions ≡ None → its rule ≡ None
-  unheld rule none = rw none (by (is_open h.handles file k.number)) where
-    by : (read : Bool) → cond {A = Option ℕ} read None None ≡ None
-    by true = refl
-    by false = refl
+  pub one_more : (held : List Stamps) (i : ℕ) (stamps : Stamps) → i < length held → stamps ≡ get_or held i stamps → (owner number : ℕ) → is_among file (take (i + 1) held) owner number ≡ (is_among file (take i held) owner number || is_one file stamps.number owner number)
+  one_more held i stamps within at owner number = rw (list_any_more (λ (s : Stamps). s.number == number) held i stamps within, ← at) (grind (arith, nat_tests))
 
-  held_alone : (one other : Rule) → (list_any (is_version file k.number) h.versions && is_under groups h file one other k) ≡ is_under groups h file one other k
-  held_alone one other = by (find (is_version file k.number) h.versions) refl where
-    by : (o : Option VersionRow) → find (is_version file k.number) h.versions ≡ o → (list_any (is_version file k.number) h.versions && is_under groups h file one other k) ≡ is_under groups h file one other k
-    by None none = rw (none_any (is_version file k.number) h.versions none, unheld one none) (sym (and-false (k.file == file)))
-    by (Some row) some = rw (any-found (is_version file k.number) (is_version file k.number) h.versions row some (found_passes (is_version file k.number) h.versions row some)) refl
+  held_told : (number : ℕ) (rows : List VersionRow) → list_any (λ (s : Stamps). s.number == number) (map stamps_of (filter (is_version_of file) rows)) ≡ list_any (is_version file number) rows
+  held_told number [] = refl
+  held_told number (row ∷ rows) = grind (arith, nat_tests, held_told number rows)
 
-  -- those that come and those that go are just those that a version has under the one rule alone
-  module _ (changes : List KeyChange) (held : List Stamps) (all : held ≡ map stamps_of (filter (is_version_of file) h.versions)) (are : changes ≡ of_all held) where
-    pub under_come : comes changes k ≡ is_under groups h file is was k
-    under_come = ap (λ cs. comes cs k) (are ∙ ap of_all all) ∙ told (λ c. is_entry c.file c.number c.is k) (λ one other. is_moment k.ripe other && not (is_moment k.ripe one)) (change_comes k file) h.versions ∙ held_alone is was
-
-    pub under_go : goes changes k ≡ is_under groups h file was is k
-    under_go = ap (λ cs. goes cs k) (are ∙ ap of_all all) ∙ told (λ c. is_entry c.file c.number c.was k) (λ one other. is_moment k.ripe one && not (is_moment k.ripe other)) (change_goes k file) h.versions ∙ held_alone was is
-
--- what is told of a held version tells its moment
-pub under_told : (groups : List GroupRow) (policy : Policy) (floor : ℕ) (h : Held) (file : ℕ) (stamps : Stamps) → IsTold h file stamps
-    → moment_under (cover_of groups file) (Some policy) floor h.versions file stamps.number ≡ option_and_then (near_moment (cover_of groups file) (Some policy) (next_closing h.versions file stamps.number) (nat_le floor (newer_held h.versions file stamps.number)) stamps.closed) stamps.ended
-under_told groups policy floor h file stamps told = by (nat_le floor (newer_held h.versions file stamps.number)) (find (is_version file stamps.number) h.versions) told where
-  by : (met : Bool) (o : Option VersionRow) → option_map stamps_of o ≡ Some stamps → option_and_then (λ row. option_and_then (near_moment (cover_of groups file) (Some policy) (next_closing h.versions file stamps.number) met row.closed) row.ended) o ≡ option_and_then (near_moment (cover_of groups file) (Some policy) (next_closing h.versions file stamps.number) met stamps.closed) stamps.ended
-  by met None told = absurd cc
-  by met (Some row) told = let same : stamps_of row ≡ stamps = cc in rw (← same) refl
+  -- so where these are all that are held, no other changes
+  pub all_under : (held : List Stamps) (changes : List KeyChange) → held ≡ map stamps_of (filter (is_version_of file) h.versions) → AreOf (is_among file held) changes → AreOf (is_own file) changes
+  all_under held changes all are = wider _ _ (is_among file held) (is_own file) changes (λ owner number h. grind (arith, nat_tests, h)) (λ owner number own none. let left = rest owner number own none in unheld owner number is left ∙ sym (unheld owner number was left)) are where
+    rest : (owner number : ℕ) → is_own file owner number ≡ true → is_among file held owner number ≡ false → list_any (is_version owner number) h.versions ≡ false
+    rest owner number own none =
+        let same : owner ≡ file = grind (arith, nat_tests, own) in
+        let not_told : list_any (λ (s : Stamps). s.number == number) held ≡ false = grind (arith, own, none) in
+        rw same (sym (held_told number h.versions) ∙ ap (list_any (λ (s : Stamps). s.number == number)) (sym all) ∙ not_told)
 
 -- the floor keeps those that have too few newer ones, and leaves the others their moments
 pub floored : (groups : List GroupRow) (policy : Policy) (floor : ℕ) (h : Held) (file number : ℕ) → IsLawful policy → floor ≤ floor_of policy
@@ -101,52 +89,16 @@ all_told h file (row ∷ rows) all = by (all_told h file rows all.1) (row.file =
 pub stamps_told : (rows : Rows) (file : ℕ) (held : List Stamps) → IsSound rows → held ≡ map stamps_of (filter (is_version_of file) rows.files.versions) → AllByRecursion (IsTold rows.files file) held
 stamps_told rows file held sound is = rw is (all_told rows.files file rows.files.versions (all_found rows.files.versions (sound.formed.holds Versions).placed))
 
--- ---- the queue
-
-module _ (w : World) (file : ℕ) (was policy : Policy) (k : HasParts w) (filed : policy_of w.files file ≡ Some was) (there : 0 < next_of w.files file) (given : IsLawful policy) where
-  abbrev h : Held
-  h = rows_of w
-
-  abbrev v : World
-  v = after_change w (PutUnder file policy)
-
-  abbrev live : Bool
-  live = is_live w file
-
-  module _ (queue between : List Key) (queued : IsQueued w queue) where
-    -- the queue has a version's key under the policy that the file had
-    had : (j : Key) → (j.file == file) ≡ true → has_key j queue ≡ is_moment j.ripe (unread_under w.groups (rule_in was live) h file j.number)
-    had j own = grind (arith, nat_tests, ripe_at_near w file j.number (in_order_of w k), in_order_of w k)
-
-    -- with the keys that come, and without those that go, it has those of all versions
-    governed_in : (after : List Key) → ((j : Key) → has_key j between ≡ (is_under w.groups h file (rule_in policy live) (rule_in was live) j || has_key j queue)) → ((j : Key) → has_key j after ≡ (not (is_under w.groups h file (rule_in was live) (rule_in policy live) j) && has_key j between)) → IsQueued v after
-    governed_in after came went j = went j ∙ rw (came j) (by (j.file == file) refl) where
-      moved : (was is : Bool) → (not (was && not is) && ((is && not was) || was)) ≡ is
-      moved true true = refl
-      moved true false = refl
-      moved false true = refl
-      moved false false = refl
-
-      by : (b : Bool) → (j.file == file) ≡ b
-          → (not (is_under w.groups h file (rule_in was live) (rule_in policy live) j) && (is_under w.groups h file (rule_in policy live) (rule_in was live) j || has_key j queue)) ≡ is_moment j.ripe (ripe_at v j.file j.number)
-      by false other = rw other (queued j ∙ ap (is_moment j.ripe) (sym (policy_others w file policy k j.file j.number other)))
-      by true own =
-          let same : j.file ≡ file = grind (arith, nat_tests, own) in
-          rw (own, had j own) (moved (is_moment j.ripe (unread_under w.groups (rule_in was live) h file j.number)) (is_moment j.ripe (unread_under w.groups (rule_in policy live) h file j.number)) ∙ rw same (ap (is_moment j.ripe) (sym (policy_own w file policy k given there j.number))))
-
-    -- none of those that come was there
-    pub ungoverned_in : ((j : Key) → has_key j between ≡ (not (is_under w.groups h file (rule_in policy live) (rule_in was live) j) && has_key j queue)) → IsQueued w between
-    ungoverned_in stays j = grind (arith, nat_tests, had)
-
-module _ (rows : Rows) (file : ℕ) (was policy : Policy) (between after : List Key) (sound : IsSound rows) (filed : policy_of rows.files.files file ≡ Some was) (there : 0 < next_of rows.files.files file) (given : IsLawful policy) where
-  abbrev rule : Policy → Rule
-  rule p = rule_in p (is_live (world_of rows) file)
-
-  pub governed_queue : ((j : Key) → has_key j between ≡ (is_under rows.groups rows.files file (rule policy) (rule was) j || has_key j rows.queue)) → ((j : Key) → has_key j after ≡ (not (is_under rows.groups rows.files file (rule was) (rule policy) j) && has_key j between)) → IsQueued (after_change (world_of rows) (PutUnder file policy)) after
-  governed_queue = governed_in (world_of rows) file was policy sound.formed filed there given rows.queue between sound.tracked.queue after
-
-  pub ungoverned_queue : ((j : Key) → has_key j between ≡ (not (is_under rows.groups rows.files file (rule policy) (rule was) j) && has_key j rows.queue)) → IsQueued (world_of rows) between
-  ungoverned_queue = ungoverned_in (world_of rows) file was policy sound.formed filed there given rows.queue between sound.tracked.queue
+-- which moments another policy changes
+pub governed : (w : World) (file : ℕ) (was policy : Policy) → HasParts w → policy_of w.files file ≡ Some was → 0 < next_of w.files file → IsLawful policy
+    → Move w (after_change w (PutUnder file policy)) (is_own file) (unread_under w.groups (rule_in was (is_live w file)) (rows_of w)) (unread_under w.groups (rule_in policy (is_live w file)) (rows_of w))
+governed w file was policy k filed there given = record {
+  had = λ owner number own. rw (same owner own) (ripe_at_near w file number (in_order_of w k) ∙ rw filed refl);
+  has = λ owner number own. rw (same owner own) (policy_own w file policy k given there number);
+  others = λ owner number other. policy_others w file policy k owner number other;
+} where
+  same : (owner : ℕ) → (owner == file) ≡ true → owner ≡ file
+  same owner own = grind (arith, nat_tests, own)
 
 -- ---- the book
 

@@ -4,7 +4,7 @@ use Rattle.ele_state.proofs.Appended.{appended_queue, none_there}
 use Rattle.ele_state.proofs.Booked.{few, of_kind, owed_by}
 use Rattle.ele_state.proofs.Bounded.{rows_few, versions_few}
 use Rattle.ele_state.proofs.ClosedSteps.{finished_queue, numbered, past}
-use Rattle.ele_state.proofs.ClosedSums.{HasAdded, version_owed}
+use Rattle.ele_state.proofs.ClosedSums.{HasAdded, source_short, version_owed}
 use Rattle.ele_world.proofs.Files.{policies-numbered}
 use Rattle.ele_world.specs.World.{is_handle}
 use Rattle.ele_state.specs.declared.append.Source.TheVariants.{Draft, Version}
@@ -15,7 +15,7 @@ pub roomy : (rows : Rows) → IsSound rows → IsRoomy rows
 roomy rows sound = record { made = grind (arith, versions_few rows sound); sums = few rows sound }
 
 pub ready : (rows : Rows) (file : ℕ) (source : Source) → IsSound rows → IsSource rows.files file source → IsReady rows.files rows.moment file source
-ready rows file source sound is = record { is = is; few = omega (arith, rows_few rows sound); numbered = numbered rows sound; past = past rows sound }
+ready rows file source sound is = record { is = is; few = omega (arith, rows_few rows sound); numbered = numbered rows sound; past = past rows sound; short = source_short rows sound file source }
 
 -- ---- what follows
 

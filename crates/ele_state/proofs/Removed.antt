@@ -1,6 +1,6 @@
 -- A clean event takes the row of the first key, and that key.
-use Rattle.ele_state.proofs.Words.{DropIdle, ap, refl, step, nat_tests, ◌≡◌, ℕ, ◌+◌, Bool, true, List, length, Some, None, sym, subst, ◌∙◌, arith, find, option_map, content_of, world_of, IsSound, IsQueued, IsRekeyed, held_world, blocks_of, one_version, of_file, IsOwed, Rows, Key, Held, without, remove_first, length-remove_first, Kind, Book, sums_of, plus, Fits, IsWithin, VersionRow, first_due, Take, after_change, HasParts, CleanOne, is_file_of, bytes_in, usage_of, ChangesOnly, World, is_version, takes, event_keeps, IsDueKey, sum_by-remove_first, usage_changes, changes_removed}
-use Rattle.ele_state.proofs.Booked.{few, owed, and_none, size, bytes_are}
+use Rattle.ele_state.proofs.Words.{DropIdle, ap, refl, step, nat_tests, ◌≡◌, ℕ, ◌+◌, Bool, true, List, length, Some, None, sym, subst, ◌∙◌, arith, find, option_map, content_of, world_of, IsSound, IsQueued, IsRekeyed, held_world, blocks_of, one_version, of_file, IsOwed, Rows, Key, Held, without, remove_first, length-remove_first, Kind, Book, sums_of, plus, IsWithin, VersionRow, first_due, Take, after_change, HasParts, CleanOne, is_file_of, bytes_in, usage_of, ChangesOnly, World, is_version, takes, event_keeps, IsDueKey, sum_by-remove_first, usage_changes, changes_removed}
+use Rattle.ele_state.proofs.Booked.{owed, and_none, size, bytes_are}
 use Rattle.ele_state.proofs.Following.{entry_follows}
 use Rattle.ele_world.proofs.CleanKeepsKeys.{take_keeps_keys}
 
@@ -40,9 +40,6 @@ removed_owed rows file number before row now book sound found is after taken =
     (rw after (omega (arith, length-remove_first (is_version file number) rows.files.versions row found)))
     (rw after (omega (arith, bytes-removed (is_version file number) rows.files.versions row found)))
     (λ k. taken k ∙ sound.tracked.book k ∙ sym (and_none (usage_of w k) (is_file_of now.files k file))))
-
-pub removed_fits : (rows : Rows) (book : Book) (now : Held) (file bytes : ℕ) → IsSound rows → ((k : Kind) → plus (sums_of book k) (of_file now file (one_version bytes) k) ≡ sums_of rows.book k) → (k : Kind) → Fits (record (sums_of book k) { blocks = 0 })
-removed_fits rows book now file bytes sound taken k = grind (arith, nat_tests, few rows sound k)
 
 -- how many bytes it had
 pub removed_bytes : (w : World) (key : Key) (first : IsDueKey w key) (bytes : ℕ) → Some bytes ≡ option_map (λ (row : VersionRow). length (content_of row.cells)) (find (is_version key.file key.number) w.versions) → bytes ≡ length (content_of first.row.cells)

@@ -1,5 +1,5 @@
 -- A file that has a name again, and a version like its last one.
-use Rattle.ele_state.proofs.Words.{File, IsLawful, IsReady, Key, MayGrow, KeyChange, Policy, all-weaker, cond, cover_of, Cell, false≢true, floor_for, floor_in, floor_of, gaining_is, has_key, has_newer, in_order_of, freed_moment, is_freed, is_live_name_of, is_moment, comes, is_open, list_any-append, moments_stay, nat_le, near_floored, near_moment, new_keys, newer_held, next_after, next_closing, no_floor, not, not_found, option_and_then, or-false, others_after, policy_is, policy_of, ripe_at, ripe_at_near, unread_under, unwrap_or, with_version, ◌&&◌, ◌==◌, ◌||◌, ◌+◌, ◌∙◌, ap, subst, sym, after_change, after_changes, Append, Revive, IsHome, IsQueued, Shown, live_target, shown_of, ◌≡◌, ℕ, ◌-◌, ◌<◌, ◌≤◌, ◌++◌, Bool, true, false, List, ◌∷◌, length, IsSome, Option, None, Some, is_some, refl, arith, find, list_any, option_map, option_map_or, nat_tests, content_of, longest_content, world_of, IsSound, MayAppend, MayName, MayRevive, Rows, stamps_of, cells_of_version, all-found, found_passes, born_row, is_draft, is_version, may_grow, Versions, World, is_held, is_live, next_of, version_cells, versions_made, FileRow, Stamps, VersionRow, []}
+use Rattle.ele_state.proofs.Words.{File, IsLawful, IsReady, Key, MayGrow, KeyChange, Policy, all-weaker, cond, cover_of, Cell, false≢true, floor_for, floor_in, floor_of, gaining_is, has_key, has_newer, in_order_of, freed_moment, is_freed, is_live_name_of, is_moment, comes, is_open, list_any-append, moments_stay, nat_le, near_floored, near_moment, new_keys, newer_held, next_after, next_closing, no_floor, not, not_found, option_and_then, or-false, others_after, policy_is, policy_of, ripe_at, ripe_at_near, unread_under, unwrap_or, with_version, ◌&&◌, ◌==◌, ◌||◌, ◌+◌, ◌∙◌, ap, subst, sym, after_change, after_changes, Append, Revive, IsHome, IsQueued, Shown, live_target, shown_of, ◌≡◌, ℕ, ◌-◌, ◌<◌, ◌≤◌, ◌++◌, Bool, true, false, List, ◌∷◌, IsSome, Option, None, Some, is_some, refl, arith, find, list_any, option_map, option_map_or, nat_tests, world_of, IsSound, MayAppend, MayName, MayRevive, Rows, stamps_of, cells_of_version, all-found, found_passes, born_row, is_draft, is_version, may_grow, Versions, World, is_held, is_live, next_of, version_cells, versions_made, FileRow, Stamps, VersionRow, []}
 use Rattle.ele_state.proofs.Appended.{appended_queue, none_there}
 use Rattle.ele_state.proofs.Changes.{none_any}
 use Rattle.ele_state.proofs.Freed.{none_freed}
@@ -28,11 +28,6 @@ pub stamped : (p : VersionRow → Bool) (rows : List VersionRow) → is_some (op
 stamped p [] = refl
 stamped p (row ∷ rows) = grind (arith, nat_tests, stamped p rows)
 
--- ---- the version
-
-pub version_short : (rows : Rows) → IsSound rows → (file number bytes : ℕ) → bytes ≡ length (content_of (cells_of_version rows.files file number)) → bytes ≤ longest_content
-version_short rows sound file number bytes is = grind (arith, nat_tests, all-found, sound.formed.holds Versions)
-
 -- ---- a file that is live gets one of its versions again
 
 module _ (rows : Rows) (file : ℕ) (stamps : Stamps) (sound : IsSound rows) (held : option_map stamps_of (find (is_version file stamps.number) rows.files.versions) ≡ Some stamps) where
@@ -49,10 +44,6 @@ module _ (rows : Rows) (file : ℕ) (stamps : Stamps) (sound : IsSound rows) (he
 
   pub is_there : IsSome (find (is_version file stamps.number) rows.files.versions)
   is_there = rw has_row.found refl
-
-  -- its length is that of its cells
-  pub held_long : stamps.length ≡ length (content_of (cells_of_version rows.files file stamps.number))
-  held_long = grind (arith, nat_tests, has_row)
 
   -- so it may be appended
   pub restores : versions_made (world_of rows) < rows.limits.versions → MayAppend (world_of rows) file rows.moment (version_cells (world_of rows) file stamps.number)

@@ -30,23 +30,18 @@ module _ (w : World) (formed : HasParts w) where
 
 -- ---- the version that is meant, by its stamps
 
-record HasMeant (w : World) (t : Tag) (file : ℕ) (stamps : Stamps) : Type 0 where
-  row : VersionRow
-  meant : version_meant w.files w.versions file t ≡ Ok row
-  same : stamps ≡ stamps_of row
-
-has_meant : (w : World) (t : Tag) (file : ℕ) (stamps : Stamps) → Ok stamps ≡ result_map_both stamps_of (λ refusal. refusal) (version_meant w.files w.versions file t) → HasMeant w t file stamps
-has_meant w t file stamps is = grind (arith, nat_tests)
-
 pub told_found : (w : World) (found : Result ℕ Refusal) (t : Tag) (file : ℕ) (stamps : Stamps) → found ≡ Ok file → Ok stamps ≡ result_map_both stamps_of (λ refusal. refusal) (version_meant w.files w.versions file t) → Ok (file, stamps) ≡ found_of (version_found w found t)
-told_found w found t file stamps leads is = let m = has_meant w t file stamps is in let own = (is_meant w.files w.versions file t m.row m.meant).own in rw (leads, m.meant) (cc (m.same, own))
+told_found w found t file stamps leads is = rw leads (by (version_meant w.files w.versions file t) refl is) where
+  by : (r : Result VersionRow Refusal) → version_meant w.files w.versions file t ≡ r → Ok stamps ≡ result_map_both stamps_of (λ (refusal : Refusal). refusal) r → Ok (file, stamps) ≡ found_of r
+  by (Ok row) meant told = let own = (is_meant w.files w.versions file t row meant).own in cc
+  by (Err refusal) meant told = absurd cc
 
-pub record IsTold (w : World) (tagged : TaggedPath) (found : ℕ × Stamps) : Type 0 where
-  pub row : VersionRow
-  pub meant : version_at w tagged ≡ Ok row
-  pub is : found ≡ (row.file, stamps_of row)
+record IsTold (w : World) (tagged : TaggedPath) (found : ℕ × Stamps) : Type 0 where
+  row : VersionRow
+  meant : version_at w tagged ≡ Ok row
+  is : found ≡ (row.file, stamps_of row)
 
-pub told_row : (w : World) (tagged : TaggedPath) (found : ℕ × Stamps) → Ok found ≡ found_of (version_at w tagged) → IsTold w tagged found
+told_row : (w : World) (tagged : TaggedPath) (found : ℕ × Stamps) → Ok found ≡ found_of (version_at w tagged) → IsTold w tagged found
 told_row w tagged found h = grind (arith, nat_tests)
 
 -- so it is held

@@ -5,9 +5,8 @@ pub use Rattle.ele_state.specs.Inside.{IsSettled, IsSound, IsTracked, shown_of, 
 pub use Rattle.ele_state.specs.Shown.{Shown}
 pub use Rattle.ele_state.specs.Source.{Grows, HasSource, IsHeldAlone, IsLast, IsReady, IsRoomy, IsSource, appending, source_cells}
 pub use Rattle.ele_state.specs.declared.append.Source.{Source}
-pub use Rattle.ele_state.specs.Queued.{IsQueued, IsRekeyed, IsTold, change_under, former_moment, freed_moment, gained_moment, is_entry, is_freed, is_under, met_before, new_keys, HasLeaving, IsIn, change_at, change_by, change_of, changes_by, comes, cover_after, files_of, goes, if_changed, moment_by, moments_of, unmarked_moment, own_moment, rule_in, unread_under}
+pub use Rattle.ele_state.specs.Queued.{AreChanges, IsQueued, IsRekeyed, IsTold, Rule, former_moment, freed_moment, gained_moment, is_alone, is_entry, is_freed, is_one, is_own, met_before, new_keys, HasLeaving, change_of, comes, cover_after, files_of, goes, if_changed, moments_by, moments_of, unmarked_moment, own_moment, rule_in, unread_under}
 pub use Rattle.ele_state.specs.Tracked.{IsBooked, IsFew, IsOwed, IsOwedBy, blocks_of, held_world, of_file, one_version, only_blocks}
-pub use Rattle.ele_state.specs.declared.keys.Rule.{Rule}
 pub use Rattle.ele_state.specs.declared.keys.KeyChange.{KeyChange}
 pub use Rattle.ele_state.specs.declared.mark.GroupChange.{GroupChange}
 pub use Rattle.ele_state.specs.declared.mark.GroupChange.TheVariants.{Dropped, Joined, Left, Marked, Unmarked}
@@ -49,6 +48,7 @@ pub use Rattle.ele_world.proofs.Words.{cover_of, cover_until, cover_with, cover_
 pub use Rattle.ele_policy.specs.FloorOf.{floor_of}
 pub use Rattle.ele_world.specs.Neighbours.{floor_in, newer_held, with_newer}
 pub use Rattle.ele_world.specs.May.{HasRoom, May, MayAdd, MayAppend, MayEnd, MayGroup, MayHaveMore, MayJoin, MayMake, MayMakeDirectory, MayMark, MayMove, MayName, MayOpen, MayRevive, MayStart}
+pub use Rattle.ele_world.specs.GroupRows.{has_member}
 pub use Rattle.ele_world.specs.NoIdleStays.{HasNoIdle}
 pub use Rattle.ele_world.specs.Plan.{found_outcome}
 pub use Rattle.ele_world.specs.Step.{has_other_writer, version_cells, versions_made}

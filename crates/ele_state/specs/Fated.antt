@@ -1,5 +1,5 @@
 -- What a policy makes of a version that it alone decides about. No public clause cites this module.
-use Rattle.std.specs.Prelude.{◌≡◌, ℕ, ◌-◌, nat_le, Bool, true, false, List, Option, Some, find, option_and_then}
+use Rattle.std.specs.Prelude.{◌≡◌, ℕ, ◌-◌, nat_le, Bool, true, false, List, Option, Some, find, option_and_then, slice_get}
 use Rattle.std.specs.Option.{option_map, option_map_or}
 use Rattle.ele_policy.specs.Ladder.{Rung, level_of, rung_at, shares}
 use Rattle.ele_policy.specs.Ripe.{ripe_near}
@@ -17,8 +17,10 @@ use Rattle.ele_world.specs.declared.rows.Stamps.{Stamps}
 use Rattle.ele_world.specs.Fate.{level_reached}
 use Rattle.ele_world.specs.GroupRows.{is_member, keeps_at}
 
--- the group has the file, and this is its name, and its first mark that covers and is in force at the moment
-pub record MarksBy (file closed : ℕ) (ended : Option ℕ) (at : ℕ) (name : List ℕ) (mark : MarkRow) (group : GroupRow) : Type 0 where
+-- the group at that place has the file, and this is its name, and its first mark that covers and is in force at the moment
+pub record MarksAt (groups : List GroupRow) (place file closed : ℕ) (ended : Option ℕ) (at : ℕ) (name : List ℕ) (mark : MarkRow) : Type 0 where
+  pub group : GroupRow
+  pub there : slice_get groups place ≡ Some group
   pub member : is_member file group ≡ true
   pub named : group.name ≡ name
   pub first : find (keeps_at closed ended at) group.marks ≡ Some mark

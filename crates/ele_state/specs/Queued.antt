@@ -1,8 +1,7 @@
 -- The keys that follow the rows. No public clause cites this module.
 use Rattle.std.specs.Prelude.{◌≡◌, ℕ, ◌-◌, ◌==◌, nat_le, Bool, true, not, ◌&&◌, ◌||◌, List, [], ◌∷◌, Option, Some, None, is_some, find, option_and_then, unwrap_or, if◌then◌else◌}
-use Rattle.std.specs.List.{flat_map, list_any}
+use Rattle.std.specs.List.{list_any}
 use Rattle.std.specs.Option.{option_eq, option_map, option_map_or}
-use Rattle.ele_state.specs.declared.keys.Rule.{Rule}
 use Rattle.ele_state.specs.declared.keys.KeyChange.{KeyChange}
 use Rattle.ele_state.specs.declared.mark.GroupChange.{GroupChange}
 use Rattle.ele_state.specs.declared.mark.GroupChange.TheVariants.{Marked, Unmarked, Joined, Left, Dropped}
@@ -20,10 +19,9 @@ use Rattle.ele_world.specs.Cover.{cover_of, cover_until, longer}
 use Rattle.ele_world.specs.Change.{Change, AddMark, AddMember, DropGroup, RemoveMark, RemoveMember}
 use Rattle.ele_world.specs.GroupRows.{has_member, is_marked_at}
 use Rattle.ele_world.specs.GroupsAsked.{cover_with, cover_without, marks_of, members_of}
-use Rattle.ele_world.specs.Tagged.{had_life}
 use Rattle.ele_world.specs.Told.{stamps_of}
 use Rattle.ele_world.specs.declared.rows.Stamps.{Stamps}
-use Rattle.ele_world.specs.World.{World, policy_of, next_of, is_open, is_version}
+use Rattle.ele_world.specs.World.{World, policy_of, next_of, is_live, is_open, is_version}
 
 -- the queue has the key of each version that has a ripe moment, and no other
 abbrev pub IsQueued : World → List Key → Type 0
@@ -40,9 +38,10 @@ IsRekeyed file number was is queue after =
 
 -- ---- moments that change
 
--- the change, if it is one
-abbrev pub if_changed : KeyChange → List KeyChange
-if_changed change = if option_eq (λ a b. a == b) change.was change.is then [] else (change ∷ [])
+-- the change, if there is one, and it is one
+abbrev pub if_changed : Option KeyChange → List KeyChange
+if_changed None = []
+if_changed (Some change) = if option_eq (λ a b. a == b) change.was change.is then [] else (change ∷ [])
 
 -- the key comes, or goes
 abbrev pub comes : List KeyChange → Key → Bool
@@ -50,6 +49,22 @@ comes changes k = list_any (λ change. is_entry change.file change.number change
 
 abbrev pub goes : List KeyChange → Key → Bool
 goes changes k = list_any (λ change. is_entry change.file change.number change.was k) changes
+
+-- the key's moment is one that its version has by the one, and not by the other
+abbrev pub is_alone : (ℕ → ℕ → Option ℕ) → (ℕ → ℕ → Option ℕ) → Key → Bool
+is_alone one other k = is_moment k.ripe (one k.file k.number) && not (is_moment k.ripe (other k.file k.number))
+
+-- the changes are those of the versions that are touched, by the moments that these had and those that they have
+pub record AreChanges (touched : ℕ → ℕ → Bool) (was is : ℕ → ℕ → Option ℕ) (changes : List KeyChange) : Type 0 where
+  pub come : (k : Key) → comes changes k ≡ (touched k.file k.number && is_alone is was k)
+  pub go : (k : Key) → goes changes k ≡ (touched k.file k.number && is_alone was is k)
+
+-- the version is that one, or one of that file
+abbrev pub is_one : ℕ → ℕ → ℕ → ℕ → Bool
+is_one file number owner n = (owner == file) && (n == number)
+
+abbrev pub is_own : ℕ → ℕ → ℕ → Bool
+is_own file owner number = owner == file
 
 -- ---- what an append touches: the file's next version, and the held one that with it has as many newer ones as the floor in force
 -- asks; where none is in force, the newest
@@ -85,7 +100,12 @@ new_keys groups h file now live =
 
 -- ---- what another policy touches, or another floor in force
 
--- the policy, with the floor that is in force under it in a file that is live or not
+-- a policy, and the floor that is in force under it
+pub record Rule : Type 0 where
+  pub policy : Policy
+  pub floor : ℕ
+
+-- that floor in a file that is live or not
 abbrev pub rule_in : Policy → Bool → Rule
 rule_in policy live = record { policy = policy; floor = floor_in (Some policy) live }
 
@@ -97,15 +117,6 @@ unread_under groups rule h file number =
 -- the version of these stamps is held
 abbrev pub IsTold : Held → ℕ → Stamps → Type 0
 IsTold h file stamps = option_map stamps_of (find (is_version file stamps.number) h.versions) ≡ Some stamps
-
--- how the moment of a version changes that comes from under the one rule under the other
-abbrev pub change_under : List GroupRow → Held → ℕ → Rule → Rule → ℕ → KeyChange
-change_under groups h file was is number = record { file = file; number = number; was = unread_under groups was h file number; is = unread_under groups is h file number }
-
--- the key is one that a version of the file has under the one rule and not under the other
-abbrev pub is_under : List GroupRow → Held → ℕ → Rule → Rule → Key → Bool
-is_under groups h file rule other k =
-    (k.file == file) && (is_moment k.ripe (unread_under groups rule h file k.number) && not (is_moment k.ripe (unread_under groups other h file k.number)))
 
 -- the moment of a version of the file under the policy where no floor keeps it and none is newer, or newer ones don't matter; it
 -- ends now if it hasn't; none where a handle reads it
@@ -145,14 +156,6 @@ moments_of (Joined name file) groups = marks_of groups name
 moments_of (Left name file) groups = marks_of groups name
 moments_of (Dropped name) groups = marks_of groups name
 
--- the file is in the group that loses it or a mark
-abbrev pub IsIn : GroupChange → List GroupRow → ℕ → Type 0
-IsIn (Marked name mark) groups file = Unit {0}
-IsIn (Unmarked name moment) groups file = has_member groups name file ≡ true
-IsIn (Joined name member) groups file = Unit {0}
-IsIn (Left name member) groups file = has_member groups name file ≡ true
-IsIn (Dropped name) groups file = has_member groups name file ≡ true
-
 -- the mark or the file that goes is there
 abbrev pub HasLeaving : GroupChange → List GroupRow → Type 0
 HasLeaving (Marked name mark) groups = Unit {0}
@@ -169,30 +172,14 @@ cover_after (Joined name member) groups file closed ended = cover_with groups na
 cover_after (Left name member) groups file closed ended = cover_without groups name None file closed ended
 cover_after (Dropped name) groups file closed ended = cover_without groups name None file closed ended
 
--- when the file's version of that number ripens, which closed and ended then, in a file that is live or not, where no mark keeps it;
--- none where a handle reads it
+-- the moments of the world's versions, if these covers keep them
+abbrev pub moments_by : World → (ℕ → ℕ → Option ℕ → Cover) → ℕ → ℕ → Option ℕ
+moments_by w cover file number =
+    let policy = policy_of w.files file in
+    if is_open w.handles file number then None else moment_under (cover file) policy (floor_in policy (is_live w file)) w.versions file number
+
+-- when the file's version of that number ripens, which closed and ended then, in a file that is live or not, where no mark keeps it
 abbrev pub unmarked_moment : Held → Bool → ℕ → ℕ → ℕ → ℕ → Option ℕ
 unmarked_moment h live file number closed ended =
     let met = nat_le (floor_in (policy_of h.files file) live) (newer_held h.versions file number) in
-    if is_open h.handles file number then None
-    else option_and_then (λ policy. ripe_near policy closed (next_closing h.versions file number) met ended) (policy_of h.files file)
-
--- when it ripens with that cover, if it has ended
-abbrev pub moment_by : (ℕ → Option ℕ → Cover) → Held → Bool → ℕ → ℕ → ℕ → Option ℕ → Option ℕ
-moment_by cover h live file number closed ended =
-    let policy = policy_of h.files file in
-    let met = nat_le (floor_in policy live) (newer_held h.versions file number) in
-    if is_open h.handles file number then None else option_and_then (near_moment cover policy (next_closing h.versions file number) met closed) ended
-
--- how the moment of a version changes, of which these are the stamps
-abbrev pub change_at : GroupChange → List GroupRow → Held → Bool → ℕ → ℕ → ℕ → Option ℕ → List KeyChange
-change_at change groups h live file number closed ended =
-    if_changed (record { file = file; number = number; was = moment_by (cover_of groups file) h live file number closed ended; is = moment_by (cover_after change groups file) h live file number closed ended })
-
--- how that of the file's version changes that was current at the mark, if it does
-abbrev pub change_by : GroupChange → List GroupRow → Held → Bool → ℕ → ℕ → List KeyChange
-change_by change groups h live file mark = option_map_or (λ row. change_at change groups h live file row.number row.closed row.ended) (find (had_life file mark) h.versions) []
-
--- and those of all versions of those files, of which the test tells which are live, that were current at those marks
-abbrev pub changes_by : GroupChange → List GroupRow → Held → (ℕ → Bool) → List ℕ → List ℕ → List KeyChange
-changes_by change groups h lives files marks = flat_map (λ file. flat_map (change_by change groups h (lives file) file) marks) files
+    option_and_then (λ policy. ripe_near policy closed (next_closing h.versions file number) met ended) (policy_of h.files file)

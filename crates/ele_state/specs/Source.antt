@@ -2,6 +2,7 @@
 use Rattle.std.specs.Prelude.{◌≡◌, ℕ, ◌+◌, ◌≤◌, ◌<◌, ◌^◌, false, List, [], ◌∷◌, length, Some, Ok, IsSome, find}
 use Rattle.std.specs.List.{AllByRecursion, list_any}
 use Rattle.ele_content.specs.declared.cell.Cell.{Cell}
+use Rattle.ele_content.specs.Content.{content_of, longest_content}
 use Rattle.ele_files.specs.Closing.{IsPast, finishing, opening_by}
 use Rattle.ele_files.specs.Held.{Held, cells_of_draft, cells_of_version}
 use Rattle.ele_policy.specs.declared.policy.Kind.{Kind}
@@ -40,12 +41,13 @@ abbrev pub IsSource : Held → ℕ → Source → Type 0
 IsSource h file (Draft handle opened) = IsLast h file handle opened
 IsSource h file (Version number) = IsHeldAlone h file number
 
--- what the files need to make it
+-- what the files need to make it, and the sums to have it
 pub record IsReady (h : Held) (now file : ℕ) (source : Source) : Type 0 where
   pub is : IsSource h file source
   pub few : length h.versions + length h.drafts ≤ 2 ^ 50
   pub numbered : AllByRecursion (λ row. row.next < 2 ^ 62) h.files
   pub past : AllByRecursion (IsPast now) h.versions
+  pub short : length (content_of (source_cells h file source)) ≤ longest_content
 
 -- what the queue needs to follow: a world that is well formed, or is but for the names of the file
 abbrev pub Grows : Rows → ℕ → Source → Type 0

@@ -1,7 +1,7 @@
 //! A version that a file gets: where its content comes from, the keys that come with it, and what it uses.
 ghost use Rattle.std.specs.Prelude.{◌≡◌, ◌≤◌, ◌<◌, ◌+◌, ◌-◌, ◌^◌, ◌||◌, true, false, Some, None, IfOk, OnOk, OnErr, is_some, length, option_and_then};
 ghost use Rattle.std.specs.Option.{option_map};
-ghost use Rattle.ele_content.specs.Content.{content_of, longest_content};
+ghost use Rattle.ele_content.specs.Content.{content_of};
 ghost use Rattle.ele_due.specs.declared.key.Key.{Key};
 ghost use Rattle.ele_due.specs.HasKey.{has_key};
 ghost use Rattle.ele_files.specs.Held.{Became};
@@ -21,7 +21,7 @@ ghost use Rattle.ele_state.specs.Tracked.{IsBooked};
 use crate::book::{blocks, one_version, settle_blocks};
 use crate::keys::{KeyChange, floor_in, near_moment, new_key, put_changed, take_back};
 use crate::rows::Rows;
-use ele_files::{Files, Meter, Standing};
+use ele_files::{Files, Meter, NewVersion, Standing};
 use ele_groups::Groups;
 use ele_policy::Policy;
 use ele_world::{FileId, Handle, Moment, NoMemory, Stamps, VersionNo};
@@ -155,7 +155,7 @@ pub fn new_keys(
     ]
 }
 
-// The file's next version stands in the files.
+// The file's next version stands in the files. The answer is its number and its length.
 fn put_version(
     files: &mut Files,
     file: FileId,
@@ -163,10 +163,12 @@ fn put_version(
     now: Moment,
     is_live: bool,
     meter: &mut Meter,
-) -> Result<VersionNo, NoMemory>
+) -> Result<NewVersion, NoMemory>
     requires ready { IsReady files.old now file source }
     requires meter { meter.old < 2 ^ 61 }
-    ensures number { IfOk result (λ number. number ≡ next_of files.old.files file) }
+    ensures number { IfOk result (λ made. made.number ≡ next_of files.old.files file) }
+    ensures length { IfOk result
+        (λ made. made.length ≡ length (content_of (source_cells files.old file source))) }
     ensures ok { OnOk result
         (Became files.old now file is_live (appending files.old now file source) files.new) }
     ensures err { OnErr result (files.new ≡ files.old) }
@@ -177,8 +179,8 @@ fn put_version(
     }
 }
 
-// The file, which stands so, has its next version, of so many bytes, which closes now, and the version before it ends; the keys,
-// none of which was there, come with it. Where memory is refused, all is as it was.
+// The file, which stands so, has its next version, which closes now, and the version before it ends; the keys, none of which was
+// there, come with it. Where memory is refused, all is as it was.
 #[tactic(auto, using(crate::proofs::Words::nat_tests, crate::proofs::Appended::refused, crate::proofs::Appended::taken_back))]
 pub fn append_with(
     rows: &mut Rows,
@@ -186,7 +188,6 @@ pub fn append_with(
     standing: &Standing,
     changes: &[KeyChange],
     source: Source,
-    bytes: u64,
 ) -> Result<VersionNo, NoMemory>
     requires booked { IsBooked rows.old.files rows.old.book }
     requires absent { (k : Key) → comes changes.now k ≡ true → has_key k rows.old.queue ≡ false }
@@ -194,8 +195,6 @@ pub fn append_with(
     requires there { 0 < next_of rows.old.files.files file }
     requires stands { Stands rows.old.files file standing.now }
     requires ready { IsReady rows.old.files rows.old.moment file source }
-    requires bytes { bytes ≡ length (content_of (source_cells rows.old.files file source)) }
-    requires short { bytes ≤ longest_content }
     requires meter { rows.old.meter < 2 ^ 61 }
     ensures number { IfOk result (λ number. number ≡ next_of rows.old.files.files file) }
     ensures ok { OnOk result (world_of rows.new ≡ after_changes (world_of rows.old)
@@ -215,18 +214,18 @@ pub fn append_with(
     let before = blocks(&rows.files);
     // All keys come before the version does, so that one that is refused is still without trace.
     put_changed(&mut rows.queue, changes)?;
-    let made = put_version(&mut rows.files, file, source, now, is_live, &mut rows.meter);
-    let number = match made {
-        Ok(number) => number,
+    let put = put_version(&mut rows.files, file, source, now, is_live, &mut rows.meter);
+    let made = match put {
+        Ok(made) => made,
         Err(refused) => {
             take_back(&mut rows.queue, changes);
             return Err(refused);
         }
     };
-    rows.book.add(kind, one_version(bytes));
+    rows.book.add(kind, one_version(made.length));
     settle_blocks(&mut rows.book, &rows.files, kind, before);
     rows.made.versions += 1;
-    Ok(number)
+    Ok(made.number)
 }
 
 // The same, with the keys that the rows tell, so that the queue follows.
@@ -236,15 +235,12 @@ pub fn append(
     file: FileId,
     standing: &Standing,
     source: Source,
-    bytes: u64,
 ) -> Result<VersionNo, NoMemory>
     requires tracked { IsTracked rows.old }
     requires roomy { IsRoomy rows.old }
     requires there { 0 < next_of rows.old.files.files file }
     requires stands { Stands rows.old.files file standing.now }
     requires source { HasSource rows.old file source }
-    requires bytes { bytes ≡ length (content_of (source_cells rows.old.files file source)) }
-    requires short { bytes ≤ longest_content }
     requires meter { rows.old.meter < 2 ^ 60 }
     ensures number { IfOk result (λ number. number ≡ next_of rows.old.files.files file) }
     ensures ok { OnOk result (world_of rows.new ≡ after_changes (world_of rows.old)
@@ -263,5 +259,5 @@ pub fn append(
         is_live,
         &mut rows.meter,
     );
-    append_with(rows, file, standing, &changes, source, bytes)
+    append_with(rows, file, standing, &changes, source)
 }

@@ -1,9 +1,8 @@
 //! How the book of usage follows the files.
-ghost use Rattle.std.specs.Prelude.{IsTrue, ◌≡◌, ◌<◌, ◌≤◌, ◌-◌, ◌^◌};
+ghost use Rattle.std.specs.Prelude.{IsTrue, ◌≡◌, ◌<◌, ◌-◌, ◌^◌};
 ghost use Rattle.ele_policy.specs.declared.policy.Kind.{Kind};
 ghost use Rattle.ele_usage.specs.Book.{sums_of};
 ghost use Rattle.ele_usage.specs.Sums.{plus, Fits, IsWithin};
-ghost use Rattle.ele_usage.specs.OnlyAt.{only_at};
 ghost use Rattle.ele_state.specs.Tracked.{blocks_of, only_blocks, one_version, of_file, IsOwed, IsOwedBy, IsBooked};
 ghost use Rattle.ele_world.specs.Usage.{is_file_of};
 
@@ -17,24 +16,8 @@ fn only_blocks(blocks: u64) -> Usage
     ensures { result ≡ only_blocks blocks }
 {
     Usage {
-        files: 0,
-        versions: 0,
-        bytes: 0,
         blocks,
-    }
-}
-
-// The kind has that many blocks now, where it had so many before.
-fn shift_blocks(book: &mut UsageBook, kind: Kind, before: u64, after: u64)
-    requires fits { Fits (plus (sums_of book.old kind) (only_blocks (after - before))) }
-    requires there { before - after ≤ (sums_of book.old kind).blocks }
-    ensures { (k : Kind) → plus (sums_of book.new k) (only_at kind (only_blocks before) k)
-        ≡ plus (sums_of book.old k) (only_at kind (only_blocks after) k) }
-{
-    if after >= before {
-        book.add(kind, only_blocks(after - before));
-    } else {
-        book.sub(kind, only_blocks(before - after));
+        ..Usage::default()
     }
 }
 
@@ -55,14 +38,18 @@ pub fn blocks_fit(files: &Files)
 
 // The book follows a change of a file with a policy of that kind, where all files had so many blocks before: one event changes
 // the blocks of one file, so what came or went is this file's.
-#[tactic(auto, using(crate::proofs::Booked::shift_fits, crate::proofs::Booked::shift_there, crate::proofs::Booked::shifted))]
+#[tactic(auto, using(crate::proofs::Booked::shift_fits, crate::proofs::Booked::shift_there))]
 pub fn settle_blocks(book: &mut UsageBook, files: &Files, kind: Kind, before: u64)
     requires owed { IsOwedBy files.now book.old kind before }
     requires fits { (k : Kind) → Fits (record (sums_of book.old k) { blocks = 0 }) }
     ensures { IsBooked files.now book.new }
 {
     let after = blocks(files);
-    shift_blocks(book, kind, before, after);
+    if after >= before {
+        book.add(kind, only_blocks(after - before));
+    } else {
+        book.sub(kind, only_blocks(before - after));
+    }
 }
 
 // The same for a file by its number; where it isn't there, nothing came or went.
@@ -82,10 +69,9 @@ pub fn one_version(bytes: u64) -> Usage
     ensures { result ≡ one_version bytes }
 {
     Usage {
-        files: 0,
         versions: 1,
         bytes,
-        blocks: 0,
+        ..Usage::default()
     }
 }
 

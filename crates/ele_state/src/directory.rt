@@ -11,6 +11,7 @@ ghost use Rattle.ele_state.specs.Home.{IsHome};
 
 use crate::State;
 use ele_lists::place_of;
+use ele_names::Found;
 use ele_policy::{Floor, Interval, Policy};
 use ele_world::{DirId, DirectoryRow, Name, NoMemory, Target};
 
@@ -108,10 +109,12 @@ impl State {
     }
 
     /// The name of a directory dies, in which no name is live.
-    pub fn end_name(&mut self, directory: DirId, name: &Name)
+    pub fn end_name(&mut self, directory: DirId, name: &Name, found: &Found)
         requires { MayEnd self.old.world directory name.now }
         ensures { self.new.world ≡ after_change self.old.world (EndName directory name.now) }
     {
-        self.rows.names.kill(directory, name, self.rows.moment);
+        self.rows
+            .names
+            .kill(directory, name, found, self.rows.moment);
     }
 }

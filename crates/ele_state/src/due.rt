@@ -1,14 +1,12 @@
 //! The versions that are due, and what the files use.
 ghost use Rattle.std.specs.Prelude.{◌≡◌, IfOk};
 ghost use Rattle.ele_due.specs.Key.{is_ripe_by};
-ghost use Rattle.ele_world.specs.Due.{is_due, ripe_at};
+ghost use Rattle.ele_world.specs.Due.{is_due};
 ghost use Rattle.ele_world.specs.Scan.{scan, first_due};
 ghost use Rattle.ele_world.specs.Usage.{usages};
-ghost use Rattle.ele_state.specs.Inside.{world_of, IsSound};
 
 use crate::State;
 use crate::keys::free_moment;
-use crate::rows::Rows;
 use ele_files::Meter;
 use ele_usage::Usage;
 use ele_world::{FileId, Key, KeyList, ListOf, Moment, NoMemory, VersionNo};
@@ -20,36 +18,25 @@ fn is_ripe(key: &Key, now: Moment) -> bool
     key.ripe <= now
 }
 
-// The moment from which on the version is due; none where it isn't held, where a handle reads it, or where it is never due.
-#[tactic(auto, using(crate::proofs::Asked::ripe_told))]
-fn ripe_moment(rows: &Rows, file: FileId, number: VersionNo) -> Option<Moment>
-    requires { IsSound rows.now }
-    ensures { result ≡ ripe_at (world_of rows.now) file number }
-{
-    if rows.files.is_open(file, number) {
-        return None;
-    }
-    free_moment(
-        &rows.files,
-        &rows.groups,
-        rows.names.is_live(file),
-        file,
-        number,
-        &mut Meter::new(),
-    )
-}
-
 impl State {
     /// Whether the version is held and due now.
-    #[tactic(auto, using(crate::proofs::Asked::due_by_key))]
+    #[tactic(auto, using(crate::proofs::Words::nat_tests, crate::proofs::Asked::due_by_key, crate::proofs::Asked::ripe_told))]
     pub fn is_due(&self, file: FileId, number: VersionNo) -> bool
         ensures { result ≡ is_due self.now.world file number }
     {
-        let Some(ripe) = ripe_moment(&self.rows, file, number) else {
+        let rows = &self.rows;
+        if rows.files.is_open(file, number) {
             return false;
-        };
-        let key = Key { ripe, file, number };
-        is_ripe(&key, self.rows.moment) && self.rows.queue.holds(&key)
+        }
+        let is_live = rows.names.is_live(file);
+        let meter = &mut Meter::new();
+        match free_moment(&rows.files, &rows.groups, is_live, file, number, meter) {
+            Some(ripe) => {
+                let key = Key { ripe, file, number };
+                is_ripe(&key, rows.moment) && rows.queue.holds(&key)
+            }
+            None => false,
+        }
     }
 
     /// The keys of the versions that are due now, in the order in which they are removed.

@@ -1,6 +1,5 @@
 //! Files that are made, and the drop of one of which nothing is left.
 ghost use Rattle.std.specs.Prelude.{◌≡◌, ◌<◌, ◌+◌, IfOk, OnErr, is_some, false};
-ghost use Rattle.std.specs.List.{list_any};
 ghost use Rattle.ele_world.specs.Change.{DropIdle, MakeFile, after_change};
 ghost use Rattle.ele_world.specs.Step.{versions_made};
 ghost use Rattle.ele_world.specs.Walk.{live_target};

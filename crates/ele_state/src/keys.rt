@@ -1,16 +1,16 @@
 //! How the queue of keys follows the files: keys come and go by the version that they are of.
-ghost use Rattle.std.specs.Prelude.{◌≡◌, ◌++◌, ◌<◌, ◌≤◌, ◌+◌, ◌^◌, ◌||◌, ◌&&◌, not, false, true, Some, None, OnOk, OnErr};
+ghost use Rattle.std.specs.Prelude.{◌≡◌, ◌++◌, ◌<◌, ◌≤◌, ◌+◌, ◌-◌, ◌^◌, ◌||◌, ◌&&◌, not, Some, None, OnOk, OnErr};
 ghost use Rattle.ele_due.specs.declared.key.Key.{Key};
 ghost use Rattle.ele_due.specs.HasKey.{has_key};
 ghost use Rattle.ele_world.specs.Cover.{cover_of};
 ghost use Rattle.ele_world.specs.Neighbours.{floor_in, free_moment, near_moment};
-ghost use Rattle.ele_state.specs.Queued.{IsRekeyed, comes, goes, if_changed, is_entry};
+ghost use Rattle.ele_state.specs.Queued.{IsRekeyed, comes, goes, if_changed, unmarked_moment};
 
 use ele_due::DueQueue;
 use ele_files::{Files, Meter};
 use ele_groups::Groups;
 use ele_policy::{Policy, ripe};
-use ele_world::{FileId, Key, Moment, NoMemory, VersionNo};
+use ele_world::{FileId, Key, Moment, NoMemory, Stamps, VersionNo};
 
 // Puts in the key of the version with that moment, if there is one.
 pub fn put(
@@ -58,12 +58,14 @@ pub fn new_key(file: FileId, number: VersionNo, moment: Option<Moment>) -> KeyCh
     }
 }
 
-// Adds the change of a version's moment, if it changes.
-pub fn add_change(changes: &mut Vec<KeyChange>, change: KeyChange) -> Result<(), NoMemory>
+// Adds the change, if there is one, and the moment is another.
+pub fn add_change(changes: &mut Vec<KeyChange>, change: Option<KeyChange>) -> Result<(), NoMemory>
     ensures { OnOk result (changes.new.items ≡ changes.old.items ++ if_changed change) }
 {
-    if change.was != change.is {
-        changes.push(change)?;
+    if let Some(change) = change {
+        if change.was != change.is {
+            changes.push(change)?;
+        }
     }
     Ok(())
 }
@@ -102,13 +104,6 @@ pub fn settle(queue: &mut DueQueue, changes: &[KeyChange])
     }
 }
 
-// A policy, and the floor that is in force under it.
-#[derive(Clone, Copy)]
-pub struct Rule {
-    pub policy: Policy,
-    pub floor: u64,
-}
-
 // The floor that is in force under the policy in a file that is live or not.
 pub fn floor_in(policy: &Policy, is_live: bool) -> u64
     ensures { result ≡ floor_in (Some policy.now) is_live }
@@ -136,6 +131,28 @@ pub fn near_moment(
     groups.cover(file, closed, Some(ended)).ripe_past(ripe)
 }
 
+// When the file's version of these stamps ripens, which ended then, in a file that is live or not, where no mark keeps it and no handle
+// reads it; none where it has too few newer ones, or is never due.
+pub fn unmarked_moment(
+    files: &Files,
+    is_live: bool,
+    file: FileId,
+    stamps: &Stamps,
+    ended: Moment,
+    meter: &mut Meter,
+) -> Option<Moment>
+    requires { meter.old < 2 ^ 60 - 1 }
+    ensures moment { result ≡ unmarked_moment files.now is_live file stamps.now.number
+        stamps.now.closed ended }
+    ensures read { meter.new ≤ meter.old + 2 }
+{
+    let number = stamps.number;
+    let policy = files.policy_of(file)?;
+    let floor_met = files.has_newer(file, number, floor_in(&policy, is_live), meter);
+    let next_closed = files.next_closing(file, number, meter);
+    ripe(&policy, stamps.closed, ended, next_closed, floor_met)
+}
+
 // The ripe moment that the version has while no handle reads it, in a file that is live or not; none where it isn't held, has no
 // end, is marked for ever, has too few newer ones, or is never due.
 pub fn free_moment(
@@ -151,19 +168,9 @@ pub fn free_moment(
         ≡ free_moment groups.now files.now.files is_live files.now.versions file number }
     ensures read { meter.new ≤ meter.old + 3 }
 {
-    let policy = files.policy_of(file)?;
     let stamps = files.stamps(file, number, meter)?;
     let ended = stamps.ended?;
-    let floor_met = files.has_newer(file, number, floor_in(&policy, is_live), meter);
-    let next_closed = files.next_closing(file, number, meter);
-    let closed = stamps.closed;
-    near_moment(
-        groups,
-        file,
-        &policy,
-        &next_closed,
-        floor_met,
-        closed,
-        ended,
-    )
+    let ripe = unmarked_moment(files, is_live, file, &stamps, ended, meter)?;
+    let cover = groups.cover(file, stamps.closed, Some(ended));
+    cover.ripe_past(ripe)
 }

@@ -1,24 +1,26 @@
 //! Changes of groups, and the moments of versions that were current at their marks.
-ghost use Rattle.std.specs.Prelude.{◌≡◌, ◌++◌, IfOk, OnOk, OnErr, Some, false, true};
-ghost use Rattle.std.specs.List.{AllByRecursion, flat_map};
+ghost use Rattle.std.specs.Prelude.{◌≡◌, ◌==◌, ◌∷◌, [], IfOk, OnOk, OnErr, Some, false, true};
+ghost use Rattle.std.specs.List.{list_any};
+ghost use Rattle.std.specs.Option.{option_map_or};
 ghost use Rattle.std.specs.Str.{bytes_eq};
 ghost use Rattle.ele_lists.specs.Lists.{AllLater};
+ghost use Rattle.ele_world.proofs.GroupMoments.{is_touched};
 ghost use Rattle.ele_world.specs.Bounds.{AreBounds};
 ghost use Rattle.ele_world.specs.Change.{after_change};
-ghost use Rattle.ele_world.specs.Cover.{cover_of};
-ghost use Rattle.ele_world.specs.GroupRows.{has_member};
-ghost use Rattle.ele_world.specs.GroupsAsked.{cover_without};
+ghost use Rattle.ele_world.specs.Cover.{cover_by, cover_of, longer};
+ghost use Rattle.ele_world.specs.Due.{ripe_at};
+ghost use Rattle.ele_world.specs.GroupRows.{group_named};
 ghost use Rattle.ele_world.specs.May.{May};
 ghost use Rattle.ele_world.specs.World.{is_live};
+ghost use Rattle.ele_world.specs.declared.cover.Cover.TheVariants.{Free};
 ghost use Rattle.ele_state.specs.Inside.{world_of, IsSound, IsTracked};
-ghost use Rattle.ele_state.specs.Queued.{HasLeaving, IsIn, change_at, change_by, change_of, changes_by, cover_after, files_of, moments_of, unmarked_moment};
+ghost use Rattle.ele_state.specs.Queued.{AreChanges, HasLeaving, change_of, cover_after, files_of, if_changed, moments_by, moments_of};
 
-use crate::keys::{KeyChange, add_change, floor_in, put_changed, settle, take_back};
+use crate::keys::{KeyChange, add_change, put_changed, settle, take_back, unmarked_moment};
 use crate::rows::Rows;
-use ele_files::{Files, Meter};
+use ele_files::Meter;
 use ele_groups::Groups;
-use ele_policy::ripe;
-use ele_world::{Cover, FileId, MarkRow, Moment, Name, NoMemory, Stamps};
+use ele_world::{Cover, FileId, MarkRow, Moment, Name, NoMemory};
 
 // A change of the group of that name, by which marks keep versions for longer, or less long.
 #[derive(Clone, Copy)]
@@ -30,157 +32,90 @@ pub enum GroupChange {
     Dropped(Name),
 }
 
-// For how long marks keep a version, as groups stand and once they have changed.
-#[derive(Clone, Copy)]
-struct Covers {
-    was: Cover,
-    is: Cover,
-}
-
-// Where that mark of the group leaves, or all its marks do. What the others keep is asked first, since nothing is kept for longer
-// than for ever; and what leaves is asked of the group alone.
-#[tactic(auto, using(crate::proofs::Left::longer_again, crate::proofs::Left::always_again))]
-fn covers_without(
-    groups: &Groups,
-    name: &Name,
-    mark: Option<Moment>,
-    file: FileId,
-    closed: Moment,
-    ended: Moment,
-) -> Covers
-    requires named { AllLater
-        (λ earlier later. bytes_eq earlier.name later.name ≡ false) groups.now }
-    requires member { has_member groups.now name.now file ≡ true }
-    ensures was { result.was ≡ cover_of groups.now file closed (Some ended) }
-    ensures is { result.is ≡ cover_without groups.now name.now mark file closed (Some ended) }
+// For how long the group of that name keeps, or the rest; nothing is kept for longer than for ever, so then the group isn't asked.
+fn with_group(groups: &Groups, name: &Name, rest: &Cover, closed: Moment, ended: Moment) -> Cover
+    ensures { result ≡ longer (option_map_or (λ row. cover_by closed (Some ended) row.marks)
+        (group_named groups.now name.now) Free) rest.now }
 {
-    let is = &groups.cover_without(name, mark, file, closed, Some(ended));
-    if let Cover::Always = is {
-        return Covers {
-            was: Cover::Always,
-            is: Cover::Always,
-        };
-    }
-    let of_group = groups.cover_by_group(name, closed, Some(ended));
-    Covers {
-        was: of_group.longer(*is),
-        is: *is,
+    match rest {
+        Cover::Always => Cover::Always,
+        _ => {
+            let of_group = groups.cover_by_group(name, closed, Some(ended));
+            of_group.longer(*rest)
+        }
     }
 }
 
-// For how long marks keep a version of the file that closed and ended then.
-fn covers_after(
+// For how long marks keep a version of the file that closed and ended then, as groups stand and once they have changed. Where some
+// leave, what the others keep is asked of all the file's groups, and what leaves of the group alone.
+#[tactic(auto, using(crate::proofs::Words::nat_tests, crate::proofs::Left::longer_again, crate::proofs::Left::members_have))]
+fn covers(
     groups: &Groups,
     change: &GroupChange,
     file: FileId,
     closed: Moment,
     ended: Moment,
-) -> Covers
+) -> (Cover, Cover)
     requires named { AllLater
         (λ earlier later. bytes_eq earlier.name later.name ≡ false) groups.now }
-    requires member { IsIn change.now groups.now file }
-    ensures was { result.was ≡ cover_of groups.now file closed (Some ended) }
-    ensures is { result.is ≡ cover_after change.now groups.now file closed (Some ended) }
+    requires leaving { HasLeaving change.now groups.now }
+    requires member { list_any (λ member. member == file) (files_of change.now groups.now) ≡ true }
+    ensures was { result.0 ≡ cover_of groups.now file closed (Some ended) }
+    ensures is { result.1 ≡ cover_after change.now groups.now file closed (Some ended) }
 {
     match change {
         GroupChange::Marked(_, mark) => {
             let was = &groups.cover(file, closed, Some(ended));
-            let is = Cover::until(mark.until).longer(*was);
-            Covers { was: *was, is }
+            (*was, Cover::until(mark.until).longer(*was))
         }
         GroupChange::Joined(name, _) => {
             let was = &groups.cover(file, closed, Some(ended));
-            let of_group = groups.cover_by_group(name, closed, Some(ended));
-            Covers {
-                was: *was,
-                is: of_group.longer(*was),
-            }
+            (*was, with_group(groups, name, was, closed, ended))
         }
         GroupChange::Unmarked(name, mark) => {
-            covers_without(groups, name, Some(*mark), file, closed, ended)
+            let is = &groups.cover_without(name, Some(*mark), file, closed, Some(ended));
+            (with_group(groups, name, is, closed, ended), *is)
         }
-        GroupChange::Left(name, _) => { covers_without(groups, name, None, file, closed, ended) }
-        GroupChange::Dropped(name) => { covers_without(groups, name, None, file, closed, ended) }
+        GroupChange::Left(name, _) | GroupChange::Dropped(name) => {
+            let is = &groups.cover_without(name, None, file, closed, Some(ended));
+            (with_group(groups, name, is, closed, ended), *is)
+        }
     }
 }
 
-// The ripe moment that the version of these stamps of the file, which is live or not and ended then, has where no mark keeps it; none
-// where a handle reads it, or where it is never due.
-fn unmarked_moment(
-    files: &Files,
-    is_live: bool,
+// How the moment changes of the file's version that was current at the mark, in a file that is live or not; none where it doesn't.
+// Where marks keep it for as long, nothing else is asked.
+fn change_at(
+    rows: &Rows,
+    change: &GroupChange,
+    live: bool,
     file: FileId,
-    stamps: &Stamps,
-    ended: Moment,
-) -> Option<Moment>
-    ensures { result ≡ unmarked_moment files.now is_live file stamps.now.number
-        stamps.now.closed ended }
+    mark: Moment,
+) -> Option<KeyChange>
+    requires sound { IsSound rows.now }
+    requires leaving { HasLeaving change.now rows.now.groups }
+    requires member { list_any (λ member. member == file) (files_of change.now rows.now.groups)
+        ≡ true }
+    requires live { live ≡ is_live (world_of rows.now) file }
+    ensures { AreChanges (is_touched (file ∷ []) (mark ∷ []) rows.now.files.versions)
+        (ripe_at (world_of rows.now))
+        (moments_by (world_of rows.now) (cover_after change.now rows.now.groups))
+        (if_changed result) }
 {
-    if files.is_open(file, stamps.number) {
+    let stamps = rows.files.version_at(file, mark, &mut Meter::new())?;
+    let ended = stamps.ended?;
+    let covers = &covers(&rows.groups, change, file, stamps.closed, ended);
+    if covers.0 == covers.1 || rows.files.is_open(file, stamps.number) {
         return None;
     }
-    let policy = files.policy_of(file)?;
-    let floor = floor_in(&policy, is_live);
-    let floor_met = files.has_newer(file, stamps.number, floor, &mut Meter::new());
-    let next_closed = files.next_closing(file, stamps.number, &mut Meter::new());
-    ripe(&policy, stamps.closed, ended, next_closed, floor_met)
-}
-
-// Adds how the moment of the version of these stamps changes. Where marks keep it for as long, nothing else is asked.
-fn add_change_of(
-    changes: &mut Vec<KeyChange>,
-    rows: &Rows,
-    change: &GroupChange,
-    is_live: bool,
-    file: FileId,
-    stamps: &Stamps,
-) -> Result<(), NoMemory>
-    requires sound { IsSound rows.now }
-    requires member { IsIn change.now rows.now.groups file }
-    ensures { OnOk result (changes.new.items ≡ changes.old.items
-        ++ change_at change.now rows.now.groups rows.now.files is_live file stamps.now.number
-        stamps.now.closed stamps.now.ended) }
-{
-    let Some(ended) = stamps.ended else {
-        return Ok(());
-    };
-    let covers = covers_after(&rows.groups, change, file, stamps.closed, ended);
-    if covers.was == covers.is {
-        return Ok(());
-    }
-    let Some(ripe) = unmarked_moment(&rows.files, is_live, file, stamps, ended) else {
-        return Ok(());
-    };
-    let change = KeyChange {
+    let meter = &mut Meter::new();
+    let ripe = unmarked_moment(&rows.files, live, file, &stamps, ended, meter)?;
+    Some(KeyChange {
         file,
         number: stamps.number,
-        was: covers.was.ripe_past(ripe),
-        is: covers.is.ripe_past(ripe),
-    };
-    add_change(changes, change)
-}
-
-// Adds how the moments change of the file's versions that were current at the marks.
-fn add_changes(
-    changes: &mut Vec<KeyChange>,
-    rows: &Rows,
-    change: &GroupChange,
-    file: FileId,
-    marks: &[Moment],
-) -> Result<(), NoMemory>
-    requires sound { IsSound rows.now }
-    requires member { IsIn change.now rows.now.groups file }
-    ensures { OnOk result (changes.new.items ≡ changes.old.items
-        ++ flat_map (change_by change.now rows.now.groups rows.now.files
-        (is_live (world_of rows.now) file) file) marks.now) }
-{
-    let is_live = rows.names.is_live(file);
-    for mark in marks {
-        if let Some(stamps) = rows.files.version_at(file, *mark, &mut Meter::new()) {
-            add_change_of(changes, rows, change, is_live, file, &stamps)?;
-        }
-    }
-    Ok(())
+        was: covers.0.ripe_past(ripe),
+        is: covers.1.ripe_past(ripe),
+    })
 }
 
 // How the moments change of the versions of these files that were current at these marks. One version may stand there more than
@@ -192,14 +127,18 @@ fn changes_by(
     marks: &[Moment],
 ) -> Result<Vec<KeyChange>, NoMemory>
     requires sound { IsSound rows.now }
-    requires members { AllByRecursion (IsIn change.now rows.now.groups) files.now }
-    ensures { IfOk result (λ changes. changes.items
-        ≡ changes_by change.now rows.now.groups rows.now.files (is_live (world_of rows.now))
-        files.now marks.now) }
+    requires leaving { HasLeaving change.now rows.now.groups }
+    requires files { files.now ≡ files_of change.now rows.now.groups }
+    ensures { IfOk result (λ changes. AreChanges
+        (is_touched files.now marks.now rows.now.files.versions) (ripe_at (world_of rows.now))
+        (moments_by (world_of rows.now) (cover_after change.now rows.now.groups)) changes.items) }
 {
     let mut changes = Vec::new(rows.alloc);
     for file in files {
-        add_changes(&mut changes, rows, change, *file, marks)?;
+        let live = rows.names.is_live(*file);
+        for mark in marks {
+            add_change(&mut changes, change_at(rows, change, live, *file, *mark))?;
+        }
     }
     Ok(changes)
 }

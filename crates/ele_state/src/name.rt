@@ -1,5 +1,5 @@
 //! Names that come, move and die.
-ghost use Rattle.std.specs.Prelude.{◌≡◌, ◌<◌, OnOk, OnErr, IfOk, IfSome, Some, is_some, false, not};
+ghost use Rattle.std.specs.Prelude.{◌≡◌, ◌<◌, OnOk, OnErr, IfOk, IfSome, None, Some, is_some, false, not};
 ghost use Rattle.std.specs.List.{count_by, list_any};
 ghost use Rattle.ele_world.specs.Change.{AddName, EndFileName, MoveName, after_change};
 ghost use Rattle.ele_world.specs.May.{MayHaveMore};
@@ -15,6 +15,7 @@ use crate::State;
 use crate::keys::put_changed;
 use crate::policy::freed;
 use crate::rows::Rows;
+use ele_names::Found;
 use ele_world::{DirId, FileId, ListOf, Moment, Name, NameList, NoMemory, Target};
 
 impl State {
@@ -43,10 +44,12 @@ impl State {
         Ok(ListOf::from_vec(names))
     }
 
-    /// What the newest name of this kind stood for, if that name is dead.
+    /// What the newest name of this kind stood for, if that name is dead. None is live then.
     pub fn last_dead(&self, directory: DirId, name: &Name) -> Option<Target>
         ensures value { result ≡ last_dead self.now.world.names directory name.now }
         ensures there { IfSome result (λ target. IsPresent self.now.world target) }
+        ensures free { IfSome result
+            (λ _. live_target self.now.world.names directory name.now ≡ None) }
     {
         self.rows.names.last_dead(directory, name)
     }
@@ -79,19 +82,23 @@ impl State {
         &mut self,
         from: &(DirId, Name),
         to: &(DirId, Name),
-        target: Target,
+        found: &Found,
     ) -> Result<(), NoMemory>
-        requires stands { live_target self.old.world.names from.now.0 from.now.1 ≡ Some target }
+        requires stands { live_target self.old.world.names from.now.0 from.now.1 ≡ Some found.now }
         requires home { IsHome self.old.world to.now.0 }
         requires free { is_some (live_target self.old.world.names to.now.0 to.now.1) ≡ false }
         requires room { self.old.world.made.names < self.old.world.limits.names }
         ensures ok { OnOk result (self.new.world ≡ after_change self.old.world
-            (MoveName from.now.0 from.now.1 to.now.0 to.now.1 target)) }
+            (MoveName from.now.0 from.now.1 to.now.0 to.now.1 found.now)) }
         ensures err { OnErr result (self.new.world ≡ self.old.world) }
     {
         // The new name comes first, since it may be refused memory.
-        self.rows.names.add(to.0, to.1, target, self.rows.moment)?;
-        self.rows.names.kill(from.0, &from.1, self.rows.moment);
+        self.rows
+            .names
+            .add(to.0, to.1, found.target(), self.rows.moment)?;
+        self.rows
+            .names
+            .kill(from.0, &from.1, found, self.rows.moment);
         self.rows.made.names += 1;
         Ok(())
     }
@@ -104,6 +111,7 @@ impl State {
         &mut self,
         directory: DirId,
         name: &Name,
+        found: &Found,
         file: FileId,
     ) -> Result<(), NoMemory>
         requires stands { live_target self.old.world.names directory name.now ≡ Some (File file) }
@@ -113,9 +121,11 @@ impl State {
         ensures err { OnErr result (self.new.world ≡ self.old.world) }
     {
         if self.rows.names.names_of(file) == 1 {
-            return end_last_name(&mut self.rows, directory, name, file);
+            return end_last_name(&mut self.rows, directory, name, found, file);
         }
-        self.rows.names.kill(directory, name, self.rows.moment);
+        self.rows
+            .names
+            .kill(directory, name, found, self.rows.moment);
         Ok(())
     }
 }
@@ -127,6 +137,7 @@ fn end_last_name(
     rows: &mut Rows,
     directory: DirId,
     name: &Name,
+    found: &Found,
     file: FileId,
 ) -> Result<(), NoMemory>
     requires sound { IsSound rows.old }
@@ -145,7 +156,7 @@ fn end_last_name(
     // The newest version ends, and is the current one.
     let changes = freed(rows, file, &policy, floor.max(1))?;
     put_changed(&mut rows.queue, &changes)?;
-    rows.names.kill(directory, name, rows.moment);
+    rows.names.kill(directory, name, found, rows.moment);
     rows.files.end_current(file, rows.moment, &mut rows.meter);
     Ok(())
 }

@@ -8,7 +8,7 @@ ghost use Rattle.ele_world.specs.World.{is_live, next_of};
 ghost use Rattle.ele_state.specs.Home.{IsHome};
 
 use crate::State;
-use ele_names::{resolve_at, resolve_now};
+use ele_names::{Found, resolve_at, resolve_now};
 use ele_world::{DirId, FileId, Name, Path, PathAt, Refusal, Tag, Target};
 
 /// The target, where it is a file. Refused: `IsDirectory`.
@@ -41,10 +41,26 @@ impl State {
         ele_names::parent_now(&self.rows.names, path)
     }
 
+    /// The directory that the path's last name stands in, and that name, where they are known for another path. Refused: as
+    /// `parent_now`.
+    #[tactic(auto, using(crate::proofs::Walked::parent_is_home))]
+    pub fn parent_beside(
+        &self,
+        path: &Path,
+        other: &Path,
+        known: &(DirId, Name),
+    ) -> Result<(DirId, Name), Refusal>
+        requires { parent_now self.now.world.names other.now ≡ Ok known.now }
+        ensures value { result ≡ parent_now self.now.world.names path.now }
+        ensures home { IfOk result (λ at. IsHome self.now.world at.0) }
+    {
+        ele_names::parent_beside(&self.rows.names, path, other, known)
+    }
+
     /// The directory that the path's last name stands in, that name, and what it stands for. It refuses as `parent_now`, and
     /// then as a walk of the whole path.
     #[tactic(auto, using(crate::proofs::NewNames::placed_stands))]
-    pub fn placed_now(&self, path: &Path) -> Result<(DirId, Name, Target), Refusal>
+    pub fn placed_now(&self, path: &Path) -> Result<(DirId, Name, Found), Refusal>
         ensures place { IfOk result
             (λ found. parent_now self.now.world.names path.now ≡ Ok (found.0, found.1)) }
         ensures leads { IfOk result

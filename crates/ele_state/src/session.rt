@@ -1,11 +1,10 @@
 //! Handles and drafts: what they read, and how they open, change and close.
-ghost use Rattle.std.specs.Prelude.{◌≡◌, ◌<◌, ◌≤◌, ◌+◌, ◌^◌, ◌∷◌, [], true, false, Some, None, Ok, IfOk, OnOk, OnErr, find, is_some, length};
+ghost use Rattle.std.specs.Prelude.{◌≡◌, ◌<◌, ◌≤◌, ◌+◌, ◌^◌, ◌∷◌, [], true, false, Some, None, Ok, IfOk, OnOk, OnErr, length};
 ghost use Rattle.ele_content.specs.Content.{content_of, longest_content};
 ghost use Rattle.ele_files.specs.Closing.{opening_by};
-ghost use Rattle.ele_files.specs.Held.{cells_of_draft};
 ghost use Rattle.ele_world.specs.Change.{OpenHandle, StartDraft, TruncateDraft, WriteDraft, after_change, after_changes};
 ghost use Rattle.ele_world.specs.Step.{cells_read, step, versions_made};
-ghost use Rattle.ele_world.specs.World.{file_by, has_draft, is_draft, is_held, next_of, reads_by};
+ghost use Rattle.ele_world.specs.World.{file_by, has_draft, is_held, next_of, reads_by};
 ghost use Rattle.ele_world.specs.declared.event.Event.TheVariants as event;
 ghost use Rattle.ele_world.specs.declared.reply.Reply.TheVariants.{Closed};
 ghost use Rattle.ele_world.specs.declared.rows.Reads.TheVariants.{Draft, Version};
@@ -17,7 +16,7 @@ use crate::book::{blocks, follow_blocks};
 use crate::file::drop_idle;
 use crate::keys::{free_moment, put, take};
 use crate::rows::Rows;
-use ele_files::{Files, Meter};
+use ele_files::Meter;
 use ele_world::{ByteList, FileId, Handle, Moment, NoMemory, Reads, Refusal, VersionNo};
 
 impl State {
@@ -163,18 +162,6 @@ impl State {
     }
 }
 
-// How many bytes the file's draft has; it has one.
-#[tactic(auto, using(crate::proofs::ClosedSteps::undrafted, crate::proofs::ClosedSteps::bytes_told))]
-fn draft_bytes(files: &Files, file: FileId) -> u64
-    requires { is_some (find (is_draft file) files.now.drafts) ≡ true }
-    ensures { result ≡ length (content_of (cells_of_draft files.now file)) }
-{
-    let Some(bytes) = files.draft_length(file) else {
-        unreachable!()
-    };
-    bytes
-}
-
 // The last handle of a changed draft is closed, which becomes the file's next version.
 #[tactic(auto, using(crate::proofs::ClosedSteps::numbered, crate::proofs::ClosedSteps::past, crate::proofs::ClosedSteps::writes_file))]
 fn finish(
@@ -192,9 +179,8 @@ fn finish(
     ensures err { OnErr result (world_of rows.new ≡ world_of rows.old) }
     ensures tracked { IsTracked rows.new }
 {
-    let bytes = draft_bytes(&rows.files, file);
     let standing = standing(&rows.files, file, &mut rows.meter);
-    let number = append(rows, file, &standing, Source::Draft(handle, opened), bytes)?;
+    let number = append(rows, file, &standing, Source::Draft(handle, opened))?;
     Ok(Some(number))
 }
 

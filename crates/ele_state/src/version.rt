@@ -1,10 +1,8 @@
 //! Versions that come again or go, and what is asked of them.
-ghost use Rattle.std.specs.Prelude.{◌≡◌, ◌+◌, ◌-◌, ◌≤◌, ◌<◌, ◌^◌, ◌∷◌, [], true, false, Some, IfOk, OnOk, OnErr, IsSome, find, filter, is_some, length, map, if◌then◌else◌};
+ghost use Rattle.std.specs.Prelude.{◌≡◌, ◌+◌, ◌-◌, ◌≤◌, ◌<◌, ◌^◌, ◌∷◌, [], true, false, Some, IfOk, OnOk, OnErr, find, filter, is_some, map};
 ghost use Rattle.std.specs.Option.{option_map};
 ghost use Rattle.std.specs.Result.{result_map_both};
-ghost use Rattle.ele_content.specs.Content.{content_of};
 ghost use Rattle.ele_due.specs.declared.key.Key.{Key};
-ghost use Rattle.ele_files.specs.Held.{cells_of_version};
 ghost use Rattle.ele_files.specs.Standing.{Stands};
 ghost use Rattle.ele_lists.specs.Lists.{AllLater, remove_first};
 ghost use Rattle.ele_policy.specs.FloorOf.{floor_of};
@@ -105,7 +103,7 @@ impl State {
     {
         let standing = standing(&self.rows.files, file, &mut self.rows.meter);
         let source = Source::Version(stamps.number);
-        append(&mut self.rows, file, &standing, source, stamps.length)
+        append(&mut self.rows, file, &standing, source)
     }
 
     /// A file without a live name and without a draft has a name again, and a version with the content of its last one; the
@@ -146,19 +144,6 @@ impl State {
         take_out(&mut self.rows, key);
         drop_idle(&mut self.rows, key.file);
     }
-}
-
-// How many bytes the version has; it is held.
-fn version_bytes(files: &Files, file: FileId, number: VersionNo, meter: &mut Meter) -> u64
-    requires held { IsSome (find (is_version file number) files.now.versions) }
-    requires meter { meter.old < 2 ^ 60 }
-    ensures length { result ≡ length (content_of (cells_of_version files.now file number)) }
-    ensures read { meter.new ≡ meter.old + 1 }
-{
-    let Some(stamps) = files.stamps(file, number, meter) else {
-        unreachable!()
-    };
-    stamps.length
 }
 
 // The keys that come with the version of a file that has a name again: with a floor none, since the version that with it has as many
@@ -207,7 +192,6 @@ fn revive_file(
 {
     let standing = standing(&rows.files, file, &mut rows.meter);
     let last = standing.next.before();
-    let bytes = version_bytes(&rows.files, file, last, &mut rows.meter);
     let keys = revived_keys(
         &rows.files,
         &rows.groups,
@@ -222,7 +206,7 @@ fn revive_file(
     // The name comes first: it can be taken back without memory.
     rows.names
         .add(directory, name, Target::File(file), rows.moment)?;
-    match append_with(rows, file, &standing, &keys, Source::Version(last), bytes) {
+    match append_with(rows, file, &standing, &keys, Source::Version(last)) {
         Ok(number) => {
             take_back(&mut rows.queue, &gone);
             rows.made.names += 1;

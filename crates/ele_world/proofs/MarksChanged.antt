@@ -55,7 +55,7 @@ rows_of rows name = option_map_or (λ row. row.marks) (group_named rows name) []
 
 module _ (q : MarkRow → Bool) where
   -- some mark passes of some group that has the file
-  abbrev is_over : List GroupRow → ℕ → Bool
+  abbrev pub is_over : List GroupRow → ℕ → Bool
   is_over rows file = list_any (λ row. is_member file row && list_any q row.marks) rows
 
   -- with a mark more
@@ -86,14 +86,14 @@ module _ (q : MarkRow → Bool) where
   -- ---- what is left out
 
   -- some mark passes of some group that has the file, those aside that are left out
-  abbrev is_rest : List GroupRow → List ℕ → Option ℕ → ℕ → Bool
+  abbrev pub is_rest : List GroupRow → List ℕ → Option ℕ → ℕ → Bool
   is_rest rows name left file = list_any (λ row. is_member file row && list_any q (marks_left name left row)) rows
 
   module _ (name : List ℕ) (file : ℕ) where
-    abbrev of_row : GroupRow → Bool
+    abbrev pub of_row : GroupRow → Bool
     of_row row = is_member file row && list_any q row.marks
 
-    abbrev of_rest : Option ℕ → GroupRow → Bool
+    abbrev pub of_rest : Option ℕ → GroupRow → Bool
     of_rest left row = is_member file row && list_any q (marks_left name left row)
 
     all_stand : (xs : List MarkRow) → filter (λ mark. not false) xs ≡ xs
@@ -101,10 +101,10 @@ module _ (q : MarkRow → Bool) where
     all_stand (x ∷ xs) = grind (arith, all_stand xs)
 
     -- of a group of another name nothing
-    others_count : (left : Option ℕ) (row : GroupRow) → is_group name row ≡ false → of_rest left row ≡ of_row row
+    pub others_count : (left : Option ℕ) (row : GroupRow) → is_group name row ≡ false → of_rest left row ≡ of_row row
     others_count left row other = rw other (rw (all_stand row.marks) refl)
 
-    behind : (left : Option ℕ) (row : GroupRow) (rows : List GroupRow) → is_group name row ≡ true → AllByRecursion (λ later. bytes_eq row.name later.name ≡ false) rows → list_any (of_rest left) rows ≡ list_any of_row rows
+    pub behind : (left : Option ℕ) (row : GroupRow) (rows : List GroupRow) → is_group name row ≡ true → AllByRecursion (λ later. bytes_eq row.name later.name ≡ false) rows → list_any (of_rest left) rows ≡ list_any of_row rows
     behind left row [] is apart = refl
     behind left row (x ∷ xs) is apart = grind (arith, nat_tests, others_count left x, bytes_eq-Decides, behind left row xs)
 
@@ -147,10 +147,10 @@ marked_more rows name file closed ended at mark = over_marked (keeps_at closed e
 
 module _ (file closed : ℕ) (ended : Option ℕ) where
   -- a cover is told by what its marks reach
-  told_over : (rows : List GroupRow) (d : Cover) → exceeds (cover_of rows file closed ended) d ≡ is_over (reaches closed ended d) rows file
+  pub told_over : (rows : List GroupRow) (d : Cover) → exceeds (cover_of rows file closed ended) d ≡ is_over (reaches closed ended d) rows file
   told_over rows d = exceeds_by closed ended d _ ∙ any_over (reaches closed ended d) (is_member file) (λ row. row.marks) rows
 
-  told_rest : (rows : List GroupRow) (name : List ℕ) (left : Option ℕ) (d : Cover) → exceeds (cover_without rows name left file closed ended) d ≡ is_rest (reaches closed ended d) rows name left file
+  pub told_rest : (rows : List GroupRow) (name : List ℕ) (left : Option ℕ) (d : Cover) → exceeds (cover_without rows name left file closed ended) d ≡ is_rest (reaches closed ended d) rows name left file
   told_rest rows name left d = exceeds_by closed ended d _ ∙ any_over (reaches closed ended d) (is_member file) (marks_left name left) rows
 
   -- marks of which none covers reach nothing

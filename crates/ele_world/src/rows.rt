@@ -91,7 +91,7 @@ pub struct DraftRow {
 }
 
 /// What is read through a handle.
-#[derive(Clone, Copy, Debug, PartialEq, Eq)]
+#[derive(Clone, Copy, Debug, PartialEq, Eq, Hash)]
 pub enum Reads {
     /// The file's draft, which the handle writes too.
     Draft(FileId),
@@ -104,6 +104,14 @@ pub enum Reads {
 pub struct HandleRow {
     pub number: Handle,
     pub reads: Reads,
+}
+
+impl Keyed for HandleRow {
+    ghost key = { λ row. row.number };
+
+    fn key(&self) -> u64 {
+        self.number.0
+    }
 }
 
 /// A mark of a group: the moment at which it was marked, and the moment at which the mark ends, if it does. It is in force

@@ -1,38 +1,17 @@
 //! What is asked of files, drafts and handles.
 //! A contract sees each answer as a look at the rows.
-ghost use Rattle.std.specs.Prelude.{◌≡◌, Ok, IfOk, length, find};
+ghost use Rattle.std.specs.Prelude.{◌≡◌, IfOk, length, find};
 ghost use Rattle.std.specs.List.{list_any};
 ghost use Rattle.std.specs.Option.{option_map};
 ghost use Rattle.ele_content.specs.Content.{content_of};
 ghost use Rattle.ele_files.specs.Held.{cells_of_draft};
-ghost use Rattle.ele_files.specs.Inside.{reads_in};
-ghost use Rattle.ele_world.specs.World.{policy_of, is_file, is_draft, is_open, reads_by, file_written, file_by};
+ghost use Rattle.ele_world.specs.World.{policy_of, is_file, is_draft, is_open, reads_by, file_by};
 
 use crate::files::{Files, file_of};
 use ele_lists::{ByteList, ListOf};
 use ele_moment::{FileId, Handle, NoMemory, VersionNo};
 use ele_policy::Policy;
 use ele_world::{Reads, Refusal};
-
-/// What a handle of the sessions reads, as its row says it.
-pub fn reads_in(reads: ele_sessions::Reads) -> Reads
-    ensures { result ≡ reads_in reads }
-{
-    match reads {
-        ele_sessions::Reads::Draft(file) => Reads::Draft(file),
-        ele_sessions::Reads::Version(file, number) => Reads::Version(file, number),
-    }
-}
-
-// The file that a handle writes that reads this. Refused: `NotWriter`, where that is a version.
-fn file_written(reads: Reads) -> Result<FileId, Refusal>
-    ensures { result ≡ file_written (Ok reads) }
-{
-    match reads {
-        Reads::Draft(file) => Ok(file),
-        Reads::Version(_, _) => Err(Refusal::NotWriter),
-    }
-}
 
 impl Files {
     /// The file's policy; none where there is no such file.
@@ -54,28 +33,20 @@ impl Files {
     }
 
     /// What is read through the handle. Refused: `NoHandle`, where no open handle has that number.
-    #[tactic(auto, using(std::proofs::lemmas::Bool::Decides::nat_tests, crate::proofs::Rows::reads_by_shown))]
     pub fn reads_by(&self, handle: Handle) -> Result<Reads, Refusal>
         ensures { result ≡ reads_by self.now.handles handle }
     {
-        match self.sessions.read(handle) {
-            Some(reads) => Ok(reads_in(reads)),
-            None => Err(Refusal::NoHandle),
-        }
+        self.sessions.reads_by(handle)
     }
 
     /// The file that is written through the handle. Refused: `NoHandle`, `NotWriter`.
     pub fn file_by(&self, handle: Handle) -> Result<FileId, Refusal>
         ensures { result ≡ file_by self.now.handles handle }
     {
-        match self.reads_by(handle) {
-            Ok(reads) => file_written(reads),
-            Err(refusal) => Err(refusal),
-        }
+        self.sessions.file_by(handle)
     }
 
     /// Whether the version is open: some handle reads it. This looks at no handle.
-    #[tactic(auto, using(std::proofs::lemmas::Bool::Decides::nat_tests, crate::proofs::Rows::open_shown))]
     pub fn is_open(&self, file: FileId, number: VersionNo) -> bool
         ensures { result ≡ is_open self.now.handles file number }
     {
@@ -102,16 +73,6 @@ impl Files {
         ensures { result ≡ list_any (is_draft file) self.now.drafts }
     {
         self.sessions.draft(file).is_some()
-    }
-
-    /// How many bytes the file's draft has; none where it has no draft.
-    #[tactic(auto, using(std::proofs::lemmas::Bool::Decides::nat_tests, crate::proofs::Rows::draft_found, crate::proofs::Stock::draft_lives))]
-    pub fn draft_length(&self, file: FileId) -> Option<u64>
-        ensures { result ≡ option_map (λ row. length (content_of row.cells))
-            (find (is_draft file) self.now.drafts) }
-    {
-        let map = self.sessions.draft(file)?;
-        Some(map.length())
     }
 
     /// The bytes of the file's draft; none where it has no draft.

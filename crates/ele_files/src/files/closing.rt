@@ -1,18 +1,20 @@
 //! The closing of a handle, which may make a version.
 //! A contract sees the rows of all files before and after.
-ghost use Rattle.std.specs.Prelude.{◌≡◌, ◌<◌, ◌≤◌, ◌+◌, ◌^◌, Some, Ok, OnOk, OnErr, IfOk};
+ghost use Rattle.std.specs.Prelude.{◌≡◌, ◌<◌, ◌≤◌, ◌+◌, ◌^◌, Some, Ok, OnOk, OnErr, IfOk, length};
 ghost use Rattle.std.specs.List.{AllByRecursion};
 ghost use Rattle.std.specs.Option.{ForSome, option_and_then};
 ghost use Rattle.ele_blocks.specs.LivesIn.{LivesIn};
+ghost use Rattle.ele_content.specs.Content.{content_of};
 ghost use Rattle.ele_files.specs.Appending.{IsGivenUp, opening_of};
 ghost use Rattle.ele_files.specs.Closing.{opening_by, left_by, finishing, IsPast};
-ghost use Rattle.ele_files.specs.Held.{Became};
+ghost use Rattle.ele_files.specs.Held.{Became, cells_of_draft};
 ghost use Rattle.ele_world.specs.World.{next_of, file_by};
 
+use crate::file::NewVersion;
 use crate::files::{Files, place_of};
 use ele_blocks::{BlockMap, BlockStore};
 use ele_inode_log::Meter;
-use ele_moment::{FileId, Handle, Moment, NoMemory, VersionNo};
+use ele_moment::{FileId, Handle, Moment, NoMemory};
 use ele_sessions::Closing;
 
 // When the draft was opened that the closing makes a version; none where it makes none.
@@ -71,7 +73,7 @@ impl Files {
     /// The handle goes, which is the last of a changed draft that was opened then, of a file that
     /// is there: the draft becomes the file's next version, and the version before that ends. The
     /// caller tells whether the file is live; where it isn't, the new version ends at once. The
-    /// answer is its number. Where memory is refused, all is as it was.
+    /// answer is its number and its length. Where memory is refused, all is as it was.
     #[tactic(auto, using(std::proofs::lemmas::Bool::Decides::nat_tests, crate::proofs::Closes::not_missing))]
     pub fn finish(
         &mut self,
@@ -81,13 +83,15 @@ impl Files {
         now: Moment,
         is_live: bool,
         meter: &mut Meter,
-    ) -> Result<VersionNo, NoMemory>
+    ) -> Result<NewVersion, NoMemory>
         requires file { file_by self.old.handles handle ≡ Ok file }
         requires changed { opening_by self.old handle ≡ Some opened }
         requires numbered { AllByRecursion (λ row. row.next < 2 ^ 62) self.old.files }
         requires past { AllByRecursion (IsPast now) self.old.versions }
         requires meter { meter.old < 2 ^ 62 }
-        ensures number { IfOk result (λ number. number ≡ next_of self.old.files file) }
+        ensures number { IfOk result (λ made. made.number ≡ next_of self.old.files file) }
+        ensures length { IfOk result
+            (λ made. made.length ≡ length (content_of (cells_of_draft self.old file))) }
         ensures ok { OnOk result (Became self.old now file is_live
             (finishing self.old handle file opened) self.new) }
         ensures err { OnErr result (self.new ≡ self.old) }

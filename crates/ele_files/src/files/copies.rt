@@ -9,7 +9,6 @@ ghost use Rattle.ele_files.specs.Inside.{IsFileKept, rows_in};
 
 use crate::file::File;
 use crate::files::Files;
-use crate::files::asking::reads_in;
 use ele_blocks::{BlockMap, BlockStore};
 use ele_lists::ListOf;
 use ele_moment::NoMemory;
@@ -72,13 +71,7 @@ impl Files {
     pub fn handle_rows(&self) -> Result<ListOf<HandleRow>, NoMemory>
         ensures { IfOk result (λ rows. rows ≡ self.now.handles) }
     {
-        let mut rows = Vec::with_capacity(self.alloc, self.sessions.handles().len())?;
-        for handle in self.sessions.handles() {
-            rows.push(HandleRow {
-                number: handle.number,
-                reads: reads_in(handle.reads),
-            })?;
-        }
+        let rows = Vec::from_slice(self.alloc, self.sessions.handles())?;
         Ok(ListOf::from_vec(rows))
     }
 }

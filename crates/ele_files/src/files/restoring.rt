@@ -2,11 +2,13 @@
 //! A contract sees the rows of all files before and after.
 ghost use Rattle.std.specs.Prelude.{◌≡◌, ◌<◌, ◌≤◌, ◌+◌, ◌^◌, false, [], ◌∷◌, IfOk, IsSome, OnOk, OnErr, find, length};
 ghost use Rattle.std.specs.List.{AllByRecursion, list_any};
+ghost use Rattle.ele_content.specs.Content.{content_of};
 ghost use Rattle.ele_files.specs.Closing.{IsPast};
 ghost use Rattle.ele_files.specs.Held.{Became, cells_of_version, current_ended};
 ghost use Rattle.ele_world.specs.Change.{Append};
 ghost use Rattle.ele_world.specs.World.{is_draft, is_version, next_of};
 
+use crate::file::NewVersion;
 use crate::files::{Files, place_of};
 use ele_inode_log::Meter;
 use ele_moment::{FileId, Moment, NoMemory, VersionNo};
@@ -30,7 +32,7 @@ impl Files {
     /// The held version of that number comes again as the file's next version, which opens and
     /// closes now, and the version before that ends. No draft of the file is there. The caller
     /// tells whether the file is live; where it isn't, the new version ends at once. The answer is
-    /// its number. Where memory is refused, all is as it was.
+    /// its number and its length. Where memory is refused, all is as it was.
     #[tactic(auto, using(std::proofs::lemmas::Bool::Decides::nat_tests, crate::proofs::Openings::maps_seen, crate::proofs::Appends::lives, crate::proofs::Appends::not_missing, crate::proofs::Appends::not_lost))]
     pub fn restore(
         &mut self,
@@ -39,14 +41,16 @@ impl Files {
         now: Moment,
         is_live: bool,
         meter: &mut Meter,
-    ) -> Result<VersionNo, NoMemory>
+    ) -> Result<NewVersion, NoMemory>
         requires held { IsSome (find (is_version file number) self.old.versions) }
         requires undrafted { list_any (is_draft file) self.old.drafts ≡ false }
         requires few { length self.old.versions + length self.old.drafts ≤ 2 ^ 50 }
         requires numbered { AllByRecursion (λ row. row.next < 2 ^ 62) self.old.files }
         requires past { AllByRecursion (IsPast now) self.old.versions }
         requires meter { meter.old < 2 ^ 61 }
-        ensures number { IfOk result (λ number. number ≡ next_of self.old.files file) }
+        ensures number { IfOk result (λ made. made.number ≡ next_of self.old.files file) }
+        ensures length { IfOk result
+            (λ made. made.length ≡ length (content_of (cells_of_version self.old file number))) }
         ensures ok { OnOk result (Became self.old now file is_live
             (Append file now (cells_of_version self.old file number) ∷ []) self.new) }
         ensures err { OnErr result (self.new ≡ self.old) }

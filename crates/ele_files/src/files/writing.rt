@@ -2,9 +2,10 @@
 //! A contract sees the list of drafts, in which one has other cells.
 ghost use Rattle.std.specs.Prelude.{◌≡◌, [], OnOk, OnErr, IfNone, IsOk, IsOkUnless, IsErrOf, IsSome, IsTrue};
 ghost use Rattle.std.specs.Option.{ForSome};
-ghost use Rattle.ele_files.specs.Held.{handle_file, file_or_fault, written_by, fitted, has_length};
-ghost use Rattle.ele_sessions.specs.Changes.{write_refusal_of, truncate_refusal_of};
-ghost use Rattle.ele_sessions.specs.declared.fault.SessionFault.TheVariants as SessionFault;
+ghost use Rattle.ele_files.specs.Held.{written_by, fitted, has_length};
+ghost use Rattle.ele_sessions.specs.Changes.{write_refusal, truncate_refusal};
+ghost use Rattle.ele_sessions.specs.Sessions.{handle_file};
+ghost use Rattle.ele_sessions.specs.declared.fault.SessionFault.TheVariants as fault;
 
 use crate::files::Files;
 use ele_moment::Handle;
@@ -12,17 +13,15 @@ use ele_sessions::SessionFault;
 
 impl Files {
     /// Writes the bytes from the offset on into the draft under the handle; zeros fill it up to the
-    /// offset where it ends before. No bytes change nothing. Faults, in this order: `NoHandle`,
-    /// `NotWriter` where it reads a version, `TooBig` where the bytes would end past 1,048,576,
-    /// `NoMemory`; a fault leaves all as it was.
-    #[tactic(auto, using(std::proofs::lemmas::Bool::Decides::nat_tests, crate::proofs::Stock::draft_lives, crate::proofs::Rows::fault_shown, crate::proofs::Rows::handle_file_shown, crate::proofs::Drafts::wrote))]
+    /// offset where it ends before. No bytes change nothing. Refused, in this order: `NoHandle`,
+    /// `NotWriter` where it reads a version, `TooBig` where the bytes would end past 1,048,576. A
+    /// fault leaves all as it was.
+    #[tactic(auto, using(std::proofs::lemmas::Bool::Decides::nat_tests, crate::proofs::Stock::draft_lives, crate::proofs::Drafts::wrote))]
     pub fn write(&mut self, handle: Handle, offset: u64, bytes: &[u8]) -> Result<(), SessionFault>
-        ensures refused { ForSome
-            (write_refusal_of (file_or_fault self.old.handles handle) offset bytes.now)
-            (λ fault. IsErrOf result fault) }
-        ensures otherwise { IfNone
-            (write_refusal_of (file_or_fault self.old.handles handle) offset bytes.now)
-            (IsOkUnless result SessionFault.NoMemory) }
+        ensures refused { ForSome (write_refusal self.old.handles handle offset bytes.now)
+            (λ refusal. IsErrOf result (fault.Refused refusal)) }
+        ensures otherwise { IfNone (write_refusal self.old.handles handle offset bytes.now)
+            (IsOkUnless result fault.NoMemory) }
         ensures idle { IsSome (handle_file self.old.handles handle)
             → bytes.now ≡ [] → IsOk result }
         ensures ok { OnOk result (self.new ≡ written_by self.old handle offset bytes.now) }
@@ -31,17 +30,15 @@ impl Files {
         self.sessions.write(&mut self.store, handle, offset, bytes)
     }
 
-    /// Makes the draft under the handle so many bytes long; one of that length stays. Faults, in
-    /// this order: `NoHandle`, `NotWriter` where it reads a version, `TooBig` for more than
-    /// 1,048,576 bytes, `NoMemory`; a fault leaves all as it was.
-    #[tactic(auto, using(std::proofs::lemmas::Bool::Decides::nat_tests, crate::proofs::Stock::draft_lives, crate::proofs::Rows::fault_shown, crate::proofs::Rows::handle_file_shown, crate::proofs::Drafts::length_is, crate::proofs::Rows::draft_found, crate::proofs::Drafts::cut))]
+    /// Makes the draft under the handle so many bytes long; one of that length stays. Refused,
+    /// in this order: `NoHandle`, `NotWriter` where it reads a version, `TooBig` for more than
+    /// 1,048,576 bytes. A fault leaves all as it was.
+    #[tactic(auto, using(std::proofs::lemmas::Bool::Decides::nat_tests, crate::proofs::Stock::draft_lives, crate::proofs::Drafts::length_is, crate::proofs::Rows::draft_found, crate::proofs::Drafts::cut))]
     pub fn truncate(&mut self, handle: Handle, size: u64) -> Result<(), SessionFault>
-        ensures refused { ForSome
-            (truncate_refusal_of (file_or_fault self.old.handles handle) size)
-            (λ fault. IsErrOf result fault) }
-        ensures otherwise { IfNone
-            (truncate_refusal_of (file_or_fault self.old.handles handle) size)
-            (IsOkUnless result SessionFault.NoMemory) }
+        ensures refused { ForSome (truncate_refusal self.old.handles handle size)
+            (λ refusal. IsErrOf result (fault.Refused refusal)) }
+        ensures otherwise { IfNone (truncate_refusal self.old.handles handle size)
+            (IsOkUnless result fault.NoMemory) }
         ensures idle { IsTrue (has_length self.old handle size) → IsOk result }
         ensures ok { OnOk result (self.new ≡ fitted self.old handle size) }
         ensures err { OnErr result (self.new ≡ self.old) }

@@ -1,20 +1,20 @@
 //! What is asked of the sessions.
 //! A contract sees each answer as a look-up in drafts or handles.
 ghost use Rattle.std.specs.Prelude.{◌≡◌, length, slice_get};
-ghost use Rattle.std.specs.List.{list_any};
 ghost use Rattle.std.specs.Option.{option_map, option_copied};
 ghost use Rattle.ele_sessions.specs.Closes.{closing};
 ghost use Rattle.ele_sessions.specs.Orderly.{AreOrderly};
-ghost use Rattle.ele_sessions.specs.Sessions.{reads_by, is_reader, draft_of};
+ghost use Rattle.ele_sessions.specs.Sessions.{draft_of};
+ghost use Rattle.ele_world.specs.World.{file_by, is_open, reads_by};
 
 use crate::closing::Closing;
 use crate::draft::Draft;
-use crate::entries::{OpenHandle, place_of, reads_by};
+use crate::entries::{file_by, place_of, reads_by};
 use crate::leaving::peek;
-use crate::reads::Reads;
 use crate::sessions::Sessions;
 use ele_blocks::BlockMap;
 use ele_moment::{FileId, Handle, Moment, VersionNo};
+use ele_world::{HandleRow, Reads, Refusal};
 
 impl Sessions {
     /// How many handles were ever opened.
@@ -37,7 +37,10 @@ impl Sessions {
     pub fn peek_close(&self, handle: Handle) -> Option<Closing>
         ensures { result ≡ option_map (λ answer. answer.0) (closing self.now handle) }
     {
-        match reads_by(&self.handles, handle)? {
+        let Ok(reads) = reads_by(&self.handles, handle) else {
+            return None;
+        };
+        match reads {
             Reads::Draft(file) => {
                 let stays = self.counts.count(Reads::Draft(file)) > 1;
                 Some(peek(&self.drafts, file, stays))
@@ -46,16 +49,23 @@ impl Sessions {
         }
     }
 
-    /// What is read through the handle; none where no open handle has that number.
-    pub fn read(&self, handle: Handle) -> Option<Reads>
+    /// What is read through the handle. Refused: `NoHandle`.
+    pub fn reads_by(&self, handle: Handle) -> Result<Reads, Refusal>
         ensures { result ≡ reads_by self.now.handles handle }
     {
         reads_by(&self.handles, handle)
     }
 
+    /// The file that is written through the handle. Refused: `NoHandle`, `NotWriter`.
+    pub fn file_by(&self, handle: Handle) -> Result<FileId, Refusal>
+        ensures { result ≡ file_by self.now.handles handle }
+    {
+        file_by(&self.handles, handle)
+    }
+
     /// Whether some open handle reads the version.
     pub fn pins(&self, file: FileId, number: VersionNo) -> bool
-        ensures { result ≡ list_any (is_reader file number) self.now.handles }
+        ensures { result ≡ is_open self.now.handles file number }
     {
         self.counts.count(Reads::Version(file, number)) > 0
     }
@@ -86,7 +96,7 @@ impl Sessions {
     }
 
     /// The open handles, by number.
-    pub fn handles(&self) -> &[OpenHandle]
+    pub fn handles(&self) -> &[HandleRow]
         ensures { result.now ≡ self.now.handles }
     {
         &self.handles

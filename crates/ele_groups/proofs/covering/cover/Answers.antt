@@ -1,28 +1,28 @@
 use Rattle.ele_groups.proofs.Basics.{arith, sym, ap, ◌∙◌, take_all, nat_tests, take, ◌+◌, ◌≡◌}
 use Rattle.ele_groups.proofs.Words.{Always}
-use Rattle.ele_groups.proofs.Covered.{all_names, at_names, names_more, stays_always}
+use Rattle.ele_groups.proofs.Covered.{all_groups, at_all, all_more, stays_always}
 use Rattle.ele_groups.proofs.covering.cover.Goals as goal
 
-pub loop-name-preserved : goal.loop-name-preserved
-loop-name-preserved c =
+pub loop-membership-preserved : goal.loop-membership-preserved
+loop-membership-preserved c =
     let span = c.args.span.now in
-    grind (arith, nat_tests, names_more span.except c.args.file span.closed span.ended c.args.rows.now.entries c.of-name-items.result.now c.loop-name.name-index c.name-item.result)
+    grind (arith, nat_tests, all_more span.except c.args.file span.closed span.ended c.args.rows.now.entries c.of-membership-items.result.now c.loop-membership.membership-index c.membership-item.result)
 
 pub returns : goal.returns
 returns c =
     let span = c.args.span.now in
-    let names = c.of-name-items.result.now in
-    rw (take_all c.loop-name.name-index names (omega arith), c.of-name-items.ensures) at (c.loop-name.invariant)
-    ∙ all_names span.except c.args.file span.closed span.ended c.args.rows.now.entries c.args.memberships.now c.requires
+    let these = c.of-membership-items.result.now in
+    rw (take_all c.loop-membership.membership-index these (omega arith), c.of-membership-items.ensures) at (c.loop-membership.invariant)
+    ∙ all_groups span.except c.args.file span.closed span.ended c.args.rows.now.entries c.args.memberships.now c.requires
 
 pub returns-in-Always : goal.returns-in-Always
 returns-in-Always c =
     let span = c.args.span.now in
-    let names = c.of-name-items.result.now in
-    let i = c.loop-name.name-index in
-    let longest = at_names span.except c.args.file span.closed span.ended c.args.rows.now.entries in
-    let more = names_more span.except c.args.file span.closed span.ended c.args.rows.now.entries names i c.name-item.result c.loop-name-test.true c.name-item.is in
-    let always : longest (take (i + 1) names) ≡ Always = grind (arith, nat_tests, more, c.loop-name.invariant, c.longer-cover.ensures, c.cover_at.ensures, c.in-Always.is) in
-    sym (stays_always span.except c.args.file span.closed span.ended c.args.rows.now.entries names (i + 1) always)
-    ∙ ap longest c.of-name-items.ensures
-    ∙ all_names span.except c.args.file span.closed span.ended c.args.rows.now.entries c.args.memberships.now c.requires
+    let these = c.of-membership-items.result.now in
+    let i = c.loop-membership.membership-index in
+    let longest = at_all span.except c.args.file span.closed span.ended c.args.rows.now.entries in
+    let more = all_more span.except c.args.file span.closed span.ended c.args.rows.now.entries these i c.membership-item.result c.loop-membership-test.true c.membership-item.is in
+    let always : longest (take (i + 1) these) ≡ Always = grind (arith, nat_tests, more, c.loop-membership.invariant, c.longer-cover.ensures, c.cover_in.ensures, c.in-Always.is) in
+    sym (stays_always span.except c.args.file span.closed span.ended c.args.rows.now.entries these (i + 1) always)
+    ∙ ap longest c.of-membership-items.ensures
+    ∙ all_groups span.except c.args.file span.closed span.ended c.args.rows.now.entries c.args.memberships.now c.requires

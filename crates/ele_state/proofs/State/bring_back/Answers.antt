@@ -1,7 +1,8 @@
-use Rattle.ele_state.proofs.Words.{Append, may_grow, world_of, version_cells}
+use Rattle.ele_state.proofs.Words.{Append, ap, may_grow, refl, shown_of, version_cells, world_of}
 use Rattle.ele_state.proofs.Grown.{ready, roomy}
-use Rattle.ele_state.proofs.Settled.{grown_settles}
-use Rattle.ele_state.proofs.Revived.{held_there, held_long, is_there, restores, version_short}
+use Rattle.ele_state.proofs.Settled.{settled_or}
+use Rattle.ele_state.proofs.Revived.{held_there, is_there, restores}
+use Rattle.std.proofs.lemmas.Result.{on_err_weaker}
 use Rattle.ele_state.specs.declared.append.Source.TheVariants.{Version}
 use Rattle.ele_state.proofs.State.bring_back.Goals as goal
 
@@ -22,13 +23,8 @@ append-requires-clause-source c =
       grows = may_grow (world_of c.self.inside.rows) c.args.file c.self.invariant.sound.formed there;
     }
 
-pub append-requires-clause-bytes : goal.append-requires-clause-bytes
-append-requires-clause-bytes c = held_long c.self.inside.rows c.args.file c.args.stamps.now c.self.invariant.sound (rw (← c.self.view_is) at c.requires.held)
-
-pub append-requires-clause-short : goal.append-requires-clause-short
-append-requires-clause-short c = version_short c.self.inside.rows c.self.invariant.sound c.args.file c.args.stamps.now.number c.args.stamps.now.length (held_long c.self.inside.rows c.args.file c.args.stamps.now c.self.invariant.sound (rw (← c.self.view_is) at c.requires.held))
-
 pub invariant_of-self : goal.invariant_of-self
 invariant_of-self c =
-    grown_settles c.self.inside.rows c.self.invariant c.append.result (Append c.args.file c.self.inside.rows.moment (version_cells (world_of c.self.inside.rows) c.args.file c.args.stamps.now.number))
-    (restores c.self.inside.rows c.args.file c.args.stamps.now c.self.invariant.sound (rw (← c.self.view_is) at c.requires.held) (rw (← c.self.view_is) at c.requires.room)) tt c.append.new.rows c.append.ensures.ok c.append.ensures.err c.append.ensures.tracked
+    let rows = c.self.inside.rows in
+    let may = restores rows c.args.file c.args.stamps.now c.self.invariant.sound (rw (← c.self.view_is) at c.requires.held) (rw (← c.self.view_is) at c.requires.room) in
+    settled_or rows (shown_of rows) refl c.self.invariant c.append.result (Append c.args.file rows.moment (version_cells (world_of rows) c.args.file c.args.stamps.now.number)) may tt c.append.new.rows c.append.ensures.ok (on_err_weaker c.append.result (ap world_of) c.append.ensures.err) c.append.ensures.tracked

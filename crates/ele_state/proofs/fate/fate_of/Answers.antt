@@ -1,22 +1,31 @@
-use Rattle.ele_state.proofs.Words.{refl, sym, ◌∙◌, subst, Cover, Groups}
-use Rattle.ele_state.proofs.Fated.{fate_free, fate_marked, fate_open, fate_ungoverned}
-use Rattle.ele_state.specs.Fated.{IsFreeFate}
+use Rattle.ele_state.proofs.Words.{Groups, refl, sym, ◌∙◌}
+use Rattle.ele_state.proofs.Fated.{fate_made, fate_told, fate_ungoverned}
+use Rattle.ele_world.specs.declared.fate.Fate.TheVariants.{Current, Open, Marked}
 use Rattle.ele_state.proofs.fate.fate_of.Goals as goal
 
+pub returns-in_default : goal.returns-in_default
+returns-in_default c = fate_told c.args.rows.now c.args.file c.args.stamps.now c.requires.held Current c.in_default.is
+
 pub returns-then-is_open : goal.returns-then-is_open
-returns-then-is_open c = fate_open c.args.rows.now c.args.file c.args.stamps.now c.requires.held c.in-Some.ended c.in-Some.is (sym c.is_open.ensures ∙ c.if-is_open.true)
+returns-then-is_open c = fate_told c.args.rows.now c.args.file c.args.stamps.now c.requires.held Open (rw c.in-Some.is refl, sym c.is_open.ensures ∙ c.if-is_open.true)
 
 pub first_mark-requires : goal.first_mark-requires
 first_mark-requires c = record { named = (c.requires.sound.formed.holds Groups).named }
 
 pub returns-in-Some-first_mark : goal.returns-in-Some-first_mark
-returns-in-Some-first_mark c = fate_marked c.args.rows.now c.args.file c.args.stamps.now c.requires.held c.in-Some.ended (c.in-Some.is, sym c.is_open.ensures ∙ c.if-is_open.false) _ _ c.in-Some-first_mark.ensures.some
+returns-in-Some-first_mark c =
+    let marked = rw (← c.in-Some.is) at c.in-Some-first_mark.ensures.some in
+    fate_told c.args.rows.now c.args.file c.args.stamps.now c.requires.held (Marked _ _) (rw c.in-Some.is refl, sym c.is_open.ensures ∙ c.if-is_open.false, marked)
 
 pub unreachable-requires : goal.unreachable-requires
 unreachable-requires c = fate_ungoverned c.args.rows.now c.requires.sound c.args.file c.args.stamps.now c.requires.held (sym c.policy_of.ensures ∙ c.in_default-policy_of.is)
 
 pub returns : goal.returns
-returns c =
-    let free = subst (λ (cover : Cover). IsFreeFate cover c.in-Some-policy_of.policy c.args.stamps.now.closed c.in-Some.ended c.next_held-next.result c.has_newer-floor_met.result c.args.rows.now.moment c.free_fate.result) c.cover-cover.ensures c.free_fate.ensures in
-    fate_free c.args.rows.now c.requires.sound c.args.file c.args.stamps.now c.requires.held c.in-Some.ended (c.in-Some.is, sym c.is_open.ensures ∙ c.if-is_open.false) c.in_default-first_mark.ensures.none c.in-Some-policy_of.policy c.next_held-next.result c.has_newer-floor_met.result c.free_fate.result
-    (sym c.policy_of.ensures ∙ c.in-Some-policy_of.is, c.next_held-next.ensures.value, c.has_newer-floor_met.ensures.value ∙ rw c.floor_in-floor.ensures (rw c.is_live.ensures refl), free)
+returns c = fate_made c.args.rows.now c.requires.sound c.args.file c.args.stamps.now c.requires.held (record {
+  ended = c.in-Some.ended;
+  ends = c.in-Some.is;
+  unread = sym c.is_open.ensures ∙ c.if-is_open.false;
+  unmarked = c.in_default-first_mark.ensures.none;
+  policy = c.in-Some-policy_of.policy;
+  filed = sym c.policy_of.ensures ∙ c.in-Some-policy_of.is;
+}) c.free_fate.result (rw (c.cover-cover.ensures, c.next_held-next.ensures.value, c.has_newer-floor_met.ensures.value, c.floor_in-floor.ensures, c.is_live.ensures) at c.free_fate.ensures)

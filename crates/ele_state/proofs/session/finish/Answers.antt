@@ -1,12 +1,8 @@
 use Rattle.ele_state.proofs.Words.{arith, nat_tests, world_of}
-use Rattle.ele_state.proofs.ClosedSteps.{drafted, file_there, finished_step}
-use Rattle.ele_state.proofs.ClosedSums.{draft_short}
+use Rattle.ele_state.proofs.ClosedSteps.{file_there, finished_step}
 use Rattle.ele_state.proofs.Grown.{ready, roomy}
 use Rattle.ele_state.proofs.session.finish.Goals as goal
 use Rattle.ele_state.specs.declared.append.Source.TheVariants.{Draft}
-
-pub draft_bytes-bytes-requires : goal.draft_bytes-bytes-requires
-draft_bytes-bytes-requires c = drafted (world_of c.args.rows.now) c.args.handle c.args.file c.requires.reads c.args.opened c.requires.changed
 
 pub standing-standing-requires-clause-there : goal.standing-standing-requires-clause-there
 standing-standing-requires-clause-there c = file_there (world_of c.args.rows.now) c.args.handle c.args.file c.requires.reads c.args.opened c.requires.changed c.requires.sound.formed
@@ -22,9 +18,6 @@ append-requires-clause-source c = record {
   ready = ready c.args.rows.now c.args.file (Draft c.args.handle c.args.opened) c.requires.sound (record { reads = c.requires.reads; changed = c.requires.changed });
   grows = c.requires.sound.formed;
 }
-
-pub append-requires-clause-short : goal.append-requires-clause-short
-append-requires-clause-short c = draft_short c.args.rows.now c.requires.sound c.args.file c.draft_bytes-bytes.result c.draft_bytes-bytes.ensures
 
 pub returns-clause-step : goal.returns-clause-step
 returns-clause-step c = grind (arith, nat_tests, finished_step (world_of c.args.rows.now) c.args.handle c.args.file c.requires.reads c.args.opened c.requires.changed)

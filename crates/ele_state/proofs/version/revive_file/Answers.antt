@@ -1,7 +1,7 @@
 use Rattle.ele_state.proofs.Words.{File, IsQueued, World, ap, cells_of_version, floor_of, comes, has_key, is_freed, not, placed_of, subst, sym, world_of, ◌&&◌, ◌-◌, ◌∙◌, ◌≡◌}
 use Rattle.ele_state.proofs.Grown.{roomy}
 use Rattle.ele_state.proofs.NewNames.{follows_new}
-use Rattle.ele_state.proofs.Revived.{named_source, revived_absent, revived_queue, revived_there, version_short}
+use Rattle.ele_state.proofs.Revived.{named_source, revived_absent, revived_queue, revived_there}
 use Rattle.ele_state.proofs.version.revive_file.Goals as goal
 
 pub standing-standing-requires-clause-there : goal.standing-standing-requires-clause-there
@@ -29,9 +29,6 @@ pub append_with-requires-clause-ready : goal.append_with-requires-clause-ready
 append_with-requires-clause-ready c =
     let last = rw (← c.standing-standing.ensures.stands.next) at c.before-last.ensures in
     named_source c.args.rows.now c.args.directory c.args.name c.args.file c.requires.sound c.requires.may c.before-last.result last c.requires.undrafted
-
-pub append_with-requires-clause-short : goal.append_with-requires-clause-short
-append_with-requires-clause-short c = version_short c.args.rows.now c.requires.sound c.args.file c.before-last.result c.version_bytes-bytes.result c.version_bytes-bytes.ensures.length
 
 pub returns-in-Ok-clause-tracked : goal.returns-in-Ok-clause-tracked
 returns-in-Ok-clause-tracked c =

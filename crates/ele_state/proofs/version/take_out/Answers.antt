@@ -1,5 +1,5 @@
-use Rattle.ele_state.proofs.Words.{world_of, first_is_due, placed_of}
-use Rattle.ele_state.proofs.Removed.{removed_fits}
+use Rattle.ele_state.proofs.Words.{arith, first_is_due, nat_tests, placed_of, world_of}
+use Rattle.ele_state.proofs.Booked.{few}
 use Rattle.ele_state.proofs.version.take_out.Goals as goal
 
 pub unreachable-requires : goal.unreachable-requires
@@ -9,4 +9,4 @@ unreachable-requires c =
     cc
 
 pub follow_blocks-requires-clause-fits : goal.follow_blocks-requires-clause-fits
-follow_blocks-requires-clause-fits c = removed_fits c.args.rows.now c.take_version.new.book c.remove_version.new.self c.args.key.now.file c.in-Some.bytes c.requires.sound c.take_version.ensures
+follow_blocks-requires-clause-fits c = λ k. grind (arith, nat_tests, few c.args.rows.now c.requires.sound k, c.take_version.ensures k)

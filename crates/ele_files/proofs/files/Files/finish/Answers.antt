@@ -9,7 +9,7 @@ pub returns-in_err-reserve-clause-err : goal.returns-in_err-reserve-clause-err
 returns-in_err-reserve-clause-err c =
     on_err c.from_residual.result _ (rw (← c.self.view_is) (waits _ _ _ c.self.invariant c.args.file _ _ (rw c.deref.ensures.value at c.in-Some.ensures) (rw (← c.get_mut-held.ensures.value) at c.index_mut.ensures.value) c.reserve.new.self c.reserve.ensures.rows).shows)
 
-done : (c : After-self-2-1) → IsFinished c.self.inside.store (held_of c.self.inside) c.args.handle c.args.file c.args.opened c.args.now c.args.is_live c.get_mut-held.result.now.next (set c.self.inside.files.items c.in-Some.at c.append.new.self) (closed c.self.inside.sessions c.args.handle)
+done : (c : After-self-2-1) → IsFinished c.self.inside.store (held_of c.self.inside) c.args.handle c.args.file c.args.opened c.args.now c.args.is_live c.get_mut-held.result.now.next c.in-Some-map_of.map.size (set c.self.inside.files.items c.in-Some.at c.append.new.self) (closed c.self.inside.sessions c.args.handle)
 done c =
     let out : given c.self.inside.sessions c.args.handle ≡ Some c.in-Some-map_of.map = rw c.close.ensures.answer at (sym c.map_of.ensures ∙ c.in-Some-map_of.is) in
     finished _ _ _ c.args.handle c.args.file c.args.opened c.self.invariant (rw (← c.self.view_is) at c.requires.file) (rw (← c.self.view_is) at c.requires.changed) _ _ (rw c.deref.ensures.value at c.in-Some.ensures) (rw (← c.get_mut-held.ensures.value) at c.index_mut.ensures.value) _ c.reserve.ensures.rows c.args.now c.args.is_live _ out _ c.append.ensures.appended (rw (← c.self.view_is) at c.requires.past) c.close.ensures.orderly.drafts_rise
@@ -19,6 +19,9 @@ invariant_of-self-2 c = rw c.close.ensures.sessions (done c).keeps
 
 pub returns-clause-number : goal.returns-clause-number
 returns-clause-number c = rw (← c.self.view_is) (c.append.ensures.number ∙ (done c).number)
+
+pub returns-clause-length : goal.returns-clause-length
+returns-clause-length c = rw (← c.self.view_is) (c.append.ensures.length ∙ (done c).long)
 
 pub returns-clause-ok : goal.returns-clause-ok
 returns-clause-ok c = rw (← c.self.view_is, c.close.ensures.sessions) (done c).shows

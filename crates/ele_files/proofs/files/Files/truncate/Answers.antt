@@ -1,11 +1,8 @@
-use Rattle.ele_files.proofs.Lemmas.{arith, cut, fault_shown, nat_tests}
+use Rattle.ele_files.proofs.Lemmas.{cut}
 use Rattle.ele_files.proofs.files.Files.truncate.Goals as goal
 
 pub invariant_of-self : goal.invariant_of-self
 invariant_of-self c = (cut _ _ _ c.self.invariant _ _ c.truncate.ensures.orderly _ _ _ c.truncate.ensures.truncates c.truncate.ensures.err).0
-
-pub returns-clause-refused : goal.returns-clause-refused
-returns-clause-refused c = grind (arith, nat_tests, fault_shown)
 
 pub returns-clause-ok : goal.returns-clause-ok
 returns-clause-ok c = rw (← c.self.view_is) (cut _ _ _ c.self.invariant _ _ c.truncate.ensures.orderly _ _ _ c.truncate.ensures.truncates c.truncate.ensures.err).1

@@ -15,14 +15,14 @@ returns-in_default-clause-none c = λ _.
     (λ n. sym (c.self.invariant.placed.each c.args.file n) ∙ none_has c.self.inside.memberships c.args.file n none)))
 
 pub invariant_of-self : goal.invariant_of-self
-invariant_of-self c = rw c.remove_from.ensures.forgets (kept_changed _ _ c.self.invariant c.in-Some.name (forgets c.args.file) _ (λ n row. refl)
-    (placed_gone c.args.file c.in-Some.name (forgets c.args.file) _ _ _ c.self.invariant.placed c.remove.ensures (rw c.remove_from.ensures.forgets at c.remove_from.ensures.members)))
+invariant_of-self c = rw c.remove_from.ensures.forgets (kept_changed _ _ c.self.invariant c.in-Some.membership.name (forgets c.args.file) _ (λ n row. refl)
+    (placed_gone c.args.file c.in-Some.membership.name (forgets c.args.file) _ _ _ c.self.invariant.placed c.remove.ensures (rw c.remove_from.ensures.forgets at c.remove_from.ensures.members)))
 
 pub returns-clause-others : goal.returns-clause-others
-returns-clause-others c = rw (← c.self.view_is, c.remove_from.ensures.forgets) (forgotten_first c.args.file c.in-Some.name c.self.inside.rows.entries)
+returns-clause-others c = rw (← c.self.view_is, c.remove_from.ensures.forgets) (forgotten_first c.args.file c.in-Some.membership.name c.self.inside.rows.entries)
 
 pub returns-clause-fewer : goal.returns-clause-fewer
 returns-clause-fewer c = λ _.
     let first = rw c.of.ensures at (sym c.first.ensures.value ∙ sym c.copied.ensures ∙ c.in-Some.is) in
-    rw (← c.self.view_is, c.remove_from.ensures.forgets) (fewer_have c.args.file c.in-Some.name c.self.inside.rows.entries
-    (sym (c.self.invariant.placed.each c.args.file c.in-Some.name) ∙ first_has c.self.inside.memberships c.args.file c.in-Some.name first))
+    rw (← c.self.view_is, c.remove_from.ensures.forgets) (fewer_have c.args.file c.in-Some.membership.name c.self.inside.rows.entries
+    (sym (c.self.invariant.placed.each c.args.file c.in-Some.membership.name) ∙ first_has c.self.inside.memberships c.args.file c.in-Some.membership first))

@@ -1,5 +1,10 @@
-use Rattle.ele_names.proofs.Lemmas.{true, refl, sym, ap, ◌∙◌, arith, values_of, at_itself, is_of, names_of, target_eq, born_row, kept_over, kept_placed, kept_pushed, placed_back, rows_pushed, none_behind, live_one}
+use Rattle.ele_names.proofs.Lemmas.{true, refl, sym, ap, ◌∙◌, arith, values_of, at_itself, is_of, names_of, target_eq, born_row, kept_over, kept_placed, kept_pushed, placed_back, rows_pushed, none_behind, live_one, free_known, own_name}
 use Rattle.ele_names.proofs.names.Names.add.Goals as goal
+
+pub number_or_next-requires : goal.number_or_next-requires
+number_or_next-requires c =
+    let row = born_row c.args.directory c.args.name c.args.target c.args.birth in
+    free_known _ c.self.inside.lives c.args.directory c.args.name row (own_name row) c.self.invariant.counts (rw (← c.self.view_is) at c.requires)
 
 pub invariant_of-self : goal.invariant_of-self
 invariant_of-self c = let known = c.number_or_next.ensures in kept_over _ _ c.self.invariant c.number_or_next.new.self known.places known.listed known.counted known.numbered
