@@ -51,8 +51,8 @@ fn done(_unit: ()) -> Reply
 }
 
 impl Core {
-    // What the event answers, and its change. Those of the clock and of the queue come most often, and are answered without the
-    // room on the stack that the others take.
+    // What the event answers, and its change. What only sets the clock or asks the queue is answered without the room on the
+    // stack that the many kinds of the others take.
     pub(crate) fn answer(&mut self, event: &Event) -> Result<Reply, Halt>
         requires { self.old.rows_read ≡ 0 }
         ensures does { Does (λ reply. reply) self.old.world event.now result self.new.world }
@@ -82,32 +82,32 @@ impl Core {
         match event {
             Event::Clock(to) => Ok(Reply::Now(self.clock(*to)?)),
             Event::Tick(seconds) => Ok(Reply::Now(self.tick(*seconds)?)),
-            Event::MakeDir(path) => Ok(Reply::Directory(self.make_dir(path)?)),
+            Event::MakeDir(path) => self.make_dir(path).map(Reply::Directory),
             Event::RemoveDir(path) => Ok(done(self.remove_dir(path)?)),
-            Event::Create(path) => Ok(Reply::File(self.create(path)?)),
-            Event::Link(from, to) => Ok(done(self.link(from, to)?)),
-            Event::Unlink(path) => Ok(done(self.unlink(path)?)),
-            Event::Rename(from, to) => Ok(done(self.rename(from, to)?)),
-            Event::Undelete(path) => Ok(revived(self.undelete(path)?)),
-            Event::OpenWrite(path) => Ok(Reply::Handle(self.open_write(path)?)),
-            Event::OpenRead(tagged) => Ok(Reply::Handle(self.open_read(tagged)?)),
-            Event::Write(handle, offset, bytes) => Ok(done(self.write(*handle, *offset, bytes)?)),
-            Event::Truncate(handle, size) => Ok(done(self.truncate(*handle, *size)?)),
-            Event::Close(handle) => Ok(Reply::Closed(self.close(*handle)?)),
-            Event::Revert(path, number) => Ok(Reply::Version(self.revert(path, *number)?)),
-            Event::SetPolicy(path, policy) => Ok(done(self.set_policy(path, *policy)?)),
+            Event::Create(path) => self.create(path).map(Reply::File),
+            Event::Link(from, to) => self.link(from, to).map(done),
+            Event::Unlink(path) => self.unlink(path).map(done),
+            Event::Rename(from, to) => self.rename(from, to).map(done),
+            Event::Undelete(path) => self.undelete(path).map(revived),
+            Event::OpenWrite(path) => self.open_write(path).map(Reply::Handle),
+            Event::OpenRead(tagged) => self.open_read(tagged).map(Reply::Handle),
+            Event::Write(handle, offset, bytes) => self.write(*handle, *offset, bytes).map(done),
+            Event::Truncate(handle, size) => self.truncate(*handle, *size).map(done),
+            Event::Close(handle) => self.close(*handle).map(Reply::Closed),
+            Event::Revert(path, number) => self.revert(path, *number).map(Reply::Version),
+            Event::SetPolicy(path, policy) => self.set_policy(path, *policy).map(done),
             Event::SetDefault(path, policy) => Ok(done(self.set_default(path, *policy)?)),
-            Event::GroupMake(name) => Ok(done(self.make_group(name)?)),
-            Event::GroupDrop(name) => Ok(done(self.drop_group(name)?)),
-            Event::GroupAdd(name, path) => Ok(done(self.add_to_group(name, path)?)),
-            Event::GroupRemove(name, path) => Ok(done(self.remove_from_group(name, path)?)),
-            Event::Mark(name, moment, until) => Ok(done(self.mark(name, *moment, until)?)),
-            Event::Unmark(name, moment) => Ok(done(self.unmark(name, *moment)?)),
+            Event::GroupMake(name) => self.make_group(name).map(done),
+            Event::GroupDrop(name) => self.drop_group(name).map(done),
+            Event::GroupAdd(name, path) => self.add_to_group(name, path).map(done),
+            Event::GroupRemove(name, path) => self.remove_from_group(name, path).map(done),
+            Event::Mark(name, moment, until) => self.mark(name, *moment, until).map(done),
+            Event::Unmark(name, moment) => self.unmark(name, *moment).map(done),
             Event::CleanOne => Ok(removed(self.clean_one())),
-            Event::Read(source) => Ok(Reply::Bytes(self.read(source)?)),
+            Event::Read(source) => self.read(source).map(Reply::Bytes),
             Event::Stat(tagged) => Ok(stat_told(self.stat(tagged)?)),
-            Event::Versions(at) => Ok(Reply::Rows(self.versions(at)?)),
-            Event::List(at) => Ok(Reply::NameList(self.list(at)?)),
+            Event::Versions(at) => self.versions(at).map(Reply::Rows),
+            Event::List(at) => self.list(at).map(Reply::NameList),
             Event::Restorable => Ok(Reply::RestoreList(self.restorable()?)),
             Event::Due => Ok(Reply::DueList(self.due()?)),
             Event::UsageAll => Ok(Reply::UsageList(self.usage())),

@@ -154,8 +154,8 @@ fn line_of(alloc: Global, words: &[&[u8]]) -> Result<Line, LineFault>
     line_behind(alloc, command, behind)
 }
 
-// What the words behind a command make of it. Lines of the clock and of the queue come most often,
-// and are read without the room on the stack that the others take.
+// What the words behind a command make of it. Lines that set the clock or ask the queue are read
+// without the room on the stack that the many kinds of the others take.
 fn line_behind(alloc: Global, command: Command, words: &[&[u8]]) -> Result<Line, LineFault>
     ensures { ReadsLine command (map (λ word. word.now) words.now) result }
 {
