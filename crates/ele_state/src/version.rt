@@ -134,6 +134,7 @@ impl State {
 
     /// The version of the key goes, which is the first due one, and with it a file of which nothing else is left. It takes no
     /// memory, and reads one row.
+    #[tactic(auto, using(crate::proofs::Words::nat_tests, crate::proofs::Words::first_is_due, crate::proofs::Words::placed_of, crate::proofs::Removed::removed_bytes, crate::proofs::Removed::removed_within, crate::proofs::Removed::removed_owed, crate::proofs::Removed::removed_queue))]
     pub fn remove(&mut self, key: &Key)
         requires first { first_due self.old.world ≡ Some key.now }
         requires meter { self.old.rows_read ≡ 0 }
@@ -141,7 +142,18 @@ impl State {
             (Take key.now.file key.now.number ∷ DropIdle key.now.file ∷ []) }
         ensures read { self.new.rows_read ≡ 1 }
     {
-        take_out(&mut self.rows, key);
+        let before = blocks(&self.rows.files);
+        let Some(bytes) = self
+            .rows
+            .files
+            .remove_version(key.file, key.number, &mut self.rows.meter)
+        else {
+            unreachable!()
+        };
+        // No other key changes, so that a clean takes no memory and can't be stopped.
+        take(&mut self.rows.queue, key.file, key.number, Some(key.ripe));
+        take_version(&mut self.rows.book, &self.rows.files, key.file, bytes);
+        follow_blocks(&mut self.rows.book, &self.rows.files, key.file, before);
         drop_idle(&mut self.rows, key.file);
     }
 }
@@ -217,30 +229,4 @@ fn revive_file(
             Err(refused)
         }
     }
-}
-
-// The version of the key goes, which is the first due one.
-#[tactic(auto, using(crate::proofs::Words::nat_tests, crate::proofs::Words::first_is_due, crate::proofs::Words::placed_of, crate::proofs::Removed::removed_bytes, crate::proofs::Removed::removed_within, crate::proofs::Removed::removed_owed, crate::proofs::Removed::removed_queue))]
-fn take_out(rows: &mut Rows, key: &Key)
-    requires sound { IsSound rows.old }
-    requires meter { rows.old.meter ≡ 0 }
-    requires first { first_due (world_of rows.old) ≡ Some key.now }
-    ensures world { world_of rows.new ≡ record (world_of rows.old) {
-      versions =
-          remove_first (is_version key.now.file key.now.number) rows.old.files.versions;
-    } }
-    ensures tracked { IsTracked rows.new }
-    ensures read { rows.new.meter ≡ 1 }
-{
-    let before = blocks(&rows.files);
-    let Some(bytes) = rows
-        .files
-        .remove_version(key.file, key.number, &mut rows.meter)
-    else {
-        unreachable!()
-    };
-    // No other key changes, so that a clean takes no memory and can't be stopped.
-    take(&mut rows.queue, key.file, key.number, Some(key.ripe));
-    take_version(&mut rows.book, &rows.files, key.file, bytes);
-    follow_blocks(&mut rows.book, &rows.files, key.file, before);
 }
