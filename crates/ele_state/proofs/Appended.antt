@@ -4,7 +4,6 @@ use Rattle.ele_world.proofs.Basics.{all-not_found}
 use Rattle.ele_world.proofs.Versions.{IsFound}
 use Rattle.ele_state.proofs.Words.{AllLater, ArePlaced, Bool, Cell, Cover, IfSome, IsLawful, IsQueued, Key, List, MayGrow, KeyChange, None, Option, Policy, Some, VersionRow, World, all-found, all_found, and-false, any-found, ap, arith, cond, cover_of, false, false≢true, find, floor_for, found_passes, gained_moment, gaining_is, gaining_was, has_key, has_newer, held_before, is_entry, is_live, is_moment, comes, is_open, is_some, is_version, is_version_of, list_any, met_before, nat_tests, near_moment, new_keys, newer_held, next_after, next_before, next_of, not, one_with_newer, option_and_then, option_map_or, or-false, others_after, own_moment, policy_is, policy_of, refl, ripe_at, ripe_past, rows_of, subst, sym, touches, true, unwrap_or, with_newer, with_version, ◌&&◌, ◌-◌, ◌<◌, ◌==◌, ◌||◌, ◌∙◌, ◌≡◌, ℕ}
 use Rattle.ele_state.proofs.Changes.{back_and_forth, none_any}
-use Rattle.ele_state.proofs.Following.{follows}
 
 -- ---- what the version gets that gains
 
@@ -139,21 +138,31 @@ module _ (w : World) (file opened : ℕ) (cells : List Cell) (k : MayGrow w file
   absent live j None e is = grind (arith, nat_tests, and-false, or-false, false≢true, next_absent j.file j.number j.ripe)
   absent live j (Some row) e is = grind (arith, nat_tests, and-false, or-false, false≢true, next_absent j.file j.number j.ripe, gaining_absent row j.file j.number j.ripe e)
 
-  module _ (queue after : List Key) (queued : IsQueued w queue) where
-    -- and its own
-    has_now : (j : Key) (o : Option VersionRow) → gaining ≡ o → (comes_with (is_live w file) o j || has_key j queue) ≡ cond (touched_with o j.file j.number) (is_moment j.ripe (ripe_at appended j.file j.number)) (has_key j queue)
-    has_now j x1 e = grind (arith, nat_tests, and-false, or-false, next_before w file opened cells k, next_after w file opened cells k, or-false (is_moment j.ripe (own (is_live w file))), gains_before, false≢true, gains)
+  -- whether the version of that file and number has that moment
+  abbrev ripens : World → Key → Bool
+  ripens v j = is_moment j.ripe (ripe_at v j.file j.number)
 
-    has_then : (j : Key) → (comes_with (is_live w file) gaining j || has_key j queue) ≡ cond (touches w file j.file j.number) (is_moment j.ripe (ripe_at appended j.file j.number)) (has_key j queue)
-    has_then j = rw (touches_with j.file j.number gaining refl) (has_now j gaining refl)
+  has_now : (j : Key) (o : Option VersionRow) → gaining ≡ o → (comes_with (is_live w file) o j || ripens w j) ≡ cond (touched_with o j.file j.number) (ripens appended j) (ripens w j)
+  has_now j x1 e = grind (arith, nat_tests, and-false, or-false, next_before w file opened cells k, next_after w file opened cells k, or-false (is_moment j.ripe (own (is_live w file))), gains_before, false≢true, gains)
 
-    -- with the keys that come it has those of all versions
-    pub appended_queue : (keys : List KeyChange) → keys ≡ new_keys w.groups (rows_of w) file w.now (is_live w file) → ((j : Key) → has_key j after ≡ (comes keys j || has_key j queue)) → IsQueued appended after
-    appended_queue keys are edited = follows w appended queue after queued (touches w file) (others_after w file opened cells k) (λ j. edited j ∙ rw are (has_then j))
+  has_then : (j : Key) (b : Bool) → touches w file j.file j.number ≡ b → cond b (ripens appended j) (ripens w j) ≡ ripens appended j
+  has_then j true touched = refl
+  has_then j false other = ap (is_moment j.ripe) (sym (others_after w file opened cells k j.file j.number other))
+
+  module _ (again : Bool) (gives : (not again || (floor == 0)) ≡ true) where
+    abbrev keys : List KeyChange
+    keys = new_keys w.groups (rows_of w) file w.now again (is_live w file)
+
+    -- with the keys that come there are those of all versions
+    pub appended_keys : (j : Key) → (comes keys j || ripens w j) ≡ ripens appended j
+    appended_keys j = rw gives (has_now j gaining refl ∙ rw (← touches_with j.file j.number gaining refl) (has_then j (touches w file j.file j.number) refl))
+
+    pub appended_queue : (queue after : List Key) → IsQueued w queue → ((j : Key) → has_key j after ≡ (comes keys j || has_key j queue)) → IsQueued appended after
+    appended_queue queue after queued edited j = edited j ∙ ap (λ b. comes keys j || b) (queued j) ∙ appended_keys j
 
     -- none of which was there
-    pub none_there : (keys : List KeyChange) → keys ≡ new_keys w.groups (rows_of w) file w.now (is_live w file) → (j : Key) → comes keys j ≡ true → has_key j queue ≡ false
-    none_there keys are j is = queued j ∙ absent (is_live w file) j gaining refl (rw are at is)
+    pub none_there : (j : Key) → comes keys j ≡ true → ripens w j ≡ false
+    none_there j is = absent (is_live w file) j gaining refl (rw gives at is)
 
 -- ---- keys that are refused
 

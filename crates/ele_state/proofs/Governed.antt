@@ -1,6 +1,7 @@
 -- The keys and the book, once a file has another policy.
-use Rattle.ele_state.proofs.Words.{AreChanges, false≢true, get_or, is_one, is_own, length, take, ◌+◌, None, Rule, floor_of, is_live, is_open, nat_le, near_unmet, newer_held, no_floor, rule_in, ◌≤◌, IsTold, ◌∙◌, Versions, all_found, ap, find, cover_of, near_moment, next_closing, option_and_then, option_map, rows_of, ◌≡◌, ℕ, ◌<◌, ◌==◌, Bool, true, false, cond, ◌&&◌, ◌||◌, List, ◌∷◌, Option, Some, refl, sym, subst, arith, filter, map, AllByRecursion, list_any, nat_tests, world_of, IsSound, unread_under, held_world, IsBooked, Rows, Held, changed_at, found_passes, any-found, Kind, Policy, IsLawful, is_kind, kind_of, Usage, Book, sums_of, only_at, plus, Fits, IsWithin, GroupRow, Stamps, VersionRow, PutUnder, after_change, is_version_of, stamps_of, file_usage, usage_of, usages, Bounded, World, is_version, next_of, policy_of, in_order_of, ripe_at_near, put_under_keeps, usage_same, usages_fit, [], HasParts, KeyChange, if_changed}
+use Rattle.ele_state.proofs.Words.{AreChanges, not_found, get_or, is_one, is_own, length, take, ◌+◌, None, Rule, floor_of, is_live, is_open, nat_le, near_unmet, newer_held, no_floor, rule_in, ◌≤◌, IsTold, ◌∙◌, Versions, all_found, ap, find, cover_of, near_moment, next_closing, option_and_then, option_map, rows_of, ◌≡◌, ℕ, ◌<◌, ◌==◌, Bool, true, false, cond, ◌&&◌, ◌||◌, List, ◌∷◌, Option, Some, refl, sym, subst, arith, filter, map, AllByRecursion, list_any, nat_tests, world_of, IsSound, unread_under, held_world, IsBooked, Rows, Held, changed_at, Kind, Policy, IsLawful, is_kind, kind_of, Usage, Book, sums_of, only_at, plus, Fits, IsWithin, GroupRow, Stamps, VersionRow, PutUnder, after_change, is_version_of, stamps_of, file_usage, usage_of, usages, Bounded, World, is_version, next_of, policy_of, in_order_of, ripe_at_near, put_under_keeps, usage_same, usages_fit, [], HasParts, KeyChange, if_changed}
 use Rattle.std.proofs.lemmas.List.Folds.{list_any_more}
+use Rattle.ele_world.proofs.Basics.{all-none}
 use Rattle.ele_state.proofs.Asked.{under_told}
 use Rattle.ele_state.proofs.Changes.{Move, one_changes, one_stays, wider}
 use Rattle.ele_state.proofs.Booked.{booked, plus-cancel, same_kind}
@@ -12,6 +13,13 @@ use Rattle.ele_world.proofs.PolicyMoments.{policy_others, policy_own}
 -- the version is one of the file of which these stamps are
 abbrev pub is_among : ℕ → List Stamps → ℕ → ℕ → Bool
 is_among file held owner number = (owner == file) && list_any (λ stamps. stamps.number == number) held
+
+-- a version that isn't held has none
+pub unheld : (groups : List GroupRow) (h : Held) (file number : ℕ) (rule : Rule) → find (is_version file number) h.versions ≡ None → unread_under groups rule h file number ≡ None
+unheld groups h file number rule none = grind (arith, nat_tests, none)
+
+unheld_under : (groups : List GroupRow) (h : Held) (file number : ℕ) (rule : Rule) → list_any (is_version file number) h.versions ≡ false → unread_under groups rule h file number ≡ None
+unheld_under groups h file number rule none = unheld groups h file number rule (not_found (is_version file number) h.versions (all-none (is_version file number) h.versions none))
 
 module _ (groups : List GroupRow) (h : Held) (file : ℕ) (was is : Rule) where
   abbrev AreOf : (ℕ → ℕ → Bool) → List KeyChange → Type 0
@@ -31,16 +39,6 @@ module _ (groups : List GroupRow) (h : Held) (file : ℕ) (was is : Rule) where
     pub changes_under : (one other : Option ℕ) → told_under was ≡ one → told_under is ≡ other → AreOf (is_one file stamps.number) (if_changed (Some (record { file = file; number = stamps.number; was = one; is = other })))
     changes_under one other before then = one_changes _ _ file stamps.number one other (has was ∙ before) (has is ∙ then)
 
-  -- one that isn't held has none
-  unheld : (owner number : ℕ) (rule : Rule) → list_any (is_version owner number) h.versions ≡ false → unread_under groups rule h owner number ≡ None
-  unheld owner number rule none = by (find (is_version owner number) h.versions) refl where
-    by : (o : Option VersionRow) → find (is_version owner number) h.versions ≡ o → unread_under groups rule h owner number ≡ None
-    by None is = rw is (both (is_open h.handles owner number)) where
-      both : (read : Bool) → cond {A = Option ℕ} read None None ≡ None
-      both true = refl
-      both false = refl
-    by (Some row) is = absurd (false≢true (sym none ∙ any-found (is_version owner number) (is_version owner number) h.versions row is (found_passes (is_version owner number) h.versions row is)))
-
   pub one_more : (held : List Stamps) (i : ℕ) (stamps : Stamps) → i < length held → stamps ≡ get_or held i stamps → (owner number : ℕ) → is_among file (take (i + 1) held) owner number ≡ (is_among file (take i held) owner number || is_one file stamps.number owner number)
   one_more held i stamps within at owner number = rw (list_any_more (λ (s : Stamps). s.number == number) held i stamps within, ← at) (grind (arith, nat_tests))
 
@@ -50,7 +48,7 @@ module _ (groups : List GroupRow) (h : Held) (file : ℕ) (was is : Rule) where
 
   -- so where these are all that are held, no other changes
   pub all_under : (held : List Stamps) (changes : List KeyChange) → held ≡ map stamps_of (filter (is_version_of file) h.versions) → AreOf (is_among file held) changes → AreOf (is_own file) changes
-  all_under held changes all are = wider _ _ (is_among file held) (is_own file) changes (λ owner number h. grind (arith, nat_tests, h)) (λ owner number own none. let left = rest owner number own none in unheld owner number is left ∙ sym (unheld owner number was left)) are where
+  all_under held changes all are = wider _ _ (is_among file held) (is_own file) changes (λ owner number h. grind (arith, nat_tests, h)) (λ owner number own none. let left = rest owner number own none in unheld_under groups h owner number is left ∙ sym (unheld_under groups h owner number was left)) are where
     rest : (owner number : ℕ) → is_own file owner number ≡ true → is_among file held owner number ≡ false → list_any (is_version owner number) h.versions ≡ false
     rest owner number own none =
         let same : owner ≡ file = grind (arith, nat_tests, own) in

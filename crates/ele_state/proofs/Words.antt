@@ -3,7 +3,7 @@ pub use Rattle.ele_content.specs.declared.cell.Cell.{Cell}
 pub use Rattle.ele_state.specs.Home.{IsHome, IsPresent}
 pub use Rattle.ele_state.specs.Inside.{IsSettled, IsSound, IsTracked, shown_of, world_of}
 pub use Rattle.ele_state.specs.Shown.{Shown}
-pub use Rattle.ele_state.specs.Source.{Grows, HasSource, IsHeldAlone, IsLast, IsReady, IsRoomy, IsSource, appending, source_cells}
+pub use Rattle.ele_state.specs.Source.{IsHeldAlone, IsLast, IsReady, IsRoomy, IsSource, appending, coming, source_cells}
 pub use Rattle.ele_state.specs.declared.append.Source.{Source}
 pub use Rattle.ele_state.specs.Queued.{AreChanges, IsQueued, IsRekeyed, IsTold, Rule, former_moment, freed_moment, gained_moment, is_alone, is_entry, is_freed, is_one, is_own, met_before, new_keys, HasLeaving, change_of, comes, cover_after, files_of, goes, if_changed, moments_by, moments_of, unmarked_moment, own_moment, rule_in, unread_under}
 pub use Rattle.ele_state.specs.Tracked.{IsBooked, IsFew, IsOwed, IsOwedBy, blocks_of, held_world, of_file, one_version, only_blocks}

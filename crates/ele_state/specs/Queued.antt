@@ -90,12 +90,13 @@ former_moment groups h file floor now =
 abbrev pub own_moment : List GroupRow → List FileRow → ℕ → ℕ → Bool → Option ℕ
 own_moment groups files file now live = if live then None else near_moment (cover_of groups file) (policy_of files file) None true now now
 
--- the keys of both
-abbrev pub new_keys : List GroupRow → Held → ℕ → ℕ → Bool → List KeyChange
-new_keys groups h file now live =
+-- the keys of both; where the file has a name again, that one had its key before the floor was in force
+abbrev pub new_keys : List GroupRow → Held → ℕ → ℕ → Bool → Bool → List KeyChange
+new_keys groups h file now again live =
     let floor = floor_in (policy_of h.files file) live in
     let gaining = option_map_or (λ row. row.number) (with_newer h.versions file (floor - 1)) 0 in
-    record { file = file; number = gaining; was = None; is = former_moment groups h file floor now }
+    let former = if not again || (floor == 0) then former_moment groups h file floor now else None in
+    record { file = file; number = gaining; was = None; is = former }
     ∷ record { file = file; number = next_of h.files file; was = None; is = own_moment groups h.files file now live } ∷ []
 
 -- ---- what another policy touches, or another floor in force
