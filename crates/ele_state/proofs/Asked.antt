@@ -41,10 +41,10 @@ abbrev gained_by : List GroupRow → Held → ℕ → ℕ → ℕ → ℕ → �
 gained_by groups h file floor now number closed ended = cond (is_open h.handles file number) None (gained_moment (cover_of groups file) (policy_of h.files file) floor now closed ended)
 
 pub former_told : (groups : List GroupRow) (h : Held) (file floor now : ℕ) (gaining : Stamps) → option_map stamps_of (with_newer h.versions file (floor - 1)) ≡ Some gaining
-    → former_moment groups h file floor now ≡ gained_by groups h file floor now gaining.number gaining.closed gaining.ended
+    → option_and_then (former_moment groups h file floor now) (with_newer h.versions file (floor - 1)) ≡ gained_by groups h file floor now gaining.number gaining.closed gaining.ended
 former_told groups h file floor now gaining told = by (with_newer h.versions file (floor - 1)) told where
   by : (o : Option VersionRow) → option_map stamps_of o ≡ Some gaining
-      → option_and_then (λ row. cond (is_open h.handles file row.number) None (gained_moment (cover_of groups file) (policy_of h.files file) floor now row.closed row.ended)) o ≡ gained_by groups h file floor now gaining.number gaining.closed gaining.ended
+      → option_and_then (former_moment groups h file floor now) o ≡ gained_by groups h file floor now gaining.number gaining.closed gaining.ended
   by None told = absurd cc
   by (Some row) told = let same : stamps_of row ≡ gaining = cc in rw (← same) refl
 

@@ -1,5 +1,5 @@
 -- A file that has a name again, and a version like its last one.
-use Rattle.ele_state.proofs.Words.{File, IsLawful, IsReady, Key, MayGrow, Policy, all-weaker, and-false, Cell, cond, cover_of, false≢true, floor_for, floor_in, floor_of, has_key, in_order_of, freed_moment, is_freed, is_live_name_of, is_moment, comes, coming, list_any-append, moments_stay, nat_le, near_floored, near_moment, near_unmet, newer_held, not, option_and_then, or-false, policy_is, policy_of, ripe_at, ripe_at_near, unread_under, unwrap_or, with_newer, with_version, ◌&&◌, ◌==◌, ◌||◌, ◌+◌, ◌∙◌, ap, subst, sym, after_change, after_changes, Append, Revive, IsHome, IsQueued, Shown, live_target, shown_of, ◌≡◌, ℕ, ◌-◌, ◌<◌, ◌≤◌, ◌++◌, Bool, true, false, List, ◌∷◌, Option, None, Some, is_some, refl, arith, find, list_any, option_map, option_map_or, nat_tests, world_of, IsSound, MayAppend, MayName, MayRevive, Rows, stamps_of, cells_of_version, all-found, found_passes, born_row, is_draft, is_version, may_grow, Versions, World, is_held, is_live, next_of, version_cells, versions_made, FileRow, Stamps, VersionRow, is_entry, is_open, gained_moment, []}
+use Rattle.ele_state.proofs.Words.{File, IsLawful, IsReady, Key, MayGrow, Policy, all-weaker, and-false, Cell, cond, cover_of, false≢true, floor_for, floor_in, floor_of, former_moment, has_key, in_order_of, freed_moment, is_freed, is_live_name_of, is_moment, comes, coming, list_any-append, moments_stay, nat_le, near_floored, near_moment, near_unmet, newer_held, not, option_and_then, or-false, policy_is, policy_of, ripe_at, ripe_at_near, unread_under, unwrap_or, with_newer, with_version, ◌&&◌, ◌==◌, ◌||◌, ◌+◌, ◌∙◌, ap, subst, sym, after_change, after_changes, Append, Revive, IsHome, IsQueued, Shown, live_target, shown_of, ◌≡◌, ℕ, ◌-◌, ◌<◌, ◌≤◌, ◌++◌, Bool, true, false, List, ◌∷◌, Option, None, Some, is_some, refl, arith, find, list_any, option_map, option_map_or, nat_tests, world_of, IsSound, MayAppend, MayName, MayRevive, Rows, stamps_of, cells_of_version, all-found, found_passes, born_row, is_draft, is_version, may_grow, Versions, World, is_held, is_live, next_of, version_cells, versions_made, FileRow, Stamps, VersionRow, is_entry, is_open, gained_moment, []}
 use Rattle.ele_state.proofs.Appended.{appended_keys, none_there}
 use Rattle.ele_state.proofs.Freed.{freed_is, just_more, none_freed, none_more, one_more}
 use Rattle.ele_state.proofs.Governed.{floored}
@@ -131,30 +131,36 @@ module _ (rows : Rows) (directory : ℕ) (name : List ℕ) (file : ℕ) (sound :
       by false other = ap (is_moment k.ripe) (moments_stay w u (in_order_of w sound.formed) refl refl refl refl k.file k.number (ap (floor_in (policy_of w.files k.file)) (others_live k.file other))) ∙ sym (sound.tracked.queue k)
 
     -- without a floor the keys come that do with any version, and with one none
+    floor_now : floor_for u file ≡ floor
+    floor_now = rw (live_now, filed) refl
+
     gives : floor ≡ 0 → (not true || (floor_for u file == 0)) ≡ true
-    gives none = rw (live_now, filed, none) refl
+    gives none = rw (floor_now, none) refl
 
     none_come : 1 ≤ floor → (k : Key) → came k ≡ false
     none_come some k =
         let forced : (floor == 0) ≡ false = grind (arith, nat_tests, some) in
-        rw (live_now, filed, forced) (rw (and-false ((k.file == file) && (k.number == next_of w.files file)), and-false (k.file == file && (k.number == option_map_or (λ row. row.number) (with_newer w.versions file (floor - 1)) 0))) refl)
+        rw (floor_now, live_now, forced) (grind (arith, nat_tests, and-false))
 
     still : floor ≡ 0 → (k : Key) → is_moment k.ripe (ripe_at u k.file k.number) ≡ has_key k rows.queue
     still none k = let all : met k floor ≡ true = grind (arith, nat_tests, none) in named_has k ∙ rw (all, or_true (not (k.file == file))) refl
 
     -- with one the held version that gains has the moment that it had without
-    gained : 1 ≤ floor → (closed : ℕ) (e : Option ℕ) → gained_moment (cover_of w.groups file) (Some policy) floor rows.moment closed e ≡ near_moment (cover_of w.groups file) (Some policy) None true closed (unwrap_or e rows.moment)
-    gained some closed None = near_floored (cover_of w.groups file) (Some policy) true (Some rows.moment) None true closed rows.moment given some
-    gained some closed (Some ended) =
-        let unmet : nat_le floor (floor - 1) ≡ false = grind (arith, nat_tests, some) in
-        rw (unmet, near_unmet (cover_of w.groups file) (Some policy) true (floor - 1) None closed ended given unmet) (near_floored (cover_of w.groups file) (Some policy) true (Some rows.moment) None true closed ended given some)
+    gained : 1 ≤ floor → (row : VersionRow) → former_moment w.groups rows.files file floor rows.moment row ≡ freed_moment w.groups rows.files file policy rows.moment row.number row.closed row.ended
+    gained some row = rw filed (ap (cond (is_open w.handles file row.number) None) (by row.ended)) where
+      unmet : nat_le floor (floor - 1) ≡ false
+      unmet = grind (arith, nat_tests, some)
 
-    gains : (some : 1 ≤ floor) (k : Key) → comes (coming named file false) k ≡ one_more w.groups rows.files file policy rows.moment (sound.formed.holds Versions).placed (floor - 1) k
-    gains some k = rw (live_now, filed) (by (with_newer w.versions file (floor - 1)) refl) where
+      by : (e : Option ℕ) → gained_moment (cover_of w.groups file) (Some policy) floor rows.moment row.closed e ≡ near_moment (cover_of w.groups file) (Some policy) None true row.closed (unwrap_or e rows.moment)
+      by None = near_floored (cover_of w.groups file) (Some policy) true (Some rows.moment) None true row.closed rows.moment given some
+      by (Some ended) = rw (unmet, near_unmet (cover_of w.groups file) (Some policy) true (floor - 1) None row.closed ended given unmet) (near_floored (cover_of w.groups file) (Some policy) true (Some rows.moment) None true row.closed ended given some)
+
+    gains : 1 ≤ floor → (k : Key) → comes (coming named file false) k ≡ one_more w.groups rows.files file policy rows.moment (sound.formed.holds Versions).placed (floor - 1) k
+    gains some k = rw (floor_now, live_now) (by (with_newer w.versions file (floor - 1)) refl) where
       by : (o : Option VersionRow) → with_newer w.versions file (floor - 1) ≡ o
-          → (is_entry file (option_map_or (λ row. row.number) o 0) (option_and_then (λ row. cond (is_open w.handles file row.number) None (gained_moment (cover_of w.groups file) (Some policy) floor rows.moment row.closed row.ended)) o) k || (is_entry file (next_of w.files file) None k || false)) ≡ one_more w.groups rows.files file policy rows.moment (sound.formed.holds Versions).placed (floor - 1) k
+          → (is_entry file (option_map_or (λ row. row.number) o 0) (option_and_then (former_moment w.groups rows.files file floor rows.moment) o) k || (is_entry file (next_of w.files file) None k || false)) ≡ one_more w.groups rows.files file policy rows.moment (sound.formed.holds Versions).placed (floor - 1) k
       by None none = rw (none_more w.groups rows.files file policy rows.moment (sound.formed.holds Versions).placed (floor - 1) k none) (grind (arith, nat_tests, and-false, or-false))
-      by (Some row) found = rw (gained some row.closed row.ended, just_more w.groups rows.files file policy rows.moment (sound.formed.holds Versions).placed (floor - 1) k row found) (grind (arith, nat_tests, and-false, or-false))
+      by (Some row) found = rw (gained some row, just_more w.groups rows.files file policy rows.moment (sound.formed.holds Versions).placed (floor - 1) k row found) (grind (arith, nat_tests, and-false, or-false))
 
     split : (own its has : Bool) (newer : ℕ) → 1 ≤ floor → (own ≡ true → its ≡ has) → (not (own && (not (nat_le (floor - 1) newer) && its)) && has) ≡ ((own && ((newer == floor - 1) && its)) || ((not own || nat_le floor newer) && has))
     split own its has newer some same = grind (arith, nat_tests)

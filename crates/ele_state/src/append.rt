@@ -106,7 +106,8 @@ fn former_moment(
     requires policy { policy_of files.now.files file ≡ Some policy.now }
     requires gaining { option_map stamps_of (with_newer files.now.versions file (floor - 1))
         ≡ Some gaining.now }
-    ensures { result ≡ former_moment groups.now files.now file floor now }
+    ensures { result ≡ option_and_then (former_moment groups.now files.now file floor now)
+        (with_newer files.now.versions file (floor - 1)) }
 {
     if files.is_open(file, gaining.number) {
         return None;
@@ -144,12 +145,17 @@ fn new_keys(
     } else {
         near_moment(groups, file, policy, &None, true, now, now)
     };
+    if again && floor != 0 {
+        return [
+            new_key(file, VersionNo(0), None),
+            new_key(file, standing.next, own),
+        ];
+    }
     let (number, former) = match &gaining(files, file, standing, floor, meter) {
-        Some(gaining) if !again || floor == 0 => {
+        Some(gaining) => {
             let former = former_moment(files, groups, file, policy, floor, gaining, now);
             (gaining.number, former)
         }
-        Some(gaining) => (gaining.number, None),
         None => (VersionNo(0), None),
     };
     [
