@@ -1,9 +1,13 @@
 -- Moments that change, and the keys that come and go by it.
-use Rattle.ele_state.proofs.Words.{AreChanges, Bool, IsQueued, Key, KeyChange, List, None, Option, Some, World, [], arith, comes, false, find, goes, has_key, if_changed, is_alone, is_entry, is_one, list_any, list_any-append, nat_tests, not, refl, ripe_at, sym, true, ℕ, ◌&&◌, ◌++◌, ◌||◌, ◌∙◌, ◌∷◌, ◌≡◌, ap}
+use Rattle.ele_state.proofs.Words.{AreChanges, Bool, IsQueued, Key, KeyChange, List, None, Option, Some, World, [], arith, comes, false, find, goes, has_key, is_some, if_changed, is_alone, is_entry, is_one, list_any, list_any-append, nat_tests, not, refl, ripe_at, sym, true, ℕ, ◌&&◌, ◌++◌, ◌||◌, ◌∙◌, ◌∷◌, ◌≡◌, ap}
+
+-- one passes where one is found
+pub any_is : {X : Type 0} (p : X → Bool) (xs : List X) → list_any p xs ≡ is_some (find p xs)
+any_is p [] = refl
+any_is {X} p (x ∷ xs) = grind (arith, nat_tests, any_is p xs)
 
 pub none_any : {X : Type 0} (p : X → Bool) (xs : List X) → find p xs ≡ None → list_any p xs ≡ false
-none_any p [] none = refl
-none_any {X} p (x ∷ xs) none = grind (arith, nat_tests, none_any p xs)
+none_any p xs none = any_is p xs ∙ ap is_some none
 
 -- what came and was taken out again is as if it had only been taken out
 pub back_and_forth : (a b : Bool) → (not a && (a || b)) ≡ (not a && b)

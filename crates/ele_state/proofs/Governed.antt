@@ -1,9 +1,8 @@
 -- The keys and the book, once a file has another policy.
 use Rattle.ele_state.proofs.Words.{AreChanges, not_found, get_or, is_one, is_own, length, take, ◌+◌, None, Rule, floor_of, is_live, is_open, nat_le, near_unmet, newer_held, no_floor, rule_in, ◌≤◌, IsTold, ◌∙◌, Versions, all_found, ap, find, cover_of, near_moment, next_closing, option_and_then, option_map, rows_of, ◌≡◌, ℕ, ◌<◌, ◌==◌, Bool, true, false, cond, ◌&&◌, ◌||◌, List, ◌∷◌, Option, Some, refl, sym, subst, arith, filter, map, AllByRecursion, list_any, nat_tests, world_of, IsSound, unread_under, held_world, IsBooked, Rows, Held, changed_at, Kind, Policy, IsLawful, is_kind, kind_of, Usage, Book, sums_of, only_at, plus, Fits, IsWithin, GroupRow, Stamps, VersionRow, PutUnder, after_change, is_version_of, stamps_of, file_usage, usage_of, usages, Bounded, World, is_version, next_of, policy_of, in_order_of, ripe_at_near, put_under_keeps, usage_same, usages_fit, [], HasParts, KeyChange, if_changed}
 use Rattle.std.proofs.lemmas.List.Folds.{list_any_more}
-use Rattle.ele_world.proofs.Basics.{all-none}
 use Rattle.ele_state.proofs.Asked.{under_told}
-use Rattle.ele_state.proofs.Changes.{Move, one_changes, one_stays, wider}
+use Rattle.ele_state.proofs.Changes.{Move, any_is, one_changes, one_stays, wider}
 use Rattle.ele_state.proofs.Booked.{booked, plus-cancel, same_kind}
 use Rattle.ele_world.proofs.PolicyUsage.{file_within, policy_usage}
 use Rattle.ele_world.proofs.PolicyMoments.{policy_others, policy_own}
@@ -19,7 +18,7 @@ pub unheld : (groups : List GroupRow) (h : Held) (file number : ℕ) (rule : Rul
 unheld groups h file number rule none = grind (arith, nat_tests, none)
 
 unheld_under : (groups : List GroupRow) (h : Held) (file number : ℕ) (rule : Rule) → list_any (is_version file number) h.versions ≡ false → unread_under groups rule h file number ≡ None
-unheld_under groups h file number rule none = unheld groups h file number rule (not_found (is_version file number) h.versions (all-none (is_version file number) h.versions none))
+unheld_under groups h file number rule none = grind (arith, nat_tests, none, any_is (is_version file number) h.versions)
 
 module _ (groups : List GroupRow) (h : Held) (file : ℕ) (was is : Rule) where
   abbrev AreOf : (ℕ → ℕ → Bool) → List KeyChange → Type 0
@@ -58,31 +57,12 @@ module _ (groups : List GroupRow) (h : Held) (file : ℕ) (was is : Rule) where
 -- the floor keeps those that have too few newer ones, and leaves the others their moments
 pub floored : (groups : List GroupRow) (policy : Policy) (floor : ℕ) (h : Held) (file number : ℕ) → IsLawful policy → floor ≤ floor_of policy
     → unread_under groups (record { policy = policy; floor = floor }) h file number ≡ cond (nat_le floor (newer_held h.versions file number)) (unread_under groups (record { policy = policy; floor = 0 }) h file number) None
-floored groups policy floor h file number given within = rw (no_floor (newer_held h.versions file number)) (by (is_open h.handles file number) (nat_le floor (newer_held h.versions file number)) refl (find (is_version file number) h.versions)) where
-  near : Bool → ℕ → ℕ → Option ℕ
-  near met closed ended = near_moment (cover_of groups file) (Some policy) (next_closing h.versions file number) met closed ended
-
-  unmet : (closed ended : ℕ) → nat_le floor (newer_held h.versions file number) ≡ false → near false closed ended ≡ None
-  unmet closed ended few = near_unmet (cover_of groups file) (Some policy) true (newer_held h.versions file number) (next_closing h.versions file number) closed ended given (grind (arith, nat_tests, few, within))
-
-  held : (closed : ℕ) (e : Option ℕ) → nat_le floor (newer_held h.versions file number) ≡ false → option_and_then (near false closed) e ≡ None
-  held closed None few = refl
-  held closed (Some ended) few = unmet closed ended few
-
-  by : (read met : Bool) → nat_le floor (newer_held h.versions file number) ≡ met → (o : Option VersionRow)
-      → cond read None (option_and_then (λ (row : VersionRow). option_and_then (near met row.closed) row.ended) o) ≡ cond met (cond read None (option_and_then (λ (row : VersionRow). option_and_then (near true row.closed) row.ended) o)) None
-  by read true is o = refl
-  by true false is o = refl
-  by false false is None = refl
-  by false false is (Some row) = held row.closed row.ended is
+floored groups policy floor h file number given within = grind (arith, nat_tests, no_floor (newer_held h.versions file number), near_unmet (cover_of groups file) (Some policy) true (newer_held h.versions file number) (next_closing h.versions file number))
 
 -- so is each that is told of a file whose versions are in order
 all_told : (h : Held) (file : ℕ) (rows : List VersionRow) → AllByRecursion (λ row. find (is_version row.file row.number) h.versions ≡ Some row) rows → AllByRecursion (IsTold h file) (map stamps_of (filter (is_version_of file) rows))
 all_told h file [] all = tt
-all_told h file (row ∷ rows) all = by (all_told h file rows all.1) (row.file == file) refl where
-  by : AllByRecursion (IsTold h file) (map stamps_of (filter (is_version_of file) rows)) → (b : Bool) → (row.file == file) ≡ b → AllByRecursion (IsTold h file) (map stamps_of (cond b (row ∷ filter (is_version_of file) rows) (filter (is_version_of file) rows)))
-  by rest true own = let file_is : row.file ≡ file = grind (arith, nat_tests) in (ap (option_map stamps_of) (subst (λ f. find (is_version f row.number) h.versions ≡ Some row) file_is all.0), rest)
-  by rest false other = rest
+all_told h file (row ∷ rows) all = grind (arith, nat_tests, all_told h file rows all.1, all.0)
 
 pub stamps_told : (rows : Rows) (file : ℕ) (held : List Stamps) → IsSound rows → held ≡ map stamps_of (filter (is_version_of file) rows.files.versions) → AllByRecursion (IsTold rows.files file) held
 stamps_told rows file held sound is = rw is (all_told rows.files file rows.files.versions (all_found rows.files.versions (sound.formed.holds Versions).placed))

@@ -1,6 +1,7 @@
 -- A file that has a name again, and a version like its last one.
 use Rattle.ele_state.proofs.Words.{File, IsLawful, IsReady, Key, MayGrow, Policy, all-weaker, and-false, Cell, cond, cover_of, false≢true, floor_for, floor_in, floor_of, former_moment, has_key, in_order_of, freed_moment, is_freed, is_live_name_of, is_moment, comes, coming, list_any-append, moments_stay, nat_le, near_floored, near_moment, near_unmet, newer_held, not, option_and_then, or-false, policy_is, policy_of, ripe_at, ripe_at_near, unread_under, unwrap_or, with_newer, with_version, ◌&&◌, ◌==◌, ◌||◌, ◌+◌, ◌∙◌, ap, subst, sym, after_change, after_changes, Append, Revive, IsHome, IsQueued, Shown, live_target, shown_of, ◌≡◌, ℕ, ◌-◌, ◌<◌, ◌≤◌, ◌++◌, Bool, true, false, List, ◌∷◌, Option, None, Some, is_some, refl, arith, find, list_any, option_map, option_map_or, nat_tests, world_of, IsSound, MayAppend, MayName, MayRevive, Rows, stamps_of, cells_of_version, all-found, found_passes, born_row, is_draft, is_version, may_grow, Versions, World, is_held, is_live, next_of, version_cells, versions_made, FileRow, Stamps, VersionRow, is_entry, is_open, gained_moment, []}
 use Rattle.ele_state.proofs.Appended.{appended_keys, none_there}
+use Rattle.ele_state.proofs.Changes.{any_is}
 use Rattle.ele_state.proofs.Freed.{freed_is, just_more, none_freed, none_more, one_more}
 use Rattle.ele_state.proofs.Governed.{floored}
 use Rattle.ele_state.proofs.Grown.{ready}
@@ -22,8 +23,7 @@ pub no_next : (o : Option FileRow) → None ≡ option_map (λ (row : FileRow). 
 no_next x0 e = grind (arith, nat_tests)
 
 pub stamped : (p : VersionRow → Bool) (rows : List VersionRow) → is_some (option_map stamps_of (find p rows)) ≡ list_any p rows
-stamped p [] = refl
-stamped p (row ∷ rows) = grind (arith, nat_tests, stamped p rows)
+stamped p rows = grind (arith, nat_tests, any_is p rows)
 
 pub told_held : (w : World) (file number : ℕ) (stamps : Stamps) → option_map stamps_of (find (is_version file number) w.versions) ≡ Some stamps → is_held w file number ≡ true
 told_held w file number stamps told = sym (stamped (is_version file number) w.versions) ∙ ap is_some told
@@ -72,22 +72,14 @@ module _ (rows : Rows) (directory : ℕ) (name : List ℕ) (file : ℕ) (sound :
 
   -- each other file is as live as it was, and the file is live
   others_live : (f : ℕ) → (f == file) ≡ false → is_live u f ≡ is_live w f
-  others_live f other = list_any-append (is_live_name_of f) rows.names (born_row directory name (File file) rows.moment ∷ []) ∙ (let apart : (file == f) ≡ false = grind (arith, nat_tests, other) in rw apart (or-false (list_any (is_live_name_of f) rows.names)))
+  others_live f other = grind (arith, nat_tests, list_any-append (is_live_name_of f) rows.names, or-false)
 
   live_now : is_live u file ≡ true
-  live_now = list_any-append (is_live_name_of file) rows.names (born_row directory name (File file) rows.moment ∷ []) ∙ (let itself : (file == file) ≡ true = grind (arith, nat_tests) in rw itself (or_true (list_any (is_live_name_of file) rows.names)))
+  live_now = grind (arith, nat_tests, list_any-append (is_live_name_of file) rows.names)
 
   -- all versions of a file without a live name have ended
   has_ended : (n : ℕ) (row : VersionRow) → find (is_version file n) w.versions ≡ Some row → is_some row.ended ≡ true
-  has_ended n row found = by row.ended refl where
-    own : row.file ≡ file
-    own = let passes = found_passes (is_version file n) w.versions row found in grind (arith, nat_tests, passes)
-
-    by : (e : Option ℕ) → row.ended ≡ e → is_some e ≡ true
-    by None none =
-        let live : list_any (is_live_name_of row.file) w.names ≡ true = all-found (is_version file n) (IsOfLive w.names) w.versions row found (sound.formed.holds Ended) none in
-        absurd (false≢true (sym may.nameless ∙ subst (λ f. list_any (is_live_name_of f) w.names ≡ true) own live))
-    by (Some e) is = refl
+  has_ended n row found = grind (arith, nat_tests, found_passes (is_version file n) w.versions row found, all-found (is_version file n) (IsOfLive w.names) w.versions row found (sound.formed.holds Ended), may.nameless)
 
   module _ (cells : List Cell) (policy : Policy) (filed : policy_of w.files file ≡ Some policy) where
     abbrev v : World

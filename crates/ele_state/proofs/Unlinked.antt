@@ -1,6 +1,6 @@
 -- What the end of a file's name leaves of the keys and of the book.
 use Rattle.ele_state.proofs.Words.{false≢true, is_some, ◌&&◌, ◌==◌, ◌||◌, Bool, IsLawful, None, Option, Policy, and-false, ap, cond, cover_of, ended_at, ended_in_order, floor_in, floor_of, has_key, in_order_of, is_moment, is_open, nat_le, near_moment, newer_held, next_closing, no_floor, not, option_and_then, or-false, policy_is, policy_of, refl, ripe_at, ripe_at_near, subst, unread_under, ◌≡◌, ℕ, ◌-◌, ◌<◌, true, false, List, Some, None, sym, ◌∙◌, arith, find, count_by, nat_tests, IsQueued, held_world, IsBooked, IsSound, Rows, world_of, Key, Held, current_ended, all-found, found_passes, any-count, count-update_first, Book, EndFileName, after_change, with_end, without_name, is_live_name, live_target, Names, World, is_live, is_live_name_of, is_version, next_of, NameRow, File, ended_moment, other_moments, target_live, VersionRow, Versions, all-weaker, any-found, freed_moment, is_freed, near_floored, no_moment, not_found, unwrap_or, ◌≤◌}
-use Rattle.ele_state.proofs.Changes.{none_any}
+use Rattle.ele_state.proofs.Changes.{any_is}
 use Rattle.ele_state.proofs.Freed.{freed_is}
 use Rattle.ele_state.proofs.Governed.{floored, unheld}
 use Rattle.ele_state.proofs.NewNames.{names_queue}
@@ -45,10 +45,7 @@ module _ (rows : Rows) (directory : ℕ) (name : List ℕ) (file : ℕ) (sound :
 
   -- each file is as live as it was
   same_live : is_live (without_name w directory name) file ≡ true → (f : ℕ) → is_live (without_name w directory name) f ≡ is_live w f
-  same_live live f = by (f == file) refl where
-    by : (b : Bool) → (f == file) ≡ b → is_live (without_name w directory name) f ≡ is_live w f
-    by false other = others_as_live w directory name file stands f other
-    by true own = let same : f ≡ file = grind (arith, nat_tests, own) in rw same (live ∙ sym (target_live rows.names directory name (File file) stands))
+  same_live live f = grind (arith, nat_tests, others_as_live w directory name file stands f, target_live rows.names directory name (File file) stands, live)
 
   pub unlinked_queue : is_live (without_name w directory name) file ≡ true → IsQueued (without_name w directory name) rows.queue
   unlinked_queue live = names_queue rows (without_name w directory name).names sound (same_live live)
@@ -100,9 +97,7 @@ module _ (rows : Rows) (directory : ℕ) (name : List ℕ) (file : ℕ) (sound :
     not_past row is = let numbered = is.numbered in grind (arith, nat_tests, numbered)
 
     none_newer : newer last ≡ 0
-    none_newer =
-        let none = none_any (is_newer_of file last) w.versions (not_found (is_newer_of file last) w.versions (all-weaker (IsVersion w.files w.now) (λ row. is_newer_of file last row ≡ false) w.versions not_past (sound.formed.holds Versions).each)) in
-        grind (arith, nat_tests, none, any-count (is_newer_of file last) w.versions)
+    none_newer = grind (arith, nat_tests, any_is (is_newer_of file last) w.versions, not_found (is_newer_of file last) w.versions, all-weaker (IsVersion w.files w.now) (λ row. is_newer_of file last row ≡ false) w.versions not_past (sound.formed.holds Versions).each, any-count (is_newer_of file last) w.versions)
 
     module _ (n : ℕ) (row : VersionRow) (found : find (is_version file n) w.versions ≡ Some row) (apart : (n == last) ≡ false) where
       its : IsVersion w.files w.now row
@@ -128,9 +123,7 @@ module _ (rows : Rows) (directory : ℕ) (name : List ℕ) (file : ℕ) (sound :
       then_is n = option_and_then (λ row. freed_moment w.groups rows.files file policy rows.moment row.number row.closed row.ended) (find (is_version file n) w.versions)
 
       last_is : ripe_at v file last ≡ then_is last
-      last_is =
-          let number : current.row.number ≡ last = (let passes = found_passes (is_version file last) w.versions current.row current.found in grind (arith, nat_tests, passes)) in
-          ended_moment w directory name file current sound.formed dead ∙ rw (filed, current.found, current.no_end, number) refl
+      last_is = grind (arith, nat_tests, ended_moment w directory name file current sound.formed dead, filed, current.found, current.no_end, found_passes (is_version file last) w.versions current.row current.found)
 
       -- those of so many of the newest versions are told by them alone, and weren't there, and the others stay
       record IsFreed (n : ℕ) : Type 0 where
