@@ -1,9 +1,8 @@
 -- Which keys the versions have, once a file has its next version: two came, and all others stayed.
-use Rattle.ele_policy.specs.Ripe.{ripe_near}
 use Rattle.ele_world.proofs.Basics.{all-not_found}
 use Rattle.ele_world.proofs.Versions.{IsFound}
-use Rattle.ele_state.proofs.Words.{AllLater, ArePlaced, Bool, Cell, Cover, IfSome, IsLawful, IsQueued, Key, List, MayGrow, KeyChange, None, Option, Policy, Some, VersionRow, World, all-found, all_found, and-false, any-found, ap, arith, cond, cover_of, false, false≢true, find, floor_for, found_passes, gained_moment, gaining_is, gaining_was, has_key, has_newer, held_before, is_entry, is_live, is_moment, comes, is_open, is_some, is_version, is_version_of, list_any, met_before, nat_tests, near_moment, new_keys, newer_held, next_after, next_before, next_of, not, one_with_newer, option_and_then, option_map_or, or-false, others_after, own_moment, policy_is, policy_of, refl, ripe_at, ripe_past, rows_of, subst, sym, touches, true, unwrap_or, with_newer, with_version, ◌&&◌, ◌-◌, ◌<◌, ◌==◌, ◌||◌, ◌∙◌, ◌≡◌, ℕ}
-use Rattle.ele_state.proofs.Changes.{any_is, back_and_forth}
+use Rattle.ele_state.proofs.Words.{AllLater, ArePlaced, Bool, Cell, Cover, IfSome, IsLawful, IsQueued, Key, List, MayGrow, KeyChange, None, Option, Policy, Some, VersionRow, World, all-found, all_found, and-false, ap, arith, cond, cover_of, false, false≢true, find, floor_for, found_passes, gained_moment, gaining_is, gaining_was, has_key, has_newer, held_before, is_entry, is_live, is_moment, comes, is_open, is_version, is_version_of, met_before, nat_tests, near_moment, new_keys, newer_held, next_after, next_before, next_of, not, one_with_newer, option_and_then, option_map_or, or-false, others_after, own_moment, policy_is, policy_of, refl, ripe_at, rows_of, touches, true, unwrap_or, with_newer, with_version, ◌&&◌, ◌-◌, ◌<◌, ◌==◌, ◌||◌, ◌∙◌, ◌≡◌, ℕ}
+use Rattle.ele_state.proofs.Changes.{any_is}
 
 -- ---- what the version gets that gains
 
@@ -74,10 +73,7 @@ module _ (w : World) (file opened : ℕ) (cells : List Cell) (k : MayGrow w file
   gains : (row : VersionRow) (m : ℕ) → gaining ≡ Some row → IsGained m (ripe_at w file row.number) (came row) (ripe_at appended file row.number)
   gains row m is =
       let h = has row is in
-      rw (gaining_was w file opened cells k row h.found h.least, gaining_is w file opened cells k row h.found h.least) (by (is_open w.handles file row.number)) where
-        by : (b : Bool) → IsGained m (cond b None (option_and_then (near_moment (cover_of w.groups file) (policy_of w.files file) None (met_before floor) row.closed) row.ended)) (cond b None (gained_moment (cover_of w.groups file) (policy_of w.files file) floor w.now row.closed row.ended)) (cond b None (near_moment (cover_of w.groups file) (policy_of w.files file) (Some w.now) true row.closed (unwrap_or row.ended w.now)))
-        by true = record { is_now = refl; wasnt = λ h. refl }
-        by false = gained (cover_of w.groups file) (policy_of w.files file) floor w.now row.closed m row.ended (policy_is w.files file k.policies)
+      grind (arith, nat_tests, gaining_was w file opened cells k row h.found h.least, gaining_is w file opened cells k row h.found h.least, gained (cover_of w.groups file) (policy_of w.files file) floor w.now row.closed m row.ended (policy_is w.files file k.policies))
 
   gains_before : (row : VersionRow) → gaining ≡ Some row → row.number < next
   gains_before row is = held_before w file opened cells k row (has row is).found

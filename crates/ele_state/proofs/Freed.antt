@@ -1,8 +1,8 @@
 -- The moments of a file's newest versions, where no floor keeps them.
-use Rattle.ele_state.proofs.Words.{IsLawful, cond, cover_of, false≢true, floor_of, is_open, is_some, near_floored, near_moment, next_closing, unread_under, unwrap_or, ◌≤◌, comes, if_changed, sym, Held, has_newer, freed_moment, is_entry, is_freed, ◌∙◌, ap, refl, ◌≡◌, ℕ, ◌+◌, ◌==◌, nat_le, Bool, true, false, not, ◌&&◌, ◌||◌, List, Option, Some, None, find, option_and_then, option_map, arith, nat_tests, and-false, AllLater, ArePlaced, VersionRow, GroupRow, Stamps, Policy, Key, stamps_of, is_version, is_moment, any-found, found_passes, newer_held, no_floor, with_newer}
+use Rattle.ele_state.proofs.Words.{IsLawful, cond, cover_of, false≢true, floor_of, is_open, is_some, near_floored, near_moment, next_closing, unread_under, unwrap_or, ◌≤◌, comes, if_changed, sym, Held, has_newer, freed_moment, is_entry, is_freed, ◌∙◌, ap, refl, ◌≡◌, ℕ, ◌+◌, ◌==◌, nat_le, Bool, true, false, not, ◌&&◌, ◌||◌, List, Option, Some, None, find, option_and_then, option_map, arith, nat_tests, and-false, AllLater, ArePlaced, VersionRow, GroupRow, Stamps, Policy, Key, stamps_of, is_version, is_moment, found_passes, newer_held, no_floor, with_newer}
 use Rattle.ele_state.proofs.Changes.{any_is, brought}
 use Rattle.ele_state.proofs.Governed.{unheld}
-use Rattle.ele_state.proofs.Appended.{HasNewer, none_has, one_alone, one_has}
+use Rattle.ele_state.proofs.Appended.{none_has, one_alone, one_has}
 
 -- one more is one that has just so many newer ones
 pub step : (newest n : ℕ) (own m : Bool) → (own && (not (nat_le (newest + 1) n) && m)) ≡ ((own && (not (nat_le newest n) && m)) || (own && ((n == newest) && m)))
@@ -48,7 +48,4 @@ module _ (groups : List GroupRow) (h : Held) (file : ℕ) (policy : Policy) (now
 
     pub freed_more : (stamps : Stamps) (moment : Option ℕ) → Some stamps ≡ option_map stamps_of (with_newer h.versions file newest) → moment ≡ freed_moment groups h file policy now stamps.number stamps.closed stamps.ended
         → is_freed groups h file policy now (newest + 1) k ≡ (is_freed groups h file policy now newest k || comes (if_changed (Some (record { file = file; number = stamps.number; was = None; is = moment }))) k)
-    freed_more stamps moment told is = step newest (newer_held h.versions file k.number) (k.file == file) _ ∙ ap (λ b. is_freed groups h file policy now newest k || b) (by (with_newer h.versions file newest) refl (sym told) ∙ ap (λ m. is_entry file stamps.number m k) (sym is) ∙ sym (brought k file stamps.number moment)) where
-      by : (o : Option VersionRow) → with_newer h.versions file newest ≡ o → option_map stamps_of o ≡ Some stamps → one_more ≡ is_entry file stamps.number (freed_moment groups h file policy now stamps.number stamps.closed stamps.ended) k
-      by None e told = absurd cc
-      by (Some row) e told = let same : stamps_of row ≡ stamps = cc in rw (← same) (just_more row e)
+    freed_more stamps moment told is = grind (arith, nat_tests, step newest (newer_held h.versions file k.number) (k.file == file), just_more, told, is, brought k file stamps.number moment)

@@ -1,5 +1,5 @@
 -- The keys and the book, once a file has another policy.
-use Rattle.ele_state.proofs.Words.{AreChanges, not_found, get_or, is_one, is_own, length, take, ◌+◌, None, Rule, floor_of, is_live, is_open, nat_le, near_unmet, newer_held, no_floor, rule_in, ◌≤◌, IsTold, ◌∙◌, Versions, all_found, ap, find, cover_of, near_moment, next_closing, option_and_then, option_map, rows_of, ◌≡◌, ℕ, ◌<◌, ◌==◌, Bool, true, false, cond, ◌&&◌, ◌||◌, List, ◌∷◌, Option, Some, refl, sym, subst, arith, filter, map, AllByRecursion, list_any, nat_tests, world_of, IsSound, unread_under, held_world, IsBooked, Rows, Held, changed_at, Kind, Policy, IsLawful, is_kind, kind_of, Usage, Book, sums_of, only_at, plus, Fits, IsWithin, GroupRow, Stamps, VersionRow, PutUnder, after_change, is_version_of, stamps_of, file_usage, usage_of, usages, Bounded, World, is_version, next_of, policy_of, in_order_of, ripe_at_near, put_under_keeps, usage_same, usages_fit, [], HasParts, KeyChange, if_changed}
+use Rattle.ele_state.proofs.Words.{AreChanges, get_or, is_one, is_own, length, take, ◌+◌, None, Rule, floor_of, is_live, is_open, nat_le, near_unmet, newer_held, no_floor, rule_in, ◌≤◌, IsTold, ◌∙◌, Versions, all_found, ap, find, cover_of, near_moment, next_closing, option_and_then, rows_of, ◌≡◌, ℕ, ◌<◌, ◌==◌, Bool, true, false, cond, ◌&&◌, ◌||◌, List, ◌∷◌, Option, Some, refl, sym, subst, arith, filter, map, AllByRecursion, list_any, nat_tests, world_of, IsSound, unread_under, held_world, IsBooked, Rows, Held, changed_at, Kind, Policy, IsLawful, is_kind, kind_of, Usage, Book, sums_of, only_at, plus, Fits, IsWithin, GroupRow, Stamps, VersionRow, PutUnder, after_change, is_version_of, stamps_of, file_usage, usage_of, usages, Bounded, World, is_version, next_of, policy_of, in_order_of, ripe_at_near, put_under_keeps, usage_same, usages_fit, [], HasParts, KeyChange, if_changed}
 use Rattle.std.proofs.lemmas.List.Folds.{list_any_more}
 use Rattle.ele_state.proofs.Asked.{under_told}
 use Rattle.ele_state.proofs.Changes.{Move, any_is, one_changes, one_stays, wider}
@@ -16,9 +16,6 @@ is_among file held owner number = (owner == file) && list_any (λ stamps. stamps
 -- a version that isn't held has none
 pub unheld : (groups : List GroupRow) (h : Held) (file number : ℕ) (rule : Rule) → find (is_version file number) h.versions ≡ None → unread_under groups rule h file number ≡ None
 unheld groups h file number rule none = grind (arith, nat_tests, none)
-
-unheld_under : (groups : List GroupRow) (h : Held) (file number : ℕ) (rule : Rule) → list_any (is_version file number) h.versions ≡ false → unread_under groups rule h file number ≡ None
-unheld_under groups h file number rule none = grind (arith, nat_tests, none, any_is (is_version file number) h.versions)
 
 module _ (groups : List GroupRow) (h : Held) (file : ℕ) (was is : Rule) where
   abbrev AreOf : (ℕ → ℕ → Bool) → List KeyChange → Type 0
@@ -47,12 +44,7 @@ module _ (groups : List GroupRow) (h : Held) (file : ℕ) (was is : Rule) where
 
   -- so where these are all that are held, no other changes
   pub all_under : (held : List Stamps) (changes : List KeyChange) → held ≡ map stamps_of (filter (is_version_of file) h.versions) → AreOf (is_among file held) changes → AreOf (is_own file) changes
-  all_under held changes all are = wider _ _ (is_among file held) (is_own file) changes (λ owner number h. grind (arith, nat_tests, h)) (λ owner number own none. let left = rest owner number own none in unheld_under groups h owner number is left ∙ sym (unheld_under groups h owner number was left)) are where
-    rest : (owner number : ℕ) → is_own file owner number ≡ true → is_among file held owner number ≡ false → list_any (is_version owner number) h.versions ≡ false
-    rest owner number own none =
-        let same : owner ≡ file = grind (arith, nat_tests, own) in
-        let not_told : list_any (λ (s : Stamps). s.number == number) held ≡ false = grind (arith, own, none) in
-        rw same (sym (held_told number h.versions) ∙ ap (list_any (λ (s : Stamps). s.number == number)) (sym all) ∙ not_told)
+  all_under held changes all are = wider _ _ (is_among file held) (is_own file) changes (λ owner number h. grind (arith, nat_tests, h)) (λ owner number own none. grind (arith, nat_tests, own, none, held_told number h.versions, all, any_is (is_version file number) h.versions)) are
 
 -- the floor keeps those that have too few newer ones, and leaves the others their moments
 pub floored : (groups : List GroupRow) (policy : Policy) (floor : ℕ) (h : Held) (file number : ℕ) → IsLawful policy → floor ≤ floor_of policy
@@ -71,12 +63,10 @@ stamps_told rows file held sound is = rw is (all_told rows.files file rows.files
 pub governed : (w : World) (file : ℕ) (was policy : Policy) → HasParts w → policy_of w.files file ≡ Some was → 0 < next_of w.files file → IsLawful policy
     → Move w (after_change w (PutUnder file policy)) (is_own file) (unread_under w.groups (rule_in was (is_live w file)) (rows_of w)) (unread_under w.groups (rule_in policy (is_live w file)) (rows_of w))
 governed w file was policy k filed there given = record {
-  had = λ owner number own. rw (same owner own) (ripe_at_near w file number (in_order_of w k) ∙ rw filed refl);
-  has = λ owner number own. rw (same owner own) (policy_own w file policy k given there number);
+  had = λ owner number own. grind (arith, nat_tests, own, ripe_at_near w file number (in_order_of w k), filed);
+  has = λ owner number own. let same : owner ≡ file = grind (arith, nat_tests, own) in rw same (policy_own w file policy k given there number);
   others = λ owner number other. policy_others w file policy k owner number other;
-} where
-  same : (owner : ℕ) → (owner == file) ≡ true → owner ≡ file
-  same owner own = grind (arith, nat_tests, own)
+}
 
 -- ---- the book
 

@@ -1,5 +1,5 @@
 -- What a file's next version leaves, whatever its content comes from.
-use Rattle.ele_state.proofs.Words.{IsBooked, NoMemory, OnErr, OnOk, Result, Ok, Err, subst, sym, true, false, [], ◌≡◌, ℕ, ◌+◌, ◌<◌, ◌||◌, List, arith, refl, ◌∙◌, ap, Book, coming, Held, IsOwed, IsOwedBy, IsQueued, Kind, Policy, Some, kind_of, one_version, only_at, placed_of, plus, policy_of, sums_of, IsReady, IsRoomy, IsSound, IsSource, IsTracked, Key, MayGrow, KeyChange, Rows, Source, World, after_changes, appending, blocks_of, cells_of_draft, cells_of_version, content_of, has_key, is_draft, comes, length, may_grow, next_of, next_version, remove_first, rows_after, source_cells, with_rows, world_of, drafts-removed}
+use Rattle.ele_state.proofs.Words.{IsBooked, NoMemory, OnErr, OnOk, Result, Ok, Err, subst, sym, true, false, [], ◌≡◌, ℕ, ◌+◌, ◌<◌, ◌||◌, List, arith, refl, ◌∙◌, ap, Book, coming, Held, IsOwed, IsOwedBy, IsQueued, Kind, Policy, Some, kind_of, one_version, only_at, placed_of, plus, policy_of, sums_of, IsReady, IsRoomy, IsSound, IsSource, IsTracked, Key, MayGrow, Rows, Source, World, after_changes, appending, blocks_of, cells_of_draft, cells_of_version, content_of, has_key, is_draft, comes, length, may_grow, next_of, next_version, remove_first, rows_after, source_cells, with_rows, world_of, drafts-removed}
 use Rattle.ele_state.proofs.Appended.{appended_queue, none_there}
 use Rattle.ele_state.proofs.Booked.{few, of_kind, owed_by}
 use Rattle.ele_state.proofs.Bounded.{rows_few, versions_few}

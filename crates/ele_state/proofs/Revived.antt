@@ -1,5 +1,5 @@
 -- A file that has a name again, and a version like its last one.
-use Rattle.ele_state.proofs.Words.{File, IsLawful, IsReady, Key, MayGrow, Policy, all-weaker, and-false, Cell, cond, cover_of, false≢true, floor_for, floor_in, floor_of, former_moment, has_key, in_order_of, freed_moment, is_freed, is_live_name_of, is_moment, comes, coming, list_any-append, moments_stay, nat_le, near_floored, near_moment, near_unmet, newer_held, not, option_and_then, or-false, policy_is, policy_of, ripe_at, ripe_at_near, unread_under, unwrap_or, with_newer, with_version, ◌&&◌, ◌==◌, ◌||◌, ◌+◌, ◌∙◌, ap, subst, sym, after_change, after_changes, Append, Revive, IsHome, IsQueued, Shown, live_target, shown_of, ◌≡◌, ℕ, ◌-◌, ◌<◌, ◌≤◌, ◌++◌, Bool, true, false, List, ◌∷◌, Option, None, Some, is_some, refl, arith, find, list_any, option_map, option_map_or, nat_tests, world_of, IsSound, MayAppend, MayName, MayRevive, Rows, stamps_of, cells_of_version, all-found, found_passes, born_row, is_draft, is_version, may_grow, Versions, World, is_held, is_live, next_of, version_cells, versions_made, FileRow, Stamps, VersionRow, is_entry, is_open, gained_moment, []}
+use Rattle.ele_state.proofs.Words.{File, IsLawful, IsReady, Key, MayGrow, Policy, and-false, Cell, cond, cover_of, false≢true, floor_for, floor_of, former_moment, has_key, in_order_of, freed_moment, is_freed, is_live_name_of, is_moment, comes, coming, list_any-append, moments_stay, nat_le, near_floored, near_moment, near_unmet, newer_held, not, option_and_then, or-false, policy_is, policy_of, ripe_at, ripe_at_near, unread_under, unwrap_or, with_newer, with_version, ◌&&◌, ◌==◌, ◌||◌, ◌+◌, ◌∙◌, ap, subst, sym, after_change, after_changes, Append, Revive, IsHome, IsQueued, Shown, live_target, shown_of, ◌≡◌, ℕ, ◌-◌, ◌<◌, ◌≤◌, ◌++◌, Bool, true, false, List, ◌∷◌, Option, None, Some, is_some, refl, arith, find, list_any, option_map, option_map_or, nat_tests, world_of, IsSound, MayAppend, MayName, MayRevive, Rows, stamps_of, cells_of_version, all-found, found_passes, born_row, is_draft, is_version, may_grow, Versions, World, is_held, is_live, next_of, version_cells, versions_made, FileRow, Stamps, VersionRow, is_entry, is_open, gained_moment, []}
 use Rattle.ele_state.proofs.Appended.{appended_keys, none_there}
 use Rattle.ele_state.proofs.Changes.{any_is}
 use Rattle.ele_state.proofs.Freed.{freed_is, just_more, none_freed, none_more, one_more}
@@ -105,22 +105,11 @@ module _ (rows : Rows) (directory : ℕ) (name : List ℕ) (file : ℕ) (sound :
 
     -- without the name no floor was in force
     had : (k : Key) → (k.file == file) ≡ true → has_key k rows.queue ≡ is_moment k.ripe (free k.number)
-    had k own =
-        let same : k.file ≡ file = grind (arith, nat_tests, own) in
-        sound.tracked.queue k ∙ ap (is_moment k.ripe) (rw same (ripe_at_near w file k.number (in_order_of w sound.formed) ∙ rw (may.nameless, filed) refl))
+    had k own = grind (arith, nat_tests, own, sound.tracked.queue k, ripe_at_near w file k.number (in_order_of w sound.formed), may.nameless, filed)
 
     -- with it those have no key that have too few newer ones
     named_has : (k : Key) → is_moment k.ripe (ripe_at u k.file k.number) ≡ ((not (k.file == file) || met k floor) && has_key k rows.queue)
-    named_has k = by (k.file == file) refl where
-      kept : (m : ℕ) (b : Bool) (o : Option ℕ) → is_moment m (cond b o None) ≡ (b && is_moment m o)
-      kept m true o = refl
-      kept m false o = refl
-
-      by : (b : Bool) → (k.file == file) ≡ b → is_moment k.ripe (ripe_at u k.file k.number) ≡ ((not b || met k floor) && has_key k rows.queue)
-      by true own =
-          let same : k.file ≡ file = grind (arith, nat_tests, own) in
-          rw (had k own, same) (ap (is_moment k.ripe) (ripe_at_near u file k.number (in_order_of w sound.formed) ∙ rw (live_now, filed) (floored w.groups policy floor rows.files file k.number given (omega arith))) ∙ kept k.ripe (met k floor) (free k.number))
-      by false other = ap (is_moment k.ripe) (moments_stay w u (in_order_of w sound.formed) refl refl refl refl k.file k.number (ap (floor_in (policy_of w.files k.file)) (others_live k.file other))) ∙ sym (sound.tracked.queue k)
+    named_has k = grind (arith, nat_tests, had k, sound.tracked.queue k, ripe_at_near u file k.number (in_order_of w sound.formed), live_now, filed, floored w.groups policy floor rows.files file k.number given, moments_stay w u (in_order_of w sound.formed) refl refl refl refl k.file k.number, others_live k.file)
 
     -- without a floor the keys come that do with any version, and with one none
     floor_now : floor_for u file ≡ floor
@@ -135,17 +124,14 @@ module _ (rows : Rows) (directory : ℕ) (name : List ℕ) (file : ℕ) (sound :
         rw (floor_now, live_now, forced) (grind (arith, nat_tests, and-false))
 
     still : floor ≡ 0 → (k : Key) → is_moment k.ripe (ripe_at u k.file k.number) ≡ has_key k rows.queue
-    still none k = let all : met k floor ≡ true = grind (arith, nat_tests, none) in named_has k ∙ rw (all, or_true (not (k.file == file))) refl
+    still none k = grind (arith, nat_tests, named_has k, none)
 
     -- with one the held version that gains has the moment that it had without
     gained : 1 ≤ floor → (row : VersionRow) → former_moment w.groups rows.files file floor rows.moment row ≡ freed_moment w.groups rows.files file policy rows.moment row.number row.closed row.ended
     gained some row = rw filed (ap (cond (is_open w.handles file row.number) None) (by row.ended)) where
-      unmet : nat_le floor (floor - 1) ≡ false
-      unmet = grind (arith, nat_tests, some)
-
       by : (e : Option ℕ) → gained_moment (cover_of w.groups file) (Some policy) floor rows.moment row.closed e ≡ near_moment (cover_of w.groups file) (Some policy) None true row.closed (unwrap_or e rows.moment)
       by None = near_floored (cover_of w.groups file) (Some policy) true (Some rows.moment) None true row.closed rows.moment given some
-      by (Some ended) = rw (unmet, near_unmet (cover_of w.groups file) (Some policy) true (floor - 1) None row.closed ended given unmet) (near_floored (cover_of w.groups file) (Some policy) true (Some rows.moment) None true row.closed ended given some)
+      by (Some ended) = grind (arith, nat_tests, near_unmet (cover_of w.groups file) (Some policy) true (floor - 1) None row.closed ended given, near_floored (cover_of w.groups file) (Some policy) true (Some rows.moment) None true row.closed ended given some)
 
     gains : 1 ≤ floor → (k : Key) → comes (coming named file false) k ≡ one_more w.groups rows.files file policy rows.moment (sound.formed.holds Versions).placed (floor - 1) k
     gains some k = rw (floor_now, live_now) (by (with_newer w.versions file (floor - 1)) refl) where

@@ -1,5 +1,5 @@
 -- What the end of a file's name leaves of the keys and of the book.
-use Rattle.ele_state.proofs.Words.{false≢true, is_some, ◌&&◌, ◌==◌, ◌||◌, Bool, IsLawful, None, Option, Policy, and-false, ap, cond, cover_of, ended_at, ended_in_order, floor_in, floor_of, has_key, in_order_of, is_moment, is_open, nat_le, near_moment, newer_held, next_closing, no_floor, not, option_and_then, or-false, policy_is, policy_of, refl, ripe_at, ripe_at_near, subst, unread_under, ◌≡◌, ℕ, ◌-◌, ◌<◌, true, false, List, Some, None, sym, ◌∙◌, arith, find, count_by, nat_tests, IsQueued, held_world, IsBooked, IsSound, Rows, world_of, Key, Held, current_ended, all-found, found_passes, any-count, count-update_first, Book, EndFileName, after_change, with_end, without_name, is_live_name, live_target, Names, World, is_live, is_live_name_of, is_version, next_of, NameRow, File, ended_moment, other_moments, target_live, VersionRow, Versions, all-weaker, any-found, freed_moment, is_freed, near_floored, no_moment, not_found, unwrap_or, ◌≤◌}
+use Rattle.ele_state.proofs.Words.{false≢true, is_some, ◌&&◌, ◌==◌, ◌||◌, Bool, IsLawful, None, Option, Policy, ap, cond, ended_at, ended_in_order, floor_in, floor_of, has_key, in_order_of, is_moment, nat_le, newer_held, next_closing, no_floor, not, option_and_then, policy_is, policy_of, refl, ripe_at, ripe_at_near, subst, unread_under, ◌≡◌, ℕ, ◌-◌, ◌<◌, true, false, List, Some, None, sym, ◌∙◌, arith, find, count_by, nat_tests, IsQueued, held_world, IsBooked, IsSound, Rows, world_of, Key, Held, current_ended, all-found, found_passes, any-count, count-update_first, Book, EndFileName, after_change, with_end, without_name, is_live_name, live_target, Names, World, is_live, is_live_name_of, is_version, next_of, NameRow, File, ended_moment, other_moments, target_live, VersionRow, Versions, all-weaker, any-found, freed_moment, is_freed, no_moment, not_found, ◌≤◌}
 use Rattle.ele_state.proofs.Changes.{any_is}
 use Rattle.ele_state.proofs.Freed.{freed_is}
 use Rattle.ele_state.proofs.Governed.{floored, unheld}

@@ -1,7 +1,7 @@
 use Rattle.ele_state.proofs.Words.{File, IsQueued, Revive, World, ap, floor_of, comes, has_key, is_freed, not, placed_of, refl, shown_of, subst, sym, world_of, ◌&&◌, ◌-◌, ◌∙◌, ◌≡◌, []}
 use Rattle.ele_state.proofs.Grown.{roomy}
 use Rattle.ele_state.proofs.NewNames.{follows_new}
-use Rattle.ele_state.proofs.Revived.{held_ready, held_there, last_held, revived_absent, revived_queue, revived_world, revives}
+use Rattle.ele_state.proofs.Revived.{held_ready, held_there, revived_absent, revived_queue, revived_world, revives}
 use Rattle.ele_state.proofs.Settled.{settled_by}
 use Rattle.ele_state.proofs.State.revive.Goals as goal
 
