@@ -9,7 +9,7 @@ ghost use Rattle.ele_files.specs.Standing.{Stands};
 ghost use Rattle.ele_lists.specs.Lists.{AllLater};
 ghost use Rattle.ele_world.specs.Change.{after_changes};
 ghost use Rattle.ele_world.specs.Cover.{cover_of};
-ghost use Rattle.ele_world.specs.Neighbours.{floor_in, near_moment, with_newer};
+ghost use Rattle.ele_world.specs.Neighbours.{near_moment, with_newer};
 ghost use Rattle.ele_world.specs.Told.{stamps_of};
 ghost use Rattle.ele_world.specs.WellFormed.{ArePlaced};
 ghost use Rattle.ele_world.specs.World.{next_of, policy_of};

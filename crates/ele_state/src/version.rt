@@ -2,7 +2,6 @@
 ghost use Rattle.std.specs.Prelude.{◌≡◌, ◌+◌, ◌-◌, ◌≤◌, ◌<◌, ◌^◌, ◌∷◌, [], true, false, Some, IfOk, OnOk, OnErr, find, filter, is_some, map};
 ghost use Rattle.std.specs.Option.{option_map};
 ghost use Rattle.std.specs.Result.{result_map_both};
-ghost use Rattle.ele_due.specs.declared.key.Key.{Key};
 ghost use Rattle.ele_world.specs.Change.{Append, DropIdle, Revive, Take, after_change, after_changes};
 ghost use Rattle.ele_world.specs.FileView.{is_version_of};
 ghost use Rattle.ele_world.specs.Scan.{first_due};
