@@ -1,5 +1,5 @@
 -- A file that has a name again, and a version like its last one.
-use Rattle.ele_state.proofs.Words.{File, IsLawful, IsReady, Key, MayGrow, Policy, and-false, Cell, cond, cover_of, false≢true, floor_for, floor_of, former_moment, has_key, in_order_of, freed_moment, is_freed, is_live_name_of, is_moment, comes, coming, list_any-append, moments_stay, nat_le, near_floored, near_moment, near_unmet, newer_held, not, option_and_then, or-false, policy_is, policy_of, ripe_at, ripe_at_near, unread_under, unwrap_or, with_newer, with_version, ◌&&◌, ◌==◌, ◌||◌, ◌+◌, ◌∙◌, ap, subst, sym, after_change, after_changes, Append, Revive, IsHome, IsQueued, Shown, live_target, shown_of, ◌≡◌, ℕ, ◌-◌, ◌<◌, ◌≤◌, ◌++◌, Bool, true, false, List, ◌∷◌, Option, None, Some, is_some, refl, arith, find, list_any, option_map, option_map_or, nat_tests, world_of, IsSound, MayAppend, MayName, MayRevive, Rows, stamps_of, cells_of_version, all-found, found_passes, born_row, is_draft, is_version, may_grow, Versions, World, is_held, is_live, next_of, version_cells, versions_made, FileRow, Stamps, VersionRow, is_entry, is_open, gained_moment, []}
+use Rattle.ele_state.proofs.Words.{File, IsLawful, IsReady, Key, MayGrow, Policy, and-false, Cell, cond, cover_of, false≢true, floor_for, floor_of, former_moment, has_key, in_order_of, freed_moment, is_freed, is_live_name_of, is_moment, comes, coming, list_any-append, moments_stay, nat_le, near_floored, near_moment, near_unmet, newer_held, not, option_and_then, or-false, policy_is, policy_of, ripe_at, ripe_at_near, unread_under, unwrap_or, with_newer, with_version, ◌&&◌, ◌==◌, ◌||◌, ◌+◌, ◌∙◌, ap, subst, sym, after_change, after_changes, Append, Revive, IsHome, IsQueued, Shown, live_target, shown_of, ◌≡◌, ℕ, ◌-◌, ◌<◌, ◌≤◌, ◌++◌, Bool, true, false, List, ◌∷◌, Option, None, Some, is_some, refl, arith, find, list_any, option_map, option_map_or, nat_tests, world_of, IsSound, MayAppend, MayRevive, Rows, stamps_of, cells_of_version, all-found, found_passes, born_row, is_draft, is_version, may_grow, Versions, World, is_held, is_live, next_of, version_cells, versions_made, FileRow, Stamps, VersionRow, is_entry, is_open, gained_moment, []}
 use Rattle.ele_state.proofs.Appended.{appended_keys, none_there}
 use Rattle.ele_state.proofs.Changes.{any_is}
 use Rattle.ele_state.proofs.Freed.{freed_is, just_more, none_freed, none_more, one_more}
@@ -47,9 +47,6 @@ module _ (rows : Rows) (file number : ℕ) (sound : IsSound rows) (held : is_hel
 
 or_true : (b : Bool) → (b || true) ≡ true
 or_true b = grind (arith, nat_tests)
-
-pub may_revive : (w : World) (directory : ℕ) (name : List ℕ) (file : ℕ) → MayName w directory name → versions_made w < w.limits.versions → is_live w file ≡ false → is_held w file (next_of w.files file - 1) ≡ true → MayRevive w directory name file
-may_revive w directory name file named room dead held = grind (arith, nat_tests, first_passing)
 
 module _ (rows : Rows) (directory : ℕ) (name : List ℕ) (file : ℕ) (sound : IsSound rows) (may : MayRevive (world_of rows) directory name file) where
   abbrev w : World
@@ -164,7 +161,9 @@ module _ (rows : Rows) (directory : ℕ) (name : List ℕ) (file : ℕ) (sound :
 
 pub revives : (rows : Rows) (shown : Shown) (is : shown_of rows ≡ shown) (directory : ℕ) (name : List ℕ) (file : ℕ) → IsHome shown.world directory → is_some (live_target shown.world.names directory name) ≡ false → shown.world.made.names < shown.world.limits.names → versions_made shown.world < shown.world.limits.versions → is_live shown.world file ≡ false
     → is_held shown.world file (next_of shown.world.files file - 1) ≡ true → MayRevive (world_of rows) directory name file
-revives rows shown is directory name file home free names versions dead held = subst (λ (s : Shown). MayRevive s.world directory name file) (sym is) (may_revive shown.world directory name file (may_named shown.world directory name home free names) versions dead held)
+revives rows shown is directory name file home free names versions dead held =
+    let may : MayRevive shown.world directory name file = grind (arith, nat_tests, first_passing, may_named shown.world directory name home free names) in
+    subst (λ (s : Shown). MayRevive s.world directory name file) (sym is) may
 
 -- once it is counted the world is that after the change
 pub revived_world : (rows : Rows) (directory : ℕ) (name : List ℕ) (file number : ℕ) (now : World) → number ≡ next_of rows.files.files file - 1

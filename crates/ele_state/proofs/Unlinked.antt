@@ -1,5 +1,5 @@
 -- What the end of a file's name leaves of the keys and of the book.
-use Rattle.ele_state.proofs.Words.{false≢true, is_some, ◌&&◌, ◌==◌, ◌||◌, Bool, IsLawful, None, Option, Policy, ap, cond, ended_at, ended_in_order, floor_in, floor_of, has_key, in_order_of, is_moment, nat_le, newer_held, next_closing, no_floor, not, option_and_then, policy_is, policy_of, refl, ripe_at, ripe_at_near, subst, unread_under, ◌≡◌, ℕ, ◌-◌, ◌<◌, true, false, List, Some, None, sym, ◌∙◌, arith, find, count_by, nat_tests, IsQueued, held_world, IsBooked, IsSound, Rows, world_of, Key, Held, current_ended, all-found, found_passes, any-count, count-update_first, Book, EndFileName, after_change, with_end, without_name, is_live_name, live_target, Names, World, is_live, is_live_name_of, is_version, next_of, NameRow, File, ended_moment, other_moments, target_live, VersionRow, Versions, all-weaker, any-found, freed_moment, is_freed, no_moment, not_found, ◌≤◌}
+use Rattle.ele_state.proofs.Words.{is_some, ◌&&◌, ◌==◌, ◌||◌, Bool, IsLawful, None, Option, Policy, ap, cond, ended_at, ended_in_order, floor_in, floor_of, has_key, in_order_of, is_moment, nat_le, newer_held, next_closing, no_floor, not, option_and_then, policy_is, policy_of, refl, ripe_at, ripe_at_near, subst, unread_under, ◌≡◌, ℕ, ◌-◌, ◌<◌, true, false, List, Some, None, sym, ◌∙◌, arith, find, count_by, nat_tests, IsQueued, held_world, IsBooked, IsSound, Rows, world_of, Key, Held, current_ended, all-found, found_passes, any-count, count-update_first, Book, EndFileName, after_change, with_end, without_name, is_live_name, live_target, Names, World, is_live, is_live_name_of, is_version, next_of, NameRow, File, ended_moment, other_moments, target_live, VersionRow, Versions, all-weaker, any-found, freed_moment, is_freed, no_moment, not_found, ◌≤◌}
 use Rattle.ele_state.proofs.Changes.{any_is}
 use Rattle.ele_state.proofs.Freed.{freed_is}
 use Rattle.ele_state.proofs.Governed.{floored, unheld}
@@ -52,9 +52,12 @@ module _ (rows : Rows) (directory : ℕ) (name : List ℕ) (file : ℕ) (sound :
 
   -- ---- the keys, with the last one
 
-  module _ (dead : is_live (without_name w directory name) file ≡ false) (policy : Policy) (filed : policy_of w.files file ≡ Some policy) where
+  module _ (last_name : count_by (is_live_name_of file) rows.names ≡ 1) (policy : Policy) (filed : policy_of w.files file ≡ Some policy) where
     abbrev v : World
     v = after_change w (EndFileName directory name file)
+
+    dead : is_live (without_name w directory name) file ≡ false
+    dead = last_ends last_name
 
     abbrev last : ℕ
     last = next_of w.files file - 1
@@ -132,15 +135,6 @@ module _ (rows : Rows) (directory : ℕ) (name : List ℕ) (file : ℕ) (sound :
 
       freed : (n : ℕ) → IsFreed n
       freed n = by (n == last) refl (find (is_version file n) w.versions) refl where
-        by_row : (row : VersionRow) → find (is_version file n) w.versions ≡ Some row → (apart : (n == last) ≡ false) → 1 ≤ newer n → (many : Bool) → nat_le newest (newer n) ≡ many → IsFreed n
-        by_row row found apart some true many =
-            let met : nat_le floor (newer n) ≡ true = grind (arith, nat_tests, many, is) in
-            record { now = unfloored n apart ∙ rw many (sym (was n ∙ rw met refl)); before = λ few. absurd (false≢true (sym few ∙ many)) }
-        by_row row found apart some false few =
-            let unmet : nat_le floor (newer n) ≡ false = grind (arith, nat_tests, few, some, is) in
-            let floored : 1 ≤ floor = grind (arith, nat_tests, few, some, is) in
-            record { now = unfloored n apart ∙ rw few (sym (freed_is w.groups rows.files file policy rows.moment given floored n (λ r its. has_ended n r its apart))); before = λ h. was n ∙ rw unmet refl }
-
         by : (b : Bool) → (n == last) ≡ b → (o : Option VersionRow) → find (is_version file n) w.versions ≡ o → IsFreed n
         by true own o found =
             let same : n ≡ last = grind (arith, nat_tests, own) in
@@ -149,7 +143,10 @@ module _ (rows : Rows) (directory : ℕ) (name : List ℕ) (file : ℕ) (sound :
         by false apart None none =
             let gone : free n ≡ None = unheld w.groups rows.files file n (record { policy = policy; floor = 0 }) none in
             record { now = unfloored n apart ∙ rw (was n, gone, none) (grind (arith, nat_tests)); before = λ h. was n ∙ rw gone (grind (arith, nat_tests)) }
-        by false apart (Some row) found = by_row row found apart (some_newer n row found apart) (nat_le newest (newer n)) refl
+        by false apart (Some row) found =
+            let some = some_newer n row found apart in
+            let alone = λ (floored : 1 ≤ floor). freed_is w.groups rows.files file policy rows.moment given floored n (λ r its. has_ended n r its apart) in
+            record { now = grind (arith, nat_tests, unfloored n apart, was n, some, is, alone); before = grind (arith, nat_tests, was n, some, is) }
 
       -- ---- the queue
 
