@@ -2,7 +2,7 @@
 use Rattle.ele_world.proofs.Basics.{all-not_found}
 use Rattle.ele_world.proofs.Versions.{IsFound}
 use Rattle.ele_state.proofs.Words.{AllLater, ArePlaced, Bool, Cell, Cover, IfSome, IsLawful, IsQueued, Key, List, MayGrow, KeyChange, None, Option, Policy, Some, VersionRow, World, all-found, all_found, and-false, ap, arith, cond, cover_of, false, false≢true, find, floor_for, found_passes, gained_moment, gaining_is, gaining_was, has_key, has_newer, held_before, is_entry, is_live, is_moment, comes, is_open, is_version, is_version_of, met_before, nat_tests, near_moment, new_keys, newer_held, next_after, next_before, next_of, not, one_with_newer, option_and_then, option_map_or, or-false, others_after, own_moment, policy_is, policy_of, refl, ripe_at, rows_of, touches, true, unwrap_or, with_newer, with_version, ◌&&◌, ◌-◌, ◌<◌, ◌==◌, ◌||◌, ◌∙◌, ◌≡◌, ℕ}
-use Rattle.ele_state.proofs.Changes.{any_is}
+use Rattle.ele_state.proofs.Changes.{any_is, found_is, passing}
 
 -- ---- what the version gets that gains
 
@@ -32,10 +32,7 @@ module _ (versions : List VersionRow) (file newer : ℕ) where
 
   -- no version has so many where none is found
   pub none_has : (n : ℕ) → with_newer versions file newer ≡ None → has_newer versions file newer n ≡ false
-  none_has n none = by (find (is_version file n) versions) refl where
-    by : (o : Option VersionRow) → find (is_version file n) versions ≡ o → has_newer versions file newer n ≡ false
-    by None unheld = grind (arith, nat_tests, any_is (is_version file n) versions)
-    by (Some row) found = grind (arith, nat_tests, found_passes (is_version file n) versions row found, all-found (is_version file n) (λ r. its r ≡ false) versions row found (all-not_found its versions none))
+  none_has n none = grind (arith, nat_tests, any_is (is_version file n) versions, passing (is_version file n) versions, found_is (is_version file n) (λ row. its row ≡ false) versions (all-not_found its versions none))
 
   -- and where one is, it alone has
   pub one_alone : (row : VersionRow) (n : ℕ) → HasNewer row → has_newer versions file newer n ≡ (n == row.number)

@@ -1,5 +1,6 @@
 -- What is told of one version, and of the first that are due.
-use Rattle.ele_state.proofs.Words.{Bool, Cover, IsTold, Policy, find, floor_in, found_passes, is_version, moment_under, near_moment, newer_held, next_closing, ripe_past, unmarked_moment, AllLater, ArePlaced, VersionRow, is_live, met_before, option_and_then, with_newer, ◌-◌, ◌==◌, ◌≡◌, ℕ, ◌≤◌, false, ◌&&◌, List, cond, Option, Some, None, refl, ap, subst, sym, ◌∙◌, arith, nat_le, slice_get, filter_map, option_map, option_map_or, nat_tests, world_of, IsSound, former_moment, gained_moment, Rows, Key, has_key, is_ripe_by, Held, Stamps, ripe_at, free_moment, newest_of, due_key, first_due, cover_of, GroupRow, stamps_of, World, is_open, policy_of, in_order_of, ripe_at_near, is_due_is, scan_members}
+use Rattle.ele_state.proofs.Words.{Bool, Cover, IsTold, Policy, find, floor_in, is_version, moment_under, near_moment, newer_held, next_closing, ripe_past, unmarked_moment, AllLater, ArePlaced, VersionRow, is_live, met_before, option_and_then, with_newer, ◌-◌, ◌==◌, ◌≡◌, ℕ, ◌≤◌, false, ◌&&◌, List, cond, Option, Some, None, refl, ap, sym, ◌∙◌, arith, nat_le, slice_get, filter_map, option_map, option_map_or, nat_tests, world_of, IsSound, former_moment, gained_moment, Rows, Key, has_key, is_ripe_by, Held, Stamps, ripe_at, free_moment, newest_of, due_key, first_due, cover_of, GroupRow, stamps_of, World, is_open, policy_of, in_order_of, ripe_at_near, is_due_is, scan_members}
+use Rattle.ele_state.proofs.Changes.{passing}
 use Rattle.ele_moment.specs.Last.{last_moment}
 use Rattle.ele_due.specs.InOrder.{in_order}
 use Rattle.ele_due.specs.Key.{if_ripe}
@@ -64,14 +65,7 @@ module _ (h : Held) (file : ℕ) (stamps : Stamps) (told : IsTold h file stamps)
 
 -- which a file's row has, if it is found under a number
 pub told_under : (h : Held) (file number : ℕ) (stamps : Stamps) → Some stamps ≡ option_map stamps_of (find (is_version file number) h.versions) → (stamps.number ≡ number) × IsTold h file stamps
-told_under h file number stamps found = by (find (is_version file number) h.versions) refl (sym found) where
-  by : (o : Option VersionRow) → find (is_version file number) h.versions ≡ o → option_map stamps_of o ≡ Some stamps → (stamps.number ≡ number) × IsTold h file stamps
-  by None is told = absurd cc
-  by (Some row) is told =
-      let same : stamps_of row ≡ stamps = cc in
-      let own : row.number ≡ number = grind (arith, nat_tests, found_passes (is_version file number) h.versions row is) in
-      let its : stamps.number ≡ number = sym (ap (λ (s : Stamps). s.number) same) ∙ own in
-      (its, subst (λ (n : ℕ). option_map stamps_of (find (is_version file n) h.versions) ≡ Some stamps) (sym its) (sym found))
+told_under h file number stamps found = grind (arith, nat_tests, found, passing (is_version file number) h.versions)
 
 -- so it does that which it has while no handle reads it
 pub free_told : (groups : List GroupRow) (h : Held) (live : Bool) (file number : ℕ) (stamps : Stamps) → Some stamps ≡ option_map stamps_of (find (is_version file number) h.versions)

@@ -158,10 +158,9 @@ told_row h P each file stamps told = by (find (is_version file stamps.number) h.
   by : (o : Option VersionRow) → find (is_version file stamps.number) h.versions ≡ o → option_map stamps_of o ≡ Some stamps → P file stamps
   by None found is = absurd (cc)
   by (Some row) found is =
-      let same : stamps_of row ≡ stamps = cc in
-      let number : row.number ≡ stamps.number = ap (λ (s : Stamps). s.number) same in
+      let own : find (is_version row.file row.number) h.versions ≡ Some row = grind (arith, nat_tests, found, is, found_passes (is_version file stamps.number) h.versions row found) in
       let filed : row.file ≡ file = grind (arith, nat_tests, found_passes (is_version file stamps.number) h.versions row found) in
-      let own : find (is_version row.file row.number) h.versions ≡ Some row = subst (λ (f : ℕ). find (is_version f row.number) h.versions ≡ Some row) (sym filed) (subst (λ (n : ℕ). find (is_version file n) h.versions ≡ Some row) (sym number) found) in
+      let same : stamps_of row ≡ stamps = cc in
       subst (P file) same (subst (λ (f : ℕ). P f (stamps_of row)) filed (each row own))
 
 -- where it has no end, a handle reads it, or a mark keeps it
