@@ -1,10 +1,8 @@
 -- Which keys the versions have, once a file has its next version: two came, and all others stayed.
-use Rattle.ele_policy.specs.Ripe.{ripe_near}
 use Rattle.ele_world.proofs.Basics.{all-not_found}
 use Rattle.ele_world.proofs.Versions.{IsFound}
-use Rattle.ele_state.proofs.Words.{AllLater, ArePlaced, Bool, Cell, Cover, IfSome, IsLawful, IsQueued, Key, List, MayGrow, KeyChange, None, Option, Policy, Some, VersionRow, World, all-found, all_found, and-false, any-found, ap, arith, cond, cover_of, false, false≢true, find, floor_for, found_passes, gained_moment, gaining_is, gaining_was, has_key, has_newer, held_before, is_entry, is_live, is_moment, comes, is_open, is_some, is_version, is_version_of, list_any, met_before, nat_tests, near_moment, new_keys, newer_held, next_after, next_before, next_of, not, one_with_newer, option_and_then, option_map_or, or-false, others_after, own_moment, policy_is, policy_of, refl, ripe_at, ripe_past, rows_of, subst, sym, touches, true, unwrap_or, with_newer, with_version, ◌&&◌, ◌-◌, ◌<◌, ◌==◌, ◌||◌, ◌∙◌, ◌≡◌, ℕ}
-use Rattle.ele_state.proofs.Changes.{back_and_forth, none_any}
-use Rattle.ele_state.proofs.Following.{follows}
+use Rattle.ele_state.proofs.Words.{AllLater, ArePlaced, Bool, Cell, Cover, IfSome, IsLawful, IsQueued, Key, List, MayGrow, KeyChange, None, Option, Policy, Some, VersionRow, World, all-found, all_found, and-false, ap, arith, cond, cover_of, false, false≢true, find, floor_for, found_passes, gained_moment, gaining_is, gaining_was, has_key, has_newer, held_before, is_entry, is_live, is_moment, comes, is_open, is_version, is_version_of, met_before, nat_tests, near_moment, new_keys, newer_held, next_after, next_before, next_of, not, one_with_newer, option_and_then, option_map_or, or-false, others_after, own_moment, policy_is, policy_of, refl, ripe_at, rows_of, touches, true, unwrap_or, with_newer, with_version, ◌&&◌, ◌-◌, ◌<◌, ◌==◌, ◌||◌, ◌∙◌, ◌≡◌, ℕ}
+use Rattle.ele_state.proofs.Changes.{any_is, found_is, passing}
 
 -- ---- what the version gets that gains
 
@@ -13,22 +11,11 @@ record IsGained (m : ℕ) (was came is : Option ℕ) : Type 0 where
   is_now : is_moment m is ≡ (is_moment m came || is_moment m was)
   wasnt : is_moment m came ≡ true → is_moment m was ≡ false
 
--- as far as a cover lets it come
-gained_as : (m : ℕ) (was is : Option ℕ) → (is_some was ≡ true → is ≡ was) → IsGained m was (cond (is_some was) None is) is
-gained_as m None is same = grind (arith, nat_tests, or-false)
-gained_as m (Some r) is same = rw (same refl) (grind (arith, nat_tests, or-false, false≢true))
-
 gained : (cover : ℕ → Option ℕ → Cover) (policy : Option Policy) (floor now closed m : ℕ) (ended : Option ℕ) → IfSome policy IsLawful
     → IsGained m (option_and_then (near_moment cover policy None (met_before floor) closed) ended) (gained_moment cover policy floor now closed ended) (near_moment cover policy (Some now) true closed (unwrap_or ended now))
-gained cover policy floor now closed m None given = gained_as m None (near_moment cover policy (Some now) true closed now) (λ h. absurd (false≢true h))
-gained cover None floor now closed m (Some ended) given = gained_as m None None (λ h. absurd (false≢true h))
-gained cover (Some policy) floor now closed m (Some ended) given = gained_as m (later (ripe_near policy closed None (met_before floor) ended)) (later (ripe_near policy closed (Some now) true ended)) (by (ripe_near policy closed None (met_before floor) ended) refl) where
-  later : Option ℕ → Option ℕ
-  later = option_and_then (ripe_past (cover closed (Some ended)))
-
-  by : (o : Option ℕ) → ripe_near policy closed None (met_before floor) ended ≡ o → is_some (later o) ≡ true → later (ripe_near policy closed (Some now) true ended) ≡ later o
-  by None none h = absurd (false≢true h)
-  by (Some r) some h = ap later (given.ripe_keeps closed ended r now (met_before floor) some)
+gained cover policy floor now closed m None given = grind (arith, nat_tests, or-false)
+gained cover None floor now closed m (Some ended) given = grind (arith, nat_tests, or-false)
+gained cover (Some policy) floor now closed m (Some ended) given = grind (arith, nat_tests, or-false, false≢true, given.ripe_keeps closed ended)
 
 -- ---- the held version that has so many newer ones
 
@@ -41,39 +28,21 @@ module _ (versions : List VersionRow) (file newer : ℕ) where
     pub least : newer_held versions file row.number ≡ newer
 
   pub one_has : (row : VersionRow) → AllLater ArePlaced versions → with_newer versions file newer ≡ Some row → HasNewer row
-  one_has row placed is =
-      let passes = found_passes its versions row is in
-      let own : row.file ≡ file = grind (arith, nat_tests, passes) in
-      let found : find (is_version row.file row.number) versions ≡ Some row = all-found its (IsFound versions) versions row is (all_found versions placed) in
-      record { found = subst (λ f. find (is_version f row.number) versions ≡ Some row) own found; least = grind (arith, nat_tests, passes) }
+  one_has row placed is = grind (arith, nat_tests, found_passes its versions row is, all-found its (IsFound versions) versions row is (all_found versions placed))
 
   -- no version has so many where none is found
   pub none_has : (n : ℕ) → with_newer versions file newer ≡ None → has_newer versions file newer n ≡ false
-  none_has n none = by (find (is_version file n) versions) refl where
-    by : (o : Option VersionRow) → find (is_version file n) versions ≡ o → has_newer versions file newer n ≡ false
-    by None unheld = let held = none_any (is_version file n) versions unheld in rw held refl
-    by (Some row) found =
-        let passes = found_passes (is_version file n) versions row found in
-        let number : row.number ≡ n = grind (arith, nat_tests, passes) in
-        let apart : its row ≡ false = all-found (is_version file n) (λ r. its r ≡ false) versions row found (all-not_found its versions none) in
-        grind (arith, nat_tests, passes, number, apart)
+  none_has n none = grind (arith, nat_tests, any_is (is_version file n) versions, passing (is_version file n) versions, found_is (is_version file n) (λ row. its row ≡ false) versions (all-not_found its versions none))
 
   -- and where one is, it alone has
   pub one_alone : (row : VersionRow) (n : ℕ) → HasNewer row → has_newer versions file newer n ≡ (n == row.number)
   one_alone row n has = by (find (is_version file n) versions) refl where
-    itself : list_any (is_version file row.number) versions ≡ true
-    itself = any-found (is_version file row.number) (is_version file row.number) versions row has.found (found_passes (is_version file row.number) versions row has.found)
-
     by : (o : Option VersionRow) → find (is_version file n) versions ≡ o → has_newer versions file newer n ≡ (n == row.number)
-    by None unheld =
-        let held = none_any (is_version file n) versions unheld in
-        rw held (grind (arith, nat_tests, itself, held))
+    by None unheld = grind (arith, nat_tests, any_is (is_version file n) versions, has.found)
     by (Some other) found =
-        let passes = found_passes (is_version file n) versions other found in
-        let number : other.number ≡ n = grind (arith, nat_tests, passes) in
-        let held : list_any (is_version file n) versions ≡ true = any-found (is_version file n) (is_version file n) versions other found passes in
-        let own : find (is_version file other.number) versions ≡ Some other = subst (λ m. find (is_version file m) versions ≡ Some other) (sym number) found in
-        rw held (grind (arith, nat_tests, number, has.least, one_with_newer versions file other row own has.found))
+        let number : other.number ≡ n = grind (arith, nat_tests, found_passes (is_version file n) versions other found) in
+        let own = rw (← number) at found in
+        grind (arith, nat_tests, any_is (is_version file n) versions, number, found, has.least, one_with_newer versions file other row own has.found)
 
 module _ (w : World) (file opened : ℕ) (cells : List Cell) (k : MayGrow w file) where
   abbrev next : ℕ
@@ -101,10 +70,7 @@ module _ (w : World) (file opened : ℕ) (cells : List Cell) (k : MayGrow w file
   gains : (row : VersionRow) (m : ℕ) → gaining ≡ Some row → IsGained m (ripe_at w file row.number) (came row) (ripe_at appended file row.number)
   gains row m is =
       let h = has row is in
-      rw (gaining_was w file opened cells k row h.found h.least, gaining_is w file opened cells k row h.found h.least) (by (is_open w.handles file row.number)) where
-        by : (b : Bool) → IsGained m (cond b None (option_and_then (near_moment (cover_of w.groups file) (policy_of w.files file) None (met_before floor) row.closed) row.ended)) (cond b None (gained_moment (cover_of w.groups file) (policy_of w.files file) floor w.now row.closed row.ended)) (cond b None (near_moment (cover_of w.groups file) (policy_of w.files file) (Some w.now) true row.closed (unwrap_or row.ended w.now)))
-        by true = record { is_now = refl; wasnt = λ h. refl }
-        by false = gained (cover_of w.groups file) (policy_of w.files file) floor w.now row.closed m row.ended (policy_is w.files file k.policies)
+      grind (arith, nat_tests, gaining_was w file opened cells k row h.found h.least, gaining_is w file opened cells k row h.found h.least, gained (cover_of w.groups file) (policy_of w.files file) floor w.now row.closed m row.ended (policy_is w.files file k.policies))
 
   gains_before : (row : VersionRow) → gaining ≡ Some row → row.number < next
   gains_before row is = held_before w file opened cells k row (has row is).found
@@ -124,46 +90,43 @@ module _ (w : World) (file opened : ℕ) (cells : List Cell) (k : MayGrow w file
 
   -- none of them was there
   next_absent : (f n m : ℕ) → (f == file) ≡ true → (n == next) ≡ true → is_moment m (ripe_at w f n) ≡ false
-  next_absent f n m own its =
-      let file_is : f ≡ file = grind (arith, nat_tests) in
-      let number_is : n ≡ next = grind (arith, nat_tests) in
-      rw (file_is, number_is, next_before w file opened cells k) refl
+  next_absent f n m own its = grind (arith, nat_tests, next_before w file opened cells k)
 
   gaining_absent : (row : VersionRow) (f n m : ℕ) → gaining ≡ Some row → (f == file) ≡ true → (n == row.number) ≡ true → is_moment m (came row) ≡ true → is_moment m (ripe_at w f n) ≡ false
-  gaining_absent row f n m is own its comes =
-      let file_is : f ≡ file = grind (arith, nat_tests) in
-      let number_is : n ≡ row.number = grind (arith, nat_tests) in
-      rw (file_is, number_is) ((gains row m is).wasnt comes)
+  gaining_absent row f n m is own its comes = grind (arith, nat_tests, (gains row m is).wasnt comes)
 
   absent : (live : Bool) (j : Key) (o : Option VersionRow) → gaining ≡ o → comes_with live o j ≡ true → is_moment j.ripe (ripe_at w j.file j.number) ≡ false
   absent live j None e is = grind (arith, nat_tests, and-false, or-false, false≢true, next_absent j.file j.number j.ripe)
   absent live j (Some row) e is = grind (arith, nat_tests, and-false, or-false, false≢true, next_absent j.file j.number j.ripe, gaining_absent row j.file j.number j.ripe e)
 
-  module _ (queue after : List Key) (queued : IsQueued w queue) where
-    -- and its own
-    has_now : (j : Key) (o : Option VersionRow) → gaining ≡ o → (comes_with (is_live w file) o j || has_key j queue) ≡ cond (touched_with o j.file j.number) (is_moment j.ripe (ripe_at appended j.file j.number)) (has_key j queue)
-    has_now j x1 e = grind (arith, nat_tests, and-false, or-false, next_before w file opened cells k, next_after w file opened cells k, or-false (is_moment j.ripe (own (is_live w file))), gains_before, false≢true, gains)
+  -- whether the version of that file and number has that moment
+  abbrev ripens : World → Key → Bool
+  ripens v j = is_moment j.ripe (ripe_at v j.file j.number)
 
-    has_then : (j : Key) → (comes_with (is_live w file) gaining j || has_key j queue) ≡ cond (touches w file j.file j.number) (is_moment j.ripe (ripe_at appended j.file j.number)) (has_key j queue)
-    has_then j = rw (touches_with j.file j.number gaining refl) (has_now j gaining refl)
+  has_now : (j : Key) (o : Option VersionRow) → gaining ≡ o → (comes_with (is_live w file) o j || ripens w j) ≡ cond (touched_with o j.file j.number) (ripens appended j) (ripens w j)
+  has_now j x1 e = grind (arith, nat_tests, and-false, or-false, next_before w file opened cells k, next_after w file opened cells k, or-false (is_moment j.ripe (own (is_live w file))), gains_before, false≢true, gains)
 
-    -- with the keys that come it has those of all versions
-    pub appended_queue : (keys : List KeyChange) → keys ≡ new_keys w.groups (rows_of w) file w.now (is_live w file) → ((j : Key) → has_key j after ≡ (comes keys j || has_key j queue)) → IsQueued appended after
-    appended_queue keys are edited = follows w appended queue after queued (touches w file) (others_after w file opened cells k) (λ j. edited j ∙ rw are (has_then j))
+  module _ (again : Bool) (gives : (not again || (floor == 0)) ≡ true) where
+    abbrev keys : List KeyChange
+    keys = new_keys w.groups (rows_of w) file w.now again (is_live w file)
+
+    -- with the keys that come there are those of all versions
+    pub appended_keys : (j : Key) → (comes keys j || ripens w j) ≡ ripens appended j
+    appended_keys j = rw gives (has_now j gaining refl ∙ rw (← touches_with j.file j.number gaining refl) (grind (arith, nat_tests, others_after w file opened cells k j.file j.number)))
+
+    pub appended_queue : (queue after : List Key) → IsQueued w queue → ((j : Key) → has_key j after ≡ (comes keys j || has_key j queue)) → IsQueued appended after
+    appended_queue queue after queued edited j = edited j ∙ ap (λ b. comes keys j || b) (queued j) ∙ appended_keys j
 
     -- none of which was there
-    pub none_there : (keys : List KeyChange) → keys ≡ new_keys w.groups (rows_of w) file w.now (is_live w file) → (j : Key) → comes keys j ≡ true → has_key j queue ≡ false
-    none_there keys are j is = queued j ∙ absent (is_live w file) j gaining refl (rw are at is)
+    pub none_there : (j : Key) → comes keys j ≡ true → ripens w j ≡ false
+    none_there j is = absent (is_live w file) j gaining refl (rw gives at is)
 
 -- ---- keys that are refused
 
 -- none of which was there, so the queue is as it was where they are taken out
 module _ (keys : List KeyChange) (before : List Key) (absent : (j : Key) → comes keys j ≡ true → has_key j before ≡ false) where
   pub refused : (after : List Key) → ((j : Key) → has_key j after ≡ (not (comes keys j) && has_key j before)) → (j : Key) → has_key j after ≡ has_key j before
-  refused after went j = went j ∙ by (comes keys j) (has_key j before) (absent j) where
-    by : (a b : Bool) → (a ≡ true → b ≡ false) → (not a && b) ≡ b
-    by true b none = sym (none refl)
-    by false b none = refl
+  refused after went j = grind (arith, nat_tests, went j, absent j)
 
   pub taken_back : (between after : List Key) → ((j : Key) → has_key j between ≡ (comes keys j || has_key j before)) → ((j : Key) → has_key j after ≡ (not (comes keys j) && has_key j between)) → (j : Key) → has_key j after ≡ has_key j before
-  taken_back between after came went = refused after (λ j. went j ∙ rw (came j) (back_and_forth (comes keys j) (has_key j before)))
+  taken_back between after came went j = grind (arith, nat_tests, came j, went j, absent j)

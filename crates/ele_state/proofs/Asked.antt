@@ -1,7 +1,7 @@
 -- What is told of one version, and of the first that are due.
-use Rattle.ele_state.proofs.Words.{Bool, Cover, IsTold, Policy, find, floor_in, found_passes, is_version, moment_under, near_moment, newer_held, next_closing, ripe_past, unmarked_moment, AllLater, ArePlaced, VersionRow, is_live, met_before, option_and_then, with_newer, ◌-◌, ◌==◌, ◌≡◌, ℕ, ◌≤◌, false, ◌&&◌, List, cond, Option, Some, None, refl, ap, subst, sym, ◌∙◌, arith, nat_le, slice_get, filter_map, option_map, option_map_or, nat_tests, world_of, IsSound, former_moment, gained_moment, Rows, Key, has_key, is_ripe_by, Held, Stamps, ripe_at, free_moment, newest_of, due_key, first_due, cover_of, GroupRow, stamps_of, World, is_open, policy_of, in_order_of, ripe_at_near, is_due_is, scan_members}
+use Rattle.ele_state.proofs.Words.{Bool, Cover, IsTold, Policy, find, floor_in, is_version, moment_under, near_moment, newer_held, next_closing, ripe_past, unmarked_moment, AllLater, ArePlaced, VersionRow, is_live, met_before, option_and_then, with_newer, ◌-◌, ◌==◌, ◌≡◌, ℕ, ◌≤◌, false, ◌&&◌, List, cond, Option, Some, None, refl, ap, sym, ◌∙◌, arith, nat_le, slice_get, filter_map, option_map, option_map_or, nat_tests, world_of, IsSound, former_moment, gained_moment, Rows, Key, has_key, is_ripe_by, Held, Stamps, ripe_at, free_moment, newest_of, due_key, first_due, cover_of, GroupRow, stamps_of, World, is_open, policy_of, in_order_of, ripe_at_near, is_due_is, scan_members}
+use Rattle.ele_state.proofs.Changes.{passing}
 use Rattle.ele_moment.specs.Last.{last_moment}
-use Rattle.ele_policy.specs.Ripe.{ripe_near}
 use Rattle.ele_due.specs.InOrder.{in_order}
 use Rattle.ele_due.specs.Key.{if_ripe}
 use Rattle.ele_world.proofs.Newer.{newest_newer}
@@ -41,12 +41,8 @@ abbrev gained_by : List GroupRow → Held → ℕ → ℕ → ℕ → ℕ → �
 gained_by groups h file floor now number closed ended = cond (is_open h.handles file number) None (gained_moment (cover_of groups file) (policy_of h.files file) floor now closed ended)
 
 pub former_told : (groups : List GroupRow) (h : Held) (file floor now : ℕ) (gaining : Stamps) → option_map stamps_of (with_newer h.versions file (floor - 1)) ≡ Some gaining
-    → former_moment groups h file floor now ≡ gained_by groups h file floor now gaining.number gaining.closed gaining.ended
-former_told groups h file floor now gaining told = by (with_newer h.versions file (floor - 1)) told where
-  by : (o : Option VersionRow) → option_map stamps_of o ≡ Some gaining
-      → option_and_then (λ row. cond (is_open h.handles file row.number) None (gained_moment (cover_of groups file) (policy_of h.files file) floor now row.closed row.ended)) o ≡ gained_by groups h file floor now gaining.number gaining.closed gaining.ended
-  by None told = absurd cc
-  by (Some row) told = let same : stamps_of row ≡ gaining = cc in rw (← same) refl
+    → option_and_then (former_moment groups h file floor now) (with_newer h.versions file (floor - 1)) ≡ gained_by groups h file floor now gaining.number gaining.closed gaining.ended
+former_told groups h file floor now gaining told = grind (arith, nat_tests, told)
 
 -- with one newer version fewer a floor isn't met
 pub met_alone : (floor : ℕ) → (floor == 0) ≡ met_before floor
@@ -54,38 +50,22 @@ met_alone floor = grind (arith, nat_tests)
 
 -- where no floor is in force, or one version is enough, the newest gains
 pub newest_gains : (versions : List VersionRow) (file floor : ℕ) (newest : Option Stamps) → AllLater ArePlaced versions → option_map stamps_of (newest_of versions file) ≡ newest → floor ≤ 1 → newest ≡ option_map stamps_of (with_newer versions file (floor - 1))
-newest_gains versions file floor newest placed is few =
-    let none : floor - 1 ≡ 0 = omega (arith, few) in
-    rw none (sym is ∙ ap (option_map stamps_of) (newest_newer versions file placed))
+newest_gains versions file floor newest placed is few = grind (arith, nat_tests, is, few, newest_newer versions file placed)
 
 -- what is told of a held version tells its moment
 module _ (h : Held) (file : ℕ) (stamps : Stamps) (told : IsTold h file stamps) where
   pub under_told : (cover : ℕ → Option ℕ → Cover) (policy : Option Policy) (floor : ℕ)
       → moment_under cover policy floor h.versions file stamps.number ≡ option_and_then (near_moment cover policy (next_closing h.versions file stamps.number) (nat_le floor (newer_held h.versions file stamps.number)) stamps.closed) stamps.ended
-  under_told cover policy floor = by (nat_le floor (newer_held h.versions file stamps.number)) (find (is_version file stamps.number) h.versions) told where
-    by : (met : Bool) (o : Option VersionRow) → option_map stamps_of o ≡ Some stamps → option_and_then (λ row. option_and_then (near_moment cover policy (next_closing h.versions file stamps.number) met row.closed) row.ended) o ≡ option_and_then (near_moment cover policy (next_closing h.versions file stamps.number) met stamps.closed) stamps.ended
-    by met None told = absurd cc
-    by met (Some row) told = let same : stamps_of row ≡ stamps = cc in rw (← same) refl
+  under_told cover policy floor = grind (arith, nat_tests, told)
 
   -- with a cover it is that without one, or the cover's end
   pub covered_told : (cover : ℕ → Option ℕ → Cover) (live : Bool)
       → moment_under cover (policy_of h.files file) (floor_in (policy_of h.files file) live) h.versions file stamps.number ≡ option_and_then (λ ended. option_and_then (ripe_past (cover stamps.closed (Some ended))) (unmarked_moment h live file stamps.number stamps.closed ended)) stamps.ended
-  covered_told cover live = under_told cover (policy_of h.files file) (floor_in (policy_of h.files file) live) ∙ by (policy_of h.files file) (nat_le (floor_in (policy_of h.files file) live) (newer_held h.versions file stamps.number)) stamps.ended where
-    by : (o : Option Policy) (met : Bool) (e : Option ℕ) → option_and_then (near_moment cover o (next_closing h.versions file stamps.number) met stamps.closed) e ≡ option_and_then (λ ended. option_and_then (ripe_past (cover stamps.closed (Some ended))) (option_and_then (λ policy. ripe_near policy stamps.closed (next_closing h.versions file stamps.number) met ended) o)) e
-    by o met None = refl
-    by None met (Some ended) = refl
-    by (Some policy) met (Some ended) = refl
+  covered_told cover live = grind (arith, nat_tests, under_told cover (policy_of h.files file) (floor_in (policy_of h.files file) live))
 
 -- which a file's row has, if it is found under a number
 pub told_under : (h : Held) (file number : ℕ) (stamps : Stamps) → Some stamps ≡ option_map stamps_of (find (is_version file number) h.versions) → (stamps.number ≡ number) × IsTold h file stamps
-told_under h file number stamps found = by (find (is_version file number) h.versions) refl (sym found) where
-  by : (o : Option VersionRow) → find (is_version file number) h.versions ≡ o → option_map stamps_of o ≡ Some stamps → (stamps.number ≡ number) × IsTold h file stamps
-  by None is told = absurd cc
-  by (Some row) is told =
-      let same : stamps_of row ≡ stamps = cc in
-      let own : row.number ≡ number = grind (arith, nat_tests, found_passes (is_version file number) h.versions row is) in
-      let its : stamps.number ≡ number = sym (ap (λ (s : Stamps). s.number) same) ∙ own in
-      (its, subst (λ (n : ℕ). option_map stamps_of (find (is_version file n) h.versions) ≡ Some stamps) (sym its) (sym found))
+told_under h file number stamps found = grind (arith, nat_tests, found, passing (is_version file number) h.versions)
 
 -- so it does that which it has while no handle reads it
 pub free_told : (groups : List GroupRow) (h : Held) (live : Bool) (file number : ℕ) (stamps : Stamps) → Some stamps ≡ option_map stamps_of (find (is_version file number) h.versions)

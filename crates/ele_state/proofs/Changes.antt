@@ -1,9 +1,26 @@
 -- Moments that change, and the keys that come and go by it.
-use Rattle.ele_state.proofs.Words.{AreChanges, Bool, IsQueued, Key, KeyChange, List, None, Option, Some, World, [], arith, comes, false, find, goes, has_key, if_changed, is_alone, is_entry, is_one, list_any, list_any-append, nat_tests, not, refl, ripe_at, sym, true, ℕ, ◌&&◌, ◌++◌, ◌||◌, ◌∙◌, ◌∷◌, ◌≡◌, ap}
+use Rattle.ele_state.proofs.Words.{AllByRecursion, IfSome, all-found, found_passes, AreChanges, Bool, IsQueued, Key, KeyChange, List, None, Option, Some, World, [], arith, comes, false, find, goes, has_key, is_some, if_changed, is_alone, is_entry, is_one, list_any, list_any-append, nat_tests, not, refl, ripe_at, sym, true, ℕ, ◌&&◌, ◌++◌, ◌||◌, ◌∙◌, ◌∷◌, ◌≡◌, ap}
+
+-- one passes where one is found
+pub any_is : {X : Type 0} (p : X → Bool) (xs : List X) → list_any p xs ≡ is_some (find p xs)
+any_is p [] = refl
+any_is {X} p (x ∷ xs) = grind (arith, nat_tests, any_is p xs)
+
+-- what is found passes, and is as all are
+pub passing : {X : Type 0} (p : X → Bool) (xs : List X) → IfSome (find p xs) (λ x. p x ≡ true)
+passing {X} p xs = by (find p xs) refl where
+  by : (o : Option X) → find p xs ≡ o → IfSome o (λ x. p x ≡ true)
+  by None none = tt
+  by (Some x) found = found_passes p xs x found
+
+pub found_is : {X : Type 0} (p : X → Bool) (P : X → Type 0) (xs : List X) → AllByRecursion P xs → IfSome (find p xs) P
+found_is {X} p P xs all = by (find p xs) refl where
+  by : (o : Option X) → find p xs ≡ o → IfSome o P
+  by None none = tt
+  by (Some x) found = all-found p P xs x found all
 
 pub none_any : {X : Type 0} (p : X → Bool) (xs : List X) → find p xs ≡ None → list_any p xs ≡ false
-none_any p [] none = refl
-none_any {X} p (x ∷ xs) none = grind (arith, nat_tests, none_any p xs)
+none_any p xs none = any_is p xs ∙ ap is_some none
 
 -- what came and was taken out again is as if it had only been taken out
 pub back_and_forth : (a b : Bool) → (not a && (a || b)) ≡ (not a && b)

@@ -19,7 +19,7 @@ module _ (w : World) (handle file : ℕ) (reads : reads_by w.handles handle ≡ 
   over_queue formed queue queued k = queued k ∙ ap (is_moment k.ripe) (sym (shut_others w handle (Draft file) reads (in_order_of w formed) k.file k.number refl))
 
   -- the same keys come
-  over_keys : (live : Bool) → new_keys over.groups (rows_of over) file w.now live ≡ new_keys w.groups (rows_of w) file w.now live
+  over_keys : (live : Bool) → new_keys over.groups (rows_of over) file w.now false live ≡ new_keys w.groups (rows_of w) file w.now false live
   over_keys live = grind (arith, nat_tests, open_still w handle (Draft file) reads)
 
   -- ---- a version is made of the draft
@@ -42,11 +42,10 @@ module _ (w : World) (handle file : ℕ) (reads : reads_by w.handles handle ≡ 
     file_there formed = grind (arith, nat_tests, is_final, all-found, found_passes, formed.holds Drafts)
 
     -- the keys that come with it are those of all versions
-    pub finished_queue : (formed : HasParts w) (queue after : List Key) (live : Bool) (keys : List KeyChange) → IsQueued w queue → live ≡ is_live w file → keys ≡ new_keys w.groups (rows_of w) file w.now live → ((j : Key) → has_key j after ≡ (comes keys j || has_key j queue))
-        → IsQueued (after_changes w (finishing (rows_of w) handle file opened)) after
-    finished_queue formed queue after live keys queued lives are =
+    pub finished_queue : (formed : HasParts w) (queue after : List Key) → IsQueued w queue → ((j : Key) → has_key j after ≡ (comes (new_keys w.groups (rows_of w) file w.now false (is_live w file)) j || has_key j queue)) → IsQueued (after_changes w (finishing (rows_of w) handle file opened)) after
+    finished_queue formed queue after queued edited =
         let kept = all_keep (Close handle) w w (ShutHandle handle ∷ EndDraft file ∷ []) tt (tt, (is_final.alone, tt)) formed in
-        appended_queue over file opened (cells_of_draft (rows_of w) file) (may_grow over file kept (file_there formed)) queue after (over_queue formed queue queued) keys (are ∙ ap (new_keys w.groups (rows_of w) file w.now) lives ∙ sym (over_keys (is_live w file)))
+        appended_queue over file opened (cells_of_draft (rows_of w) file) (may_grow over file kept (file_there formed)) false refl queue after (over_queue formed queue queued) (λ j. edited j ∙ ap (λ (keys : List KeyChange). comes keys j || has_key j queue) (sym (over_keys (is_live w file))))
 
   -- ---- none is made
 

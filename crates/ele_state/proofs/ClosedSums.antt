@@ -62,8 +62,8 @@ pub source_short : (rows : Rows) → IsSound rows → (file : ℕ) (source : Sou
 source_short rows sound file (source.Draft handle opened) = grind (arith, nat_tests, all-found, sound.formed.holds Drafts)
 source_short rows sound file (source.Version number) = grind (arith, nat_tests, all-found, sound.formed.holds Versions)
 
-pub version_fits : (rows : Rows) → IsBooked rows.files rows.book → IsRoomy rows → (bytes before : ℕ) → bytes ≤ longest_content → before ≡ blocks_of rows.files → before < 2 ^ 64 → (k : Kind) → Fits (plus (sums_of rows.book k) (one_version bytes))
+pub version_fits : (rows : Rows) → IsBooked rows.files rows.book → IsRoomy rows.made.versions rows.book → (bytes before : ℕ) → bytes ≤ longest_content → before ≡ blocks_of rows.files → before < 2 ^ 64 → (k : Kind) → Fits (plus (sums_of rows.book k) (one_version bytes))
 version_fits rows booked roomy bytes before short is bound k = grind (arith, nat_tests, roomy.sums k, few_blocks rows booked k)
 
-pub added_fits : (rows : Rows) (kind : Kind) (book : Book) (bytes : ℕ) → IsRoomy rows → bytes ≤ longest_content → ((k : Kind) → sums_of book k ≡ plus (sums_of rows.book k) (only_at kind (one_version bytes) k)) → (k : Kind) → Fits (record (sums_of book k) { blocks = 0 })
+pub added_fits : (rows : Rows) (kind : Kind) (book : Book) (bytes : ℕ) → IsRoomy rows.made.versions rows.book → bytes ≤ longest_content → ((k : Kind) → sums_of book k ≡ plus (sums_of rows.book k) (only_at kind (one_version bytes) k)) → (k : Kind) → Fits (record (sums_of book k) { blocks = 0 })
 added_fits rows kind book bytes roomy short added k = grind (arith, nat_tests, roomy.sums k, added k)

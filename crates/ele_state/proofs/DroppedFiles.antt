@@ -1,5 +1,5 @@
 -- What the drop of a file leaves of the rows, the keys and the book.
-use Rattle.ele_state.proofs.Words.{subst, ◌≡◌, IsQueued, is_moment, ℕ, ◌==◌, ◌<◌, true, not, filter, List, ◌∷◌, Some, None, refl, ap, sym, ◌∙◌, arith, find, AllByRecursion, nat_tests, world_of, IsSound, held_world, IsBooked, Rows, rows_of, remove_first-unfound, all-weaker, filter-all, Kind, Policy, kind_of, Book, sums_of, only_at, plus, IsWithin, DropIdle, is_idle, without_file, after_change, forgotten, usage_of, IsGroup, Groups, HasParts, World, is_file, next_of, policy_of, GroupRow, File, dropped, usage_same, []}
+use Rattle.ele_state.proofs.Words.{subst, ◌≡◌, IsQueued, is_moment, ℕ, ◌==◌, ◌<◌, true, not, filter, List, ◌∷◌, Some, None, refl, ap, sym, ◌∙◌, arith, find, AllByRecursion, nat_tests, world_of, IsSound, held_world, IsBooked, Rows, rows_of, remove_first-unfound, all-weaker, filter-all, Kind, Policy, kind_of, Book, sums_of, only_at, plus, IsWithin, DropIdle, is_idle, without_file, after_change, forgotten, usage_of, IsGroup, Groups, World, is_file, next_of, policy_of, GroupRow, File, dropped, usage_same, []}
 use Rattle.ele_state.proofs.Booked.{booked, plus-cancel, same_kind}
 use Rattle.ele_state.proofs.NewNames.{other_target, unnamed}
 use Rattle.ele_lists.proofs.Edits.{all-not_found}
@@ -8,7 +8,10 @@ use Rattle.ele_world.proofs.DropUsage.{one_file, dropped_at}
 
 -- ---- a file that isn't there
 
-module _ (w : World) (file : ℕ) (k : HasParts w) (none : policy_of w.files file ≡ None) where
+module _ (rows : Rows) (file : ℕ) (sound : IsSound rows) (none : policy_of rows.files.files file ≡ None) where
+  abbrev w : World
+  w = world_of rows
+
   no_row : find (is_file file) w.files ≡ None
   no_row = grind (arith, nat_tests)
 
@@ -21,15 +24,12 @@ module _ (w : World) (file : ℕ) (k : HasParts w) (none : policy_of w.files fil
   no_group (row ∷ rows) all = rw (no_member row.members all.0.there, no_group rows all.1) refl
 
   -- nothing of it goes
-  stays : w ≡ after_change w (DropIdle file)
-  stays = dropped (λ v. w ≡ v) w file (λ idle. sym (rw (
+  pub absent_stays : w ≡ after_change w (DropIdle file)
+  absent_stays = dropped (λ v. w ≡ v) w file (λ idle. sym (rw (
     remove_first-unfound (is_file file) w.files (all-not_found (is_file file) w.files no_row),
-    unnamed w file k (rw no_row refl),
-    no_group w.groups (k.holds Groups).each,
+    unnamed w file sound.formed (rw no_row refl),
+    no_group w.groups (sound.formed.holds Groups).each,
   ) refl)) (λ busy. refl)
-
-pub absent_stays : (rows : Rows) (file : ℕ) → IsSound rows → policy_of rows.files.files file ≡ None → world_of rows ≡ after_change (world_of rows) (DropIdle file)
-absent_stays rows file sound none = stays (world_of rows) file sound.formed none
 
 -- no key changes
 pub dropped_queue : (rows : Rows) (file : ℕ) → IsSound rows → is_idle (world_of rows) file ≡ true → IsQueued (without_file (world_of rows) file) rows.queue

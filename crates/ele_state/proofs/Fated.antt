@@ -8,7 +8,6 @@ use Rattle.std.specs.Str.{bytes_eq}
 use Rattle.ele_policy.specs.Ladder.{shares}
 use Rattle.ele_moment.specs.Last.{last_moment}
 use Rattle.ele_policy.specs.Ripe.{alone, is_due_by, ripe_by, ripe_near}
-use Rattle.ele_policy.specs.declared.policy.Policy.TheVariants.{One, All, Safe, Landmarks}
 use Rattle.ele_groups.specs.Rows.{row_of}
 use Rattle.ele_state.specs.Fated.{IsFreeCause, IsFreeFate, MarksAt, closing_of}
 use Rattle.ele_world.proofs.Fates.{displaced_by, newer_found, protected_told}
@@ -139,11 +138,7 @@ module _ (rows : Rows) (sound : IsSound rows) (row : VersionRow) (found : find (
 -- ---- why it is due
 
 near_alone : (policy : Policy) (closed : ℕ) (nearest : Option ℕ) (met : Bool) (ended r : ℕ) → ripe_near policy closed nearest met ended ≡ Some r → ripe_by policy closed (alone nearest) ended ≡ Some r
-near_alone One closed nearest met ended r is = is
-near_alone All closed nearest met ended r is = is
-near_alone (Safe interval floor) closed nearest true ended r is = is
-near_alone (Safe interval floor) closed nearest false ended r is = absurd cc
-near_alone (Landmarks rungs) closed nearest met ended r is = is
+near_alone policy closed nearest met ended r is = grind (arith, nat_tests, is)
 
 -- what ripens is due from then on beside its nearest newer one alone
 pub due_alone : (cover : Cover) (policy : Policy) (closed : ℕ) (nearest : Option ℕ) (met : Bool) (ended since : ℕ) → IsLawful policy → since ≤ last_moment → option_and_then (ripe_past cover) (ripe_near policy closed nearest met ended) ≡ Some since
@@ -163,10 +158,9 @@ told_row h P each file stamps told = by (find (is_version file stamps.number) h.
   by : (o : Option VersionRow) → find (is_version file stamps.number) h.versions ≡ o → option_map stamps_of o ≡ Some stamps → P file stamps
   by None found is = absurd (cc)
   by (Some row) found is =
-      let same : stamps_of row ≡ stamps = cc in
-      let number : row.number ≡ stamps.number = ap (λ (s : Stamps). s.number) same in
+      let own : find (is_version row.file row.number) h.versions ≡ Some row = grind (arith, nat_tests, found, is, found_passes (is_version file stamps.number) h.versions row found) in
       let filed : row.file ≡ file = grind (arith, nat_tests, found_passes (is_version file stamps.number) h.versions row found) in
-      let own : find (is_version row.file row.number) h.versions ≡ Some row = subst (λ (f : ℕ). find (is_version f row.number) h.versions ≡ Some row) (sym filed) (subst (λ (n : ℕ). find (is_version file n) h.versions ≡ Some row) (sym number) found) in
+      let same : stamps_of row ≡ stamps = cc in
       subst (P file) same (subst (λ (f : ℕ). P f (stamps_of row)) filed (each row own))
 
 -- where it has no end, a handle reads it, or a mark keeps it

@@ -1,10 +1,11 @@
 -- The moments of a file's newest versions, where no floor keeps them.
-use Rattle.ele_state.proofs.Words.{comes, if_changed, sym, Held, has_newer, freed_moment, is_entry, is_freed, ◌∙◌, ap, refl, ◌≡◌, ℕ, ◌+◌, ◌==◌, nat_le, Bool, true, false, not, ◌&&◌, ◌||◌, List, Option, Some, None, find, option_and_then, option_map, arith, nat_tests, and-false, AllLater, ArePlaced, VersionRow, GroupRow, Stamps, Policy, Key, stamps_of, is_version, is_moment, any-found, found_passes, newer_held, no_floor, with_newer}
-use Rattle.ele_state.proofs.Changes.{brought}
-use Rattle.ele_state.proofs.Appended.{HasNewer, none_has, one_alone, one_has}
+use Rattle.ele_state.proofs.Words.{IsLawful, cond, cover_of, false≢true, floor_of, is_open, is_some, near_floored, near_moment, next_closing, unread_under, unwrap_or, ◌≤◌, comes, if_changed, sym, Held, has_newer, freed_moment, is_entry, is_freed, ◌∙◌, ap, refl, ◌≡◌, ℕ, ◌+◌, ◌==◌, nat_le, Bool, true, false, not, ◌&&◌, ◌||◌, List, Option, Some, None, find, option_and_then, option_map, arith, nat_tests, and-false, AllLater, ArePlaced, VersionRow, GroupRow, Stamps, Policy, Key, stamps_of, is_version, is_moment, found_passes, newer_held, no_floor, with_newer}
+use Rattle.ele_state.proofs.Changes.{any_is, brought}
+use Rattle.ele_state.proofs.Governed.{unheld}
+use Rattle.ele_state.proofs.Appended.{none_has, one_alone, one_has}
 
 -- one more is one that has just so many newer ones
-step : (newest n : ℕ) (own m : Bool) → (own && (not (nat_le (newest + 1) n) && m)) ≡ ((own && (not (nat_le newest n) && m)) || (own && ((n == newest) && m)))
+pub step : (newest n : ℕ) (own m : Bool) → (own && (not (nat_le (newest + 1) n) && m)) ≡ ((own && (not (nat_le newest n) && m)) || (own && ((n == newest) && m)))
 step newest n own m = grind (arith, nat_tests)
 
 module _ (groups : List GroupRow) (h : Held) (file : ℕ) (policy : Policy) (now : ℕ) where
@@ -14,42 +15,37 @@ module _ (groups : List GroupRow) (h : Held) (file : ℕ) (policy : Policy) (now
   pub none_freed : (k : Key) → is_freed groups h file policy now 0 k ≡ false
   none_freed k = rw (no_floor (newer_held h.versions file k.number)) (and-false (k.file == file))
 
+  -- under a policy with a floor one that has ended has the moment that it has without it
+  module _ (given : IsLawful policy) (some : 1 ≤ floor_of policy) where
+    alone : (nearest : Option ℕ) (closed : ℕ) (e : Option ℕ) → is_some e ≡ true → near_moment (cover_of groups file) (Some policy) None true closed (unwrap_or e now) ≡ option_and_then (near_moment (cover_of groups file) (Some policy) nearest true closed) e
+    alone nearest closed None is = absurd (false≢true is)
+    alone nearest closed (Some ended) is = near_floored (cover_of groups file) (Some policy) true None nearest true closed ended given some
+
+    pub freed_is : (n : ℕ) → ((row : VersionRow) → find (is_version file n) h.versions ≡ Some row → is_some row.ended ≡ true) → option_and_then its (find (is_version file n) h.versions) ≡ unread_under groups (record { policy = policy; floor = 0 }) h file n
+    freed_is n ended = by (find (is_version file n) h.versions) refl where
+      by : (o : Option VersionRow) → find (is_version file n) h.versions ≡ o → option_and_then its o ≡ unread_under groups (record { policy = policy; floor = 0 }) h file n
+      by None none = sym (unheld groups h file n (record { policy = policy; floor = 0 }) none)
+      by (Some row) found =
+          let number : row.number ≡ n = grind (arith, nat_tests, found_passes (is_version file n) h.versions row found) in
+          rw (found, number, no_floor (newer_held h.versions file n)) (ap (cond (is_open h.handles file n) None) (alone (next_closing h.versions file n) row.closed row.ended (ended row found)))
+
   module _ (placed : AllLater ArePlaced h.versions) (newest : ℕ) (k : Key) where
-    abbrev one_more : Bool
+    abbrev pub one_more : Bool
     one_more = (k.file == file) && ((newer_held h.versions file k.number == newest) && is_moment k.ripe (option_and_then its (find (is_version file k.number) h.versions)))
 
     -- it is asked of a held version alone
     held_more : one_more ≡ ((k.file == file) && (has_newer h.versions file newest k.number && is_moment k.ripe (option_and_then its (find (is_version file k.number) h.versions))))
-    held_more = by (find (is_version file k.number) h.versions) refl where
-      by : (o : Option VersionRow) → find (is_version file k.number) h.versions ≡ o
-          → ((k.file == file) && ((newer_held h.versions file k.number == newest) && is_moment k.ripe (option_and_then its o))) ≡ ((k.file == file) && (has_newer h.versions file newest k.number && is_moment k.ripe (option_and_then its o)))
-      by None e = grind (arith, nat_tests, and-false)
-      by (Some row) e = rw (any-found (is_version file k.number) (is_version file k.number) h.versions row e (found_passes (is_version file k.number) h.versions row e)) refl
+    held_more = grind (arith, nat_tests, and-false, any_is (is_version file k.number) h.versions)
 
-    none_more : with_newer h.versions file newest ≡ None → one_more ≡ false
+    pub none_more : with_newer h.versions file newest ≡ None → one_more ≡ false
     none_more none = held_more ∙ rw (none_has h.versions file newest k.number none) (and-false (k.file == file))
 
-    just_more : (row : VersionRow) → with_newer h.versions file newest ≡ Some row → one_more ≡ is_entry file row.number (its row) k
-    just_more row e = held_more ∙ rw (one_alone h.versions file newest row k.number has) (by (k.number == row.number) refl) where
-      has : HasNewer h.versions file newest row
-      has = one_has h.versions file newest row placed e
-
-      by : (b : Bool) → (k.number == row.number) ≡ b → ((k.file == file) && (b && is_moment k.ripe (option_and_then its (find (is_version file k.number) h.versions)))) ≡ (((k.file == file) && b) && is_moment k.ripe (its row))
-      by true same = let number : k.number ≡ row.number = grind (arith, nat_tests, same) in rw (number, has.found) (grind (arith, nat_tests))
-      by false apart = by_own (k.file == file) where
-        by_own : (own : Bool) → (own && false) ≡ ((own && false) && is_moment k.ripe (its row))
-        by_own true = refl
-        by_own false = refl
+    pub just_more : (row : VersionRow) → with_newer h.versions file newest ≡ Some row → one_more ≡ is_entry file row.number (its row) k
+    just_more row e = let has = one_has h.versions file newest row placed e in held_more ∙ grind (arith, nat_tests, and-false, has.found, one_alone h.versions file newest row k.number has)
 
     pub freed_same : None ≡ option_map stamps_of (with_newer h.versions file newest) → is_freed groups h file policy now (newest + 1) k ≡ (is_freed groups h file policy now newest k || false)
-    freed_same told = step newest (newer_held h.versions file k.number) (k.file == file) _ ∙ ap (λ b. is_freed groups h file policy now newest k || b) (none_more (by (with_newer h.versions file newest) (sym told))) where
-      by : (o : Option VersionRow) → option_map stamps_of o ≡ None → o ≡ None
-      by None e = refl
-      by (Some row) e = absurd cc
+    freed_same told = grind (arith, nat_tests, step newest (newer_held h.versions file k.number) (k.file == file), none_more, told)
 
     pub freed_more : (stamps : Stamps) (moment : Option ℕ) → Some stamps ≡ option_map stamps_of (with_newer h.versions file newest) → moment ≡ freed_moment groups h file policy now stamps.number stamps.closed stamps.ended
         → is_freed groups h file policy now (newest + 1) k ≡ (is_freed groups h file policy now newest k || comes (if_changed (Some (record { file = file; number = stamps.number; was = None; is = moment }))) k)
-    freed_more stamps moment told is = step newest (newer_held h.versions file k.number) (k.file == file) _ ∙ ap (λ b. is_freed groups h file policy now newest k || b) (by (with_newer h.versions file newest) refl (sym told) ∙ ap (λ m. is_entry file stamps.number m k) (sym is) ∙ sym (brought k file stamps.number moment)) where
-      by : (o : Option VersionRow) → with_newer h.versions file newest ≡ o → option_map stamps_of o ≡ Some stamps → one_more ≡ is_entry file stamps.number (freed_moment groups h file policy now stamps.number stamps.closed stamps.ended) k
-      by None e told = absurd cc
-      by (Some row) e told = let same : stamps_of row ≡ stamps = cc in rw (← same) (just_more row e)
+    freed_more stamps moment told is = grind (arith, nat_tests, step newest (newer_held h.versions file k.number) (k.file == file), just_more, told, is, brought k file stamps.number moment)

@@ -1,8 +1,8 @@
 -- The keys and the book, once a file has another policy.
-use Rattle.ele_state.proofs.Words.{AreChanges, false≢true, get_or, is_one, is_own, length, take, ◌+◌, None, Rule, floor_of, is_live, is_open, nat_le, near_unmet, newer_held, no_floor, rule_in, ◌≤◌, IsTold, ◌∙◌, Versions, all_found, ap, find, cover_of, near_moment, next_closing, option_and_then, option_map, rows_of, ◌≡◌, ℕ, ◌<◌, ◌==◌, Bool, true, false, cond, ◌&&◌, ◌||◌, List, ◌∷◌, Option, Some, refl, sym, subst, arith, filter, map, AllByRecursion, list_any, nat_tests, world_of, IsSound, unread_under, held_world, IsBooked, Rows, Held, changed_at, found_passes, any-found, Kind, Policy, IsLawful, is_kind, kind_of, Usage, Book, sums_of, only_at, plus, Fits, IsWithin, GroupRow, Stamps, VersionRow, PutUnder, after_change, is_version_of, stamps_of, file_usage, usage_of, usages, Bounded, World, is_version, next_of, policy_of, in_order_of, ripe_at_near, put_under_keeps, usage_same, usages_fit, [], HasParts, KeyChange, if_changed}
+use Rattle.ele_state.proofs.Words.{AreChanges, get_or, is_one, is_own, length, take, ◌+◌, None, Rule, floor_of, is_live, is_open, nat_le, near_unmet, newer_held, no_floor, rule_in, ◌≤◌, IsTold, ◌∙◌, Versions, all_found, ap, find, cover_of, near_moment, next_closing, option_and_then, rows_of, ◌≡◌, ℕ, ◌<◌, ◌==◌, Bool, true, false, cond, ◌&&◌, ◌||◌, List, ◌∷◌, Option, Some, refl, sym, subst, arith, filter, map, AllByRecursion, list_any, nat_tests, world_of, IsSound, unread_under, held_world, IsBooked, Rows, Held, changed_at, Kind, Policy, IsLawful, is_kind, kind_of, Usage, Book, sums_of, only_at, plus, Fits, IsWithin, GroupRow, Stamps, VersionRow, PutUnder, after_change, is_version_of, stamps_of, file_usage, usage_of, usages, Bounded, World, is_version, next_of, policy_of, in_order_of, ripe_at_near, put_under_keeps, usage_same, usages_fit, [], HasParts, KeyChange, if_changed}
 use Rattle.std.proofs.lemmas.List.Folds.{list_any_more}
 use Rattle.ele_state.proofs.Asked.{under_told}
-use Rattle.ele_state.proofs.Changes.{Move, one_changes, one_stays, wider}
+use Rattle.ele_state.proofs.Changes.{Move, any_is, one_changes, one_stays, wider}
 use Rattle.ele_state.proofs.Booked.{booked, plus-cancel, same_kind}
 use Rattle.ele_world.proofs.PolicyUsage.{file_within, policy_usage}
 use Rattle.ele_world.proofs.PolicyMoments.{policy_others, policy_own}
@@ -12,6 +12,10 @@ use Rattle.ele_world.proofs.PolicyMoments.{policy_others, policy_own}
 -- the version is one of the file of which these stamps are
 abbrev pub is_among : ℕ → List Stamps → ℕ → ℕ → Bool
 is_among file held owner number = (owner == file) && list_any (λ stamps. stamps.number == number) held
+
+-- a version that isn't held has none
+pub unheld : (groups : List GroupRow) (h : Held) (file number : ℕ) (rule : Rule) → find (is_version file number) h.versions ≡ None → unread_under groups rule h file number ≡ None
+unheld groups h file number rule none = grind (arith, nat_tests, none)
 
 module _ (groups : List GroupRow) (h : Held) (file : ℕ) (was is : Rule) where
   abbrev AreOf : (ℕ → ℕ → Bool) → List KeyChange → Type 0
@@ -31,16 +35,6 @@ module _ (groups : List GroupRow) (h : Held) (file : ℕ) (was is : Rule) where
     pub changes_under : (one other : Option ℕ) → told_under was ≡ one → told_under is ≡ other → AreOf (is_one file stamps.number) (if_changed (Some (record { file = file; number = stamps.number; was = one; is = other })))
     changes_under one other before then = one_changes _ _ file stamps.number one other (has was ∙ before) (has is ∙ then)
 
-  -- one that isn't held has none
-  unheld : (owner number : ℕ) (rule : Rule) → list_any (is_version owner number) h.versions ≡ false → unread_under groups rule h owner number ≡ None
-  unheld owner number rule none = by (find (is_version owner number) h.versions) refl where
-    by : (o : Option VersionRow) → find (is_version owner number) h.versions ≡ o → unread_under groups rule h owner number ≡ None
-    by None is = rw is (both (is_open h.handles owner number)) where
-      both : (read : Bool) → cond {A = Option ℕ} read None None ≡ None
-      both true = refl
-      both false = refl
-    by (Some row) is = absurd (false≢true (sym none ∙ any-found (is_version owner number) (is_version owner number) h.versions row is (found_passes (is_version owner number) h.versions row is)))
-
   pub one_more : (held : List Stamps) (i : ℕ) (stamps : Stamps) → i < length held → stamps ≡ get_or held i stamps → (owner number : ℕ) → is_among file (take (i + 1) held) owner number ≡ (is_among file (take i held) owner number || is_one file stamps.number owner number)
   one_more held i stamps within at owner number = rw (list_any_more (λ (s : Stamps). s.number == number) held i stamps within, ← at) (grind (arith, nat_tests))
 
@@ -50,41 +44,17 @@ module _ (groups : List GroupRow) (h : Held) (file : ℕ) (was is : Rule) where
 
   -- so where these are all that are held, no other changes
   pub all_under : (held : List Stamps) (changes : List KeyChange) → held ≡ map stamps_of (filter (is_version_of file) h.versions) → AreOf (is_among file held) changes → AreOf (is_own file) changes
-  all_under held changes all are = wider _ _ (is_among file held) (is_own file) changes (λ owner number h. grind (arith, nat_tests, h)) (λ owner number own none. let left = rest owner number own none in unheld owner number is left ∙ sym (unheld owner number was left)) are where
-    rest : (owner number : ℕ) → is_own file owner number ≡ true → is_among file held owner number ≡ false → list_any (is_version owner number) h.versions ≡ false
-    rest owner number own none =
-        let same : owner ≡ file = grind (arith, nat_tests, own) in
-        let not_told : list_any (λ (s : Stamps). s.number == number) held ≡ false = grind (arith, own, none) in
-        rw same (sym (held_told number h.versions) ∙ ap (list_any (λ (s : Stamps). s.number == number)) (sym all) ∙ not_told)
+  all_under held changes all are = wider _ _ (is_among file held) (is_own file) changes (λ owner number h. grind (arith, nat_tests, h)) (λ owner number own none. grind (arith, nat_tests, own, none, held_told number h.versions, all, any_is (is_version file number) h.versions)) are
 
 -- the floor keeps those that have too few newer ones, and leaves the others their moments
 pub floored : (groups : List GroupRow) (policy : Policy) (floor : ℕ) (h : Held) (file number : ℕ) → IsLawful policy → floor ≤ floor_of policy
     → unread_under groups (record { policy = policy; floor = floor }) h file number ≡ cond (nat_le floor (newer_held h.versions file number)) (unread_under groups (record { policy = policy; floor = 0 }) h file number) None
-floored groups policy floor h file number given within = rw (no_floor (newer_held h.versions file number)) (by (is_open h.handles file number) (nat_le floor (newer_held h.versions file number)) refl (find (is_version file number) h.versions)) where
-  near : Bool → ℕ → ℕ → Option ℕ
-  near met closed ended = near_moment (cover_of groups file) (Some policy) (next_closing h.versions file number) met closed ended
-
-  unmet : (closed ended : ℕ) → nat_le floor (newer_held h.versions file number) ≡ false → near false closed ended ≡ None
-  unmet closed ended few = near_unmet (cover_of groups file) (Some policy) true (newer_held h.versions file number) (next_closing h.versions file number) closed ended given (grind (arith, nat_tests, few, within))
-
-  held : (closed : ℕ) (e : Option ℕ) → nat_le floor (newer_held h.versions file number) ≡ false → option_and_then (near false closed) e ≡ None
-  held closed None few = refl
-  held closed (Some ended) few = unmet closed ended few
-
-  by : (read met : Bool) → nat_le floor (newer_held h.versions file number) ≡ met → (o : Option VersionRow)
-      → cond read None (option_and_then (λ (row : VersionRow). option_and_then (near met row.closed) row.ended) o) ≡ cond met (cond read None (option_and_then (λ (row : VersionRow). option_and_then (near true row.closed) row.ended) o)) None
-  by read true is o = refl
-  by true false is o = refl
-  by false false is None = refl
-  by false false is (Some row) = held row.closed row.ended is
+floored groups policy floor h file number given within = grind (arith, nat_tests, no_floor (newer_held h.versions file number), near_unmet (cover_of groups file) (Some policy) true (newer_held h.versions file number) (next_closing h.versions file number))
 
 -- so is each that is told of a file whose versions are in order
 all_told : (h : Held) (file : ℕ) (rows : List VersionRow) → AllByRecursion (λ row. find (is_version row.file row.number) h.versions ≡ Some row) rows → AllByRecursion (IsTold h file) (map stamps_of (filter (is_version_of file) rows))
 all_told h file [] all = tt
-all_told h file (row ∷ rows) all = by (all_told h file rows all.1) (row.file == file) refl where
-  by : AllByRecursion (IsTold h file) (map stamps_of (filter (is_version_of file) rows)) → (b : Bool) → (row.file == file) ≡ b → AllByRecursion (IsTold h file) (map stamps_of (cond b (row ∷ filter (is_version_of file) rows) (filter (is_version_of file) rows)))
-  by rest true own = let file_is : row.file ≡ file = grind (arith, nat_tests) in (ap (option_map stamps_of) (subst (λ f. find (is_version f row.number) h.versions ≡ Some row) file_is all.0), rest)
-  by rest false other = rest
+all_told h file (row ∷ rows) all = grind (arith, nat_tests, all_told h file rows all.1, all.0)
 
 pub stamps_told : (rows : Rows) (file : ℕ) (held : List Stamps) → IsSound rows → held ≡ map stamps_of (filter (is_version_of file) rows.files.versions) → AllByRecursion (IsTold rows.files file) held
 stamps_told rows file held sound is = rw is (all_told rows.files file rows.files.versions (all_found rows.files.versions (sound.formed.holds Versions).placed))
@@ -93,12 +63,10 @@ stamps_told rows file held sound is = rw is (all_told rows.files file rows.files
 pub governed : (w : World) (file : ℕ) (was policy : Policy) → HasParts w → policy_of w.files file ≡ Some was → 0 < next_of w.files file → IsLawful policy
     → Move w (after_change w (PutUnder file policy)) (is_own file) (unread_under w.groups (rule_in was (is_live w file)) (rows_of w)) (unread_under w.groups (rule_in policy (is_live w file)) (rows_of w))
 governed w file was policy k filed there given = record {
-  had = λ owner number own. rw (same owner own) (ripe_at_near w file number (in_order_of w k) ∙ rw filed refl);
-  has = λ owner number own. rw (same owner own) (policy_own w file policy k given there number);
+  had = λ owner number own. grind (arith, nat_tests, own, ripe_at_near w file number (in_order_of w k), filed);
+  has = λ owner number own. let same : owner ≡ file = grind (arith, nat_tests, own) in rw same (policy_own w file policy k given there number);
   others = λ owner number other. policy_others w file policy k owner number other;
-} where
-  same : (owner : ℕ) → (owner == file) ≡ true → owner ≡ file
-  same owner own = grind (arith, nat_tests, own)
+}
 
 -- ---- the book
 

@@ -1,5 +1,5 @@
 -- What a file's next version leaves, whatever its content comes from.
-use Rattle.ele_state.proofs.Words.{IsBooked, NoMemory, OnErr, OnOk, Result, Ok, Err, subst, sym, true, false, [], ◌≡◌, ℕ, ◌+◌, ◌<◌, ◌||◌, List, arith, refl, ◌∙◌, ap, Bool, Book, HasSource, Held, IsOwed, IsOwedBy, IsQueued, Kind, Policy, Some, kind_of, one_version, only_at, plus, policy_of, sums_of, IsReady, IsRoomy, IsSound, IsSource, IsTracked, Key, MayGrow, KeyChange, Rows, Source, World, after_changes, appending, blocks_of, cells_of_draft, cells_of_version, content_of, has_key, is_draft, is_live, comes, length, may_grow, new_keys, next_of, next_version, remove_first, rows_after, source_cells, with_rows, world_of, drafts-removed}
+use Rattle.ele_state.proofs.Words.{IsBooked, NoMemory, OnErr, OnOk, Result, Ok, Err, subst, sym, true, false, [], ◌≡◌, ℕ, ◌+◌, ◌<◌, ◌||◌, List, arith, refl, ◌∙◌, ap, Book, coming, Held, IsOwed, IsOwedBy, IsQueued, Kind, Policy, Some, kind_of, one_version, only_at, placed_of, plus, policy_of, sums_of, IsReady, IsRoomy, IsSound, IsSource, IsTracked, Key, MayGrow, Rows, Source, World, after_changes, appending, blocks_of, cells_of_draft, cells_of_version, content_of, has_key, is_draft, comes, length, may_grow, next_of, next_version, remove_first, rows_after, source_cells, with_rows, world_of, drafts-removed}
 use Rattle.ele_state.proofs.Appended.{appended_queue, none_there}
 use Rattle.ele_state.proofs.Booked.{few, of_kind, owed_by}
 use Rattle.ele_state.proofs.Bounded.{rows_few, versions_few}
@@ -11,11 +11,11 @@ use Rattle.ele_state.specs.declared.append.Source.TheVariants.{Draft, Version}
 
 -- ---- what a sound state has
 
-pub roomy : (rows : Rows) → IsSound rows → IsRoomy rows
-roomy rows sound = record { made = grind (arith, versions_few rows sound); sums = few rows sound }
+pub roomy : (rows : Rows) → IsSound rows → IsRoomy rows.made.versions rows.book
+roomy rows sound = record { versions = grind (arith, versions_few rows sound); sums = few rows sound }
 
 pub ready : (rows : Rows) (file : ℕ) (source : Source) → IsSound rows → IsSource rows.files file source → IsReady rows.files rows.moment file source
-ready rows file source sound is = record { is = is; few = omega (arith, rows_few rows sound); numbered = numbered rows sound; past = past rows sound; short = source_short rows sound file source }
+ready rows file source sound is = record { is = is; few = omega (arith, rows_few rows sound); numbered = numbered rows sound; past = past rows sound; short = source_short rows sound file source; placed = placed_of (world_of rows) sound.formed }
 
 -- ---- what follows
 
@@ -25,18 +25,6 @@ module _ (rows : Rows) (file : ℕ) where
 
   abbrev h : Held
   h = rows.files
-
-  pub grows : (source : Source) → 0 < next_of h.files file → HasSource rows file source → MayGrow w file
-  grows (Draft handle opened) there has = may_grow w file has.grows there
-  grows (Version number) there has = has.grows
-
-  pub none_new : IsTracked rows → (source : Source) (live : Bool) (keys : List KeyChange) → 0 < next_of h.files file → HasSource rows file source → live ≡ is_live w file → keys ≡ new_keys rows.groups h file rows.moment live → (j : Key) → comes keys j ≡ true → has_key j rows.queue ≡ false
-  none_new tracked source live keys there has lives are = none_there w file 0 [] (grows source there has) rows.queue [] tracked.queue keys (are ∙ ap (new_keys rows.groups h file rows.moment) lives)
-
-  pub grown_queue : IsTracked rows → (source : Source) (after : List Key) (live : Bool) (keys : List KeyChange) → HasSource rows file source → live ≡ is_live w file → keys ≡ new_keys rows.groups h file rows.moment live → ((j : Key) → has_key j after ≡ (comes keys j || has_key j rows.queue))
-      → IsQueued (after_changes w (appending h rows.moment file source)) after
-  grown_queue tracked (Draft handle opened) after live keys has lives are = finished_queue w handle file has.ready.is.reads opened has.ready.is.changed has.grows rows.queue after live keys tracked.queue lives are
-  grown_queue tracked (Version number) after live keys has lives are = appended_queue w file rows.moment (cells_of_version h file number) has.grows rows.queue after tracked.queue keys (are ∙ ap (new_keys rows.groups h file rows.moment) lives)
 
   grown_owed : IsBooked h rows.book → (source : Source) (after : Held) (book : Book) (bytes before : ℕ) → after ≡ rows_after w h (appending h rows.moment file source) → bytes ≡ length (content_of (source_cells h file source)) → before ≡ blocks_of h → HasAdded after file rows.book book bytes → IsOwed after book file before
   grown_owed booked (Draft handle opened) = version_owed rows file (next_version w file opened (cells_of_draft h file)) (remove_first (is_draft file) h.drafts) (remove_first (is_handle handle) h.handles) refl (drafts-removed file h.drafts) booked
@@ -58,19 +46,26 @@ module _ (rows : Rows) (file : ℕ) where
   grown_world (Draft handle opened) after is = rw is refl
   grown_world (Version number) after is = rw is refl
 
--- ---- once all has followed, or been refused
+-- ---- where a sound state's file has it
 
-module _ (rows : Rows) (file : ℕ) (tracked : IsTracked rows) (source : Source) (live : Bool) (keys : List KeyChange) (has : HasSource rows file source) (lives : live ≡ is_live (world_of rows) file) (are : keys ≡ new_keys rows.groups rows.files file rows.moment live) where
-  pub grown_tracked : (now : Rows) (result : Result ℕ NoMemory) → OnOk result (world_of now ≡ after_changes (world_of rows) (appending rows.files rows.moment file source)) → OnErr result (now ≡ record rows { queue = now.queue; meter = now.meter })
-      → OnOk result ((j : Key) → has_key j now.queue ≡ (comes keys j || has_key j rows.queue)) → OnErr result ((j : Key) → has_key j now.queue ≡ has_key j rows.queue)
+module _ (rows : Rows) (file : ℕ) (sound : IsSound rows) (there : 0 < next_of rows.files.files file) where
+  abbrev grows : MayGrow (world_of rows) file
+  grows = may_grow (world_of rows) file sound.formed there
+
+  -- none of the keys was there that come with it
+  pub none_new : (j : Key) → comes (coming rows file false) j ≡ true → has_key j rows.queue ≡ false
+  none_new j is = sound.tracked.queue j ∙ none_there (world_of rows) file 0 [] grows false refl j is
+
+  grown_queue : (source : Source) → IsSource rows.files file source → (after : List Key) → ((j : Key) → has_key j after ≡ (comes (coming rows file false) j || has_key j rows.queue)) → IsQueued (after_changes (world_of rows) (appending rows.files rows.moment file source)) after
+  grown_queue (Draft handle opened) is after = finished_queue (world_of rows) handle file is.reads opened is.changed sound.formed rows.queue after sound.tracked.queue
+  grown_queue (Version number) is after = appended_queue (world_of rows) file rows.moment (cells_of_version rows.files file number) grows false refl rows.queue after sound.tracked.queue
+
+  -- and once all has followed, or been refused, it is tracked
+  pub grown_tracked : (source : Source) → IsSource rows.files file source → (now : Rows) (result : Result ℕ NoMemory) → OnOk result (world_of now ≡ after_changes (world_of rows) (appending rows.files rows.moment file source)) → OnErr result (now ≡ record rows { queue = now.queue; meter = now.meter })
+      → OnOk result ((j : Key) → has_key j now.queue ≡ (comes (coming rows file false) j || has_key j rows.queue)) → OnErr result ((j : Key) → has_key j now.queue ≡ has_key j rows.queue)
       → IsBooked now.files now.book → now.limits ≡ rows.limits → IsTracked now
-  grown_tracked now (Ok number) ok err come same booked limits = record {
-    queue = subst (λ (v : World). IsQueued v now.queue) (sym ok) (grown_queue rows file tracked source now.queue live keys has lives are come);
-    book = booked;
-    bounds = rw limits tracked.bounds;
-  }
-  grown_tracked now (Err refused) ok err come same booked limits = record {
-    queue = subst (λ (v : World). IsQueued v now.queue) (sym (ap world_of err)) (λ j. same j ∙ tracked.queue j);
-    book = booked;
-    bounds = rw limits tracked.bounds;
-  }
+  grown_tracked source is now result ok err come same booked limits = record { queue = by result ok err come same; book = booked; bounds = rw limits sound.tracked.bounds } where
+    by : (result : Result ℕ NoMemory) → OnOk result (world_of now ≡ after_changes (world_of rows) (appending rows.files rows.moment file source)) → OnErr result (now ≡ record rows { queue = now.queue; meter = now.meter })
+        → OnOk result ((j : Key) → has_key j now.queue ≡ (comes (coming rows file false) j || has_key j rows.queue)) → OnErr result ((j : Key) → has_key j now.queue ≡ has_key j rows.queue) → IsQueued (world_of now) now.queue
+    by (Ok number) ok err come same = subst (λ (v : World). IsQueued v now.queue) (sym ok) (grown_queue source is now.queue come)
+    by (Err refused) ok err come same = subst (λ (v : World). IsQueued v now.queue) (sym (ap world_of err)) (λ j. same j ∙ sound.tracked.queue j)

@@ -4,7 +4,7 @@ use Rattle.std.specs.Str.{bytes_eq}
 use Rattle.ele_world.proofs.Covers.{exceeds, exceeds_by, exceeds_longer, exceeds_same, reaches}
 use Rattle.ele_world.proofs.MarksChanged.{behind, is_over, is_rest, others_count, told_over, told_rest}
 use Rattle.ele_world.specs.Cover.{cover_by}
-use Rattle.ele_world.specs.GroupRows.{group_named, is_group, is_member}
+use Rattle.ele_world.specs.GroupRows.{group_named, is_group}
 use Rattle.ele_world.specs.GroupsAsked.{is_left_out}
 use Rattle.ele_world.specs.declared.cover.Cover.TheVariants.{Free}
 
@@ -39,7 +39,4 @@ module _ (rows : List GroupRow) (name : List ℕ) (left : Option ℕ) (file clos
 
 -- a file that is told among those of the group is in it
 pub members_have : (rows : List GroupRow) (name : List ℕ) (file : ℕ) → list_any (λ member. member == file) (members_of rows name) ≡ has_member rows name file
-members_have rows name file = by (group_named rows name) where
-  by : (o : Option GroupRow) → list_any (λ member. member == file) (option_map_or (λ row. row.members) o []) ≡ option_map_or (is_member file) o false
-  by None = refl
-  by (Some row) = refl
+members_have rows name file = grind (arith, nat_tests)

@@ -1,7 +1,7 @@
 -- The moments of versions that were current at marks: which change with the groups, and that the queue follows.
 use Rattle.ele_state.proofs.Words.{get_or, length, take, ◌+◌, ◌<◌, ◌≤◌, ◌||◌, HasParts, false≢true, is_live, option_and_then, ripe_past, unmarked_moment, AllByRecursion, AllLater, AreChanges, ArePlaced, Bool, Cover, Dropped, GroupChange, HasLeaving, IsQueued, IsSound, IsTold, Joined, Left, List, MakeGroup, Marked, MarksMove, None, Option, Rows, Some, Stamps, Unmarked, VersionRow, World, [], after_change, all-found, all_found, ap, append-nil, arith, change_of, cond, cover_after, cover_of, covers_moment, drop_moves, false, files_of, filter, filter-append, find, found_passes, had_life, if_changed, in_order_of, is_covered, is_moment, is_one, is_open, is_touched, is_version, leave_moves, list_any, lives_at, mark_moves, member_moves, moments_by, moments_of, nat_tests, option_map, option_map_or, placed_of, refl, ripe_at, ripe_at_near, stamps_of, sym, true, unmark_moves, world_of, ℕ, ◌&&◌, ◌==◌, ◌∙◌, ◌∷◌, ◌≡◌}
 use Rattle.ele_state.proofs.Asked.{covered_told}
-use Rattle.ele_state.proofs.Changes.{Move, none_changes, one_changes, one_stays, same_change}
+use Rattle.ele_state.proofs.Changes.{Move, found_is, passing, none_changes, one_changes, one_stays, same_change}
 use Rattle.ele_world.proofs.Versions.{IsFound}
 use Rattle.std.proofs.lemmas.List.{take_all}
 use Rattle.std.proofs.lemmas.List.Folds.{list_any_more}
@@ -39,14 +39,7 @@ module _ (rows : Rows) (file mark : ℕ) (sound : IsSound rows) where
   lived_one stamps told owner number = grind (arith, nat_tests, lived owner number mark rows.files.versions (placed_of w sound.formed))
 
   pub lived_told : (stamps : Stamps) → Some stamps ≡ option_map stamps_of (find (had_life file mark) rows.files.versions) → IsTold rows.files file stamps
-  lived_told stamps told = by (find (had_life file mark) rows.files.versions) refl (sym told) where
-    by : (o : Option VersionRow) → find (had_life file mark) rows.files.versions ≡ o → option_map stamps_of o ≡ Some stamps → IsTold rows.files file stamps
-    by None is told = absurd cc
-    by (Some row) is told =
-        let itself = all-found (had_life file mark) (IsFound rows.files.versions) rows.files.versions row is (all_found rows.files.versions (placed_of w sound.formed)) in
-        let own : row.file ≡ file = grind (arith, nat_tests, found_passes (had_life file mark) rows.files.versions row is) in
-        let same : stamps_of row ≡ stamps = cc in
-        rw (← same, ← own, itself) refl
+  lived_told stamps told = grind (arith, nat_tests, told, passing (had_life file mark) rows.files.versions, found_is (had_life file mark) (IsFound rows.files.versions) rows.files.versions (all_found rows.files.versions (placed_of w sound.formed)))
 
   module _ (change : GroupChange) where
     abbrev after : ℕ → ℕ → Option ℕ

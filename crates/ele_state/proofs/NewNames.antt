@@ -1,5 +1,6 @@
 -- Names that come, move and go.
-use Rattle.ele_state.proofs.Words.{Bool, Directory, MayHaveMore, None, Option, any-found, find, floor_for, floor_in, found_passes, is_live, is_live_name_of, list_any, list_any-append, or-false, policy_of, subst, ◌==◌, ◌||◌, AllByRecursion, AreApart, File, FileRow, Files, IsNameRow, IsQueued, IsSound, IsThere, HasParts, List, NameRow, Names, Ok, Rows, Some, Target, World, [], all-both, all-weaker, ap, apart_from_new, append-nil, arith, bytes_eq-Decides, dies, false, false≢true, filter, filter-all, filter-append, in_order_of, is_live_name, is_moment, is_some, is_target_file, last_names, live_target, moments_stay, nat_tests, next_of, not, parent_now, refl, sym, true, update_first, walk_now, world_of, ℕ, ◌++◌, ◌+◌, ◌∙◌, ◌∷◌, ◌≡◌}
+use Rattle.ele_state.proofs.Words.{Directory, MayHaveMore, any-found, floor_for, floor_in, found_passes, is_live_name_of, list_any, list_any-append, or-false, policy_of, AllByRecursion, AreApart, File, FileRow, Files, IsNameRow, IsQueued, IsSound, IsThere, HasParts, List, NameRow, Names, Ok, Rows, Some, Target, World, [], all-both, all-weaker, ap, apart_from_new, append-nil, arith, bytes_eq-Decides, dies, false, false≢true, filter, filter-all, filter-append, in_order_of, is_live_name, is_moment, is_some, is_target_file, last_names, live_target, moments_stay, nat_tests, next_of, not, parent_now, refl, sym, true, update_first, walk_now, world_of, ℕ, ◌++◌, ◌+◌, ◌∙◌, ◌∷◌, ◌≡◌}
+use Rattle.ele_state.proofs.Changes.{any_is}
 use Rattle.ele_lists.proofs.Cuts.{update_first-front}
 use Rattle.ele_names.specs.Rows.{Follows, born_row}
 use Rattle.ele_world.proofs.Basics.{list_any-update_found}
@@ -47,10 +48,7 @@ directory_live w directory name id file = list_any-append (is_live_name_of file)
 -- so does one of a live file
 more_live : (w : World) (directory : ℕ) (name : List ℕ) (target : Target) → MayHaveMore w target → SameLive w.names (w.names ++ born_row directory name target w.now ∷ [])
 more_live w directory name (Directory id) more file = directory_live w directory name id file
-more_live w directory name (File other) more file = list_any-append (is_live_name_of file) w.names (born_row directory name (File other) w.now ∷ []) ∙ by (other == file) refl where
-  by : (b : Bool) → (other == file) ≡ b → (list_any (is_live_name_of file) w.names || list_any (is_live_name_of file) (born_row directory name (File other) w.now ∷ [])) ≡ list_any (is_live_name_of file) w.names
-  by true own = let same : other ≡ file = grind (arith, nat_tests, own) in let live : list_any (is_live_name_of file) w.names ≡ true = subst (λ f. is_live w f ≡ true) same more in rw live refl
-  by false apart = rw apart (or-false (list_any (is_live_name_of file) w.names))
+more_live w directory name (File other) more file = grind (arith, nat_tests, list_any-append (is_live_name_of file) w.names, or-false, more)
 
 -- so does the death of a directory's name
 directory_dies : (w : World) (directory : ℕ) (name : List ℕ) (id : ℕ) → live_target w.names directory name ≡ Some (Directory id) → SameLive w.names (update_first (is_live_name directory name) (dies w.now) w.names)
@@ -83,18 +81,10 @@ module _ (rows : List NameRow) (from : ℕ) (old : List ℕ) (to : ℕ) (new : L
   died file other = list_any-update_found (is_live_name from old) (is_live_name_of file) (dies now) rows (λ row found. grind (arith, nat_tests, stands, found, other))
 
   live_then : (file : ℕ) → is_target_file file target ≡ true → list_any (is_live_name_of file) rows ≡ true
-  live_then file own = by (find (is_live_name from old) rows) refl where
-    by : (o : Option NameRow) → find (is_live_name from old) rows ≡ o → list_any (is_live_name_of file) rows ≡ true
-    by None none = absurd (grind (arith, nat_tests, stands, none))
-    by (Some row) found =
-        let passes = found_passes (is_live_name from old) rows row found in
-        any-found (is_live_name from old) (is_live_name_of file) rows row found (grind (arith, nat_tests, stands, found, passes, own))
+  live_then file own = grind (arith, nat_tests, any_is (is_live_name from old) rows, stands, any-found (is_live_name from old) (is_live_name_of file) rows, found_passes (is_live_name from old) rows, own)
 
   moves_live : SameLive rows (update_first (is_live_name from old) (dies now) (rows ++ named ∷ []))
-  moves_live file = rw dies_before (list_any-append (is_live_name_of file) (update_first (is_live_name from old) (dies now) rows) (named ∷ []) ∙ by (is_target_file file target) refl) where
-    by : (b : Bool) → is_target_file file target ≡ b → (list_any (is_live_name_of file) (update_first (is_live_name from old) (dies now) rows) || list_any (is_live_name_of file) (named ∷ [])) ≡ list_any (is_live_name_of file) rows
-    by true own = rw (own, live_then file own) (grind (arith, nat_tests))
-    by false other = rw (other, died file other) (or-false (list_any (is_live_name_of file) rows))
+  moves_live file = grind (arith, nat_tests, dies_before, list_any-append (is_live_name_of file) (update_first (is_live_name from old) (dies now) rows), live_then file, died file, or-false)
 
 pub moved_queue : (rows : Rows) (from : ℕ) (old : List ℕ) (to : ℕ) (new : List ℕ) (target : Target) → IsSound rows → live_target rows.names from old ≡ Some target → is_some (live_target rows.names to new) ≡ false
     → IsQueued (record (world_of rows) { names = update_first (is_live_name from old) (dies rows.moment) (rows.names ++ born_row to new target rows.moment ∷ []) }) rows.queue

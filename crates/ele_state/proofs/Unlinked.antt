@@ -1,7 +1,8 @@
 -- What the end of a file's name leaves of the keys and of the book.
-use Rattle.ele_state.proofs.Words.{◌&&◌, ◌==◌, ◌||◌, Bool, IsLawful, None, Option, Policy, and-false, ap, cond, cover_of, ended_at, ended_in_order, floor_in, floor_of, has_key, in_order_of, is_moment, is_open, nat_le, near_moment, newer_held, next_closing, no_floor, not, option_and_then, or-false, policy_is, policy_of, refl, ripe_at, ripe_at_near, subst, unread_under, ◌≡◌, ℕ, ◌-◌, ◌<◌, true, false, List, Some, None, sym, ◌∙◌, arith, find, count_by, nat_tests, IsQueued, held_world, IsBooked, IsSound, Rows, world_of, Key, Held, current_ended, all-found, found_passes, any-count, count-update_first, Book, EndFileName, after_change, with_end, without_name, is_live_name, live_target, Names, World, is_live, is_live_name_of, is_version, next_of, NameRow, File, ended_moment, other_moments, target_live, VersionRow, Versions, all-weaker, any-found, freed_moment, is_freed, near_floored, no_moment, not_found, unwrap_or, ◌≤◌}
-use Rattle.ele_state.proofs.Changes.{none_any}
-use Rattle.ele_state.proofs.Governed.{floored}
+use Rattle.ele_state.proofs.Words.{is_some, ◌&&◌, ◌==◌, ◌||◌, Bool, IsLawful, None, Option, Policy, ap, cond, ended_at, ended_in_order, floor_in, floor_of, has_key, in_order_of, is_moment, nat_le, newer_held, next_closing, no_floor, not, option_and_then, policy_is, policy_of, refl, ripe_at, ripe_at_near, subst, unread_under, ◌≡◌, ℕ, ◌-◌, ◌<◌, true, false, List, Some, None, sym, ◌∙◌, arith, find, count_by, nat_tests, IsQueued, held_world, IsBooked, IsSound, Rows, world_of, Key, Held, current_ended, all-found, found_passes, any-count, count-update_first, Book, EndFileName, after_change, with_end, without_name, is_live_name, live_target, Names, World, is_live, is_live_name_of, is_version, next_of, NameRow, File, ended_moment, other_moments, target_live, VersionRow, Versions, all-weaker, any-found, freed_moment, is_freed, no_moment, not_found, ◌≤◌}
+use Rattle.ele_state.proofs.Changes.{any_is}
+use Rattle.ele_state.proofs.Freed.{freed_is}
+use Rattle.ele_state.proofs.Governed.{floored, unheld}
 use Rattle.ele_state.proofs.NewNames.{names_queue}
 use Rattle.ele_world.proofs.Basics.{find-update_other}
 use Rattle.ele_world.proofs.NameMoments.{others_live as others_as_live}
@@ -44,19 +45,19 @@ module _ (rows : Rows) (directory : ℕ) (name : List ℕ) (file : ℕ) (sound :
 
   -- each file is as live as it was
   same_live : is_live (without_name w directory name) file ≡ true → (f : ℕ) → is_live (without_name w directory name) f ≡ is_live w f
-  same_live live f = by (f == file) refl where
-    by : (b : Bool) → (f == file) ≡ b → is_live (without_name w directory name) f ≡ is_live w f
-    by false other = others_as_live w directory name file stands f other
-    by true own = let same : f ≡ file = grind (arith, nat_tests, own) in rw same (live ∙ sym (target_live rows.names directory name (File file) stands))
+  same_live live f = grind (arith, nat_tests, others_as_live w directory name file stands f, target_live rows.names directory name (File file) stands, live)
 
   pub unlinked_queue : is_live (without_name w directory name) file ≡ true → IsQueued (without_name w directory name) rows.queue
   unlinked_queue live = names_queue rows (without_name w directory name).names sound (same_live live)
 
   -- ---- the keys, with the last one
 
-  module _ (dead : is_live (without_name w directory name) file ≡ false) (policy : Policy) (filed : policy_of w.files file ≡ Some policy) where
+  module _ (last_name : count_by (is_live_name_of file) rows.names ≡ 1) (policy : Policy) (filed : policy_of w.files file ≡ Some policy) where
     abbrev v : World
     v = after_change w (EndFileName directory name file)
+
+    dead : is_live (without_name w directory name) file ≡ false
+    dead = last_ends last_name
 
     abbrev last : ℕ
     last = next_of w.files file - 1
@@ -99,9 +100,7 @@ module _ (rows : Rows) (directory : ℕ) (name : List ℕ) (file : ℕ) (sound :
     not_past row is = let numbered = is.numbered in grind (arith, nat_tests, numbered)
 
     none_newer : newer last ≡ 0
-    none_newer =
-        let none = none_any (is_newer_of file last) w.versions (not_found (is_newer_of file last) w.versions (all-weaker (IsVersion w.files w.now) (λ row. is_newer_of file last row ≡ false) w.versions not_past (sound.formed.holds Versions).each)) in
-        grind (arith, nat_tests, none, any-count (is_newer_of file last) w.versions)
+    none_newer = grind (arith, nat_tests, any_is (is_newer_of file last) w.versions, not_found (is_newer_of file last) w.versions, all-weaker (IsVersion w.files w.now) (λ row. is_newer_of file last row ≡ false) w.versions not_past (sound.formed.holds Versions).each, any-count (is_newer_of file last) w.versions)
 
     module _ (n : ℕ) (row : VersionRow) (found : find (is_version file n) w.versions ≡ Some row) (apart : (n == last) ≡ false) where
       its : IsVersion w.files w.now row
@@ -117,8 +116,8 @@ module _ (rows : Rows) (directory : ℕ) (name : List ℕ) (file : ℕ) (sound :
           let is_newer : is_newer_of file n current.row ≡ true = grind (arith, nat_tests, numbered, passes, last_passes, apart) in
           grind (arith, nat_tests, any-found (is_version file last) (is_newer_of file n) w.versions current.row current.found is_newer, any-count (is_newer_of file n) w.versions)
 
-      has_ended : row.ended ≡ None → ⊥
-      has_ended none = let open_end = its.open_end none in grind (arith, nat_tests, open_end, passes, apart)
+      has_ended : is_some row.ended ≡ true
+      has_ended = grind (arith, nat_tests, its.open_end, passes, apart)
 
     -- ---- the keys of the newest versions
 
@@ -127,72 +126,35 @@ module _ (rows : Rows) (directory : ℕ) (name : List ℕ) (file : ℕ) (sound :
       then_is n = option_and_then (λ row. freed_moment w.groups rows.files file policy rows.moment row.number row.closed row.ended) (find (is_version file n) w.versions)
 
       last_is : ripe_at v file last ≡ then_is last
-      last_is =
-          let number : current.row.number ≡ last = (let passes = found_passes (is_version file last) w.versions current.row current.found in grind (arith, nat_tests, passes)) in
-          ended_moment w directory name file current sound.formed dead ∙ rw (filed, current.found, current.no_end, number) refl
+      last_is = grind (arith, nat_tests, ended_moment w directory name file current sound.formed dead, filed, current.found, current.no_end, found_passes (is_version file last) w.versions current.row current.found)
 
-      unheld : (n : ℕ) → find (is_version file n) w.versions ≡ None → free n ≡ None
-      unheld n none = rw none (by (is_open w.handles file n)) where
-        by : (read : Bool) → cond {A = Option ℕ} read None None ≡ None
-        by true = refl
-        by false = refl
+      -- those of so many of the newest versions are told by them alone, and weren't there, and the others stay
+      record IsFreed (n : ℕ) : Type 0 where
+        now : ripe_at v file n ≡ cond (nat_le newest (newer n)) (ripe_at w file n) (then_is n)
+        before : nat_le newest (newer n) ≡ false → ripe_at w file n ≡ None
 
-      free_is : (n : ℕ) (row : VersionRow) → find (is_version file n) w.versions ≡ Some row → 1 ≤ floor → (row.ended ≡ None → ⊥) → free n ≡ then_is n
-      free_is n row found some ended =
-          let number : row.number ≡ n = (let passes = found_passes (is_version file n) w.versions row found in grind (arith, nat_tests, passes)) in
-          rw (found, number, no_floor (newer n)) (by (is_open w.handles file n) row.ended ended) where
-            by : (read : Bool) (e : Option ℕ) → (e ≡ None → ⊥) → cond read None (option_and_then (near_moment (cover_of w.groups file) (Some policy) (next_closing w.versions file n) true row.closed) e) ≡ cond read None (near_moment (cover_of w.groups file) (Some policy) None true row.closed (unwrap_or e w.now))
-            by true e has = refl
-            by false None has = absurd (has refl)
-            by false (Some ended) has = near_floored (cover_of w.groups file) (Some policy) true (next_closing w.versions file n) None true row.closed ended given some
-
-      freed_few : (n : ℕ) → nat_le newest (newer n) ≡ false → ripe_at v file n ≡ then_is n
-      freed_few n few = by (n == last) refl where
-        by_held : (n == last) ≡ false → (o : Option VersionRow) → find (is_version file n) w.versions ≡ o → free n ≡ then_is n
-        by_held apart None none = unheld n none ∙ sym (rw none refl)
-        by_held apart (Some row) found =
-            let some : 1 ≤ newer n = some_newer n row found apart in
-            free_is n row found (grind (arith, nat_tests, few, some, is)) (has_ended n row found apart)
-
-        by : (b : Bool) → (n == last) ≡ b → ripe_at v file n ≡ then_is n
-        by true own = let same : n ≡ last = grind (arith, nat_tests, own) in rw same last_is
-        by false apart = unfloored n apart ∙ by_held apart (find (is_version file n) w.versions) refl
-
-      none_few : (n : ℕ) → nat_le newest (newer n) ≡ false → ripe_at w file n ≡ None
-      none_few n few = by (n == last) refl where
-        by_held : (n == last) ≡ false → (o : Option VersionRow) → find (is_version file n) w.versions ≡ o → ripe_at w file n ≡ None
-        by_held apart None none = was n ∙ rw (unheld n none) (by_met (nat_le floor (newer n))) where
-          by_met : (met : Bool) → cond {A = Option ℕ} met None None ≡ None
-          by_met true = refl
-          by_met false = refl
-        by_held apart (Some row) found =
-            let some : 1 ≤ newer n = some_newer n row found apart in
-            let unmet : nat_le floor (newer n) ≡ false = grind (arith, nat_tests, few, some, is) in
-            was n ∙ rw unmet refl
-
-        by : (b : Bool) → (n == last) ≡ b → ripe_at w file n ≡ None
-        by true own = let same : n ≡ last = grind (arith, nat_tests, own) in rw same (no_moment w directory name file current)
-        by false apart = by_held apart (find (is_version file n) w.versions) refl
-
-      kept_many : (n : ℕ) → nat_le newest (newer n) ≡ true → ripe_at v file n ≡ ripe_at w file n
-      kept_many n many = by (n == last) refl where
-        by : (b : Bool) → (n == last) ≡ b → ripe_at v file n ≡ ripe_at w file n
-        by true own = let same : n ≡ last = grind (arith, nat_tests, own) in absurd (grind (arith, nat_tests, many, none_newer, is, same))
-        by false apart = let met : nat_le floor (newer n) ≡ true = grind (arith, nat_tests, many, is) in unfloored n apart ∙ sym (was n ∙ rw met refl)
+      freed : (n : ℕ) → IsFreed n
+      freed n = by (n == last) refl (find (is_version file n) w.versions) refl where
+        by : (b : Bool) → (n == last) ≡ b → (o : Option VersionRow) → find (is_version file n) w.versions ≡ o → IsFreed n
+        by true own o found =
+            let same : n ≡ last = grind (arith, nat_tests, own) in
+            let few : nat_le newest (newer last) ≡ false = grind (arith, nat_tests, none_newer, is) in
+            rw same (record { now = rw few last_is; before = λ h. no_moment w directory name file current })
+        by false apart None none =
+            let gone : free n ≡ None = unheld w.groups rows.files file n (record { policy = policy; floor = 0 }) none in
+            record { now = unfloored n apart ∙ rw (was n, gone, none) (grind (arith, nat_tests)); before = λ h. was n ∙ rw gone (grind (arith, nat_tests)) }
+        by false apart (Some row) found =
+            let some = some_newer n row found apart in
+            let alone = λ (floored : 1 ≤ floor). freed_is w.groups rows.files file policy rows.moment given floored n (λ r its. has_ended n r its apart) in
+            record { now = grind (arith, nat_tests, unfloored n apart, was n, some, is, alone); before = grind (arith, nat_tests, was n, some, is) }
 
       -- ---- the queue
 
       abbrev comes_free : Key → Bool
       comes_free k = is_freed rows.groups rows.files file policy rows.moment newest k
 
-      had : (k : Key) → k.file ≡ file → has_key k rows.queue ≡ is_moment k.ripe (ripe_at w file k.number)
-      had k own = sound.tracked.queue k ∙ rw own refl
-
-      own_now : (k : Key) → k.file ≡ file → (b : Bool) → nat_le newest (newer k.number) ≡ b → (comes_free k || has_key k rows.queue) ≡ is_moment k.ripe (ripe_at v file k.number)
-      own_now k own true many = rw (many, had k own, kept_many k.number many, and-false (k.file == file)) refl
-      own_now k own false few =
-          let itself : (k.file == file) ≡ true = grind (arith, nat_tests, own) in
-          rw (few, itself, had k own, none_few k.number few, freed_few k.number few) (or-false (is_moment k.ripe (then_is k.number)))
+      either : (many : Bool) (m : ℕ) (before then : Option ℕ) → (many ≡ false → before ≡ None) → ((not many && is_moment m then) || is_moment m before) ≡ is_moment m (cond many before then)
+      either many m before then none = grind (arith, nat_tests)
 
       pub ended_queue : (after : List Key) → ((k : Key) → has_key k after ≡ (comes_free k || has_key k rows.queue)) → IsQueued (record (without_name w directory name) { versions = with_end w file }) after
       ended_queue after edited = let queued : IsQueued v after = λ k. edited k ∙ by k (k.file == file) refl in subst (λ (u : World). IsQueued u after) ended_world queued where
@@ -200,16 +162,11 @@ module _ (rows : Rows) (directory : ℕ) (name : List ℕ) (file : ℕ) (sound :
         ended_world = rw dead refl
 
         by : (k : Key) (b : Bool) → (k.file == file) ≡ b → (comes_free k || has_key k rows.queue) ≡ is_moment k.ripe (ripe_at v k.file k.number)
-        by k true own = let same : k.file ≡ file = grind (arith, nat_tests, own) in own_now k same (nat_le newest (newer k.number)) refl ∙ rw same refl
+        by k true own =
+            let same : k.file ≡ file = grind (arith, nat_tests, own) in
+            rw (sound.tracked.queue k, own, same, (freed k.number).now) (either (nat_le newest (newer k.number)) k.ripe (ripe_at w file k.number) (then_is k.number) (freed k.number).before)
         by k false other = rw other (sound.tracked.queue k ∙ ap (is_moment k.ripe) (sym (others k.file k.number other)))
 
       -- none of them was there, so where memory is refused all is as it was
       pub still_queued : (after : List Key) → ((k : Key) → has_key k after ≡ (not (comes_free k) && has_key k rows.queue)) → IsQueued w after
-      still_queued after edited k = edited k ∙ by (k.file == file) refl ∙ sound.tracked.queue k where
-        by_few : (own : k.file ≡ file) (b : Bool) → nat_le newest (newer k.number) ≡ b → (not (comes_free k) && has_key k rows.queue) ≡ has_key k rows.queue
-        by_few own true many = rw (many, and-false (k.file == file)) refl
-        by_few own false few = rw (had k own, none_few k.number few) (and-false (not (comes_free k)))
-
-        by : (b : Bool) → (k.file == file) ≡ b → (not (comes_free k) && has_key k rows.queue) ≡ has_key k rows.queue
-        by false other = rw other refl
-        by true own = by_few (grind (arith, nat_tests, own)) (nat_le newest (newer k.number)) refl
+      still_queued after edited k = grind (arith, nat_tests, edited k, freed k.number, sound.tracked.queue k)

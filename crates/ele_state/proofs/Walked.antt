@@ -1,5 +1,5 @@
 -- What a path leads to is there, and so is what a dead name stood for.
-use Rattle.ele_state.proofs.Words.{◌≡◌, ◌<◌, ℕ, true, List, Option, Some, None, Result, Ok, Err, IfOk, IfSome, Refusal, sym, arith, nat_tests, AllByRecursion, all-weaker, Homes, IsHome, IsHoused, IsNameRow, IsPresent, IsSound, IsThere, IsDirectoryThere, Names, Rows, Target, file_live, file_now, file_there, is_live, is_named, last_dead, last_has, next_of, parent_home, parent_now, walk_meant, world_of}
+use Rattle.ele_state.proofs.Words.{◌≡◌, ◌<◌, ℕ, true, List, Option, Some, Result, Ok, IfOk, IfSome, Refusal, arith, nat_tests, AllByRecursion, all-weaker, Homes, IsHome, IsHoused, IsNameRow, IsPresent, IsSound, IsThere, IsDirectoryThere, Names, Rows, Target, file_live, file_now, file_there, is_live, is_named, last_dead, last_has, next_of, parent_home, parent_now, walk_meant, world_of}
 use Rattle.ele_state.proofs.ToldVersions.{meant_there}
 use Rattle.ele_time_path.specs.declared.tagged.Tag.{Tag}
 
@@ -23,17 +23,13 @@ module _ (rows : Rows) (sound : IsSound rows) where
   }
 
   pub lost_are_present : (directory : ℕ) (name : List ℕ) (o : Option Target) → o ≡ last_dead rows.names directory name → IfSome o (λ target. IsPresent (world_of rows) target)
-  lost_are_present directory name None is = tt
-  lost_are_present directory name (Some lost) is = lost_is_present directory name lost (sym is)
+  lost_are_present directory name o is = grind (arith, nat_tests, lost_is_present directory name, is)
 
   pub files_there : (path : List (List ℕ)) (r : Result ℕ Refusal) → r ≡ file_now rows.names path → IfOk r (λ file. 0 < next_of rows.files.files file)
-  files_there path (Ok file) is = file_is_there path file (sym is)
-  files_there path (Err refusal) is = tt
+  files_there path r is = grind (arith, nat_tests, file_is_there path, is)
 
   pub files_live : (path : List (List ℕ)) (r : Result ℕ Refusal) → r ≡ file_now rows.names path → IfOk r (λ file. is_live (world_of rows) file ≡ true)
-  files_live path (Ok file) is = file_is_live path file (sym is)
-  files_live path (Err refusal) is = tt
+  files_live path r is = grind (arith, nat_tests, file_live rows.names path, is)
 
   pub targets_there : (path : List (List ℕ)) (t : Tag) (r : Result Target Refusal) → r ≡ walk_meant (world_of rows) path t → IfOk r (λ target. IsThere rows.files.files target)
-  targets_there path t (Ok target) is = meant_there (world_of rows) sound.formed path t target (sym is)
-  targets_there path t (Err refusal) is = tt
+  targets_there path t r is = grind (arith, nat_tests, meant_there (world_of rows) sound.formed path t, is)

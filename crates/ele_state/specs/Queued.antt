@@ -21,6 +21,7 @@ use Rattle.ele_world.specs.GroupRows.{has_member, is_marked_at}
 use Rattle.ele_world.specs.GroupsAsked.{cover_with, cover_without, marks_of, members_of}
 use Rattle.ele_world.specs.Told.{stamps_of}
 use Rattle.ele_world.specs.declared.rows.Stamps.{Stamps}
+use Rattle.ele_world.specs.declared.rows.VersionRow.{VersionRow}
 use Rattle.ele_world.specs.World.{World, policy_of, next_of, is_live, is_open, is_version}
 
 -- the queue has the key of each version that has a ripe moment, and no other
@@ -80,22 +81,21 @@ gained_moment cover policy floor now closed ended =
     if is_some (option_and_then (near_moment cover policy None (met_before floor) closed) ended) then None
     else near_moment cover policy (Some now) true closed (unwrap_or ended now)
 
--- so does the file's held version with so many newer ones; none where a handle reads it
-abbrev pub former_moment : List GroupRow → Held → ℕ → ℕ → ℕ → Option ℕ
-former_moment groups h file floor now =
-    option_and_then (λ row. if is_open h.handles file row.number then None else gained_moment (cover_of groups file) (policy_of h.files file) floor now row.closed row.ended)
-    (with_newer h.versions file (floor - 1))
+-- so does the file's version of that row; none where a handle reads it
+abbrev pub former_moment : List GroupRow → Held → ℕ → ℕ → ℕ → VersionRow → Option ℕ
+former_moment groups h file floor now row =
+    if is_open h.handles file row.number then None else gained_moment (cover_of groups file) (policy_of h.files file) floor now row.closed row.ended
 
 -- that of the file's next version, which closes now and ends at once where the file isn't live
 abbrev pub own_moment : List GroupRow → List FileRow → ℕ → ℕ → Bool → Option ℕ
 own_moment groups files file now live = if live then None else near_moment (cover_of groups file) (policy_of files file) None true now now
 
--- the keys of both
-abbrev pub new_keys : List GroupRow → Held → ℕ → ℕ → Bool → List KeyChange
-new_keys groups h file now live =
+-- the keys of both; where the file has a name again, that one had its key before the floor was in force
+abbrev pub new_keys : List GroupRow → Held → ℕ → ℕ → Bool → Bool → List KeyChange
+new_keys groups h file now again live =
     let floor = floor_in (policy_of h.files file) live in
-    let gaining = option_map_or (λ row. row.number) (with_newer h.versions file (floor - 1)) 0 in
-    record { file = file; number = gaining; was = None; is = former_moment groups h file floor now }
+    let gaining = if not again || (floor == 0) then with_newer h.versions file (floor - 1) else None in
+    record { file = file; number = option_map_or (λ row. row.number) gaining 0; was = None; is = option_and_then (former_moment groups h file floor now) gaining }
     ∷ record { file = file; number = next_of h.files file; was = None; is = own_moment groups h.files file now live } ∷ []
 
 -- ---- what another policy touches, or another floor in force

@@ -1,21 +1,23 @@
 -- Where the content of a file's next version comes from. No public clause cites this module.
-use Rattle.std.specs.Prelude.{◌≡◌, ℕ, ◌+◌, ◌≤◌, ◌<◌, ◌^◌, false, List, [], ◌∷◌, length, Some, Ok, IsSome, find}
+use Rattle.std.specs.Prelude.{◌≡◌, ℕ, Bool, ◌+◌, ◌≤◌, ◌<◌, ◌^◌, false, List, [], ◌∷◌, length, Some, Ok, IsSome, find}
 use Rattle.std.specs.List.{AllByRecursion, list_any}
 use Rattle.ele_content.specs.declared.cell.Cell.{Cell}
 use Rattle.ele_content.specs.Content.{content_of, longest_content}
 use Rattle.ele_files.specs.Closing.{IsPast, finishing, opening_by}
 use Rattle.ele_files.specs.Held.{Held, cells_of_draft, cells_of_version}
+use Rattle.ele_lists.specs.Lists.{AllLater}
 use Rattle.ele_policy.specs.declared.policy.Kind.{Kind}
 use Rattle.ele_state.specs.Inside.{world_of}
+use Rattle.ele_state.specs.Queued.{new_keys}
 use Rattle.ele_state.specs.Tracked.{IsFew}
 use Rattle.ele_state.specs.declared.append.Source.{Source}
+use Rattle.ele_state.specs.declared.keys.KeyChange.{KeyChange}
 use Rattle.ele_state.specs.declared.append.Source.TheVariants.{Draft, Version}
 use Rattle.ele_state.specs.declared.rows.Rows.{Rows}
-use Rattle.ele_usage.specs.Book.{sums_of}
-use Rattle.ele_world.proofs.AppendMoments.{MayGrow}
+use Rattle.ele_usage.specs.Book.{Book, sums_of}
 use Rattle.ele_world.specs.Change.{Change, Append}
-use Rattle.ele_world.specs.Parts.{HasParts}
-use Rattle.ele_world.specs.World.{is_draft, is_version, reads_by}
+use Rattle.ele_world.specs.WellFormed.{ArePlaced}
+use Rattle.ele_world.specs.World.{is_draft, is_live, is_version, reads_by}
 use Rattle.ele_world.specs.declared.rows.Reads.TheVariants as reads
 
 -- the changes by which the file gets the version
@@ -48,17 +50,13 @@ pub record IsReady (h : Held) (now file : ℕ) (source : Source) : Type 0 where
   pub numbered : AllByRecursion (λ row. row.next < 2 ^ 62) h.files
   pub past : AllByRecursion (IsPast now) h.versions
   pub short : length (content_of (source_cells h file source)) ≤ longest_content
-
--- what the queue needs to follow: a world that is well formed, or is but for the names of the file
-abbrev pub Grows : Rows → ℕ → Source → Type 0
-Grows rows file (Draft handle opened) = HasParts (world_of rows)
-Grows rows file (Version number) = MayGrow (world_of rows) file
-
-pub record HasSource (rows : Rows) (file : ℕ) (source : Source) : Type 0 where
-  pub ready : IsReady rows.files rows.moment file source
-  pub grows : Grows rows file source
+  pub placed : AllLater ArePlaced h.versions
 
 -- there is room for one more, in the counts and in the sums
-pub record IsRoomy (rows : Rows) : Type 0 where
-  pub made : rows.made.versions ≤ 1000000
-  pub sums : (k : Kind) → IsFew (sums_of rows.book k)
+pub record IsRoomy (made : ℕ) (book : Book) : Type 0 where
+  pub versions : made ≤ 1000000
+  pub sums : (k : Kind) → IsFew (sums_of book k)
+
+-- the keys that come with it, where the file has a name again or had one
+abbrev pub coming : Rows → ℕ → Bool → List KeyChange
+coming rows file again = new_keys rows.groups rows.files file rows.moment again (is_live (world_of rows) file)

@@ -9,13 +9,13 @@ ghost use Rattle.ele_files.specs.Standing.{Stands};
 ghost use Rattle.ele_lists.specs.Lists.{AllLater};
 ghost use Rattle.ele_world.specs.Change.{after_changes};
 ghost use Rattle.ele_world.specs.Cover.{cover_of};
-ghost use Rattle.ele_world.specs.Neighbours.{floor_in, near_moment, with_newer};
+ghost use Rattle.ele_world.specs.Neighbours.{near_moment, with_newer};
 ghost use Rattle.ele_world.specs.Told.{stamps_of};
 ghost use Rattle.ele_world.specs.WellFormed.{ArePlaced};
 ghost use Rattle.ele_world.specs.World.{next_of, policy_of};
-ghost use Rattle.ele_state.specs.Inside.{world_of, IsTracked};
+ghost use Rattle.ele_state.specs.Inside.{world_of};
 ghost use Rattle.ele_state.specs.Queued.{comes, former_moment, new_keys};
-ghost use Rattle.ele_state.specs.Source.{HasSource, IsReady, IsRoomy, appending, source_cells};
+ghost use Rattle.ele_state.specs.Source.{IsReady, IsRoomy, appending, coming, source_cells};
 ghost use Rattle.ele_state.specs.Tracked.{IsBooked};
 
 use crate::book::{blocks, one_version, settle_blocks};
@@ -106,7 +106,8 @@ fn former_moment(
     requires policy { policy_of files.now.files file ≡ Some policy.now }
     requires gaining { option_map stamps_of (with_newer files.now.versions file (floor - 1))
         ≡ Some gaining.now }
-    ensures { result ≡ former_moment groups.now files.now file floor now }
+    ensures { result ≡ option_and_then (former_moment groups.now files.now file floor now)
+        (with_newer files.now.versions file (floor - 1)) }
 {
     if files.is_open(file, gaining.number) {
         return None;
@@ -118,21 +119,23 @@ fn former_moment(
     near_moment(groups, file, policy, &Some(now), true, closed, ended)
 }
 
-// The keys that come with the next version of a file that stands so, which closes now.
+// The keys that come with the next version of a file that stands so, which closes now. Where the file has a name again, the one that
+// gains under its floor had its key while none was in force.
 #[tactic(auto, using(crate::proofs::Words::nat_tests))]
-pub fn new_keys(
+fn new_keys(
     files: &Files,
     groups: &Groups,
     file: FileId,
     standing: &Standing,
     now: Moment,
+    again: bool,
     is_live: bool,
     meter: &mut Meter,
 ) -> [KeyChange; 2]
     requires stands { Stands files.now file standing.now }
     requires placed { AllLater ArePlaced files.now.versions }
     requires meter { meter.old < 2 ^ 60 }
-    ensures keys { result ≡ new_keys groups.now files.now file now is_live }
+    ensures keys { result ≡ new_keys groups.now files.now file now again is_live }
     ensures read { meter.new ≤ meter.old + 1 }
 {
     let policy = &standing.policy;
@@ -142,6 +145,12 @@ pub fn new_keys(
     } else {
         near_moment(groups, file, policy, &None, true, now, now)
     };
+    if again && floor != 0 {
+        return [
+            new_key(file, VersionNo(0), None),
+            new_key(file, standing.next, own),
+        ];
+    }
     let (number, former) = match &gaining(files, file, standing, floor, meter) {
         Some(gaining) => {
             let former = former_moment(files, groups, file, policy, floor, gaining, now);
@@ -179,30 +188,30 @@ fn put_version(
     }
 }
 
-// The file, which stands so, has its next version, which closes now, and the version before it ends; the keys, none of which was
-// there, come with it. Where memory is refused, all is as it was.
+// The file, which stands so, and may have a name again, has its next version, which closes now, and the version before it ends; the
+// keys, none of which was there, come with it. Where memory is refused, all is as it was.
 #[tactic(auto, using(crate::proofs::Words::nat_tests, crate::proofs::Appended::refused, crate::proofs::Appended::taken_back))]
-pub fn append_with(
+pub fn append(
     rows: &mut Rows,
     file: FileId,
     standing: &Standing,
-    changes: &[KeyChange],
+    again: bool,
     source: Source,
 ) -> Result<VersionNo, NoMemory>
     requires booked { IsBooked rows.old.files rows.old.book }
-    requires absent { (k : Key) → comes changes.now k ≡ true → has_key k rows.old.queue ≡ false }
-    requires roomy { IsRoomy rows.old }
-    requires there { 0 < next_of rows.old.files.files file }
+    requires absent { (k : Key) → comes (coming rows.old file again) k ≡ true
+        → has_key k rows.old.queue ≡ false }
+    requires roomy { IsRoomy rows.old.made.versions rows.old.book }
     requires stands { Stands rows.old.files file standing.now }
     requires ready { IsReady rows.old.files rows.old.moment file source }
-    requires meter { rows.old.meter < 2 ^ 61 }
+    requires meter { rows.old.meter < 2 ^ 60 }
     ensures number { IfOk result (λ number. number ≡ next_of rows.old.files.files file) }
     ensures ok { OnOk result (world_of rows.new ≡ after_changes (world_of rows.old)
         (appending rows.old.files rows.old.moment file source)) }
     ensures err { OnErr result (rows.new
         ≡ record rows.old { queue = rows.new.queue; meter = rows.new.meter }) }
     ensures come { OnOk result ((k : Key) → has_key k rows.new.queue
-        ≡ (comes changes.now k || has_key k rows.old.queue)) }
+        ≡ (comes (coming rows.old file again) k || has_key k rows.old.queue)) }
     ensures same { OnErr result
         ((k : Key) → has_key k rows.new.queue ≡ has_key k rows.old.queue) }
     ensures book { IsBooked rows.new.files rows.new.book }
@@ -212,13 +221,23 @@ pub fn append_with(
     let now = rows.moment;
     let kind = standing.policy.kind();
     let before = blocks(&rows.files);
+    let changes = new_keys(
+        &rows.files,
+        &rows.groups,
+        file,
+        standing,
+        now,
+        again,
+        is_live,
+        &mut rows.meter,
+    );
     // All keys come before the version does, so that one that is refused is still without trace.
-    put_changed(&mut rows.queue, changes)?;
+    put_changed(&mut rows.queue, &changes)?;
     let put = put_version(&mut rows.files, file, source, now, is_live, &mut rows.meter);
     let made = match put {
         Ok(made) => made,
         Err(refused) => {
-            take_back(&mut rows.queue, changes);
+            take_back(&mut rows.queue, &changes);
             return Err(refused);
         }
     };
@@ -226,38 +245,4 @@ pub fn append_with(
     settle_blocks(&mut rows.book, &rows.files, kind, before);
     rows.made.versions += 1;
     Ok(made.number)
-}
-
-// The same, with the keys that the rows tell, so that the queue follows.
-#[tactic(auto, using(crate::proofs::Words::nat_tests))]
-pub fn append(
-    rows: &mut Rows,
-    file: FileId,
-    standing: &Standing,
-    source: Source,
-) -> Result<VersionNo, NoMemory>
-    requires tracked { IsTracked rows.old }
-    requires roomy { IsRoomy rows.old }
-    requires there { 0 < next_of rows.old.files.files file }
-    requires stands { Stands rows.old.files file standing.now }
-    requires source { HasSource rows.old file source }
-    requires meter { rows.old.meter < 2 ^ 60 }
-    ensures number { IfOk result (λ number. number ≡ next_of rows.old.files.files file) }
-    ensures ok { OnOk result (world_of rows.new ≡ after_changes (world_of rows.old)
-        (appending rows.old.files rows.old.moment file source)) }
-    ensures err { OnErr result (rows.new
-        ≡ record rows.old { queue = rows.new.queue; meter = rows.new.meter }) }
-    ensures tracked { IsTracked rows.new }
-{
-    let is_live = rows.names.is_live(file);
-    let changes = new_keys(
-        &rows.files,
-        &rows.groups,
-        file,
-        standing,
-        rows.moment,
-        is_live,
-        &mut rows.meter,
-    );
-    append_with(rows, file, standing, &changes, source)
 }

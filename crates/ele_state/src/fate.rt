@@ -1,5 +1,5 @@
 //! What becomes of a held version, and which versions will be due.
-ghost use Rattle.std.specs.Prelude.{◌≡◌, ◌&&◌, ◌<◌, true, false, Some, IfOk, IfSome, IfNone, find, option_and_then, slice_get};
+ghost use Rattle.std.specs.Prelude.{◌≡◌, ◌&&◌, true, false, Some, IfOk, IfSome, IfNone, find, option_and_then, slice_get};
 ghost use Rattle.std.specs.Str.{bytes_eq};
 ghost use Rattle.ele_lists.specs.Lists.{AllLater};
 ghost use Rattle.ele_policy.specs.Ripe.{alone, is_due_by};
@@ -8,7 +8,7 @@ ghost use Rattle.ele_world.specs.Fate.{HasFate, IsMarkedBy, level_reached};
 ghost use Rattle.ele_world.specs.Cover.{ripe_past};
 ghost use Rattle.ele_world.specs.GroupRows.{has_covering, is_marked, is_member, keeps_at};
 ghost use Rattle.ele_world.specs.Scan.{scan};
-ghost use Rattle.ele_world.specs.World.{is_held, is_open};
+ghost use Rattle.ele_world.specs.World.{is_held};
 ghost use Rattle.ele_state.specs.Fated.{IsFreeCause, IsFreeFate, MarksAt, closing_of};
 ghost use Rattle.ele_state.specs.Inside.{world_of, IsSound};
 ghost use Rattle.ele_state.specs.Queued.{IsTold};

@@ -180,7 +180,7 @@ fn finish(
     ensures tracked { IsTracked rows.new }
 {
     let standing = standing(&rows.files, file, &mut rows.meter);
-    let number = append(rows, file, &standing, Source::Draft(handle, opened))?;
+    let number = append(rows, file, &standing, false, Source::Draft(handle, opened))?;
     Ok(Some(number))
 }
 

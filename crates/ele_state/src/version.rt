@@ -2,38 +2,28 @@
 ghost use Rattle.std.specs.Prelude.{◌≡◌, ◌+◌, ◌-◌, ◌≤◌, ◌<◌, ◌^◌, ◌∷◌, [], true, false, Some, IfOk, OnOk, OnErr, find, filter, is_some, map};
 ghost use Rattle.std.specs.Option.{option_map};
 ghost use Rattle.std.specs.Result.{result_map_both};
-ghost use Rattle.ele_due.specs.declared.key.Key.{Key};
-ghost use Rattle.ele_files.specs.Standing.{Stands};
-ghost use Rattle.ele_lists.specs.Lists.{AllLater, remove_first};
-ghost use Rattle.ele_policy.specs.FloorOf.{floor_of};
 ghost use Rattle.ele_world.specs.Change.{Append, DropIdle, Revive, Take, after_change, after_changes};
 ghost use Rattle.ele_world.specs.FileView.{is_version_of};
-ghost use Rattle.ele_world.specs.May.{MayRevive};
 ghost use Rattle.ele_world.specs.Scan.{first_due};
 ghost use Rattle.ele_world.specs.Step.{version_cells, versions_made};
 ghost use Rattle.ele_world.specs.Tagged.{version_at, version_meant};
 ghost use Rattle.ele_world.specs.Told.{stamps_of};
 ghost use Rattle.ele_world.specs.Walk.{live_target};
-ghost use Rattle.ele_world.specs.WellFormed.{ArePlaced};
 ghost use Rattle.ele_world.specs.World.{has_draft, is_held, is_live, is_version, next_of};
 ghost use Rattle.ele_state.specs.Home.{IsHome};
-ghost use Rattle.ele_state.specs.Inside.{world_of, IsTracked, IsSound};
-ghost use Rattle.ele_state.specs.Queued.{comes, new_keys};
 ghost use Rattle.ele_state.specs.Told.{found_of};
 
 use crate::State;
-use crate::append::{Source, append, append_with, new_keys, standing};
+use crate::append::{Source, append, standing};
 use crate::book::{blocks, follow_blocks, take_version};
 use crate::file::drop_idle;
-use crate::keys::{KeyChange, new_key, take, take_back};
+use crate::keys::{take, take_back};
 use crate::path::file_in;
 use crate::policy::freed;
-use crate::rows::Rows;
-use ele_files::{Files, Meter, Standing};
-use ele_groups::Groups;
+use ele_files::Meter;
 use ele_world::{
-    DirId, FileId, Key, Moment, Name, NoMemory, Refusal, Stamps, StampsList, Tag, TaggedPath,
-    Target, VersionNo,
+    DirId, FileId, Key, Name, NoMemory, Refusal, Stamps, StampsList, Tag, TaggedPath, Target,
+    VersionNo,
 };
 
 impl State {
@@ -103,13 +93,14 @@ impl State {
     {
         let standing = standing(&self.rows.files, file, &mut self.rows.meter);
         let source = Source::Version(stamps.number);
-        append(&mut self.rows, file, &standing, source)
+        append(&mut self.rows, file, &standing, false, source)
     }
 
     /// A file without a live name and without a draft has a name again, and a version with the content of its last one; the
     /// answer is its number.
     ///
     /// `NoMemory` where memory is refused; the world stays.
+    #[tactic(auto, using(crate::proofs::Words::nat_tests))]
     pub fn revive(
         &mut self,
         directory: DirId,
@@ -129,11 +120,31 @@ impl State {
             ≡ after_change self.old.world (Revive directory name file)) }
         ensures err { OnErr result (self.new.world ≡ self.old.world) }
     {
-        revive_file(&mut self.rows, directory, name, file)
+        let standing = standing(&self.rows.files, file, &mut self.rows.meter);
+        let last = standing.next.before();
+        let floor = standing.policy.floor().number();
+        // With the name the floor is in force, and the new version counts.
+        let gone = freed(&self.rows, file, &standing.policy, floor.saturating_sub(1))?;
+        // The name comes first: it can be taken back without memory.
+        self.rows
+            .names
+            .add(directory, name, Target::File(file), self.rows.moment)?;
+        match append(&mut self.rows, file, &standing, true, Source::Version(last)) {
+            Ok(number) => {
+                take_back(&mut self.rows.queue, &gone);
+                self.rows.made.names += 1;
+                Ok(number)
+            }
+            Err(refused) => {
+                self.rows.names.take_back();
+                Err(refused)
+            }
+        }
     }
 
     /// The version of the key goes, which is the first due one, and with it a file of which nothing else is left. It takes no
     /// memory, and reads one row.
+    #[tactic(auto, using(crate::proofs::Words::nat_tests, crate::proofs::Words::first_is_due, crate::proofs::Words::placed_of, crate::proofs::Removed::removed_bytes, crate::proofs::Removed::removed_within, crate::proofs::Removed::removed_owed, crate::proofs::Removed::removed_queue))]
     pub fn remove(&mut self, key: &Key)
         requires first { first_due self.old.world ≡ Some key.now }
         requires meter { self.old.rows_read ≡ 0 }
@@ -141,106 +152,18 @@ impl State {
             (Take key.now.file key.now.number ∷ DropIdle key.now.file ∷ []) }
         ensures read { self.new.rows_read ≡ 1 }
     {
-        take_out(&mut self.rows, key);
+        let before = blocks(&self.rows.files);
+        let Some(bytes) = self
+            .rows
+            .files
+            .remove_version(key.file, key.number, &mut self.rows.meter)
+        else {
+            unreachable!()
+        };
+        // No other key changes, so that a clean takes no memory and can't be stopped.
+        take(&mut self.rows.queue, key.file, key.number, Some(key.ripe));
+        take_version(&mut self.rows.book, &self.rows.files, key.file, bytes);
+        follow_blocks(&mut self.rows.book, &self.rows.files, key.file, before);
         drop_idle(&mut self.rows, key.file);
     }
-}
-
-// The keys that come with the version of a file that has a name again: with a floor none, since the version that with it has as many
-// newer ones as the floor asks had its key while no floor was in force.
-#[tactic(auto, using(crate::proofs::Words::nat_tests))]
-fn revived_keys(
-    files: &Files,
-    groups: &Groups,
-    file: FileId,
-    standing: &Standing,
-    now: Moment,
-    meter: &mut Meter,
-) -> [KeyChange; 2]
-    requires stands { Stands files.now file standing.now }
-    requires placed { AllLater ArePlaced files.now.versions }
-    requires meter { meter.old < 2 ^ 60 }
-    ensures keys { floor_of standing.now.policy ≡ 0
-        → result ≡ new_keys groups.now files.now file now true }
-    ensures none { 1 ≤ floor_of standing.now.policy → (k : Key) → comes result k ≡ false }
-    ensures read { meter.new ≤ meter.old + 1 }
-{
-    if standing.policy.floor().number() == 0 {
-        return new_keys(files, groups, file, standing, now, true, meter);
-    }
-    let next = standing.next;
-    [new_key(file, next, None), new_key(file, next, None)]
-}
-
-// The file, which has no live name, has that one again, and a version with the content of its last one.
-#[tactic(auto, using(crate::proofs::Words::nat_tests))]
-fn revive_file(
-    rows: &mut Rows,
-    directory: DirId,
-    name: Name,
-    file: FileId,
-) -> Result<VersionNo, NoMemory>
-    requires sound { IsSound rows.old }
-    requires may { MayRevive (world_of rows.old) directory name file }
-    requires undrafted { has_draft (world_of rows.old) file ≡ false }
-    requires meter { rows.old.meter ≡ 0 }
-    ensures number { IfOk result (λ number. number ≡ next_of rows.old.files.files file) }
-    ensures ok { OnOk result
-        (world_of rows.new ≡ after_change (world_of rows.old) (Revive directory name file)) }
-    ensures err { OnErr result (world_of rows.new ≡ world_of rows.old) }
-    ensures tracked { IsTracked rows.new }
-{
-    let standing = standing(&rows.files, file, &mut rows.meter);
-    let last = standing.next.before();
-    let keys = revived_keys(
-        &rows.files,
-        &rows.groups,
-        file,
-        &standing,
-        rows.moment,
-        &mut rows.meter,
-    );
-    let floor = standing.policy.floor().number();
-    // With the name the floor is in force, and the new version counts.
-    let gone = freed(rows, file, &standing.policy, floor.saturating_sub(1))?;
-    // The name comes first: it can be taken back without memory.
-    rows.names
-        .add(directory, name, Target::File(file), rows.moment)?;
-    match append_with(rows, file, &standing, &keys, Source::Version(last)) {
-        Ok(number) => {
-            take_back(&mut rows.queue, &gone);
-            rows.made.names += 1;
-            Ok(number)
-        }
-        Err(refused) => {
-            rows.names.take_back();
-            Err(refused)
-        }
-    }
-}
-
-// The version of the key goes, which is the first due one.
-#[tactic(auto, using(crate::proofs::Words::nat_tests, crate::proofs::Words::first_is_due, crate::proofs::Words::placed_of, crate::proofs::Removed::removed_bytes, crate::proofs::Removed::removed_within, crate::proofs::Removed::removed_owed, crate::proofs::Removed::removed_queue))]
-fn take_out(rows: &mut Rows, key: &Key)
-    requires sound { IsSound rows.old }
-    requires meter { rows.old.meter ≡ 0 }
-    requires first { first_due (world_of rows.old) ≡ Some key.now }
-    ensures world { world_of rows.new ≡ record (world_of rows.old) {
-      versions =
-          remove_first (is_version key.now.file key.now.number) rows.old.files.versions;
-    } }
-    ensures tracked { IsTracked rows.new }
-    ensures read { rows.new.meter ≡ 1 }
-{
-    let before = blocks(&rows.files);
-    let Some(bytes) = rows
-        .files
-        .remove_version(key.file, key.number, &mut rows.meter)
-    else {
-        unreachable!()
-    };
-    // No other key changes, so that a clean takes no memory and can't be stopped.
-    take(&mut rows.queue, key.file, key.number, Some(key.ripe));
-    take_version(&mut rows.book, &rows.files, key.file, bytes);
-    follow_blocks(&mut rows.book, &rows.files, key.file, before);
 }

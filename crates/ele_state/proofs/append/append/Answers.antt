@@ -1,17 +1,22 @@
-use Rattle.ele_state.proofs.Grown.{grown_tracked, grows, none_new}
+use Rattle.ele_state.proofs.Words.{arith, refl, sym, world_of}
+use Rattle.ele_state.proofs.ClosedSums.{added_fits, version_fits}
+use Rattle.ele_state.proofs.Grown.{grown_owed_by, grown_world}
 use Rattle.ele_state.proofs.append.append.Goals as goal
 
-pub new_keys-changes-requires-clause-placed : goal.new_keys-changes-requires-clause-placed
-new_keys-changes-requires-clause-placed c = (grows c.args.rows.now c.args.file c.args.source c.requires.there c.requires.source).versions.placed
+pub add-requires : goal.add-requires
+add-requires c = rw c.one_version.ensures (version_fits c.args.rows.now c.requires.booked c.requires.roomy c.in-Ok.made.length c.blocks-before.result (rw c.in-Ok.ensures.length c.requires.ready.short) c.blocks-before.ensures.value c.blocks-before.ensures.bound c.kind-kind.result)
 
-pub append_with-requires-clause-absent : goal.append_with-requires-clause-absent
-append_with-requires-clause-absent c = none_new c.args.rows.now c.args.file c.requires.tracked c.args.source c.is_live-is_live.result c.new_keys-changes.result c.requires.there c.requires.source c.is_live-is_live.ensures c.new_keys-changes.ensures.keys
+pub settle_blocks-requires-clause-owed : goal.settle_blocks-requires-clause-owed
+settle_blocks-requires-clause-owed c =
+    let after = c.in-Ok.ensures.ok (world_of c.args.rows.now) refl (sym c.is_live-is_live.ensures) in
+    rw c.kind-kind.ensures (grown_owed_by c.args.rows.now c.args.file c.requires.booked c.args.source c.put_version-put.new.files c.add.new.self c.in-Ok.made.length c.blocks-before.result c.args.standing.now.policy c.requires.stands.policy
+    after c.in-Ok.ensures.length c.blocks-before.ensures.value (rw (c.kind-kind.ensures, c.one_version.ensures) at c.add.ensures.each))
 
-pub append_with-requires-clause-roomy : goal.append_with-requires-clause-roomy
-append_with-requires-clause-roomy c = let r = c.requires.roomy in record { made = r.made; sums = r.sums }
+pub settle_blocks-requires-clause-fits : goal.settle_blocks-requires-clause-fits
+settle_blocks-requires-clause-fits c = added_fits c.args.rows.now c.kind-kind.result c.add.new.self c.in-Ok.made.length c.requires.roomy (rw c.in-Ok.ensures.length c.requires.ready.short) (rw c.one_version.ensures at c.add.ensures.each)
 
-pub append_with-requires-clause-ready : goal.append_with-requires-clause-ready
-append_with-requires-clause-ready c = c.requires.source.ready
+pub returns-clause-ok : goal.returns-clause-ok
+returns-clause-ok c = grown_world c.args.rows.now c.args.file c.args.source c.put_version-put.new.files (c.in-Ok.ensures.ok (world_of c.args.rows.now) refl (sym c.is_live-is_live.ensures))
 
-pub returns-clause-tracked : goal.returns-clause-tracked
-returns-clause-tracked c = grown_tracked c.args.rows.now c.args.file c.requires.tracked c.args.source c.is_live-is_live.result c.new_keys-changes.result c.requires.source c.is_live-is_live.ensures c.new_keys-changes.ensures.keys c.append_with.new.rows c.append_with.result c.append_with.ensures.ok c.append_with.ensures.err c.append_with.ensures.come c.append_with.ensures.same c.append_with.ensures.book c.append_with.ensures.limits
+pub overflow_add-rows : goal.overflow_add-rows
+overflow_add-rows c = omega (arith, c.requires.roomy.versions)

@@ -1,23 +1,23 @@
 use Rattle.ele_state.proofs.Words.{arith, nat_tests, world_of}
 use Rattle.ele_state.proofs.ClosedSteps.{file_there, finished_step}
-use Rattle.ele_state.proofs.Grown.{ready, roomy}
+use Rattle.ele_state.proofs.Grown.{grown_tracked, none_new, ready, roomy}
 use Rattle.ele_state.proofs.session.finish.Goals as goal
 use Rattle.ele_state.specs.declared.append.Source.TheVariants.{Draft}
 
 pub standing-standing-requires-clause-there : goal.standing-standing-requires-clause-there
 standing-standing-requires-clause-there c = file_there (world_of c.args.rows.now) c.args.handle c.args.file c.requires.reads c.args.opened c.requires.changed c.requires.sound.formed
 
+pub append-requires-clause-absent : goal.append-requires-clause-absent
+append-requires-clause-absent c = none_new c.args.rows.now c.args.file c.requires.sound (file_there (world_of c.args.rows.now) c.args.handle c.args.file c.requires.reads c.args.opened c.requires.changed c.requires.sound.formed)
+
 pub append-requires-clause-roomy : goal.append-requires-clause-roomy
-append-requires-clause-roomy c = let r = roomy c.args.rows.now c.requires.sound in record { made = r.made; sums = r.sums }
+append-requires-clause-roomy c = roomy c.args.rows.now c.requires.sound
 
-pub append-requires-clause-there : goal.append-requires-clause-there
-append-requires-clause-there c = file_there (world_of c.args.rows.now) c.args.handle c.args.file c.requires.reads c.args.opened c.requires.changed c.requires.sound.formed
+pub append-requires-clause-ready : goal.append-requires-clause-ready
+append-requires-clause-ready c = ready c.args.rows.now c.args.file (Draft c.args.handle c.args.opened) c.requires.sound (record { reads = c.requires.reads; changed = c.requires.changed })
 
-pub append-requires-clause-source : goal.append-requires-clause-source
-append-requires-clause-source c = record {
-  ready = ready c.args.rows.now c.args.file (Draft c.args.handle c.args.opened) c.requires.sound (record { reads = c.requires.reads; changed = c.requires.changed });
-  grows = c.requires.sound.formed;
-}
+pub returns-clause-tracked : goal.returns-clause-tracked
+returns-clause-tracked c = grown_tracked c.args.rows.now c.args.file c.requires.sound (file_there (world_of c.args.rows.now) c.args.handle c.args.file c.requires.reads c.args.opened c.requires.changed c.requires.sound.formed) (Draft c.args.handle c.args.opened) (record { reads = c.requires.reads; changed = c.requires.changed }) c.append.new.rows c.append.result c.append.ensures.ok c.append.ensures.err c.append.ensures.come c.append.ensures.same c.append.ensures.book c.append.ensures.limits
 
 pub returns-clause-step : goal.returns-clause-step
 returns-clause-step c = grind (arith, nat_tests, finished_step (world_of c.args.rows.now) c.args.handle c.args.file c.requires.reads c.args.opened c.requires.changed)
