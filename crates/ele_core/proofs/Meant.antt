@@ -1,14 +1,14 @@
 -- The version that a question or a revert means, by its stamps.
 use Rattle.ele_state.specs.Told.{found_of}
 use Rattle.ele_time_path.specs.declared.tagged.TaggedPath.{TaggedPath}
-use Rattle.ele_world.proofs.Basics.{◌≡◌, ℕ, Result, Ok, Err, refl, Some, sym, subst, arith, nat_tests, find, found_passes}
+use Rattle.ele_world.proofs.Basics.{◌≡◌, ℕ, Result, Ok, Err, true, refl, Some, subst, find, any-found, found_passes}
 use Rattle.ele_world.proofs.Meant.{is_meant, made_of, numbered_found}
 use Rattle.ele_time_path.specs.declared.tagged.Tag.{Tag}
 use Rattle.ele_time_path.specs.declared.tagged.Tag.TheVariants as tag
 use Rattle.ele_world.specs.Fate.{HasFate}
 use Rattle.ele_world.specs.Tagged.{version_at, version_meant}
 use Rattle.ele_world.specs.Told.{file_stat, stamps_of}
-use Rattle.ele_world.specs.World.{World, is_version, policy_for}
+use Rattle.ele_world.specs.World.{World, is_held, is_version, policy_for}
 use Rattle.ele_world.specs.Why.{MeansFate}
 use Rattle.ele_world.specs.declared.fate.Fate.{Fate}
 use Rattle.ele_world.specs.declared.refusal.Refusal.{Refusal}
@@ -23,12 +23,13 @@ stat_is w t file stamps told = by (version_meant w.files w.versions file t) refl
   by (Ok row) meant h = let own = (is_meant w.files w.versions file t row meant).own in cc
   by (Err refusal) meant h = absurd cc
 
--- the file's row of that number is found by it, so it is held, and what is read of it are its cells
-pub numbered : (w : World) (file number : ℕ) (row : VersionRow) → version_meant w.files w.versions file (tag.Number number) ≡ Ok row → find (is_version file row.number) w.versions ≡ Some row
-numbered w file number row meant =
-    let found = numbered_found w.versions file number row (made_of w.files w.versions file number row meant) in
-    let own : row.number ≡ number = grind (arith, nat_tests, found_passes (is_version file number) w.versions row found) in
-    subst (λ (n : ℕ). find (is_version file n) w.versions ≡ Some row) (sym own) found
+-- the file's row of that number is found by it, so what is read of it are its cells
+pub numbered : (w : World) (file number : ℕ) (row : VersionRow) → version_meant w.files w.versions file (tag.Number number) ≡ Ok row → find (is_version file number) w.versions ≡ Some row
+numbered w file number row meant = numbered_found w.versions file number row (made_of w.files w.versions file number row meant)
+
+-- and it is held
+pub numbered_held : (w : World) (file number : ℕ) (row : VersionRow) → version_meant w.files w.versions file (tag.Number number) ≡ Ok row → is_held w file number ≡ true
+numbered_held w file number row meant = let found = numbered w file number row meant in any-found (is_version file number) (is_version file number) w.versions row found (found_passes (is_version file number) w.versions row found)
 
 -- ---- the version that a tagged path means
 

@@ -1,5 +1,5 @@
 //! The events of the clock.
-ghost use Rattle.std.specs.Prelude.{◌≡◌, ◌≤◌};
+ghost use Rattle.std.specs.Prelude.{◌≤◌};
 ghost use Rattle.ele_core.specs.Does.{DoesAtOnce};
 ghost use Rattle.ele_moment.specs.Last.{last_moment};
 ghost use Rattle.ele_world.specs.declared.event.Event.TheVariants as event;

@@ -18,14 +18,14 @@ impl Core {
     {
         let file = passed!(self.state.file_now(path));
         let mut meter = Meter::new();
-        let stamps = passed!(
+        passed!(
             self.state
                 .version_meant(file, Tag::Number(number), &mut meter)
         );
         passed!(unless(self.state.has_draft(file), Refusal::Drafting));
         passed!(self.room_for(Which::Versions));
         self.state.count_from(meter);
-        Ok(self.state.bring_back(file, &stamps)?)
+        Ok(self.state.bring_back(file, number)?)
     }
 
     /// The file at the path has the policy from now on, with all its versions. Refused: `NoEntry`, `NotDirectory`, `IsDirectory`.

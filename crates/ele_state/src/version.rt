@@ -1,6 +1,5 @@
 //! Versions that come again or go, and what is asked of them.
-ghost use Rattle.std.specs.Prelude.{◌≡◌, ◌+◌, ◌-◌, ◌≤◌, ◌<◌, ◌^◌, ◌∷◌, [], true, false, Some, IfOk, OnOk, OnErr, find, filter, is_some, map};
-ghost use Rattle.std.specs.Option.{option_map};
+ghost use Rattle.std.specs.Prelude.{◌≡◌, ◌+◌, ◌-◌, ◌≤◌, ◌<◌, ◌^◌, ◌∷◌, [], true, false, Some, IfOk, OnOk, OnErr, filter, is_some, map};
 ghost use Rattle.std.specs.Result.{result_map_both};
 ghost use Rattle.ele_world.specs.Change.{Append, DropIdle, Revive, Take, after_change, after_changes};
 ghost use Rattle.ele_world.specs.FileView.{is_version_of};
@@ -9,7 +8,7 @@ ghost use Rattle.ele_world.specs.Step.{version_cells, versions_made};
 ghost use Rattle.ele_world.specs.Tagged.{version_at, version_meant};
 ghost use Rattle.ele_world.specs.Told.{stamps_of};
 ghost use Rattle.ele_world.specs.Walk.{live_target};
-ghost use Rattle.ele_world.specs.World.{has_draft, is_held, is_live, is_version, next_of};
+ghost use Rattle.ele_world.specs.World.{has_draft, is_held, is_live, next_of};
 ghost use Rattle.ele_state.specs.Home.{IsHome};
 ghost use Rattle.ele_state.specs.Told.{found_of};
 
@@ -73,26 +72,25 @@ impl State {
         self.rows.files.stamps_of_file(file)
     }
 
-    /// A live file without a draft gets a version more, with the content of the held version of these stamps; the answer is its
-    /// number.
+    /// A live file without a draft gets a version more, with the content of the held version of that number; the answer is the
+    /// new one's.
     ///
     /// `NoMemory` where memory is refused; the world stays.
     #[tactic(auto, using(crate::proofs::Words::nat_tests))]
-    pub fn bring_back(&mut self, file: FileId, stamps: &Stamps) -> Result<VersionNo, NoMemory>
+    pub fn bring_back(&mut self, file: FileId, number: VersionNo) -> Result<VersionNo, NoMemory>
         requires live { is_live self.old.world file ≡ true }
-        requires held { option_map stamps_of (find (is_version file stamps.now.number)
-            self.old.world.versions) ≡ Some stamps.now }
+        requires held { is_held self.old.world file number ≡ true }
         requires undrafted { has_draft self.old.world file ≡ false }
         requires room { versions_made self.old.world < self.old.world.limits.versions }
         requires meter { self.old.rows_read < 2 ^ 59 }
         ensures number { IfOk result (λ number. number ≡ next_of self.old.world.files file) }
         ensures ok { OnOk result (self.new.world ≡ after_change self.old.world
             (Append file self.old.world.now
-            (version_cells self.old.world file stamps.now.number))) }
+            (version_cells self.old.world file number))) }
         ensures err { OnErr result (self.new.world ≡ self.old.world) }
     {
         let standing = standing(&self.rows.files, file, &mut self.rows.meter);
-        let source = Source::Version(stamps.number);
+        let source = Source::Version(number);
         append(&mut self.rows, file, &standing, false, source)
     }
 
