@@ -234,6 +234,3 @@ pub fn no_words(alloc: Global, why: io::ErrorKind) -> Asked
         _ => not_understood(alloc, NO_WORDS),
     }
 }
-
-#[cfg(test)]
-mod tests;

@@ -19,3 +19,5 @@ mod reasons;
 mod runs;
 #[cfg(test)]
 mod statuses;
+#[cfg(test)]
+mod words;

@@ -1,6 +1,9 @@
-//! The program's words.
-use super::*;
+//! What the program's words ask for.
 use ele_policy::Policy;
+use ele_runs::Manner;
+use ele_words::{Asked, no_words, words};
+use std::alloc::Global;
+use std::io;
 use std::test::Fail;
 
 fn asked_by(alloc: Global, texts: &[&str]) -> Result<Asked, Fail> {

@@ -1,0 +1,165 @@
+"""What `./elephant` and its tools share: where things are, what the built program was made of, and whether this machine can build it."""
+
+import argparse
+import hashlib
+import os
+import re
+import shutil
+import subprocess
+import sys
+import tempfile
+from pathlib import Path
+
+ROOT = Path(__file__).resolve().parent.parent
+OUT = ROOT / "out"
+NAME = "elephant"
+# The proved program.
+PROGRAM = OUT / NAME
+# What it was made of: the commit, the kit, and a sum and a path for each source. Written last, so without it there is no program.
+STAMP = OUT / "stamp"
+PARTS = ("src", "specs", "proofs")
+# The status where this machine lacks something (as EX_UNAVAILABLE of sysexits.h). The program's own are 0 to 5.
+UNAVAILABLE = 69
+
+
+class Unavailable(Exception):
+    """This machine lacks something: the message is one line that says what."""
+
+
+def say(text):
+    """Prints a line for the user, on standard error, where no answer of the program goes."""
+    print(f"elephant: {text}", file=sys.stderr, flush=True)
+
+
+def read_uses():
+    """Returns, for each crate of crates.txt, the crates of this repository that it uses."""
+    rows = {}
+    for line in (ROOT / "crates.txt").read_text(encoding="utf-8").splitlines():
+        words, _, libraries = line.partition("#")[0].partition(":")
+        # A crate's name may be followed by words such as may_wait=3.
+        for name in words.split()[:1]:
+            rows[name] = libraries.split()
+    return {name: {it for it in libraries if it in rows} for name, libraries in rows.items()}
+
+
+def below(crate, uses):
+    """Returns all crates that the crate stands on."""
+    return uses[crate].union(*(below(it, uses) for it in uses[crate]))
+
+
+def program_crates():
+    """Returns the crates that the program is made of, itself included."""
+    uses = read_uses()
+    return {NAME, *below(NAME, uses)}
+
+
+def crate_rows(crates):
+    """Returns the lines of crates.txt that name these crates."""
+    lines = (ROOT / "crates.txt").read_text(encoding="utf-8").splitlines(keepends=True)
+    return [it for it in lines if crates.intersection(it.partition(":")[0].split()[:1])]
+
+
+def sum_of(data):
+    return hashlib.sha256(data).hexdigest()[:32]
+
+
+def source_sums():
+    """Returns a sum for each file that the proof of the program reads, by path from the top of the repository."""
+    crates = program_crates()
+    sums = {"crates.txt": sum_of("".join(sorted(crate_rows(crates))).encode())}
+    files = [ROOT / "HANDLES"]
+    for crate in crates:
+        for part in PARTS:
+            files += [it for it in (ROOT / "crates" / crate / part).rglob("*") if it.is_file()]
+    sums.update((str(it.relative_to(ROOT)), sum_of(it.read_bytes())) for it in files)
+    return dict(sorted(sums.items()))
+
+
+def commit():
+    """Returns the commit that is checked out, or `-` outside of git, from the files that `elephant` reads for it at each start."""
+    git = ROOT / ".git"
+    try:
+        head = (git / "HEAD").read_text(encoding="utf-8").strip()
+    except OSError:
+        return "-"
+    if not head.startswith("ref: "):
+        return head
+    name = head.removeprefix("ref: ")
+    if (git / name).is_file():
+        return (git / name).read_text(encoding="utf-8").strip()
+    packed = (git / "packed-refs").read_text(encoding="utf-8") if (git / "packed-refs").is_file() else ""
+    return next((it.split()[0] for it in packed.splitlines() if it.endswith(f" {name}")), "-")
+
+
+def require_rt():
+    """Raises Unavailable unless the toolchain is here."""
+    if not shutil.which("rt"):
+        raise Unavailable("there is no command rt on this machine: proving or building the program takes Rattle's toolchain (see README.md)")
+
+
+def kit():
+    """Returns the one line that identifies the toolchain."""
+    require_rt()
+    return subprocess.run(["rt", "version"], capture_output=True, encoding="utf-8", check=False).stdout.strip()
+
+
+def free_memory():
+    """Returns the free memory in MB."""
+    found = re.search(r"^MemAvailable: *(\d+)", Path("/proc/meminfo").read_text(encoding="ascii"), re.M)
+    return int(found[1]) // 1024
+
+
+def require_memory(megabytes, what):
+    """Raises Unavailable if less memory is free."""
+    if free_memory() < megabytes:
+        raise Unavailable(f"{what} takes {megabytes} MB of free memory, and this machine has {free_memory()}")
+
+
+def require_disk(megabytes, what):
+    """Raises Unavailable if less is free on the disk of temporary files or of the repository."""
+    for folder in (tempfile.gettempdir(), str(ROOT)):
+        free = shutil.disk_usage(folder).free >> 20
+        if free < megabytes:
+            raise Unavailable(f"{what} takes {megabytes} MB of free disk, and {folder} has {free}")
+
+
+def write_whole(path, data, mode=0o644):
+    """Writes a file so that nobody ever finds half of it."""
+    path.parent.mkdir(exist_ok=True)
+    with tempfile.NamedTemporaryFile("wb", dir=path.parent, prefix=f".{path.name}-", delete=False) as file:
+        file.write(data)
+        os.fchmod(file.fileno(), mode)
+    os.replace(file.name, path)
+
+
+def install(built, sums):
+    """Makes a program that was proved from sources with these sums the one that `./elephant` runs."""
+    STAMP.unlink(missing_ok=True)
+    write_whole(PROGRAM, Path(built).read_bytes(), 0o755)
+    write_stamp(sums)
+
+
+def write_stamp(sums):
+    lines = [commit(), kit(), *(f"{it} {path}" for path, it in sums.items())]
+    write_whole(STAMP, "".join(f"{line}\n" for line in lines).encode())
+
+
+def read_stamp():
+    """Returns the commit, the kit and the sums of the sources that the built program was proved with, or None if there is none."""
+    if not (STAMP.is_file() and os.access(PROGRAM, os.X_OK)):
+        return None
+    first, made_by, *rows = STAMP.read_text(encoding="utf-8").splitlines()
+    return first, made_by, {path: it for it, path in (row.split(" ", 1) for row in rows)}
+
+
+def changed_since(sums, built):
+    """Returns the paths of the files that are new, changed or gone."""
+    return sorted(it for it in {*sums, *built} if sums.get(it) != built.get(it))
+
+
+def tool_words(name, description):
+    """Returns the reader of a tool's words: each takes a program, and `--long`."""
+    words = argparse.ArgumentParser(prog=f"tools/{name}", description=description.split("\n")[0])
+    words.add_argument("--program", default=str(PROGRAM), metavar="PROGRAM", help="in place of the one that './elephant prove' builds")
+    words.add_argument("--long", action="store_true", help="check at length")
+    return words
