@@ -47,16 +47,44 @@ def below(crate, uses):
     return uses[crate].union(*(below(it, uses) for it in uses[crate]))
 
 
+def with_below(names):
+    """Returns these crates of the repository and all that they stand on. Names of other crates are passed over."""
+    uses = read_uses()
+    return set().union(*({it, *below(it, uses)} for it in names if it in uses))
+
+
 def program_crates():
     """Returns the crates that the program is made of, itself included."""
-    uses = read_uses()
-    return {NAME, *below(NAME, uses)}
+    return with_below([NAME])
 
 
 def crate_rows(crates):
     """Returns the lines of crates.txt that name these crates."""
     lines = (ROOT / "crates.txt").read_text(encoding="utf-8").splitlines(keepends=True)
     return [it for it in lines if crates.intersection(it.partition(":")[0].split()[:1])]
+
+
+def lay_out(room, crates, rows=()):
+    """Lays out a repository that holds only these crates of this one, without wrong bodies and tests' data, and a line of crates.txt
+    for each crate that the caller puts there beside them."""
+    # rt takes the folder that holds .git for the top of a repository.
+    (room / ".git").mkdir()
+    (room / "crates.txt").write_text("".join([*crate_rows(crates), *(f"{it}\n" for it in rows)]), encoding="utf-8")
+    shutil.copyfile(ROOT / "HANDLES", room / "HANDLES")
+    for crate in crates:
+        source, target = ROOT / "crates" / crate, room / "crates" / crate
+        for part in PARTS:
+            if (source / part).is_dir():
+                shutil.copytree(source / part, target / part)
+        for file in ("stdin", "stdout", "args", "status"):
+            if (source / file).is_file():
+                shutil.copyfile(source / file, target / file)
+
+
+def run_gate(room):
+    """Runs `rt ci` in a room, and returns whether all is proved, and what it said. What was proved before on this machine it takes."""
+    ran = subprocess.run(["rt", "ci"], cwd=room, stdin=subprocess.DEVNULL, stdout=subprocess.PIPE, stderr=subprocess.STDOUT, encoding="utf-8", errors="replace", check=False)
+    return ran.returncode == 0, ran.stdout
 
 
 def sum_of(data):
