@@ -1,10 +1,12 @@
 """What `./elephant` and its tools share: where things are, what the built program was made of, and whether this machine can build it."""
 
 import argparse
+import ctypes
 import hashlib
 import os
 import re
 import shutil
+import signal
 import subprocess
 import sys
 import tempfile
@@ -85,6 +87,12 @@ def run_gate(room):
     """Runs `rt ci` in a room, and returns whether all is proved, and what it said. What was proved before on this machine it takes."""
     ran = subprocess.run(["rt", "ci"], cwd=room, stdin=subprocess.DEVNULL, stdout=subprocess.PIPE, stderr=subprocess.STDOUT, encoding="utf-8", errors="replace", check=False)
     return ran.returncode == 0, ran.stdout
+
+
+def end_with_parent():
+    """Has the process that calls this ended when the one that started it is, also if that one is killed."""
+    set_parent_death_signal = 1
+    ctypes.CDLL(None).prctl(set_parent_death_signal, signal.SIGTERM)
 
 
 def sum_of(data):
