@@ -3,9 +3,9 @@ ghost use Rattle.std.specs.Prelude.{◌≡◌, IfOk};
 
 use ele_core::Core;
 use ele_history::History;
+use ele_model::{ByteList, Event, FileId, Handle, Limits, NoMemory, Reply, Stepping, Stop};
 use ele_script::read_event;
 use ele_shared::{Seat, Shared};
-use ele_world::{ByteList, Event, FileId, Handle, Limits, NoMemory, Reply, Stepping, Stop};
 use std::alloc::Global;
 use std::sync::Wait;
 use std::test::Fail;

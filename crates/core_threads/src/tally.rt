@@ -1,6 +1,6 @@
 //! Which events stand in a history, whatever their order.
+use ele_model::{Entry, Event, Path, Source, Tag, TaggedPath, VersionNo};
 use ele_script::read_event;
-use ele_world::{Entry, Event, Path, Source, Tag, TaggedPath, VersionNo};
 use std::alloc::Global;
 use std::test::Fail;
 

@@ -3,8 +3,8 @@ ghost use Rattle.std.specs.Prelude.{◌≡◌};
 
 use crate::seats::{Answer, opened};
 use ele_core::Core;
+use ele_model::{Entry, Event, Stepping, Stop};
 use ele_shared::{Seat, Shared};
-use ele_world::{Entry, Event, Stepping, Stop};
 use std::alloc::Global;
 use std::sync::Wait;
 use std::test::Fail;

@@ -1,20 +1,20 @@
 -- The version that a question or a revert means, by its stamps.
 use Rattle.ele_state.specs.Told.{found_of}
 use Rattle.ele_time_path.specs.declared.tagged.TaggedPath.{TaggedPath}
-use Rattle.ele_world.proofs.Basics.{◌≡◌, ℕ, Result, Ok, Err, true, refl, Some, subst, find, any-found, found_passes}
-use Rattle.ele_world.proofs.Meant.{is_meant, made_of, numbered_found}
+use Rattle.ele_model.proofs.Basics.{◌≡◌, ℕ, Result, Ok, Err, true, refl, Some, subst, find, any-found, found_passes}
+use Rattle.ele_model.proofs.Meant.{is_meant, made_of, numbered_found}
 use Rattle.ele_time_path.specs.declared.tagged.Tag.{Tag}
 use Rattle.ele_time_path.specs.declared.tagged.Tag.TheVariants as tag
-use Rattle.ele_world.specs.Fate.{HasFate}
-use Rattle.ele_world.specs.Tagged.{version_at, version_meant}
-use Rattle.ele_world.specs.Told.{file_stat, stamps_of}
-use Rattle.ele_world.specs.World.{World, is_held, is_version, policy_for}
-use Rattle.ele_world.specs.Why.{MeansFate}
-use Rattle.ele_world.specs.declared.fate.Fate.{Fate}
-use Rattle.ele_world.specs.declared.refusal.Refusal.{Refusal}
-use Rattle.ele_world.specs.declared.reply.Reply.TheVariants.{FileStat}
-use Rattle.ele_world.specs.declared.rows.Stamps.{Stamps}
-use Rattle.ele_world.specs.declared.rows.VersionRow.{VersionRow}
+use Rattle.ele_model.specs.Fate.{HasFate}
+use Rattle.ele_model.specs.Tagged.{version_at, version_meant}
+use Rattle.ele_model.specs.Told.{file_stat, stamps_of}
+use Rattle.ele_model.specs.World.{World, is_held, is_version, policy_for}
+use Rattle.ele_model.specs.Why.{MeansFate}
+use Rattle.ele_model.specs.declared.fate.Fate.{Fate}
+use Rattle.ele_model.specs.declared.refusal.Refusal.{Refusal}
+use Rattle.ele_model.specs.declared.reply.Reply.TheVariants.{FileStat}
+use Rattle.ele_model.specs.declared.rows.Stamps.{Stamps}
+use Rattle.ele_model.specs.declared.rows.VersionRow.{VersionRow}
 use Rattle.std.specs.Result.{result_map_both}
 
 pub stat_is : (w : World) (t : Tag) (file : ℕ) (stamps : Stamps) → Ok stamps ≡ result_map_both stamps_of (λ (refusal : Refusal). refusal) (version_meant w.files w.versions file t) → file_stat w (version_meant w.files w.versions file t) ≡ Ok (FileStat (record { file = file; stamps = stamps; policy = policy_for w.files file }))

@@ -1,8 +1,8 @@
 -- Where a pass ends.
 use Rattle.ele_core.specs.Does.{removed}
-use Rattle.ele_world.proofs.Basics.{◌≡◌, ◌<◌, ℕ, Option, None, Some, false, arith, nat_tests, refl, subst}
-use Rattle.ele_world.proofs.PassEnds.{pass_finishes}
-use Rattle.ele_world.proofs.Words.{HasParts, IsCleaned, IsFinished, Key, World, clean_step, first_due}
+use Rattle.ele_model.proofs.Basics.{◌≡◌, ◌<◌, ℕ, Option, None, Some, false, arith, nat_tests, refl, subst}
+use Rattle.ele_model.proofs.PassEnds.{pass_finishes}
+use Rattle.ele_model.proofs.Words.{HasParts, IsCleaned, IsFinished, Key, World, clean_step, first_due}
 use Rattle.std.specs.Option.{is_some}
 
 none_due : (v after : World) → (removed None, after) ≡ clean_step v → (first_due v ≡ None) × (v ≡ after)

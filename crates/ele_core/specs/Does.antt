@@ -5,12 +5,12 @@ use Rattle.ele_core.specs.declared.halt.Halt.TheVariants as halt
 use Rattle.ele_core.specs.declared.question.Stat.{Stat}
 use Rattle.ele_core.specs.declared.question.Stat.TheVariants as stat
 use Rattle.ele_due.specs.declared.key.Key.{Key}
-use Rattle.ele_world.specs.declared.event.Event.{Event}
-use Rattle.ele_world.specs.declared.refusal.Refusal.{Refusal}
-use Rattle.ele_world.specs.declared.reply.Reply.{Reply}
-use Rattle.ele_world.specs.declared.reply.Reply.TheVariants.{Done, Nothing, Version, Removed, FileStat, DirStat, Refused}
-use Rattle.ele_world.specs.Step.{step}
-use Rattle.ele_world.specs.World.{World}
+use Rattle.ele_model.specs.declared.event.Event.{Event}
+use Rattle.ele_model.specs.declared.refusal.Refusal.{Refusal}
+use Rattle.ele_model.specs.declared.reply.Reply.{Reply}
+use Rattle.ele_model.specs.declared.reply.Reply.TheVariants.{Done, Nothing, Version, Removed, FileStat, DirStat, Refused}
+use Rattle.ele_model.specs.Step.{step}
+use Rattle.ele_model.specs.World.{World}
 
 abbrev pub is_refused : Reply → Bool
 is_refused (Refused refusal) = true

@@ -1,9 +1,9 @@
 -- Where a new name may stand. No public clause cites this module.
 use Rattle.std.specs.Prelude.{ℕ, List, is_some, Result, Ok, Err, if◌then◌else◌}
-use Rattle.ele_world.specs.declared.refusal.Refusal.{Refusal}
-use Rattle.ele_world.specs.declared.refusal.Refusal.TheVariants.{Exists}
-use Rattle.ele_world.specs.declared.rows.NameRow.{NameRow}
-use Rattle.ele_world.specs.Walk.{live_target, parent_now}
+use Rattle.ele_model.specs.declared.refusal.Refusal.{Refusal}
+use Rattle.ele_model.specs.declared.refusal.Refusal.TheVariants.{Exists}
+use Rattle.ele_model.specs.declared.rows.NameRow.{NameRow}
+use Rattle.ele_model.specs.Walk.{live_target, parent_now}
 
 abbrev pub if_free : List NameRow → Result (ℕ × List ℕ) Refusal → Result (ℕ × List ℕ) Refusal
 if_free names (Err refusal) = Err refusal

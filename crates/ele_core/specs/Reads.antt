@@ -1,10 +1,10 @@
 -- How many version rows an event reads.
 use Rattle.std.specs.Prelude.{◌≡◌, ℕ, ◌≤◌}
 use Rattle.ele_due.specs.declared.key.Key.{Key}
-use Rattle.ele_world.specs.declared.event.Event.{Event}
-use Rattle.ele_world.specs.declared.event.Event.TheVariants.{CleanOne, UsageAll}
-use Rattle.ele_world.specs.declared.reply.Reply.{Reply}
-use Rattle.ele_world.specs.declared.reply.Reply.TheVariants.{Removed}
+use Rattle.ele_model.specs.declared.event.Event.{Event}
+use Rattle.ele_model.specs.declared.event.Event.TheVariants.{CleanOne, UsageAll}
+use Rattle.ele_model.specs.declared.reply.Reply.{Reply}
+use Rattle.ele_model.specs.declared.reply.Reply.TheVariants.{Removed}
 
 -- a clean reads at most three, and at least one where it removes a version
 pub record CleanReads (reply : Reply) (read : ℕ) : Type 0 where

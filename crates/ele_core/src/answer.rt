@@ -3,15 +3,15 @@ ghost use Rattle.std.specs.Prelude.{◌≡◌, ◌≢◌, Err, IfOk, OnErr, true
 ghost use Rattle.ele_core.specs.Does.{Does, removed, revived, stat_told};
 ghost use Rattle.ele_core.specs.Reads.{IsRead};
 ghost use Rattle.ele_core.specs.declared.halt.Halt.TheVariants as halt;
-ghost use Rattle.ele_world.specs.declared.reply.Reply.{Reply};
-ghost use Rattle.ele_world.specs.declared.reply.Reply.TheVariants.{Done};
-ghost use Rattle.ele_world.specs.Ready.{takes_no_memory};
-ghost use Rattle.ele_world.specs.Run.{IsEvent};
+ghost use Rattle.ele_model.specs.declared.reply.Reply.{Reply};
+ghost use Rattle.ele_model.specs.declared.reply.Reply.TheVariants.{Done};
+ghost use Rattle.ele_model.specs.Ready.{takes_no_memory};
+ghost use Rattle.ele_model.specs.Run.{IsEvent};
 
 use crate::Core;
 use crate::halt::Halt;
 use crate::question::Stat;
-use ele_world::{Event, Key, Reply, VersionNo};
+use ele_model::{Event, Key, Reply, VersionNo};
 
 // The reply to a clean.
 fn removed(key: Option<Key>) -> Reply

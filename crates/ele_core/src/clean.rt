@@ -3,13 +3,13 @@ ghost use Rattle.std.specs.Prelude.{◌≡◌, Some, false};
 ghost use Rattle.ele_core.specs.Does.{removed};
 ghost use Rattle.ele_core.specs.Reads.{CleanReads};
 ghost use Rattle.ele_core.specs.Stopped.{is_stopped};
-ghost use Rattle.ele_world.specs.Pass.{EndsPass};
-ghost use Rattle.ele_world.specs.Step.{clean_step};
+ghost use Rattle.ele_model.specs.Pass.{EndsPass};
+ghost use Rattle.ele_model.specs.Step.{clean_step};
 
 use crate::Core;
+use ele_model::{Key, PassEnd};
 use ele_policy::laws::policies_are_lawful;
 use ele_state::Meter;
-use ele_world::{Key, PassEnd};
 
 impl Core {
     /// The first due version is removed; the answer is its key. It takes no memory.
@@ -26,7 +26,7 @@ impl Core {
 
     /// The clean event again and again, until nothing is due or as many versions are removed as the budget allows. It takes
     /// no memory, so it isn't stopped.
-    #[tactic(auto, using(ele_world::proofs::PassEnds::cleaned_none, ele_world::proofs::PassEnds::cleaned_more, ele_world::proofs::PassEnds::pass_finishes))]
+    #[tactic(auto, using(ele_model::proofs::PassEnds::cleaned_none, ele_model::proofs::PassEnds::cleaned_more, ele_model::proofs::PassEnds::pass_finishes))]
     pub fn clean_pass(&mut self, budget: u64) -> PassEnd
         ensures end { EndsPass self.old.world budget result self.new.world }
         ensures unstopped { is_stopped result ≡ false }

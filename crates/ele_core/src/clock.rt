@@ -2,12 +2,12 @@
 ghost use Rattle.std.specs.Prelude.{◌≤◌};
 ghost use Rattle.ele_core.specs.Does.{DoesAtOnce};
 ghost use Rattle.ele_moment.specs.Last.{last_moment};
-ghost use Rattle.ele_world.specs.declared.event.Event.TheVariants as event;
-ghost use Rattle.ele_world.specs.declared.reply.Reply.TheVariants.{Now};
+ghost use Rattle.ele_model.specs.declared.event.Event.TheVariants as event;
+ghost use Rattle.ele_model.specs.declared.reply.Reply.TheVariants.{Now};
 
 use crate::Core;
 use crate::halt::{passed, unless};
-use ele_world::{Moment, Refusal};
+use ele_model::{Moment, Refusal};
 
 impl Core {
     /// The clock goes to the moment. Refused: `ClockBack`.

@@ -1,12 +1,12 @@
 //! The events of directories.
 ghost use Rattle.ele_core.specs.Does.{Does, DoesAtOnce, done};
 ghost use Rattle.ele_policy.specs.Policy.{IsPolicy};
-ghost use Rattle.ele_world.specs.declared.event.Event.TheVariants as event;
-ghost use Rattle.ele_world.specs.declared.reply.Reply.TheVariants.{Directory};
+ghost use Rattle.ele_model.specs.declared.event.Event.TheVariants as event;
+ghost use Rattle.ele_model.specs.declared.reply.Reply.TheVariants.{Directory};
 
 use crate::Core;
 use crate::halt::{Halt, passed, unless};
-use ele_world::{DirId, Path, Policy, Refusal, Target, Which};
+use ele_model::{DirId, Path, Policy, Refusal, Target, Which};
 
 impl Core {
     /// A directory is made at the path, with the policy of the one that it stands in. Refused: `IsRoot`, `NoEntry`,

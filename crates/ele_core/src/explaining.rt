@@ -1,10 +1,10 @@
 //! A core tells why a version is held, and which will be due. A contract of what is generic over both sees it as its flat world.
-ghost use Rattle.ele_world.specs.Why.{IsWhy};
+ghost use Rattle.ele_model.specs.Why.{IsWhy};
 
 use crate::Core;
 use crate::halt::passed;
+use ele_model::{Explaining, Fate, KeyList, Moment, NoMemory, Refusal, TaggedPath};
 use ele_state::Meter;
-use ele_world::{Explaining, Fate, KeyList, Moment, NoMemory, Refusal, TaggedPath};
 
 impl Core {
     /// What becomes of the version that the path and its tag mean, and why, as `fate` tells it. It takes no memory. Refused:

@@ -1,12 +1,12 @@
 //! What becomes of a held version, and which versions will be due. Neither call changes anything.
 ghost use Rattle.std.specs.Prelude.{◌≡◌, false, IfOk, IfSome, IfNone};
-ghost use Rattle.ele_world.specs.Change.{Time, after_change};
-ghost use Rattle.ele_world.specs.Fate.{HasFate};
-ghost use Rattle.ele_world.specs.Scan.{scan};
-ghost use Rattle.ele_world.specs.World.{is_held};
+ghost use Rattle.ele_model.specs.Change.{Time, after_change};
+ghost use Rattle.ele_model.specs.Fate.{HasFate};
+ghost use Rattle.ele_model.specs.Scan.{scan};
+ghost use Rattle.ele_model.specs.World.{is_held};
 
 use crate::Core;
-use ele_world::{Fate, FileId, KeyList, Moment, NoMemory, VersionNo};
+use ele_model::{Fate, FileId, KeyList, Moment, NoMemory, VersionNo};
 
 impl Core {
     /// What becomes of the version, and why: the first of these that holds. It has no end; a handle reads it; a mark in force

@@ -2,11 +2,11 @@
 ghost use Rattle.std.specs.Prelude.{◌≡◌, nat_le, false};
 ghost use Rattle.std.specs.Option.{option_map_or};
 ghost use Rattle.ele_core.specs.Does.{Does, done};
-ghost use Rattle.ele_world.specs.declared.event.Event.TheVariants as event;
+ghost use Rattle.ele_model.specs.declared.event.Event.TheVariants as event;
 
 use crate::Core;
 use crate::halt::{Halt, passed, unless};
-use ele_world::{MarkRow, Moment, Name, Path, Refusal, Which};
+use ele_model::{MarkRow, Moment, Name, Path, Refusal, Which};
 
 // Whether the end, if there is one, has come by then.
 fn has_ended(until: &Option<Moment>, now: Moment) -> bool

@@ -3,7 +3,7 @@
 ghost use Rattle.std.specs.Prelude.{◌≡◌, OnOk, IfErr, OnErr, Some, true, false};
 ghost use Rattle.ele_core.specs.HaltText.{halt_text};
 
-use ele_world::{NoMemory, Refusal, Stop};
+use ele_model::{NoMemory, Refusal, Stop};
 use std::error::Error;
 use std::fmt;
 

@@ -2,13 +2,13 @@
 #![tactic(auto)]
 
 ghost use Rattle.std.specs.Prelude.{◌≡◌, IfOk, OnErr, IsOk, true, false};
-ghost use Rattle.ele_world.specs.Bounds.{AreBounds};
-ghost use Rattle.ele_world.specs.NoIdleStays.{HasNoIdle};
-ghost use Rattle.ele_world.specs.Ready.{takes_no_memory};
-ghost use Rattle.ele_world.specs.Run.{IsEvent};
-ghost use Rattle.ele_world.specs.Step.{step};
-ghost use Rattle.ele_world.specs.WellFormed.{IsWellFormed};
-ghost use Rattle.ele_world.specs.World.{fresh_world};
+ghost use Rattle.ele_model.specs.Bounds.{AreBounds};
+ghost use Rattle.ele_model.specs.NoIdleStays.{HasNoIdle};
+ghost use Rattle.ele_model.specs.Ready.{takes_no_memory};
+ghost use Rattle.ele_model.specs.Run.{IsEvent};
+ghost use Rattle.ele_model.specs.Step.{step};
+ghost use Rattle.ele_model.specs.WellFormed.{IsWellFormed};
+ghost use Rattle.ele_model.specs.World.{fresh_world};
 ghost use Rattle.ele_core.specs.Does.{refuses};
 ghost use Rattle.ele_core.specs.Reads.{IsRead};
 
@@ -29,17 +29,17 @@ mod version;
 
 pub use crate::halt::Halt;
 pub use crate::question::Stat;
-pub use ele_moment::{BadMoment, BadName};
-pub use ele_policy::{BadLadder, Floor, Interval};
-use ele_state::{Meter, State};
-pub use ele_time_path::{PathAtFault, PathFault};
-pub use ele_world::{
+pub use ele_model::{
     ByteList, Cause, Cell, Counts, DeadName, DeadNameList, DirId, DirectoryRow, DraftRow, Event,
     Fate, FileId, FileRow, FileStat, Flat, GroupList, GroupRow, Handle, HandleRow, Key, KeyList,
     Kind, Ladder, LimitNumbers, Limits, ListOf, MarkRow, Moment, Name, NameList, NameRow, NoMemory,
     PassEnd, Path, PathAt, Policy, Reads, Refusal, Reply, Source, Stamps, StampsList, Stop, Tag,
-    TaggedPath, Target, Usage, VersionNo, VersionRow, Which, laws, schedule,
+    TaggedPath, Target, Usage, VersionNo, VersionRow, Which,
 };
+pub use ele_moment::{BadMoment, BadName};
+pub use ele_policy::{BadLadder, Floor, Interval};
+use ele_state::{Meter, State};
+pub use ele_time_path::{PathAtFault, PathFault};
 use std::alloc::Global;
 use std::marker::Model;
 

@@ -1,12 +1,12 @@
 //! The events of files' names.
 ghost use Rattle.ele_core.specs.Does.{Does, done, revived};
-ghost use Rattle.ele_world.specs.declared.event.Event.TheVariants as event;
-ghost use Rattle.ele_world.specs.declared.reply.Reply.TheVariants.{File};
+ghost use Rattle.ele_model.specs.declared.event.Event.TheVariants as event;
+ghost use Rattle.ele_model.specs.declared.reply.Reply.TheVariants.{File};
 
 use crate::Core;
 use crate::halt::{Halt, passed, unless};
+use ele_model::{FileId, Path, Refusal, Target, VersionNo, Which};
 use ele_state::Meter;
-use ele_world::{FileId, Path, Refusal, Target, VersionNo, Which};
 
 impl Core {
     /// A file is made at the path, with an empty first version. Refused: `IsRoot`, `NoEntry`, `NotDirectory`, `Exists`, `Full`.

@@ -3,13 +3,13 @@ ghost use Rattle.std.specs.Prelude.{◌≡◌, IfOk, OnOk, OnErr, IfErr, is_some
 ghost use Rattle.ele_core.specs.Place.{free_place};
 ghost use Rattle.ele_state.specs.Full.{is_full};
 ghost use Rattle.ele_state.specs.Home.{IsHome};
-ghost use Rattle.ele_world.specs.declared.refusal.Refusal.TheVariants.{Full};
-ghost use Rattle.ele_world.specs.Walk.{live_target, parent_now};
-ghost use Rattle.ele_world.specs.WellFormed.{IsWellFormed};
+ghost use Rattle.ele_model.specs.declared.refusal.Refusal.TheVariants.{Full};
+ghost use Rattle.ele_model.specs.Walk.{live_target, parent_now};
+ghost use Rattle.ele_model.specs.WellFormed.{IsWellFormed};
 
 use crate::Core;
 use crate::halt::unless;
-use ele_world::{DirId, Name, Path, Refusal, Which};
+use ele_model::{DirId, Name, Path, Refusal, Which};
 
 impl Core {
     // Says that the world is well formed, and does nothing.

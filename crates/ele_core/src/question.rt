@@ -1,25 +1,25 @@
 //! The events that ask, and what else is asked. None changes anything.
 ghost use Rattle.std.specs.Prelude.{◌≡◌, ◌<◌, Ok, Err, IfOk, IfErr};
 ghost use Rattle.ele_core.specs.Does.{Does, DoesAtOnce, stat_told};
-ghost use Rattle.ele_world.specs.Due.{is_due};
-ghost use Rattle.ele_world.specs.Restorable.{restorable};
-ghost use Rattle.ele_world.specs.Scan.{scan, first_due};
-ghost use Rattle.ele_world.specs.Usage.{usages};
-ghost use Rattle.ele_world.specs.declared.event.Event.TheVariants as event;
-ghost use Rattle.ele_world.specs.declared.event.Source.TheVariants as source;
-ghost use Rattle.ele_world.specs.declared.reply.Reply.TheVariants.{Bytes, NameList, Rows};
-ghost use Rattle.ele_world.specs.declared.rows.Target.TheVariants.{File, Directory};
-ghost use Rattle.ele_world.specs.Told.{stat_of};
-ghost use Rattle.ele_world.specs.World.{next_of};
+ghost use Rattle.ele_model.specs.Due.{is_due};
+ghost use Rattle.ele_model.specs.Restorable.{restorable};
+ghost use Rattle.ele_model.specs.Scan.{scan, first_due};
+ghost use Rattle.ele_model.specs.Usage.{usages};
+ghost use Rattle.ele_model.specs.declared.event.Event.TheVariants as event;
+ghost use Rattle.ele_model.specs.declared.event.Source.TheVariants as source;
+ghost use Rattle.ele_model.specs.declared.reply.Reply.TheVariants.{Bytes, NameList, Rows};
+ghost use Rattle.ele_model.specs.declared.rows.Target.TheVariants.{File, Directory};
+ghost use Rattle.ele_model.specs.Told.{stat_of};
+ghost use Rattle.ele_model.specs.World.{next_of};
 
 use crate::Core;
 use crate::halt::{Halt, passed};
-use ele_state::{Meter, directory_in, file_in};
-use ele_world::{
+use ele_model::{
     ByteList, DeadNameList, DirId, DirectoryRow, FileId, FileStat, GroupList, Handle, Key, KeyList,
     NameList, NoMemory, PathAt, Reads, Refusal, Source, StampsList, Tag, TaggedPath, Target, Usage,
     VersionNo,
 };
+use ele_state::{Meter, directory_in, file_in};
 
 /// What a path and its tag mean.
 #[derive(Clone, Copy, Debug, PartialEq, Eq)]

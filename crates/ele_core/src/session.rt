@@ -2,13 +2,13 @@
 ghost use Rattle.std.specs.Prelude.{◌≡◌, ◌+◌, nat_lt};
 ghost use Rattle.ele_content.specs.Content.{longest_content};
 ghost use Rattle.ele_core.specs.Does.{Does, done};
-ghost use Rattle.ele_world.specs.declared.event.Event.TheVariants as event;
-ghost use Rattle.ele_world.specs.declared.reply.Reply.TheVariants as reply;
+ghost use Rattle.ele_model.specs.declared.event.Event.TheVariants as event;
+ghost use Rattle.ele_model.specs.declared.reply.Reply.TheVariants as reply;
 
 use crate::Core;
 use crate::halt::{Halt, passed, unless};
+use ele_model::{ByteList, Handle, Path, Refusal, TaggedPath, VersionNo, Which};
 use ele_state::Meter;
-use ele_world::{ByteList, Handle, Path, Refusal, TaggedPath, VersionNo, Which};
 
 /// How many bytes a content may have.
 const LONGEST_CONTENT: u64 = 1_048_576;

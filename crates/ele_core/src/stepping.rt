@@ -1,6 +1,6 @@
 //! A core steps, and can be audited. A contract of what is generic over both sees it as its flat world.
 use crate::Core;
-use ele_world::{
+use ele_model::{
     Auditable, DeadNameList, Event, Flat, KeyList, Limits, Moment, NoMemory, Reply, Stepping, Usage,
 };
 use std::alloc::Global;

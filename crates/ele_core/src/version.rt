@@ -1,13 +1,13 @@
 //! The events of versions, and of the policy that governs them.
 ghost use Rattle.ele_core.specs.Does.{Does, done};
 ghost use Rattle.ele_policy.specs.Policy.{IsPolicy};
-ghost use Rattle.ele_world.specs.declared.event.Event.TheVariants as event;
-ghost use Rattle.ele_world.specs.declared.reply.Reply.TheVariants.{Version};
+ghost use Rattle.ele_model.specs.declared.event.Event.TheVariants as event;
+ghost use Rattle.ele_model.specs.declared.reply.Reply.TheVariants.{Version};
 
 use crate::Core;
 use crate::halt::{Halt, passed, unless};
+use ele_model::{Path, Policy, Refusal, Tag, VersionNo, Which};
 use ele_state::Meter;
-use ele_world::{Path, Policy, Refusal, Tag, VersionNo, Which};
 
 impl Core {
     /// The file at the path gets a version more, with the content of the one with that number; the answer is the new one's

@@ -4,8 +4,8 @@ use Rattle.ele_files.proofs.Endings.{closed_kept, of_rows, its_kept, its_past}
 use Rattle.ele_files.proofs.Exchanges.{after, rise_over, files_over, rows_over, IsReached, reached}
 use Rattle.ele_files.proofs.Rows.{its_id, next_found, file_of, tagged, own_version, ended_shown, undrafted, no_file, version_none, version_of}
 use Rattle.ele_files.proofs.Stock.{over, row_added, file_added, row_copied, row_same, held_stays, row_lives}
-use Rattle.ele_world.specs.declared.rows.Target.TheVariants as target
-use Rattle.ele_world.specs.World as world
+use Rattle.ele_model.specs.declared.rows.Target.TheVariants as target
+use Rattle.ele_model.specs.World as world
 
 -- what comes in behind all
 insert_end : {X : Type 0} (p : X → Bool) (y : X) (xs : List X) → AllByRecursion (λ x. p x ≡ false) xs → insert_before p y xs ≡ xs ++ y ∷ []

@@ -5,8 +5,8 @@ use Rattle.ele_files.proofs.Stock.{IsSeen, draft_apart, draft_lives}
 use Rattle.ele_files.proofs.Rows.{draft_found, no_file, next_found, its_id, file_past}
 use Rattle.ele_files.proofs.Appends.{appended_keeps, appended_shows}
 use Rattle.ele_files.proofs.Exchanges.{IsReached, reached}
-use Rattle.ele_world.specs.World as world
-use Rattle.ele_world.specs.declared.rows.Reads.TheVariants as reads
+use Rattle.ele_model.specs.World as world
+use Rattle.ele_model.specs.declared.rows.Reads.TheVariants as reads
 
 -- the map that comes out with the handle
 abbrev pub given : AllSessions → ℕ → Option Layout

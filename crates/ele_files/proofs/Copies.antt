@@ -3,7 +3,7 @@ use Rattle.ele_files.proofs.Words.{AllByRecursion, AllLater, Bool, Cell, Draft, 
 use Rattle.ele_files.proofs.Rows.{its_id}
 use Rattle.ele_files.proofs.Stock.{logs_live}
 use Rattle.ele_files.proofs.Tagged.{own_rows}
-use Rattle.ele_world.specs.World.{is_draft}
+use Rattle.ele_model.specs.World.{is_draft}
 use Rattle.ele_sessions.specs.Sessions as sessions
 
 module _ {X Y : Type 0} (g : X → Y) where

@@ -2,7 +2,7 @@
 use Rattle.ele_files.proofs.Words.{AllByRecursion, AllLater, AllSessions, AreOrderly, Bool, Draft, DraftRow, File, Held, IsDraftKept, IsEarlier, IsFileKept, IsStocked, IsResized, IsRowOf, IsSomeAnd, Keeps, Layout, List, MatchBool, Moves, None, OnErr, OnOk, Option, Renews, Result, Rewrites, RewritesDraft, Rises, ShowsSame, Some, Stays, Store, Truncates, Writes, [], all-append, all-both, all-flat_map, all_found, all-left, all-map, all-remove_first, all-right, all-update_first, all-weaker, ap, arith, changed_by, cond, content_of, draft_by, draft_for, draft_in, draft_stock, eqb, false, false≢true, file_row, file_stock, find, fitted, fitted_by, fitted_of, flat_map, found_passes, handle_file, has_length, held_in, is_draft, is_file, length, map, nat_tests, next_of, option_map, option_map_or, refl, remove_first, remove_first-map, rewritten_by, row_stock, shown, stock_of, sym, true, update_first, update_first_same, written_by, written_of, ℕ, ◌<◌, ◌∙◌, ◌∷◌, ◌≡◌, ◌≢◌}
 use Rattle.ele_files.proofs.Stock.{IsSeen, drafts_same, held_stays, versions_same, draft_apart, draft_changed, draft_lives}
 use Rattle.ele_files.proofs.Rows.{draft_found}
-use Rattle.ele_world.specs.World as world
+use Rattle.ele_model.specs.World as world
 use Rattle.ele_sessions.specs.Changes as session
 
 -- the other drafts are of other files

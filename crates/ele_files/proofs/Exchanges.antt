@@ -2,7 +2,7 @@
 use Rattle.ele_files.proofs.Words.{find_position, AllByRecursion, AllLater, AllSessions, Bool, Draft, EndsInTime, File, FileRow, HeldRows, IsDraftKept, IsFileKept, IsRowOf, IsStocked, Keeps, List, LivesIn, LogRow, Moves, None, Precedes, Some, Stays, Store, VersionRow, [], all_found, all_not_found, all-remove_first, all-update_first, all-weaker, ap, arith, bucket_changes, content_of, file_row, filter, find, flat_map, get_or, held_in, is_file, is_id, has_number, is_other, is_version, later-remove_first, later-update_first, length, local-remove_first, map, nat_tests, option_map, position, refl, remove_first, remove_first-map, remove_first_unfound, row_in, row_stock, rows_in, set, set-first, stock_of, sym, update_first, update_first-map, update_first_same, without, ℕ, ◌<◌, ◌∙◌, ◌∷◌, ◌≡◌, remove_first-key, later-weaker, Policy, PutUnder, changed_at, file_stock, next_of}
 use Rattle.ele_files.proofs.Rows.{file_row_found, file_of, tagged, its_id, own_version, same_number, version_of}
 use Rattle.ele_files.proofs.Stock.{over, rows_stay, row_apart, row_lives, IsSeen, held_stays}
-use Rattle.ele_world.specs.Change as world
+use Rattle.ele_model.specs.Change as world
 
 -- two changes of what is found that are the same there
 pub update_first-alike : {X : Type 0} (p : X → Bool) (f g : X → X) (xs : List X) (x : X) → find p xs ≡ Some x → f x ≡ g x → update_first p f xs ≡ update_first p g xs

@@ -3,7 +3,7 @@ use Rattle.ele_files.proofs.Words.{Held, AllSessions, Bool, Draft, File, IsDraft
 use Rattle.ele_files.proofs.Stock.{row_copied, row_same, IsSeen, held_stays, draft_begun, row_lives}
 use Rattle.ele_files.proofs.Rows.{its_id, next_found, version_of, any_draft}
 use Rattle.ele_sessions.specs.Opening as opening
-use Rattle.ele_world.specs.World as world
+use Rattle.ele_model.specs.World as world
 
 -- the map of the version before the next one, or that of no bytes
 abbrev pub cells_of : Option LogRow → Layout

@@ -1,7 +1,7 @@
 -- What the rows show of the files and drafts behind them.
 use Rattle.ele_files.proofs.Words.{AllByRecursion, AllLater, Draft, File, IsPast, IsRowPast, List, LogRow, None, Option, Some, Store, VersionRow, all-any, all_found, all-map, all-none, all-weaker, any-map, ap, arith, draft_in, ended_at, ended_by, ended_rows, eqb, false, file_row, find, find-buckets, find-map, find-none, flat_map, flat_map-all, found_passes, is_file, is_id, has_number, is_version, list_any, map, map-all, nat_tests, next_of, option_and_then, option_map, option_map_or, position, refl, row_in, rows_in, sym, true, update_first, update_first-map, ℕ, ◌-◌, ◌<◌, ◌∙◌, ◌≡◌, ◌≢◌}
 use Rattle.ele_sessions.specs.Sessions as sessions
-use Rattle.ele_world.specs.World.{is_draft}
+use Rattle.ele_model.specs.World.{is_draft}
 
 -- ---- files
 

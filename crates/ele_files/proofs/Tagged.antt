@@ -2,9 +2,9 @@
 use Rattle.ele_files.proofs.Words.{AllByRecursion, AllSessions, Bool, Err, File, Keeps, List, LivesIn, LogRow, None, Ok, Option, Refusal, Some, Stamps, Store, Tag, VersionRow, [], all_found, ap, arith, eqb, false≢true, file_row, filter, filter-buckets, find, find-filter, find-map, flat_map, found_passes, had_closed, had_life, has_closed_by, held_or_forgotten, is_before, is_id, has_number, is_version, is_version_of, last_number, last_passing, lives_at, map, nat_tests, option_map, option_map_or, refl, result_map_both, row_in, row_living, row_meant, row_numbered, rows_in, stamps_in, stamps_of, sym, told_or_forgotten, true, version_living, version_meant, version_numbered, ℕ, ◌-◌, ◌∙◌, ◌∷◌, ◌≡◌, Bor, Draft, Layout, cells_of_version, draft_in, held_in, is_some, is_some-copied, list_any, option_copied, shown, IsFileKept, IsRowOf, all-weaker, filter-all, is_after, is_newer_of, newest_of, next_closing}
 use Rattle.ele_files.proofs.Rows.{file_of, next_found, tagged, version_of, any_draft}
 use Rattle.ele_files.proofs.Stock.{logs_live, row_lives}
-use Rattle.ele_world.specs.World.{is_draft}
+use Rattle.ele_model.specs.World.{is_draft}
 use Rattle.ele_time_path.specs.declared.tagged.Tag.TheVariants as tag
-use Rattle.ele_world.specs.Tagged as world
+use Rattle.ele_model.specs.Tagged as world
 use Rattle.ele_sessions.specs.Sessions as sessions
 
 -- ---- the last that passes, through a filter and a map

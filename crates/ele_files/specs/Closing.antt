@@ -2,13 +2,13 @@
 use Rattle.std.specs.Prelude.{ℕ, ◌≤◌, Bool, true, false, List, [], ◌∷◌, Option, Some, None, Result, Ok, Err, IfSome, is_some, find, option_and_then, if◌then◌else◌}
 use Rattle.std.specs.List.{list_any}
 use Rattle.ele_lists.specs.Lists.{remove_first}
-use Rattle.ele_world.specs.declared.refusal.Refusal.{Refusal}
-use Rattle.ele_world.specs.declared.rows.Reads.{Reads}
-use Rattle.ele_world.specs.declared.rows.Reads.TheVariants as reads
-use Rattle.ele_world.specs.declared.rows.VersionRow.{VersionRow}
-use Rattle.ele_world.specs.declared.rows.DraftRow.{DraftRow}
-use Rattle.ele_world.specs.Change.{Change, ShutHandle, EndDraft, Append}
-use Rattle.ele_world.specs.World.{is_draft, is_handle, is_writer, reads_by}
+use Rattle.ele_model.specs.declared.refusal.Refusal.{Refusal}
+use Rattle.ele_model.specs.declared.rows.Reads.{Reads}
+use Rattle.ele_model.specs.declared.rows.Reads.TheVariants as reads
+use Rattle.ele_model.specs.declared.rows.VersionRow.{VersionRow}
+use Rattle.ele_model.specs.declared.rows.DraftRow.{DraftRow}
+use Rattle.ele_model.specs.Change.{Change, ShutHandle, EndDraft, Append}
+use Rattle.ele_model.specs.World.{is_draft, is_handle, is_writer, reads_by}
 use Rattle.ele_sessions.specs.Sessions.{handle_file}
 use Rattle.ele_files.specs.Held.{Held, changed_at, cells_of_draft}
 

@@ -6,16 +6,16 @@ use Rattle.ele_policy.specs.declared.policy.Policy.{Policy}
 use Rattle.ele_content.specs.declared.cell.Cell.{Cell}
 use Rattle.ele_content.specs.Content.{content_of}
 use Rattle.ele_sessions.specs.Sessions.{handle_file}
-use Rattle.ele_world.specs.declared.rows.FileRow.{FileRow}
-use Rattle.ele_world.specs.declared.rows.VersionRow.{VersionRow}
-use Rattle.ele_world.specs.declared.rows.DraftRow.{DraftRow}
-use Rattle.ele_world.specs.declared.rows.HandleRow.{HandleRow}
-use Rattle.ele_world.specs.declared.rows.Reads.TheVariants as reads
-use Rattle.ele_world.specs.Bounds.{largest_bounds}
+use Rattle.ele_model.specs.declared.rows.FileRow.{FileRow}
+use Rattle.ele_model.specs.declared.rows.VersionRow.{VersionRow}
+use Rattle.ele_model.specs.declared.rows.DraftRow.{DraftRow}
+use Rattle.ele_model.specs.declared.rows.HandleRow.{HandleRow}
+use Rattle.ele_model.specs.declared.rows.Reads.TheVariants as reads
+use Rattle.ele_model.specs.Bounds.{largest_bounds}
 use Rattle.ele_lists.specs.Lists.{remove_first}
-use Rattle.ele_world.specs.Change.{Change, MakeFile, OpenHandle, StartDraft, WriteDraft, TruncateDraft, Take, new_draft, with_end, after_changes}
-use Rattle.ele_world.specs.FileView.{is_version_of}
-use Rattle.ele_world.specs.World.{World, fresh_world, is_file, is_live, is_version, is_draft}
+use Rattle.ele_model.specs.Change.{Change, MakeFile, OpenHandle, StartDraft, WriteDraft, TruncateDraft, Take, new_draft, with_end, after_changes}
+use Rattle.ele_model.specs.FileView.{is_version_of}
+use Rattle.ele_model.specs.World.{World, fresh_world, is_file, is_live, is_version, is_draft}
 
 -- files by id, versions by file and number, drafts by file, handles by number, and how many handles were ever opened
 pub record Held : Type 0 where

@@ -11,10 +11,10 @@ use Rattle.ele_inode_log.specs.declared.row.VersionRow as log
 use Rattle.ele_inode_log.specs.Rows.{AreInOrder}
 use Rattle.ele_lists.specs.Lists.{AllLater}
 use Rattle.ele_sessions.specs.Sessions.{Draft, AllSessions}
-use Rattle.ele_world.specs.declared.rows.FileRow.{FileRow}
-use Rattle.ele_world.specs.declared.rows.VersionRow.{VersionRow}
-use Rattle.ele_world.specs.declared.rows.DraftRow.{DraftRow}
-use Rattle.ele_world.specs.World.{next_of}
+use Rattle.ele_model.specs.declared.rows.FileRow.{FileRow}
+use Rattle.ele_model.specs.declared.rows.VersionRow.{VersionRow}
+use Rattle.ele_model.specs.declared.rows.DraftRow.{DraftRow}
+use Rattle.ele_model.specs.World.{next_of}
 
 -- ---- what the fields show
 

@@ -7,9 +7,9 @@ use Rattle.ele_inode_log.specs.Rows.{has_number, is_before, has_closed_by, lives
 use Rattle.ele_lists.specs.Last.{last_passing}
 use Rattle.ele_time_path.specs.declared.tagged.Tag.{Tag}
 use Rattle.ele_time_path.specs.declared.tagged.Tag.TheVariants as tag
-use Rattle.ele_world.specs.declared.refusal.Refusal.{Refusal}
-use Rattle.ele_world.specs.declared.refusal.Refusal.TheVariants.{Forgotten, NoVersion}
-use Rattle.ele_world.specs.declared.rows.Stamps.{Stamps}
+use Rattle.ele_model.specs.declared.refusal.Refusal.{Refusal}
+use Rattle.ele_model.specs.declared.refusal.Refusal.TheVariants.{Forgotten, NoVersion}
+use Rattle.ele_model.specs.declared.rows.Stamps.{Stamps}
 
 -- the row's number, its moments, and how many bytes it has
 abbrev pub stamps_in : log.VersionRow → Stamps

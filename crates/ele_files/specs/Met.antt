@@ -5,8 +5,8 @@ use Rattle.ele_blocks.specs.Layout.{shown}
 use Rattle.ele_blocks.specs.Store.{Store}
 use Rattle.ele_content.specs.Place.{Place, different, is_place}
 use Rattle.ele_inode_log.specs.declared.row.VersionRow as log
-use Rattle.ele_world.specs.NewPlaces.{is_among}
-use Rattle.ele_world.specs.Usage.{places_from}
+use Rattle.ele_model.specs.NewPlaces.{is_among}
+use Rattle.ele_model.specs.Usage.{places_from}
 
 abbrev pub is_key : ℕ → ℕ → ℕ × ℕ → Bool
 is_key slot writer key = (slot == key.0) && (writer == key.1)

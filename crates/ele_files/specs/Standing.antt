@@ -3,9 +3,9 @@ use Rattle.std.specs.Prelude.{◌≡◌, ℕ, Some}
 use Rattle.std.specs.Option.{option_map}
 use Rattle.ele_files.specs.declared.files.neighbours.Standing.{Standing}
 use Rattle.ele_files.specs.Held.{Held}
-use Rattle.ele_world.specs.Neighbours.{newest_of}
-use Rattle.ele_world.specs.Told.{stamps_of}
-use Rattle.ele_world.specs.World.{next_of, policy_of}
+use Rattle.ele_model.specs.Neighbours.{newest_of}
+use Rattle.ele_model.specs.Told.{stamps_of}
+use Rattle.ele_model.specs.World.{next_of, policy_of}
 
 -- it is there, with that policy, and its next and its newest version are those
 pub record Stands (h : Held) (file : ℕ) (standing : Standing) : Type 0 where

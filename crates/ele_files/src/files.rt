@@ -9,10 +9,10 @@ ghost use Rattle.ele_files.specs.Held.{Held, GotFile, changed_at, opened_by, wit
 ghost use Rattle.ele_files.specs.Inside.{is_id};
 ghost use Rattle.ele_inode_log.specs.Rows.{has_number};
 ghost use Rattle.ele_lists.specs.Lists.{AllLater};
-ghost use Rattle.ele_world.specs.Change.{OpenHandle};
-ghost use Rattle.ele_world.specs.declared.rows.Reads.TheVariants.{Version};
-ghost use Rattle.ele_world.specs.Usage.{places};
-ghost use Rattle.ele_world.specs.World.{policy_of, next_of, is_version, is_draft};
+ghost use Rattle.ele_model.specs.Change.{OpenHandle};
+ghost use Rattle.ele_model.specs.declared.rows.Reads.TheVariants.{Version};
+ghost use Rattle.ele_model.specs.Usage.{places};
+ghost use Rattle.ele_model.specs.World.{policy_of, next_of, is_version, is_draft};
 
 mod asking;
 mod closing;

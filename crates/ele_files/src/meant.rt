@@ -6,8 +6,8 @@ ghost use Rattle.ele_files.specs.Meant.{stamps_in, row_numbered, row_living, row
 
 use crate::file::File;
 use ele_inode_log::{Meter, VersionRow};
+use ele_model::{Refusal, Stamps, Tag};
 use ele_moment::{Moment, VersionNo};
-use ele_world::{Refusal, Stamps, Tag};
 
 /// The row's number, its moments, and how many bytes it has.
 pub fn stamps_of(row: &VersionRow) -> Stamps

@@ -3,8 +3,8 @@ use Rattle.ele_forecast.proofs.Words.{◌≡◌, ℕ, zero, suc, ◌+◌, ◌-�
 use Rattle.std.proofs.lemmas.List.{drop_all, length-drop, take_all}
 use Rattle.std.proofs.Common.{take}
 use Rattle.ele_forecast.proofs.Words.{all-weaker, filter-none, filter-passes, filter-same_all, filter-swap, later-filter, meets_floor, Policy, IsToldBy, VersionRow, FileView, closings, due_in, file_view, is_due_by, is_newer, is_version_of, IsFileOf, Life, life_of, lives_from, AreKept, come_by, goes, kept_from}
-use Rattle.ele_world.specs.Due.{is_due_at}
-use Rattle.ele_world.proofs.Views.{Precedes, newer_is}
+use Rattle.ele_model.specs.Due.{is_due_at}
+use Rattle.ele_model.proofs.Views.{Precedes, newer_is}
 use Rattle.ele_forecast.proofs.Followed.{due_is}
 use Rattle.ele_forecast.proofs.Lives.{closings_are, precede}
 

@@ -8,7 +8,5 @@ mod Lives
 mod Rising
 -- the versions that stay at a moment
 mod Kept
--- what a finished pass leaves
-mod Whenever
 -- what is told of one version after another
 mod Told

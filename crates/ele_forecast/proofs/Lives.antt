@@ -1,7 +1,7 @@
 -- The version of a closing: where it stands among its file's rows, and what stands behind it.
 use Rattle.ele_forecast.proofs.Words.{◌≡◌, ℕ, zero, suc, ◌+◌, ◌<◌, ◌≤◌, false, List, [], ◌∷◌, ◌++◌, Option, Some, None, refl, ap, sym, subst, ◌∙◌, arith, nat_tests, filter, find, map, slice_get, AllByRecursion, AllLater, length}
 use Rattle.ele_forecast.proofs.Words.{all-weaker, later-around, find-at, Policy, IsNearest, VersionRow, FileView, beside, closings, is_newer, is_numbered, IsFileOf, IsFollowed, Life, life_of, lives_from, Tells, TellsOf, Forecast}
-use Rattle.ele_world.proofs.Views.{Precedes, newer_is}
+use Rattle.ele_model.proofs.Views.{Precedes, newer_is}
 
 -- ---- the rows of closings that never fall
 

@@ -1,8 +1,8 @@
 -- A file that closed at these moments, as the definitions of the world see one.
 use Rattle.std.specs.Prelude.{◌≡◌, ℕ, ◌+◌, true, List, [], ◌∷◌, map, Option, Some, slice_get}
 use Rattle.ele_policy.specs.declared.policy.Policy.{Policy}
-use Rattle.ele_world.specs.declared.rows.VersionRow.{VersionRow}
-use Rattle.ele_world.specs.FileView.{FileView}
+use Rattle.ele_model.specs.declared.rows.VersionRow.{VersionRow}
+use Rattle.ele_model.specs.FileView.{FileView}
 
 -- a version's number, when it closed, and when it ended, if it has
 abbrev pub Life : Type 0

@@ -2,8 +2,8 @@
 use Rattle.std.specs.Prelude.{◌≡◌, ℕ, true, List, [], ◌∷◌, filter, length, Some}
 use Rattle.ele_policy.specs.Ripe.{IsNearest}
 use Rattle.ele_policy.specs.declared.policy.Policy.{Policy}
-use Rattle.ele_world.specs.declared.rows.VersionRow.{VersionRow}
-use Rattle.ele_world.specs.FileView.{FileView, beside, is_newer}
+use Rattle.ele_model.specs.declared.rows.VersionRow.{VersionRow}
+use Rattle.ele_model.specs.FileView.{FileView, beside, is_newer}
 
 -- in a file under the policy, live, unread and unmarked, that one is the first of so many newer versions, and the row ended as it
 -- closed

@@ -1,10 +1,10 @@
 -- Which versions of a file stay.
 use Rattle.std.specs.Prelude.{◌≡◌, ℕ, nat_le, List, filter, map}
 use Rattle.ele_policy.specs.declared.policy.Policy.{Policy}
-use Rattle.ele_world.specs.declared.rows.VersionRow.{VersionRow}
-use Rattle.ele_world.specs.Due.{kept_rows}
-use Rattle.ele_world.specs.FileView.{file_view, is_version_of}
-use Rattle.ele_world.specs.World.{World}
+use Rattle.ele_model.specs.declared.rows.VersionRow.{VersionRow}
+use Rattle.ele_model.specs.Due.{kept_rows}
+use Rattle.ele_model.specs.FileView.{file_view, is_version_of}
+use Rattle.ele_model.specs.World.{World}
 use Rattle.ele_forecast.specs.FileOf.{IsFileOf}
 
 -- the closings that have come by the moment

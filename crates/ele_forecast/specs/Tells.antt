@@ -5,9 +5,9 @@ use Rattle.std.specs.Option.{option_map}
 use Rattle.ele_policy.specs.Ladder.{Rung, level_of, rung_at, shares}
 use Rattle.ele_policy.specs.declared.policy.Policy.{Policy}
 use Rattle.ele_policy.specs.declared.policy.Policy.TheVariants.{One, Landmarks}
-use Rattle.ele_world.specs.declared.rows.VersionRow.{VersionRow}
-use Rattle.ele_world.specs.Fate.{IsSafeFor}
-use Rattle.ele_world.specs.FileView.{FileView, is_newer, is_numbered, ripe_in}
+use Rattle.ele_model.specs.declared.rows.VersionRow.{VersionRow}
+use Rattle.ele_model.specs.Fate.{IsSafeFor}
+use Rattle.ele_model.specs.FileView.{FileView, is_newer, is_numbered, ripe_in}
 use Rattle.ele_forecast.specs.FileOf.{IsFileOf, Life, lives_from}
 use Rattle.ele_forecast.specs.declared.forecast.Forecast.{Forecast}
 use Rattle.ele_forecast.specs.declared.forecast.Why.{Why}

@@ -2,7 +2,7 @@
 ghost use Rattle.std.specs.Prelude.{◌≡◌, ◌≤◌, ◌<◌, ◌+◌, ◌-◌, ◌++◌, ◌∷◌, ◌^◌, ◌↔◌, [], ℕ, false, IsTrue, ◌≢◌, OnOk, OnErr, IfOk, IfErr, IfSome, IsSome, Some, None, length, slice_get};
 ghost use Rattle.std.specs.List.{AllByRecursion};
 ghost use Rattle.ele_lists.specs.Lists.{AllLater};
-ghost use Rattle.ele_world.specs.FileView.{FileView};
+ghost use Rattle.ele_model.specs.FileView.{FileView};
 ghost use Rattle.ele_forecast.specs.FileOf.{IsFileOf};
 ghost use Rattle.ele_forecast.specs.Stays.{AreKept, come_by};
 ghost use Rattle.ele_forecast.specs.Tells.{AreForecasts, Tells};

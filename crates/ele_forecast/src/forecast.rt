@@ -4,8 +4,8 @@ ghost use Rattle.std.specs.Prelude.{◌≡◌, ◌≤◌, ℕ, ◌<◌, ◌+◌,
 ghost use Rattle.ele_lists.specs.Lists.{AllLater};
 ghost use Rattle.ele_policy.specs.FloorOf.{meets_floor};
 ghost use Rattle.ele_policy.specs.Ripe.{alone, ripe_by};
-ghost use Rattle.ele_world.specs.FileView.{FileView, ripe_in};
-ghost use Rattle.ele_world.specs.declared.rows.VersionRow.{VersionRow};
+ghost use Rattle.ele_model.specs.FileView.{FileView, ripe_in};
+ghost use Rattle.ele_model.specs.declared.rows.VersionRow.{VersionRow};
 ghost use Rattle.ele_forecast.specs.Followed.{IsFollowed};
 ghost use Rattle.ele_forecast.specs.StaysBehind.{goes};
 ghost use Rattle.ele_forecast.specs.Tells.{IsWhy, TellsOf};

@@ -5,7 +5,6 @@
 
 mod closings;
 mod forecast;
-pub mod laws;
 
 pub use closings::{Closings, NotClosed};
 pub use forecast::{Forecast, Why};

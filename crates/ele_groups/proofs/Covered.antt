@@ -2,8 +2,8 @@
 use Rattle.ele_groups.proofs.Basics.{◌≡◌, ℕ, suc, zero, Bool, true, false, ◌&&◌, ◌||◌, ◌+◌, ◌<◌, ◌==◌, ◌++◌, not, List, [], ◌∷◌, Option, Some, None, refl, sym, ◌∙◌, arith, length, get_or, take, take_more, filter, list_any, list_any-append, AllByRecursion, values_of, option_map_or, bytes_eq, bytes_eq-Decides, nat_tests, false≢true}
 use Rattle.ele_groups.proofs.Words.{Always, Cover, Free, GroupRow, MarkRow, Membership, Memberships, AreKept, Except, cover_but, cover_by, has, is_group, is_member, longer, marks_but, marks_left, memberships_of, row_at, row_cover}
 use Rattle.ele_groups.proofs.Named.{Entries, any_value, no_value, none_any, same_name}
-use Rattle.ele_world.proofs.Covers.{exceeds, exceeds_by, exceeds_longer, exceeds_same, reaches}
-use Rattle.ele_world.proofs.GroupMarks.{any_over}
+use Rattle.ele_model.proofs.Covers.{exceeds, exceeds_by, exceeds_longer, exceeds_same, reaches}
+use Rattle.ele_model.proofs.GroupMarks.{any_over}
 
 -- ---- of one group
 

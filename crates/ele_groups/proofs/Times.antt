@@ -1,7 +1,7 @@
 -- Marks and their times, after a change, and within bounds.
 use Rattle.ele_groups.proofs.Basics.{◌≡◌, ℕ, ◌==◌, ◌<◌, ◌≤◌, Bool, true, false, cond, not, ◌||◌, ◌&&◌, List, [], ◌∷◌, ◌++◌, Option, Some, None, is_some, IsSome, ap, subst, refl, sym, ◌∙◌, arith, ◌+◌, min, max, nat_le, nat_lt, filter, find, is_at, BTreeMap, get, list_any, nat_cmp, is_gt, false≢true, nat_tests, remove_first, later-push, later-remove_first, all-none, found_passes, AllByRecursion}
 use Rattle.ele_groups.proofs.Words.{MarkRow, Cover, Always, Free, Until, covers_moment, cover_by, cover_until, is_mark, longer, AreMarksApart, AreTimed, IsFirst}
-use Rattle.ele_world.proofs.Covers.{exceeds, exceeds_by, exceeds_longer, exceeds_same, reaches}
+use Rattle.ele_model.proofs.Covers.{exceeds, exceeds_by, exceeds_longer, exceeds_same, reaches}
 
 -- ---- after a change
 

@@ -7,10 +7,10 @@ pub use Rattle.ele_groups.specs.declared.memberships.Membership.{Membership}
 pub use Rattle.ele_groups.specs.declared.memberships.Memberships.{Memberships}
 pub use Rattle.ele_groups.specs.declared.span.Except.{Except}
 pub use Rattle.ele_moment.specs.Last.{last_moment}
-pub use Rattle.ele_world.specs.GroupRows.{adds, covers_moment, forgets, forgotten, is_group, is_mark, is_member, marks, new_group, removes, unmarks}
-pub use Rattle.ele_world.specs.GroupsAsked.{is_left_out, marks_left}
-pub use Rattle.ele_world.specs.Cover.{cover_by, cover_until, longer}
-pub use Rattle.ele_world.specs.declared.cover.Cover.{Cover}
-pub use Rattle.ele_world.specs.declared.cover.Cover.TheVariants.{Always, Free, Until}
-pub use Rattle.ele_world.specs.declared.rows.MarkRow.{MarkRow}
-pub use Rattle.ele_world.specs.declared.rows.GroupRow.{GroupRow}
+pub use Rattle.ele_model.specs.GroupRows.{adds, covers_moment, forgets, forgotten, is_group, is_mark, is_member, marks, new_group, removes, unmarks}
+pub use Rattle.ele_model.specs.GroupsAsked.{is_left_out, marks_left}
+pub use Rattle.ele_model.specs.Cover.{cover_by, cover_until, longer}
+pub use Rattle.ele_model.specs.declared.cover.Cover.{Cover}
+pub use Rattle.ele_model.specs.declared.cover.Cover.TheVariants.{Always, Free, Until}
+pub use Rattle.ele_model.specs.declared.rows.MarkRow.{MarkRow}
+pub use Rattle.ele_model.specs.declared.rows.GroupRow.{GroupRow}

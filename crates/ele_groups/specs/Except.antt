@@ -1,12 +1,12 @@
 -- Marks that a question leaves out.
 use Rattle.std.specs.Prelude.{ℕ, List, Option, Some, None, filter}
 use Rattle.std.specs.List.{flat_map}
-use Rattle.ele_world.specs.declared.cover.Cover.{Cover}
-use Rattle.ele_world.specs.declared.rows.GroupRow.{GroupRow}
-use Rattle.ele_world.specs.declared.rows.MarkRow.{MarkRow}
-use Rattle.ele_world.specs.Cover.{cover_by}
-use Rattle.ele_world.specs.GroupRows.{is_member}
-use Rattle.ele_world.specs.GroupsAsked.{marks_left}
+use Rattle.ele_model.specs.declared.cover.Cover.{Cover}
+use Rattle.ele_model.specs.declared.rows.GroupRow.{GroupRow}
+use Rattle.ele_model.specs.declared.rows.MarkRow.{MarkRow}
+use Rattle.ele_model.specs.Cover.{cover_by}
+use Rattle.ele_model.specs.GroupRows.{is_member}
+use Rattle.ele_model.specs.GroupsAsked.{marks_left}
 use Rattle.ele_groups.specs.declared.span.Except.{Except}
 
 -- the group's marks, those aside that are left out, if any are

@@ -1,7 +1,7 @@
 -- Which changes of groups are refused, and why.
 use Rattle.std.specs.Prelude.{◌≡◌, ℕ, List, Option, Some, None, Result, Ok, Err, ◌⊎◌, if◌then◌else◌}
-use Rattle.ele_world.specs.declared.rows.GroupRow.{GroupRow}
-use Rattle.ele_world.specs.GroupRows.{has_group, has_member, is_marked_at}
+use Rattle.ele_model.specs.declared.rows.GroupRow.{GroupRow}
+use Rattle.ele_model.specs.GroupRows.{has_group, has_member, is_marked_at}
 use Rattle.ele_groups.specs.declared.fault.GroupFault.{GroupFault}
 use Rattle.ele_groups.specs.declared.fault.GroupFault.TheVariants as fault
 

@@ -5,8 +5,8 @@ use Rattle.std.specs.Map.{keys_of, lookup}
 use Rattle.std.specs.Option.{option_map_or}
 use Rattle.std.specs.Str.{bytes_eq}
 use Rattle.ele_lists.specs.Lists.{update_first}
-use Rattle.ele_world.specs.declared.rows.GroupRow.{GroupRow}
-use Rattle.ele_world.specs.GroupRows.{is_group, is_member}
+use Rattle.ele_model.specs.declared.rows.GroupRow.{GroupRow}
+use Rattle.ele_model.specs.GroupRows.{is_group, is_member}
 use Rattle.ele_groups.specs.declared.memberships.Memberships.{Memberships}
 use Rattle.ele_groups.specs.Members.{has}
 

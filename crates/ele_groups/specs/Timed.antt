@@ -4,8 +4,8 @@ use Rattle.std.specs.BTreeMap.{BTreeMap, get}
 use Rattle.std.specs.List.{list_any}
 use Rattle.std.specs.Ordering.{nat_cmp}
 use Rattle.ele_lists.specs.Lists.{AllLater}
-use Rattle.ele_world.specs.declared.rows.MarkRow.{MarkRow}
-use Rattle.ele_world.specs.GroupRows.{is_mark}
+use Rattle.ele_model.specs.declared.rows.MarkRow.{MarkRow}
+use Rattle.ele_model.specs.GroupRows.{is_mark}
 
 -- no number stands there twice
 abbrev pub AreApart : List ℕ → Type 0

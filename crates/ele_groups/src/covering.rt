@@ -3,15 +3,15 @@
 ghost use Rattle.std.specs.Prelude.{◌≡◌};
 ghost use Rattle.std.specs.Map.{values_of};
 ghost use Rattle.std.specs.Option.{option_copied, option_map_or};
-ghost use Rattle.ele_world.specs.declared.cover.Cover.TheVariants.{Free};
+ghost use Rattle.ele_model.specs.declared.cover.Cover.TheVariants.{Free};
 ghost use Rattle.ele_groups.specs.Except.{cover_but, row_cover};
 ghost use Rattle.ele_groups.specs.Kept.{AreKept, row_at};
 
 use crate::group::Group;
 use crate::memberships::{Membership, Memberships};
 use crate::span::Span;
+use ele_model::Cover;
 use ele_moment::{FileId, Name};
-use ele_world::Cover;
 use indexmap::IndexMap;
 
 /// For how long marks of groups that have the file keep, those aside that are left out. It looks at

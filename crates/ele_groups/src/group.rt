@@ -1,15 +1,15 @@
 //! One group: its name, its files in order of adding, and its marks.
 //! A contract sees it as its row.
 ghost use Rattle.std.specs.Prelude.{◌≡◌, map, ◌==◌, ◌&&◌, not, ℕ, false, OnOk, OnErr, IfOk};
-ghost use Rattle.ele_world.specs.GroupRows.{new_group, is_member, has_mark, adds, removes, forgets, marks, unmarks};
+ghost use Rattle.ele_model.specs.GroupRows.{new_group, is_member, has_mark, adds, removes, forgets, marks, unmarks};
 ghost use Rattle.ele_groups.specs.Except.{row_cover};
 
 use crate::marks::Marks;
 use crate::span::Span;
 use crate::taken::take_out;
 use ele_lists::ListOf;
+use ele_model::{Cover, GroupRow, MarkRow};
 use ele_moment::{FileId, Moment, Name, NoMemory};
-use ele_world::{Cover, GroupRow, MarkRow};
 use std::alloc::Global;
 use std::marker::Model;
 
@@ -22,7 +22,7 @@ pub struct Group {
 }
 
 impl Model for Group {
-    ghost use Rattle.ele_world.specs.declared.rows.GroupRow.{GroupRow};
+    ghost use Rattle.ele_model.specs.declared.rows.GroupRow.{GroupRow};
     ghost use Rattle.ele_groups.specs.Timed.{AreApart};
 
     ghost Value = { GroupRow };

@@ -3,10 +3,10 @@
 ghost use Rattle.std.specs.Prelude.{◌≡◌, ◌<◌, [], Some, None, false, length, filter, slice_get, is_some, IsTrue, IfSome, IfNone, IfOk, IfErr, OnOk, OnErr};
 ghost use Rattle.std.specs.Map.{values_of};
 ghost use Rattle.std.specs.Option.{option_copied, option_map_or};
-ghost use Rattle.ele_world.specs.GroupRows.{group_named, has_group, has_member, is_marked_at, is_member, with_group, without_group, with_member, without_member, with_mark, without_mark, forgotten};
-ghost use Rattle.ele_world.specs.Cover.{cover_by, cover_of};
-ghost use Rattle.ele_world.specs.declared.cover.Cover.TheVariants.{Free};
-ghost use Rattle.ele_world.specs.GroupsAsked.{members_of, marks_of, cover_with, cover_without};
+ghost use Rattle.ele_model.specs.GroupRows.{group_named, has_group, has_member, is_marked_at, is_member, with_group, without_group, with_member, without_member, with_mark, without_mark, forgotten};
+ghost use Rattle.ele_model.specs.Cover.{cover_by, cover_of};
+ghost use Rattle.ele_model.specs.declared.cover.Cover.TheVariants.{Free};
+ghost use Rattle.ele_model.specs.GroupsAsked.{members_of, marks_of, cover_with, cover_without};
 ghost use Rattle.ele_groups.specs.Faults.{make_fault, drop_fault, add_fault, remove_fault, mark_fault, unmark_fault, Fails, answer_of};
 ghost use Rattle.ele_groups.specs.Rows.{row_of};
 
@@ -17,8 +17,8 @@ use crate::memberships::{Membership, Memberships};
 use crate::rows::{add_to, mark_at, remove_from, unmark_at};
 use crate::span::{Except, Span};
 use ele_lists::ListOf;
+use ele_model::{Cover, GroupRow, MarkRow};
 use ele_moment::{FileId, Moment, Name, NoMemory};
-use ele_world::{Cover, GroupRow, MarkRow};
 use indexmap::IndexMap;
 use std::alloc::Global;
 use std::marker::Model;
@@ -34,7 +34,7 @@ pub struct Groups {
 impl Model for Groups {
     ghost use Rattle.std.specs.Prelude.{List};
     ghost use Rattle.std.specs.Map.{values_of};
-    ghost use Rattle.ele_world.specs.declared.rows.GroupRow.{GroupRow};
+    ghost use Rattle.ele_model.specs.declared.rows.GroupRow.{GroupRow};
     ghost use Rattle.ele_groups.specs.Kept.{AreKept};
 
     ghost Value = { List GroupRow };

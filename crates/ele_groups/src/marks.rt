@@ -6,12 +6,12 @@ ghost use Rattle.std.specs.List.{list_any};
 ghost use Rattle.std.specs.Ordering.{nat_cmp};
 ghost use Rattle.std.specs.Option.{option_copied};
 ghost use Rattle.ele_lists.specs.Lists.{remove_first};
-ghost use Rattle.ele_world.specs.Cover.{cover_by};
-ghost use Rattle.ele_world.specs.GroupRows.{is_mark};
+ghost use Rattle.ele_model.specs.Cover.{cover_by};
+ghost use Rattle.ele_model.specs.GroupRows.{is_mark};
 ghost use Rattle.ele_groups.specs.Timed.{AreMarksApart, IsFirst};
 
+use ele_model::{Cover, MarkRow};
 use ele_moment::{Moment, NoMemory};
-use ele_world::{Cover, MarkRow};
 use std::alloc::Global;
 use std::collections::BTreeMap;
 use std::marker::Model;
@@ -25,7 +25,7 @@ pub struct Marks {
 
 impl Model for Marks {
     ghost use Rattle.std.specs.Prelude.{List};
-    ghost use Rattle.ele_world.specs.declared.rows.MarkRow.{MarkRow};
+    ghost use Rattle.ele_model.specs.declared.rows.MarkRow.{MarkRow};
     ghost use Rattle.ele_groups.specs.Timed.{AreTimed};
 
     ghost Value = { List MarkRow };

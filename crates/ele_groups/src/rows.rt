@@ -5,12 +5,12 @@ ghost use Rattle.std.specs.List.{IsDistinct};
 ghost use Rattle.std.specs.Map.{keys_of};
 ghost use Rattle.std.specs.Option.{option_map_or};
 ghost use Rattle.std.specs.Str.{bytes_eq};
-ghost use Rattle.ele_world.specs.GroupRows.{has_mark, adds, removes, forgets, marks, unmarks};
+ghost use Rattle.ele_model.specs.GroupRows.{has_mark, adds, removes, forgets, marks, unmarks};
 ghost use Rattle.ele_groups.specs.Kept.{changed_at, has_file, row_at};
 
 use crate::group::Group;
+use ele_model::MarkRow;
 use ele_moment::{FileId, Moment, Name, NoMemory};
-use ele_world::MarkRow;
 use indexmap::IndexMap;
 
 /// Adds the file to the group.

@@ -2,19 +2,19 @@
 use Rattle.std.proofs.Common.{◌≡◌, ℕ, ◌+◌, zero, suc, Option, Some, None, [], ◌∷◌, refl, ap, sym, subst, ◌∙◌, arith, length-append}
 use Rattle.std.specs.Prelude.{IsSome}
 use Rattle.ele_due.specs.declared.key.Key.{Key}
-use Rattle.ele_world.specs.declared.entry.Entry.{Entry}
-use Rattle.ele_world.specs.declared.event.Event.TheVariants.{CleanOne}
-use Rattle.ele_world.specs.declared.pass.PassEnd.TheVariants.{Finished, Budget, Stopped}
-use Rattle.ele_world.specs.declared.refusal.Stop.{Stop}
-use Rattle.ele_world.specs.declared.refusal.Stop.TheVariants.{NoMemory, HistoryFull}
-use Rattle.ele_world.specs.declared.reply.Reply.{Reply}
-use Rattle.ele_world.specs.declared.reply.Reply.TheVariants.{Nothing, Removed}
-use Rattle.ele_world.specs.Pass.{IsCleaned}
-use Rattle.ele_world.specs.Scan.{first_due}
-use Rattle.ele_world.specs.Step.{clean_step}
-use Rattle.ele_world.specs.World.{World}
-use Rattle.ele_world.proofs.Cleans.{clean_of}
-use Rattle.ele_world.proofs.PassEnds.{cleaned_none, cleaned_more}
+use Rattle.ele_model.specs.declared.entry.Entry.{Entry}
+use Rattle.ele_model.specs.declared.event.Event.TheVariants.{CleanOne}
+use Rattle.ele_model.specs.declared.pass.PassEnd.TheVariants.{Finished, Budget, Stopped}
+use Rattle.ele_model.specs.declared.refusal.Stop.{Stop}
+use Rattle.ele_model.specs.declared.refusal.Stop.TheVariants.{NoMemory, HistoryFull}
+use Rattle.ele_model.specs.declared.reply.Reply.{Reply}
+use Rattle.ele_model.specs.declared.reply.Reply.TheVariants.{Nothing, Removed}
+use Rattle.ele_model.specs.Pass.{IsCleaned}
+use Rattle.ele_model.specs.Scan.{first_due}
+use Rattle.ele_model.specs.Step.{clean_step}
+use Rattle.ele_model.specs.World.{World}
+use Rattle.ele_model.proofs.Cleans.{clean_of}
+use Rattle.ele_model.proofs.PassEnds.{cleaned_none, cleaned_more}
 use Rattle.ele_history.specs.Pass.{Removes}
 use Rattle.ele_history.specs.PassIsOfWorld.{PassIsOfWorld, PassOfWorld}
 use Rattle.ele_history.specs.Past.{Past, answered, count_of, recorded, reply_to, world_of}

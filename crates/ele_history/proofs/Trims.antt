@@ -3,15 +3,15 @@ use Rattle.std.proofs.Common.{◌≡◌, List, [], ◌∷◌, ◌++◌, refl, sy
 use Rattle.std.proofs.lemmas.List.{length-map}
 use Rattle.std.specs.List.{AllByRecursion}
 use Rattle.ele_lists.proofs.Alls.{all-append}
-use Rattle.ele_world.specs.declared.entry.Entry.{Entry}
-use Rattle.ele_world.specs.declared.event.Event.{Event}
-use Rattle.ele_world.specs.AlwaysWellFormed.{AlwaysWellFormed, StepKeepsWellFormed}
-use Rattle.ele_world.specs.Bounds.{Bounds, AreBounds}
-use Rattle.ele_world.specs.NumbersRise.{NumbersRise}
-use Rattle.ele_world.specs.Run.{run_of, IsEvent}
-use Rattle.ele_world.specs.Step.{step}
-use Rattle.ele_world.specs.WellFormed.{IsWellFormed}
-use Rattle.ele_world.specs.World.{World, fresh_world}
+use Rattle.ele_model.specs.declared.entry.Entry.{Entry}
+use Rattle.ele_model.specs.declared.event.Event.{Event}
+use Rattle.ele_model.specs.AlwaysWellFormed.{AlwaysWellFormed, StepKeepsWellFormed}
+use Rattle.ele_model.specs.Bounds.{Bounds, AreBounds}
+use Rattle.ele_model.specs.NumbersRise.{NumbersRise}
+use Rattle.ele_model.specs.Run.{run_of, IsEvent}
+use Rattle.ele_model.specs.Step.{step}
+use Rattle.ele_model.specs.WellFormed.{IsWellFormed}
+use Rattle.ele_model.specs.World.{World, fresh_world}
 use Rattle.ele_history.specs.Past.{Past, count_of, events_of, trimmed, world_of}
 use Rattle.ele_history.specs.Reached.{IsReached}
 use Rattle.ele_history.specs.Sound.{IsSound}

@@ -1,8 +1,8 @@
 -- What a legal history is.
 use Rattle.std.specs.Prelude.{◌≡◌, List, [], ◌∷◌}
-use Rattle.ele_world.specs.declared.entry.Entry.{Entry}
-use Rattle.ele_world.specs.Step.{step}
-use Rattle.ele_world.specs.World.{World}
+use Rattle.ele_model.specs.declared.entry.Entry.{Entry}
+use Rattle.ele_model.specs.Step.{step}
+use Rattle.ele_model.specs.World.{World}
 
 -- from this world on, each entry's reply is that of the step in the world after the entries before it
 abbrev pub IsLegal : World → List Entry → Type 0

@@ -1,12 +1,12 @@
 -- How a pass goes: clean events in a row, each of which is an entry.
 use Rattle.std.specs.Prelude.{◌≡◌, ℕ, zero, suc, ◌<◌, Result, Ok, Err}
 use Rattle.ele_due.specs.declared.key.Key.{Key}
-use Rattle.ele_world.specs.declared.event.Event.TheVariants.{CleanOne}
-use Rattle.ele_world.specs.declared.pass.PassEnd.{PassEnd}
-use Rattle.ele_world.specs.declared.pass.PassEnd.TheVariants.{Finished, Budget, Stopped}
-use Rattle.ele_world.specs.declared.refusal.Stop.{Stop}
-use Rattle.ele_world.specs.declared.reply.Reply.{Reply}
-use Rattle.ele_world.specs.declared.reply.Reply.TheVariants.{Nothing, Removed}
+use Rattle.ele_model.specs.declared.event.Event.TheVariants.{CleanOne}
+use Rattle.ele_model.specs.declared.pass.PassEnd.{PassEnd}
+use Rattle.ele_model.specs.declared.pass.PassEnd.TheVariants.{Finished, Budget, Stopped}
+use Rattle.ele_model.specs.declared.refusal.Stop.{Stop}
+use Rattle.ele_model.specs.declared.reply.Reply.{Reply}
+use Rattle.ele_model.specs.declared.reply.Reply.TheVariants.{Nothing, Removed}
 use Rattle.ele_history.specs.Past.{Past}
 use Rattle.ele_history.specs.Reply.{MayReply}
 

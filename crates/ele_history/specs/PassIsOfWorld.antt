@@ -1,9 +1,9 @@
 -- What the pass of a history is of its world.
 use Rattle.std.specs.Prelude.{◌≡◌, ℕ, ◌+◌}
-use Rattle.ele_world.specs.declared.pass.PassEnd.{PassEnd}
-use Rattle.ele_world.specs.declared.pass.PassEnd.TheVariants.{Finished, Budget, Stopped}
-use Rattle.ele_world.specs.Pass.{IsCleaned, IsPass}
-use Rattle.ele_world.specs.World.{World}
+use Rattle.ele_model.specs.declared.pass.PassEnd.{PassEnd}
+use Rattle.ele_model.specs.declared.pass.PassEnd.TheVariants.{Finished, Budget, Stopped}
+use Rattle.ele_model.specs.Pass.{IsCleaned, IsPass}
+use Rattle.ele_model.specs.World.{World}
 use Rattle.ele_history.specs.Pass.{MayPass}
 use Rattle.ele_history.specs.Past.{Past, count_of, world_of}
 

@@ -1,12 +1,12 @@
 -- A history, and how it grows and is trimmed.
 use Rattle.std.specs.Prelude.{◌≡◌, ℕ, ◌+◌, ◌<◌, List, [], ◌∷◌, ◌++◌, length, map}
-use Rattle.ele_world.specs.Bounds.{Bounds}
-use Rattle.ele_world.specs.declared.entry.Entry.{Entry}
-use Rattle.ele_world.specs.declared.event.Event.{Event}
-use Rattle.ele_world.specs.declared.reply.Reply.{Reply}
-use Rattle.ele_world.specs.Run.{run_of}
-use Rattle.ele_world.specs.Step.{step}
-use Rattle.ele_world.specs.World.{World, fresh_world}
+use Rattle.ele_model.specs.Bounds.{Bounds}
+use Rattle.ele_model.specs.declared.entry.Entry.{Entry}
+use Rattle.ele_model.specs.declared.event.Event.{Event}
+use Rattle.ele_model.specs.declared.reply.Reply.{Reply}
+use Rattle.ele_model.specs.Run.{run_of}
+use Rattle.ele_model.specs.Step.{step}
+use Rattle.ele_model.specs.World.{World, fresh_world}
 
 -- the world that the entries begin from, how many entries were folded into it, and the entries
 pub record Past : Type 0 where

@@ -1,9 +1,9 @@
 -- Which worlds events lead to.
 use Rattle.std.specs.Prelude.{◌≡◌, ℕ, List, length}
 use Rattle.std.specs.List.{AllByRecursion}
-use Rattle.ele_world.specs.declared.event.Event.{Event}
-use Rattle.ele_world.specs.Run.{run_of, IsEvent}
-use Rattle.ele_world.specs.World.{World, fresh_world}
+use Rattle.ele_model.specs.declared.event.Event.{Event}
+use Rattle.ele_model.specs.Run.{run_of, IsEvent}
+use Rattle.ele_model.specs.World.{World, fresh_world}
 
 -- the world after so many events, from the fresh world of its limits: what is true of every run is true of it
 pub record IsReached (count : ℕ) (w : World) : Type 0 where

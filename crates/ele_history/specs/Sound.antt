@@ -1,8 +1,8 @@
 -- What the type keeps. No public clause cites this module.
 use Rattle.std.specs.Prelude.{◌≡◌, ◌≤◌}
 use Rattle.std.specs.List.{AllByRecursion}
-use Rattle.ele_world.specs.Run.{IsEvent}
-use Rattle.ele_world.specs.World.{World}
+use Rattle.ele_model.specs.Run.{IsEvent}
+use Rattle.ele_model.specs.World.{World}
 use Rattle.ele_history.specs.Legal.{IsLegal}
 use Rattle.ele_history.specs.Past.{Past, events_of, world_of, count_of}
 use Rattle.ele_history.specs.Reached.{IsReached}

@@ -5,8 +5,8 @@
 ghost use Rattle.std.specs.Prelude.{◌≡◌, ◌+◌, ◌-◌, ◌<◌, ◌≤◌, ◌↔◌, length, slice_get, IfOk, OnOk, OnErr, IsTrue, IsFalse, vec_len, vec_capacity};
 ghost use Rattle.std.specs.List.{AllByRecursion};
 ghost use Rattle.std.specs.Option.{option_copied};
-ghost use Rattle.ele_world.specs.Run.{IsEvent};
-ghost use Rattle.ele_world.specs.Step.{step};
+ghost use Rattle.ele_model.specs.Run.{IsEvent};
+ghost use Rattle.ele_model.specs.Step.{step};
 ghost use Rattle.ele_history.specs.Legal.{IsLegal};
 ghost use Rattle.ele_history.specs.Past.{HasRoom, IsFull, count_of, events_of, fresh, trimmed, world_of};
 ghost use Rattle.ele_history.specs.Reached.{IsReached};
@@ -15,10 +15,9 @@ ghost use Rattle.ele_history.specs.Reply.{MayRecord, MayReply};
 pub mod laws;
 mod pass;
 
-use ele_world::laws::past::numbers_rise;
-use ele_world::laws::{always_well_formed, readers_stay, step_keeps_well_formed};
-use ele_world::{Event, Flat, Limits, NoMemory, Reply, Stepping};
-pub use ele_world::{Entry, PassEnd, Stop};
+use ele_model::laws::{always_well_formed, numbers_rise, readers_stay, step_keeps_well_formed};
+use ele_model::{Event, Flat, Limits, NoMemory, Reply, Stepping};
+pub use ele_model::{Entry, PassEnd, Stop};
 use std::alloc::Global;
 use std::marker::Model;
 

@@ -5,7 +5,7 @@ ghost use Rattle.ele_history.specs.Clean.{MayClean, has_removed};
 ghost use Rattle.ele_history.specs.Pass.{MayPass};
 
 use crate::History;
-use ele_world::{Entry, Event, PassEnd, Reply, Stepping, Stop};
+use ele_model::{Entry, Event, PassEnd, Reply, Stepping, Stop};
 
 impl<C: Stepping> History<C> {
     /// Takes clean events until nothing is due, or so many versions are removed. Each is an entry,

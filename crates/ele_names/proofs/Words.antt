@@ -32,15 +32,15 @@ pub use Rattle.ele_names.specs.declared.lives.Lives.{Lives}
 pub use Rattle.ele_names.specs.declared.names.Names.TheInside.{Inside}
 pub use Rattle.ele_names.specs.declared.places.Places.{Places}
 pub use Rattle.ele_names.specs.declared.table.Table.{Table}
-pub use Rattle.ele_world.proofs.Walks.{parent_is, walk-on}
-pub use Rattle.ele_world.specs.NameRows.{covers, is_live_directory, is_live_in, is_named, is_target_directory, last_dead, lives_past, target_at}
-pub use Rattle.ele_world.specs.Walk.{comes_through, is_live_name, live_target, parent_now, walk_now, walk}
-pub use Rattle.ele_world.specs.WalkAt.{walk_covering}
-pub use Rattle.ele_world.specs.World.{is_live_name_of, is_target_file, root}
-pub use Rattle.ele_world.specs.declared.refusal.Refusal.TheVariants.{NoEntry}
-pub use Rattle.ele_world.specs.declared.rows.NameRow.{NameRow}
-pub use Rattle.ele_world.specs.declared.rows.Target.TheVariants.{Directory, File}
-pub use Rattle.ele_world.specs.declared.rows.Target.{Target}
+pub use Rattle.ele_model.proofs.Walks.{parent_is, walk-on}
+pub use Rattle.ele_model.specs.NameRows.{covers, is_live_directory, is_live_in, is_named, is_target_directory, last_dead, lives_past, target_at}
+pub use Rattle.ele_model.specs.Walk.{comes_through, is_live_name, live_target, parent_now, walk_now, walk}
+pub use Rattle.ele_model.specs.WalkAt.{walk_covering}
+pub use Rattle.ele_model.specs.World.{is_live_name_of, is_target_file, root}
+pub use Rattle.ele_model.specs.declared.refusal.Refusal.TheVariants.{NoEntry}
+pub use Rattle.ele_model.specs.declared.rows.NameRow.{NameRow}
+pub use Rattle.ele_model.specs.declared.rows.Target.TheVariants.{Directory, File}
+pub use Rattle.ele_model.specs.declared.rows.Target.{Target}
 pub use Rattle.indexmap.proofs.CallerLemmas.{insert_entry-new, keys-insert_entry-present, keys-with_value_at}
 pub use Rattle.indexmap.proofs.MapLemmas.{some_index}
 pub use Rattle.indexmap.specs.IndexMap.{set_value_at, with_value_at}

@@ -3,10 +3,10 @@ use Rattle.std.specs.Prelude.{◌≡◌, ℕ, ◌+◌, true, false, List, Option
 use Rattle.std.specs.HashMap.{HashMap, get}
 use Rattle.std.specs.List.{count_by}
 use Rattle.std.specs.Option.{option_and_then, option_map, option_map_or}
-use Rattle.ele_world.specs.declared.rows.NameRow.{NameRow}
-use Rattle.ele_world.specs.declared.rows.Target.{Target}
-use Rattle.ele_world.specs.NameRows.{is_live_in}
-use Rattle.ele_world.specs.Walk.{is_live_name, live_target}
+use Rattle.ele_model.specs.declared.rows.NameRow.{NameRow}
+use Rattle.ele_model.specs.declared.rows.Target.{Target}
+use Rattle.ele_model.specs.NameRows.{is_live_in}
+use Rattle.ele_model.specs.Walk.{is_live_name, live_target}
 use Rattle.ele_names.specs.declared.lives.Live.{Live}
 use Rattle.ele_names.specs.declared.lives.Lives.{Lives}
 use Rattle.ele_names.specs.Chained.{live_in}

@@ -7,9 +7,9 @@ use Rattle.std.specs.Map.{keys_of, values_of}
 use Rattle.ele_lists.specs.Lists.{AllLater}
 use Rattle.ele_lists.specs.Serial.{value_at}
 use Rattle.ele_moment.specs.Last.{last_moment}
-use Rattle.ele_world.specs.declared.rows.NameRow.{NameRow}
-use Rattle.ele_world.specs.declared.rows.Target.{Target}
-use Rattle.ele_world.specs.NameRows.{is_named}
+use Rattle.ele_model.specs.declared.rows.NameRow.{NameRow}
+use Rattle.ele_model.specs.declared.rows.Target.{Target}
+use Rattle.ele_model.specs.NameRows.{is_named}
 use Rattle.ele_names.specs.declared.lives.Lives.{Lives}
 use Rattle.ele_names.specs.declared.table.Table.{Table}
 use Rattle.ele_names.specs.Rows.{Follows}

@@ -1,7 +1,7 @@
 -- What a contract sees of the answers of `Names`.
 use Rattle.std.specs.Prelude.{ℕ, List}
-use Rattle.ele_world.specs.declared.rows.Target.{Target}
-pub use Rattle.ele_world.specs.Restorable.{name_cmp}
+use Rattle.ele_model.specs.declared.rows.Target.{Target}
+pub use Rattle.ele_model.specs.Restorable.{name_cmp}
 
 -- what a name stands for, as an entry by directory and name
 abbrev pub by_name : ℕ × List ℕ × Target → (ℕ × List ℕ) × Target

@@ -5,10 +5,10 @@ use Rattle.std.specs.HashMap.{keys}
 use Rattle.std.specs.List.{position_or_len}
 use Rattle.std.specs.Str.{bytes_eq}
 use Rattle.ele_lists.specs.Tally.{counted}
-use Rattle.ele_world.specs.declared.rows.NameRow.{NameRow}
-use Rattle.ele_world.specs.declared.rows.Target.{Target}
-use Rattle.ele_world.specs.declared.rows.Target.TheVariants.{Directory, File}
-use Rattle.ele_world.specs.World.{is_target_file}
+use Rattle.ele_model.specs.declared.rows.NameRow.{NameRow}
+use Rattle.ele_model.specs.declared.rows.Target.{Target}
+use Rattle.ele_model.specs.declared.rows.Target.TheVariants.{Directory, File}
+use Rattle.ele_model.specs.World.{is_target_file}
 use Rattle.ele_names.specs.declared.lives.Lives.{Lives}
 use Rattle.ele_names.specs.declared.places.Places.{Places}
 use Rattle.ele_names.specs.Births.{AreBirthsOf}

@@ -1,8 +1,8 @@
 -- A path whose names but the last lead to a directory.
 use Rattle.std.specs.Prelude.{◌≡◌, ℕ, List, Ok, Err}
-use Rattle.ele_world.specs.declared.refusal.Refusal.{Refusal}
-use Rattle.ele_world.specs.declared.rows.NameRow.{NameRow}
-use Rattle.ele_world.specs.Walk.{walk_now, parent_now}
+use Rattle.ele_model.specs.declared.refusal.Refusal.{Refusal}
+use Rattle.ele_model.specs.declared.rows.NameRow.{NameRow}
+use Rattle.ele_model.specs.Walk.{walk_now, parent_now}
 
 -- the path's last name has a place, and the walk to the path is refused there
 pub record StopsAtPlace (rows : List NameRow) (path : List (List ℕ)) (refusal : Refusal) : Type 0 where

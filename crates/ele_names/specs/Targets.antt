@@ -1,8 +1,8 @@
 -- Targets. No public clause cites this module.
 use Rattle.std.specs.Prelude.{◌&&◌, not, is_none, Bool}
-use Rattle.ele_world.specs.declared.rows.NameRow.{NameRow}
-use Rattle.ele_world.specs.declared.rows.Target.{Target}
-use Rattle.ele_world.specs.contracts.rows.TargetPartialEq.TheImpl.{eq-value}
+use Rattle.ele_model.specs.declared.rows.NameRow.{NameRow}
+use Rattle.ele_model.specs.declared.rows.Target.{Target}
+use Rattle.ele_model.specs.contracts.rows.TargetPartialEq.TheImpl.{eq-value}
 
 -- the two are one
 abbrev pub target_eq : Target → Target → Bool

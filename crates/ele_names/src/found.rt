@@ -2,7 +2,7 @@
 //! A contract sees what it stands for.
 ghost use Rattle.std.specs.Prelude.{◌≡◌};
 
-use ele_world::Target;
+use ele_model::Target;
 use std::marker::Model;
 
 /// What a live name stands for, with the number at which the name was found, so that a change of
@@ -15,7 +15,7 @@ pub struct Found {
 }
 
 impl Model for Found {
-    ghost use Rattle.ele_world.specs.declared.rows.Target.{Target};
+    ghost use Rattle.ele_model.specs.declared.rows.Target.{Target};
 
     ghost Value = { Target };
 

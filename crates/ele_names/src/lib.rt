@@ -12,7 +12,7 @@ mod places;
 mod table;
 mod walk;
 
-pub use ele_world::{NameRow, Target};
+pub use ele_model::{NameRow, Target};
 pub use found::Found;
 pub use names::Names;
 pub use walk::{parent_beside, parent_now, placed_now, resolve_at, resolve_now, stands_in};

@@ -4,16 +4,16 @@ ghost use Rattle.std.specs.Prelude.{◌≡◌, ℕ, ◌<◌, ◌+◌, ◌^◌, t
 ghost use Rattle.std.specs.Option.{option_map};
 ghost use Rattle.std.specs.Ordering.{nat_cmp};
 ghost use Rattle.std.specs.BTreeMap.{is_at};
-ghost use Rattle.ele_world.specs.declared.rows.NameRow.{NameRow};
-ghost use Rattle.ele_world.specs.Walk.{is_live_name};
+ghost use Rattle.ele_model.specs.declared.rows.NameRow.{NameRow};
+ghost use Rattle.ele_model.specs.Walk.{is_live_name};
 ghost use Rattle.ele_names.specs.Chained.{live_in};
 ghost use Rattle.ele_names.specs.Counted.{AreCounted, AreNumbered, Leaves, live_at};
 ghost use Rattle.ele_names.specs.Placed.{AreListed, KeepsPlaces, name_eq, names_of, number_in, place_in};
 
 use crate::chains::Chains;
 use crate::found::Found;
+use ele_model::{NameRow, Target};
 use ele_moment::{DirId, Name, NoMemory};
-use ele_world::{NameRow, Target};
 use indexmap::IndexMap;
 use std::alloc::Global;
 

@@ -11,9 +11,9 @@ ghost use Rattle.std.specs.Ordering.{nat_cmp};
 ghost use Rattle.ele_lists.specs.Last.{last_passing};
 ghost use Rattle.ele_lists.specs.Lists.{AllLater, update_first};
 ghost use Rattle.ele_moment.specs.Last.{last_moment};
-ghost use Rattle.ele_world.specs.NameRows.{is_named, target_at, last_dead, is_live_in, is_live_directory};
-ghost use Rattle.ele_world.specs.Walk.{is_live_name, live_target};
-ghost use Rattle.ele_world.specs.World.{is_live_name_of, is_target_file};
+ghost use Rattle.ele_model.specs.NameRows.{is_named, target_at, last_dead, is_live_in, is_live_directory};
+ghost use Rattle.ele_model.specs.Walk.{is_live_name, live_target};
+ghost use Rattle.ele_model.specs.World.{is_live_name_of, is_target_file};
 ghost use Rattle.ele_names.specs.Kept.{IsKept, is_born_by, rows_of};
 ghost use Rattle.ele_names.specs.Listed.{by_name, name_cmp};
 ghost use Rattle.ele_names.specs.Placed.{is_of};
@@ -22,8 +22,8 @@ ghost use Rattle.ele_names.specs.Rows.{born_row, dies, Follows};
 use crate::found::Found;
 use crate::lives::{Live, Lives};
 use crate::table::{Table, lives_past};
+use ele_model::{NameRow, Target};
 use ele_moment::{DirId, FileId, Moment, Name, NoMemory};
-use ele_world::{NameRow, Target};
 use std::alloc::Global;
 use std::collections::BTreeMap;
 use std::marker::Model;
@@ -39,7 +39,7 @@ pub struct Names {
 impl Model for Names {
     ghost use Rattle.std.specs.Prelude.{List};
     ghost use Rattle.ele_names.specs.Kept.{IsKept, rows_of};
-    ghost use Rattle.ele_world.specs.declared.rows.NameRow.{NameRow};
+    ghost use Rattle.ele_model.specs.declared.rows.NameRow.{NameRow};
 
     ghost Value = { List NameRow };
 

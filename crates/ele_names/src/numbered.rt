@@ -7,11 +7,11 @@ ghost use Rattle.std.specs.Map.{keys_of, remove_entry, values_of};
 ghost use Rattle.std.specs.Option.{option_copied};
 ghost use Rattle.std.specs.Ordering.{nat_cmp};
 ghost use Rattle.ele_lists.specs.Serial.{value_at};
-ghost use Rattle.ele_world.specs.declared.rows.NameRow.{NameRow};
+ghost use Rattle.ele_model.specs.declared.rows.NameRow.{NameRow};
 ghost use Rattle.ele_names.specs.Rows.{dies};
 
+use ele_model::NameRow;
 use ele_moment::{Moment, NoMemory};
-use ele_world::NameRow;
 use std::alloc::Global;
 use std::marker::Model;
 
@@ -23,7 +23,7 @@ pub struct Numbered {
 }
 
 impl Model for Numbered {
-    ghost use Rattle.ele_world.specs.declared.rows.NameRow.{NameRow};
+    ghost use Rattle.ele_model.specs.declared.rows.NameRow.{NameRow};
     ghost use Rattle.ele_names.specs.Numbered.{Serials, serials_of};
 
     ghost Value = { Serials NameRow };

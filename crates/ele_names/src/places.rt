@@ -5,8 +5,8 @@ ghost use Rattle.std.specs.Prelude.{◌≡◌, ◌≤◌, ◌<◌, ◌+◌, ◌-
 ghost use Rattle.std.specs.Ordering.{nat_cmp};
 ghost use Rattle.std.specs.BTreeMap.{is_at};
 ghost use Rattle.ele_moment.specs.Last.{last_moment};
-ghost use Rattle.ele_world.specs.declared.rows.NameRow.{NameRow};
-ghost use Rattle.ele_world.specs.declared.rows.Target.{Target};
+ghost use Rattle.ele_model.specs.declared.rows.NameRow.{NameRow};
+ghost use Rattle.ele_model.specs.declared.rows.Target.{Target};
 ghost use Rattle.ele_names.specs.Chained.{AreChained, is_member};
 ghost use Rattle.ele_names.specs.Placed.{AreIndexed, is_of, live_of, number_in};
 ghost use Rattle.ele_names.specs.Targets.{is_live_of, target_eq};
@@ -14,8 +14,8 @@ ghost use Rattle.ele_names.specs.Targets.{is_live_of, target_eq};
 use crate::births::Births;
 use crate::chains::Chains;
 use ele_lists::Tally;
+use ele_model::{NameRow, Target};
 use ele_moment::{DirId, NoMemory};
-use ele_world::{NameRow, Target};
 use std::alloc::Global;
 
 /// The rows of one name by birth, those of one file from the newest back with a count of the live

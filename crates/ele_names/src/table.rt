@@ -1,15 +1,15 @@
 //! The rows by serial number, with their places.
 //! A contract sees the rows as their list in order of serial numbers.
 ghost use Rattle.std.specs.Prelude.{◌≡◌, ℕ, List, []};
-ghost use Rattle.ele_world.specs.NameRows.{lives_past};
-ghost use Rattle.ele_world.specs.declared.rows.Target.{Target};
+ghost use Rattle.ele_model.specs.NameRows.{lives_past};
+ghost use Rattle.ele_model.specs.declared.rows.Target.{Target};
 ghost use Rattle.ele_names.specs.Kept.{IsTable};
 ghost use Rattle.ele_names.specs.Placed.{live_of};
 
 use crate::numbered::Numbered;
 use crate::places::Places;
+use ele_model::NameRow;
 use ele_moment::Moment;
-use ele_world::NameRow;
 use std::alloc::Global;
 
 /// The rows by serial number, and the indexes by which they are found.

@@ -1,17 +1,17 @@
 //! Where a path leads, now or at an earlier moment.
 //! A contract sees the names as their rows, and a walk as the world's words say it.
 ghost use Rattle.std.specs.Prelude.{◌≡◌, ◌-◌, ◌⊎◌, Ok, Err, IfOk, IfErr, length, take};
-ghost use Rattle.ele_world.specs.Walk.{walk_now, parent_now, comes_through, stands_in};
-ghost use Rattle.ele_world.specs.WalkAt.{walk_at, walk_covering};
-ghost use Rattle.ele_world.specs.World.{root};
-ghost use Rattle.ele_world.specs.declared.rows.Target.TheVariants.{Directory};
+ghost use Rattle.ele_model.specs.Walk.{walk_now, parent_now, comes_through, stands_in};
+ghost use Rattle.ele_model.specs.WalkAt.{walk_at, walk_covering};
+ghost use Rattle.ele_model.specs.World.{root};
+ghost use Rattle.ele_model.specs.declared.rows.Target.TheVariants.{Directory};
 ghost use Rattle.ele_names.specs.Stops.{StopsAtPlace};
 
 use crate::found::Found;
 use crate::names::Names;
+use ele_model::{Refusal, Target};
 use ele_moment::{DirId, Moment, Name};
 use ele_time_path::Path;
-use ele_world::{Refusal, Target};
 
 /// The directory from which each path starts.
 const ROOT: DirId = DirId(0);

@@ -4,8 +4,8 @@ use Rattle.ele_printer.proofs.Basics.{get_or, drop, length, flat_map, ◌<◌, �
 use Rattle.ele_printer.proofs.Prelude.{Outlet, Takes, TakesFront, Puts, HandsOver}
 use Rattle.ele_printer.specs.Front.{AppendsFront}
 use Rattle.ele_printer.specs.Printed.{IsAnswerText, WritesAnswerFront}
-use Rattle.ele_world.specs.declared.refusal.Stop.{Stop}
-use Rattle.ele_world.specs.declared.reply.Reply.{Reply}
+use Rattle.ele_model.specs.declared.refusal.Stop.{Stop}
+use Rattle.ele_model.specs.declared.reply.Reply.{Reply}
 
 pub takes_then : (a b c : Outlet) (x y : List ℕ) → Takes a b x → Takes b c y → Takes a c (x ++ y)
 takes_then a b c x y p q =

@@ -2,8 +2,8 @@
 use Rattle.ele_printer.proofs.Basics.{nat_tests, arith, ◌==◌, true, ◌≡◌, ℕ, ◌+◌, ◌<◌, List, [], ◌∷◌, ◌++◌, length, map, take, drop, get_or, ◌/◌, ◌%◌, refl, sym, ap, ◌∙◌, append_assoc, codes, decimal, decimal_digit, drop_more, append-nil, take-append-drop, join_with_byte, flat_map, IsFirstAndRest, encode_lower, lower_digits}
 use Rattle.ele_printer.proofs.Prelude.{Rung, line_text, ladder_word, pair_word, bytes_text, kind_words, usage_line, usage_lines, numbers_word, mark_word, marks_word, group_line}
 use Rattle.ele_usage.specs.declared.usage.Usage.{Usage}
-use Rattle.ele_world.specs.declared.rows.GroupRow.{GroupRow}
-use Rattle.ele_world.specs.declared.rows.MarkRow.{MarkRow}
+use Rattle.ele_model.specs.declared.rows.GroupRow.{GroupRow}
+use Rattle.ele_model.specs.declared.rows.MarkRow.{MarkRow}
 use Rattle.hex.specs.Hex.{encode_with}
 
 -- what follows a word of a line

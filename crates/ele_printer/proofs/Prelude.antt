@@ -4,4 +4,4 @@ pub use Rattle.ele_policy.specs.PolicyText.{ladder_word, pair_word}
 pub use Rattle.ele_printer.specs.Outlet.{HandsOver, Outlet, Puts, Takes, TakesFront}
 pub use Rattle.ele_printer.specs.Printed.{bytes_text, group_line, kind_words, line_text, mark_word, marks_word, numbers_word, usage_line, usage_lines}
 pub use Rattle.ele_printer.specs.Prints.{Prints, outlet}
-pub use Rattle.ele_world.specs.declared.rows.MarkRow.{MarkRow}
+pub use Rattle.ele_model.specs.declared.rows.MarkRow.{MarkRow}

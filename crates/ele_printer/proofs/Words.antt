@@ -9,7 +9,7 @@ use Rattle.ele_printer.specs.Parts.{parts_of}
 use Rattle.ele_printer.specs.Printed.{bytes_word}
 use Rattle.ele_printer.specs.PutsParts.{parts_text}
 use Rattle.ele_printer.specs.Value.{Value}
-use Rattle.ele_world.specs.declared.entry.Entry.{Entry}
+use Rattle.ele_model.specs.declared.entry.Entry.{Entry}
 use Rattle.ele_printer.specs.declared.command.Command.{Command}
 
 -- a command has a word

@@ -11,9 +11,9 @@ use Rattle.ele_time_path.specs.PathAt.{tag_at}
 use Rattle.ele_time_path.specs.PathText.{path_word, tagged_word}
 use Rattle.ele_time_path.specs.declared.tagged.Tag.{Tag}
 use Rattle.ele_time_path.specs.declared.tagged.Tag.TheVariants.{Now, At, Number as Numbered}
-use Rattle.ele_world.specs.declared.event.Event.{Event}
-use Rattle.ele_world.specs.declared.event.Source.{Source as AnySource}
-use Rattle.ele_world.specs.declared.event.Source.TheVariants as source
+use Rattle.ele_model.specs.declared.event.Event.{Event}
+use Rattle.ele_model.specs.declared.event.Source.{Source as AnySource}
+use Rattle.ele_model.specs.declared.event.Source.TheVariants as source
 use Rattle.ele_printer.specs.Command.{command_words}
 use Rattle.ele_printer.specs.Parts.{parts_of}
 use Rattle.ele_printer.specs.Printed.{bytes_word}

@@ -2,7 +2,7 @@
 use Rattle.std.specs.Prelude.{ℕ, List, [], ◌∷◌, ◌++◌, length, codes}
 use Rattle.std.specs.Fmt.{decimal}
 use Rattle.std.specs.List.{flat_map}
-use Rattle.ele_world.specs.declared.entry.Entry.{Entry}
+use Rattle.ele_model.specs.declared.entry.Entry.{Entry}
 use Rattle.ele_printer.specs.EventText.{event_words}
 use Rattle.ele_printer.specs.Printed.{line_text}
 

@@ -4,8 +4,8 @@ use Rattle.ele_time_path.specs.declared.fault.PathFault.{PathFault}
 use Rattle.ele_time_path.specs.declared.fault.PathFault.TheVariants as path
 use Rattle.ele_time_path.specs.declared.fault.PathAtFault.{PathAtFault}
 use Rattle.ele_time_path.specs.declared.fault.PathAtFault.TheVariants as timed
-use Rattle.ele_world.specs.Answers.{stop_answer}
-use Rattle.ele_world.specs.declared.refusal.Stop.TheVariants as stop
+use Rattle.ele_model.specs.Answers.{stop_answer}
+use Rattle.ele_model.specs.declared.refusal.Stop.TheVariants as stop
 use Rattle.ele_printer.specs.declared.fault.LineFault.{LineFault}
 use Rattle.ele_printer.specs.declared.fault.LineFault.TheVariants.{BadName, BadPath, BadMoment, BadLadder, Syntax, LineTooLong, NoMemory}
 

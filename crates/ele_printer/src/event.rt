@@ -16,8 +16,8 @@ use crate::fault::WriteFault;
 use crate::printer::{Printer, put_words};
 use crate::reply::put_hexadecimal;
 use crate::word::Word;
+use ele_model::Event;
 use ele_moment::{Handle, Moment, Name};
-use ele_world::Event;
 use std::io::Write;
 
 /// Puts the line of an event.

@@ -10,8 +10,8 @@ use crate::fault::WriteFault;
 use crate::printer::{Printer, put_words};
 use crate::row::{Row, put_rows};
 use crate::rows::put_listed;
+use ele_model::{GroupRow, MarkRow};
 use ele_moment::{FileId, Moment};
-use ele_world::{GroupRow, MarkRow};
 use std::io::Write;
 
 /// Puts how many groups there are, and the line of each.

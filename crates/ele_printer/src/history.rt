@@ -10,7 +10,7 @@ use crate::fault::WriteFault;
 use crate::printer::{Printer, put_line};
 use crate::reply::put_number;
 use crate::row::{Row, put_lines};
-use ele_world::Entry;
+use ele_model::Entry;
 use itoa::Buffer;
 use std::io::Write;
 

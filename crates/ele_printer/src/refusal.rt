@@ -1,14 +1,14 @@
 //! Putting refusals into an output. A contract sees a refusal as itself, and a printer as its
 //! outlet.
 ghost use Rattle.std.specs.Prelude.{◌∷◌, [], List, ℕ, decimal, codes};
-ghost use Rattle.ele_world.specs.Answers.{refusal_number, refusal_name};
+ghost use Rattle.ele_model.specs.Answers.{refusal_number, refusal_name};
 ghost use Rattle.ele_printer.specs.Prints.{Prints};
 ghost use Rattle.ele_printer.specs.Printed.{line_text, refusal_text};
 
 use crate::fault::WriteFault;
 use crate::printer::{Printer, put_line};
 use crate::reply::put_named;
-use ele_world::Refusal;
+use ele_model::Refusal;
 use itoa::Buffer;
 use std::io::Write;
 

@@ -11,7 +11,7 @@ use crate::printer::{Printer, put_line};
 use crate::refusal::put_refusal;
 use crate::row::{Row, put_rows};
 use crate::rows::{put_directory, put_file, put_names, put_number_word, put_versions};
-use ele_world::{DeadName, Key, PassEnd, Reply, Stop, Target, Usage, VersionNo};
+use ele_model::{DeadName, Key, PassEnd, Reply, Stop, Target, Usage, VersionNo};
 use itoa::Buffer;
 use std::io::Write;
 

@@ -8,9 +8,9 @@ ghost use Rattle.ele_printer.specs.Printed.{line_text, end_word, file_text, dire
 use crate::fault::WriteFault;
 use crate::printer::{Printer, put_line, put_words};
 use crate::row::{Row, put_rows};
+use ele_model::{DirectoryRow, FileStat, Stamps, Target};
 use ele_moment::{Moment, Name};
 use ele_policy::{Floor, Ladder, Policy};
-use ele_world::{DirectoryRow, FileStat, Stamps, Target};
 use itoa::Buffer;
 use std::io::Write;
 

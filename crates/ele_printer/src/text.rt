@@ -12,7 +12,7 @@ use crate::event::put_event_line;
 use crate::fault::{LineFault, WriteFault};
 use crate::printer::Printer;
 use crate::reply::{put_fault, put_named, put_pass, put_placed, put_reply};
-use ele_world::{Event, PassEnd, Reply, Stop};
+use ele_model::{Event, PassEnd, Reply, Stop};
 use std::io::Write;
 
 /// Writes the lines of a reply, or of the stop that came in its place. At a fault the writer took a

@@ -10,8 +10,8 @@ use crate::group_rows::put_mark;
 use crate::printer::{Printer, put_line, put_words};
 use crate::refusal::put_refusal;
 use crate::row::put_rows;
+use ele_model::{Cause, Fate, KeyList, MarkRow, Refusal};
 use ele_moment::Moment;
-use ele_world::{Cause, Fate, KeyList, MarkRow, Refusal};
 use itoa::Buffer;
 use std::io::Write;
 

@@ -6,7 +6,7 @@ use Rattle.ele_script.specs.FirstFault.{IsFirstFault}
 use Rattle.ele_script.specs.Spells.{Asks}
 use Rattle.ele_script.specs.declared.reading.Line.{Line}
 use Rattle.ele_script.specs.declared.reading.Line.TheVariants as asks
-use Rattle.ele_world.specs.declared.refusal.Stop.TheVariants.{NoMemory}
+use Rattle.ele_model.specs.declared.refusal.Stop.TheVariants.{NoMemory}
 use Rattle.ele_runs.specs.Answer.{Answer, IsForMemory}
 use Rattle.ele_runs.specs.Answer as answer
 

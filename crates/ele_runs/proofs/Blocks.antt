@@ -2,12 +2,12 @@
 use Rattle.ele_runs.proofs.Basics.{◌≡◌, ◌≢◌, ℕ, ◌≤◌, ◌+◌, Bool, true, false, List, [], ◌∷◌, length, Option, Some, None, Result, Ok, Err, ◌⊎◌, inl, inr, refl, sym, ap, subst, append_assoc, arith, nat_tests, ◌++◌, ◌-◌, ◌∙◌, IsErr, length-append, slice_get}
 use Rattle.std.specs.Prelude.{not, ◌&&◌, if◌then◌else◌}
 use Rattle.std.specs.Option.{option_and_then}
-use Rattle.ele_world.specs.World.{World}
+use Rattle.ele_model.specs.World.{World}
 use Rattle.ele_runs.proofs.Words.{Reply, Stop, HistoryFull, AppendsFront, Course, Outlet, Takes, TakesFront, Puts, HasRoom, IsNoted, recorded, MayReply, MayAnswer, as_entry, as_read, as_trim, IsTold, cut_told, front_of, heard, is_well, noting, MayPass, Past, PutsBlock, reply_to, world_of}
-use Rattle.ele_world.specs.declared.entry.Entry.{Entry}
-use Rattle.ele_world.specs.declared.event.Event.{Event}
-use Rattle.ele_world.specs.declared.refusal.Stop.TheVariants.{NoMemory}
-use Rattle.ele_world.specs.declared.reply.Reply.TheVariants as reply
+use Rattle.ele_model.specs.declared.entry.Entry.{Entry}
+use Rattle.ele_model.specs.declared.event.Event.{Event}
+use Rattle.ele_model.specs.declared.refusal.Stop.TheVariants.{NoMemory}
+use Rattle.ele_model.specs.declared.reply.Reply.TheVariants as reply
 use Rattle.ele_script.specs.Spells.{Asks, AsksEvent}
 use Rattle.ele_script.specs.Question.{ReadsQuestion, asked_in}
 use Rattle.ele_script.specs.declared.kind.WordKind.{WordKind}
@@ -22,8 +22,8 @@ use Rattle.ele_printer.specs.declared.fault.LineFault.TheVariants as fault
 use Rattle.ele_script.specs.declared.reading.Line.TheVariants as asks
 use Rattle.ele_runs.specs.Answer.{Answer}
 use Rattle.ele_runs.specs.Answer as answer
-use Rattle.ele_world.specs.declared.pass.PassEnd.{PassEnd}
-use Rattle.ele_world.specs.declared.pass.PassEnd.TheVariants as ends
+use Rattle.ele_model.specs.declared.pass.PassEnd.{PassEnd}
+use Rattle.ele_model.specs.declared.pass.PassEnd.TheVariants as ends
 use Rattle.ele_runs.specs.Block.{IsText}
 use Rattle.ele_runs.specs.Explained.{IsBlockOf, IsExplained, asked_by}
 use Rattle.ele_runs.specs.Explained as explained
@@ -32,8 +32,8 @@ use Rattle.ele_runs.specs.declared.end.RunEnd.{RunEnd}
 use Rattle.ele_runs.specs.declared.manner.Manner.{Manner}
 use Rattle.ele_runs.specs.declared.said.Said.{Said}
 use Rattle.ele_runs.specs.declared.said.Said.TheVariants.{Nothing, Bad, Stopped, Replied, Passed, History, Trimmed, Why, Ahead}
-use Rattle.ele_world.specs.declared.fate.Fate.{Fate}
-use Rattle.ele_world.specs.declared.fate.Fate.TheVariants as fate
+use Rattle.ele_model.specs.declared.fate.Fate.{Fate}
+use Rattle.ele_model.specs.declared.fate.Fate.TheVariants as fate
 use Rattle.ele_runs.specs.Written.{WritesLast}
 use Rattle.ele_runs.proofs.InTime.{IsInTime, asked_in_time, some_text, told_in_time}
 use Rattle.ele_runs.proofs.Joins.{front_behind, front_then, takes_then}

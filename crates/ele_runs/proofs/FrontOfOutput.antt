@@ -5,12 +5,12 @@ use Rattle.ele_runs.proofs.SomeOutput.{some_blocks, some_lines}
 use Rattle.ele_runs.proofs.Within.{recorded_within, trimmed_within}
 use Rattle.ele_runs.proofs.Words.{AppendsFront, AreBlocks, HistoryFull, IsBlock, MayAnswer, MayPass, MayReply, Removes, Reply, Past, Stop, cut_block, line_unless_long, whole_lines}
 use Rattle.ele_script.specs.EveryLine.{EveryLineMeaning}
-use Rattle.ele_world.specs.declared.event.Event.{Event}
-use Rattle.ele_world.specs.declared.event.Event.TheVariants.{CleanOne}
-use Rattle.ele_world.specs.declared.pass.PassEnd.{PassEnd}
-use Rattle.ele_world.specs.declared.pass.PassEnd.TheVariants.{Finished, Budget, Stopped}
-use Rattle.ele_world.specs.declared.refusal.Stop.TheVariants.{NoMemory}
-use Rattle.ele_world.specs.declared.reply.Reply.TheVariants.{Nothing, Removed}
+use Rattle.ele_model.specs.declared.event.Event.{Event}
+use Rattle.ele_model.specs.declared.event.Event.TheVariants.{CleanOne}
+use Rattle.ele_model.specs.declared.pass.PassEnd.{PassEnd}
+use Rattle.ele_model.specs.declared.pass.PassEnd.TheVariants.{Finished, Budget, Stopped}
+use Rattle.ele_model.specs.declared.refusal.Stop.TheVariants.{NoMemory}
+use Rattle.ele_model.specs.declared.reply.Reply.TheVariants.{Nothing, Removed}
 use Rattle.ele_runs.specs.Answer.{Answer}
 use Rattle.ele_runs.specs.Answer as answer
 use Rattle.ele_runs.specs.FrontOfOutput.{FrontOfOutput}

@@ -7,12 +7,12 @@ use Rattle.ele_moment.specs.Last.{last_moment}
 use Rattle.ele_printer.specs.Printed.{IsReplyText}
 use Rattle.ele_script.specs.Spells.{AsksEvent, SpellsValues}
 use Rattle.ele_script.specs.Value.{Moment}
-use Rattle.ele_world.specs.Step.{plan, step}
-use Rattle.ele_world.specs.World.{World}
-use Rattle.ele_world.specs.declared.event.Event.{Event}
-use Rattle.ele_world.specs.declared.event.Event.TheVariants.{Clock, Tick}
-use Rattle.ele_world.specs.declared.reply.Reply.TheVariants.{Now}
-use Rattle.ele_world.proofs.Outcomes.{InAll, outcome_of}
+use Rattle.ele_model.specs.Step.{plan, step}
+use Rattle.ele_model.specs.World.{World}
+use Rattle.ele_model.specs.declared.event.Event.{Event}
+use Rattle.ele_model.specs.declared.event.Event.TheVariants.{Clock, Tick}
+use Rattle.ele_model.specs.declared.reply.Reply.TheVariants.{Now}
+use Rattle.ele_model.proofs.Outcomes.{InAll, outcome_of}
 
 -- a reply that tells the time tells of a moment
 abbrev pub IsInTime : Reply → Type 0

@@ -1,12 +1,12 @@
 -- Events leave the limits of a world.
 use Rattle.ele_runs.proofs.Basics.{◌≡◌, Bool, true, false, List, [], ◌∷◌, Some, None, Ok, Err, refl, ◌∙◌}
 use Rattle.std.specs.Prelude.{if◌then◌else◌}
-use Rattle.ele_world.specs.Change.{Change, DropIdle, after_change, after_changes, is_idle, without_file}
-use Rattle.ele_world.specs.Plan.{Plan, Tell, Make, Unless, When, Need, IfFound, outcome}
-use Rattle.ele_world.specs.Run.{run_of}
-use Rattle.ele_world.specs.Step.{plan, step}
-use Rattle.ele_world.specs.World.{World}
-use Rattle.ele_world.specs.declared.event.Event.{Event}
+use Rattle.ele_model.specs.Change.{Change, DropIdle, after_change, after_changes, is_idle, without_file}
+use Rattle.ele_model.specs.Plan.{Plan, Tell, Make, Unless, When, Need, IfFound, outcome}
+use Rattle.ele_model.specs.Run.{run_of}
+use Rattle.ele_model.specs.Step.{plan, step}
+use Rattle.ele_model.specs.World.{World}
+use Rattle.ele_model.specs.declared.event.Event.{Event}
 
 either : (test : Bool) (w u v : World) → u.limits ≡ w.limits → v.limits ≡ w.limits → (if test then u else v).limits ≡ w.limits
 either true w u v a b = a

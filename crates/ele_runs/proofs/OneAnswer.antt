@@ -7,9 +7,9 @@ use Rattle.ele_history.specs.PassIsOfWorld.{PassIsOfWorld}
 use Rattle.ele_script.specs.LineMeaning.{OneLineMeaning}
 use Rattle.ele_script.specs.declared.reading.Line.{Line}
 use Rattle.ele_script.specs.declared.reading.Line.TheVariants as asks
-use Rattle.ele_world.specs.declared.entry.Entry.{Entry}
-use Rattle.ele_world.specs.declared.event.Event.{Event}
-use Rattle.ele_world.specs.declared.refusal.Stop.TheVariants.{NoMemory}
+use Rattle.ele_model.specs.declared.entry.Entry.{Entry}
+use Rattle.ele_model.specs.declared.event.Event.{Event}
+use Rattle.ele_model.specs.declared.refusal.Stop.TheVariants.{NoMemory}
 use Rattle.ele_runs.specs.Answer.{Answer, IsForMemory}
 use Rattle.ele_runs.specs.Answer as answer
 use Rattle.ele_runs.specs.OneAnswer.{OneAnswer}

@@ -5,9 +5,9 @@ use Rattle.ele_moment.proofs.Moments.{one_text}
 use Rattle.ele_printer.specs.Printed.{IsReplyText, line_text, pass_text, stop_text}
 use Rattle.std.specs.Fmt.{decimal}
 use Rattle.std.specs.Prelude.{codes}
-use Rattle.ele_world.specs.declared.pass.PassEnd.TheVariants.{Stopped}
-use Rattle.ele_world.specs.declared.refusal.Stop.TheVariants.{NoMemory}
-use Rattle.ele_world.specs.declared.reply.Reply.TheVariants.{Now}
+use Rattle.ele_model.specs.declared.pass.PassEnd.TheVariants.{Stopped}
+use Rattle.ele_model.specs.declared.refusal.Stop.TheVariants.{NoMemory}
+use Rattle.ele_model.specs.declared.reply.Reply.TheVariants.{Now}
 use Rattle.ele_runs.specs.Answer.{Answer, IsForMemory}
 use Rattle.ele_runs.specs.Answer as answer
 use Rattle.ele_runs.specs.Block.{IsText}

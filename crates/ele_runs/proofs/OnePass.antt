@@ -2,14 +2,14 @@
 use Rattle.ele_runs.proofs.Basics.{◌≡◌, ◌⊎◌, ℕ, zero, suc, ◌+◌, ◌<◌, ◌≤◌, Ok, inl, inr, refl, sym, ap, subst, ◌∙◌, arith}
 use Rattle.ele_runs.proofs.Words.{HistoryFull, MayPass, MayReply, Past, Removes, RemovesOne, Reply, count_of, world_of}
 use Rattle.ele_history.specs.PassIsOfWorld.{PassIsOfWorld, PassOfWorld}
-use Rattle.ele_world.specs.declared.event.Event.{Event}
-use Rattle.ele_world.specs.declared.event.Event.TheVariants.{CleanOne}
-use Rattle.ele_world.specs.declared.reply.Reply.TheVariants.{Nothing}
-use Rattle.ele_world.specs.declared.pass.PassEnd.{PassEnd}
-use Rattle.ele_world.specs.declared.pass.PassEnd.TheVariants.{Finished, Budget, Stopped}
-use Rattle.ele_world.specs.declared.refusal.Stop.TheVariants.{NoMemory}
-use Rattle.ele_world.specs.Pass.{IsCleaned, IsPass}
-use Rattle.ele_world.specs.World.{World}
+use Rattle.ele_model.specs.declared.event.Event.{Event}
+use Rattle.ele_model.specs.declared.event.Event.TheVariants.{CleanOne}
+use Rattle.ele_model.specs.declared.reply.Reply.TheVariants.{Nothing}
+use Rattle.ele_model.specs.declared.pass.PassEnd.{PassEnd}
+use Rattle.ele_model.specs.declared.pass.PassEnd.TheVariants.{Finished, Budget, Stopped}
+use Rattle.ele_model.specs.declared.refusal.Stop.TheVariants.{NoMemory}
+use Rattle.ele_model.specs.Pass.{IsCleaned, IsPass}
+use Rattle.ele_model.specs.World.{World}
 use Rattle.ele_runs.specs.Answer.{IsForMemory}
 use Rattle.ele_runs.specs.Answer as answer
 

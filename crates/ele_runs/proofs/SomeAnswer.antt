@@ -11,7 +11,7 @@ use Rattle.ele_script.specs.EveryLine.{EveryLineMeaning}
 use Rattle.ele_script.specs.Spells.{Asks, AsksEvent}
 use Rattle.ele_script.specs.declared.reading.Line.{Line}
 use Rattle.ele_script.specs.declared.reading.Line.TheVariants as asks
-use Rattle.ele_world.specs.declared.event.Event.{Event}
+use Rattle.ele_model.specs.declared.event.Event.{Event}
 use Rattle.ele_runs.specs.Answer as answer
 use Rattle.ele_runs.specs.SomeAnswer.{HasAnswer, IsWithin, SomeAnswer}
 

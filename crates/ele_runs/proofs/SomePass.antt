@@ -4,11 +4,11 @@ use Rattle.ele_runs.proofs.Within.{is_full, recorded_within}
 use Rattle.ele_runs.proofs.Words.{HasRoom, HistoryFull, MayPass, Past, Removes, Reply, answered, count_of, recorded, world_of}
 use Rattle.std.proofs.Math.Decide.{dec_lt}
 use Rattle.ele_due.specs.declared.key.Key.{Key}
-use Rattle.ele_world.specs.Scan.{first_due}
-use Rattle.ele_world.specs.declared.event.Event.TheVariants.{CleanOne}
-use Rattle.ele_world.specs.declared.pass.PassEnd.{PassEnd}
-use Rattle.ele_world.specs.declared.pass.PassEnd.TheVariants.{Finished, Budget, Stopped}
-use Rattle.ele_world.proofs.Cleans.{clean_of}
+use Rattle.ele_model.specs.Scan.{first_due}
+use Rattle.ele_model.specs.declared.event.Event.TheVariants.{CleanOne}
+use Rattle.ele_model.specs.declared.pass.PassEnd.{PassEnd}
+use Rattle.ele_model.specs.declared.pass.PassEnd.TheVariants.{Finished, Budget, Stopped}
+use Rattle.ele_model.proofs.Cleans.{clean_of}
 use Rattle.ele_runs.specs.Answer.{IsForMemory}
 use Rattle.ele_runs.specs.Answer as answer
 use Rattle.ele_runs.specs.SomeAnswer.{IsWithin}

@@ -3,9 +3,9 @@ use Rattle.ele_runs.proofs.Basics.{◌≡◌, ◌+◌, [], ◌∷◌, ap, arith,
 use Rattle.ele_runs.proofs.Limits.{limits_stay}
 use Rattle.ele_runs.proofs.Words.{HasRoom, IsFull, Past, count_of, recorded, reply_to, trimmed}
 use Rattle.ele_history.specs.Past.{events_of}
-use Rattle.ele_world.specs.Bounds.{Bounds}
-use Rattle.ele_world.specs.declared.entry.Entry.{Entry}
-use Rattle.ele_world.specs.declared.event.Event.{Event}
+use Rattle.ele_model.specs.Bounds.{Bounds}
+use Rattle.ele_model.specs.declared.entry.Entry.{Entry}
+use Rattle.ele_model.specs.declared.event.Event.{Event}
 use Rattle.ele_runs.specs.SomeAnswer.{IsWithin}
 
 -- an event makes one entry

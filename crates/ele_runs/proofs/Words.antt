@@ -17,6 +17,6 @@ pub use Rattle.ele_runs.specs.Lines.{AreLines, IsUnbroken, line_count, whole_lin
 pub use Rattle.ele_runs.specs.Output.{AreBlocks}
 pub use Rattle.ele_runs.specs.Piece.{Answers, AnswersAll, AnswersLast, AnswersSome}
 pub use Rattle.ele_runs.specs.Written.{PutsBlock, end_by}
-pub use Rattle.ele_world.specs.declared.refusal.Stop.{Stop}
-pub use Rattle.ele_world.specs.declared.refusal.Stop.TheVariants.{HistoryFull}
-pub use Rattle.ele_world.specs.declared.reply.Reply.{Reply}
+pub use Rattle.ele_model.specs.declared.refusal.Stop.{Stop}
+pub use Rattle.ele_model.specs.declared.refusal.Stop.TheVariants.{HistoryFull}
+pub use Rattle.ele_model.specs.declared.reply.Reply.{Reply}

@@ -1,11 +1,11 @@
 -- What a line is answered.
 use Rattle.std.specs.Prelude.{ℕ, List, Result, Err}
-use Rattle.ele_world.specs.declared.entry.Entry.{Entry}
-use Rattle.ele_world.specs.declared.pass.PassEnd.{PassEnd}
-use Rattle.ele_world.specs.declared.pass.PassEnd.TheVariants.{Stopped}
-use Rattle.ele_world.specs.declared.refusal.Stop.{Stop}
-use Rattle.ele_world.specs.declared.refusal.Stop.TheVariants.{NoMemory}
-use Rattle.ele_world.specs.declared.reply.Reply as reply
+use Rattle.ele_model.specs.declared.entry.Entry.{Entry}
+use Rattle.ele_model.specs.declared.pass.PassEnd.{PassEnd}
+use Rattle.ele_model.specs.declared.pass.PassEnd.TheVariants.{Stopped}
+use Rattle.ele_model.specs.declared.refusal.Stop.{Stop}
+use Rattle.ele_model.specs.declared.refusal.Stop.TheVariants.{NoMemory}
+use Rattle.ele_model.specs.declared.reply.Reply as reply
 use Rattle.ele_printer.specs.declared.fault.LineFault.{LineFault}
 
 -- that it is no command, by its first fault; what the command is answered, or why it was not run; how the pass ended that

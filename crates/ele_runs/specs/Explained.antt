@@ -15,11 +15,11 @@ use Rattle.ele_script.specs.declared.kind.WordKind.{WordKind}
 use Rattle.ele_script.specs.declared.kind.WordKind.TheVariants.{Moment as MomentWord, Tagged as TaggedWord}
 use Rattle.ele_time_path.specs.Tagged.{SpellsTaggedPath}
 use Rattle.ele_time_path.specs.declared.tagged.TaggedPath.{TaggedPath}
-use Rattle.ele_world.specs.Why.{IsAhead, IsWhy}
-use Rattle.ele_world.specs.World.{World}
-use Rattle.ele_world.specs.declared.fate.Fate.{Fate}
-use Rattle.ele_world.specs.declared.refusal.Refusal.{Refusal}
-use Rattle.ele_world.specs.declared.refusal.Stop.TheVariants.{NoMemory}
+use Rattle.ele_model.specs.Why.{IsAhead, IsWhy}
+use Rattle.ele_model.specs.World.{World}
+use Rattle.ele_model.specs.declared.fate.Fate.{Fate}
+use Rattle.ele_model.specs.declared.refusal.Refusal.{Refusal}
+use Rattle.ele_model.specs.declared.refusal.Stop.TheVariants.{NoMemory}
 
 -- the text in the world of an explanation that a word of the kind asks for: what becomes of the version that the path and its
 -- tag mean, what will be due at the moment, or the fault of the word; want of memory may stop it

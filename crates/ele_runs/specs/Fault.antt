@@ -1,7 +1,7 @@
 -- The numbers and the names of what ends a run early.
 use Rattle.std.specs.Prelude.{ℕ, List, codes}
-use Rattle.ele_world.specs.Answers.{stop_answer}
-use Rattle.ele_world.specs.declared.refusal.Stop.TheVariants as stop
+use Rattle.ele_model.specs.Answers.{stop_answer}
+use Rattle.ele_model.specs.declared.refusal.Stop.TheVariants as stop
 use Rattle.ele_printer.specs.LineFault.{write_fault_answer}
 use Rattle.ele_runs.specs.declared.fault.ShellFault.{ShellFault}
 use Rattle.ele_runs.specs.declared.fault.ShellFault.TheVariants.{ReadFault, WriteFault, TooManyLines, NoMemory}

@@ -1,7 +1,7 @@
 -- Lines have one output, unless want of memory stops one of them.
 use Rattle.std.specs.Prelude.{◌≡◌, ◌≢◌, ℕ, List, ◌++◌}
-use Rattle.ele_world.specs.declared.refusal.Stop.TheVariants.{NoMemory}
-use Rattle.ele_world.specs.declared.pass.PassEnd.TheVariants.{Stopped}
+use Rattle.ele_model.specs.declared.refusal.Stop.TheVariants.{NoMemory}
+use Rattle.ele_model.specs.declared.pass.PassEnd.TheVariants.{Stopped}
 use Rattle.ele_printer.specs.Printed.{pass_text, stop_text}
 use Rattle.ele_runs.specs.Output.{IsOutput}
 use Rattle.ele_history.specs.Past.{Past}

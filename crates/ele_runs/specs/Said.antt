@@ -21,13 +21,13 @@ use Rattle.ele_script.specs.declared.kind.WordKind.TheVariants.{Moment as Moment
 use Rattle.ele_script.specs.declared.question.Question.{Question}
 use Rattle.ele_time_path.specs.Tagged.{SpellsTaggedPath}
 use Rattle.ele_time_path.specs.declared.tagged.TaggedPath.{TaggedPath}
-use Rattle.ele_world.specs.Why.{IsAhead, IsWhy}
-use Rattle.ele_world.specs.World.{World}
-use Rattle.ele_world.specs.declared.entry.Entry.{Entry}
-use Rattle.ele_world.specs.declared.event.Event.{Event}
-use Rattle.ele_world.specs.declared.refusal.Stop.{Stop}
-use Rattle.ele_world.specs.declared.refusal.Stop.TheVariants.{NoMemory}
-use Rattle.ele_world.specs.declared.reply.Reply.{Reply}
+use Rattle.ele_model.specs.Why.{IsAhead, IsWhy}
+use Rattle.ele_model.specs.World.{World}
+use Rattle.ele_model.specs.declared.entry.Entry.{Entry}
+use Rattle.ele_model.specs.declared.event.Event.{Event}
+use Rattle.ele_model.specs.declared.refusal.Stop.{Stop}
+use Rattle.ele_model.specs.declared.refusal.Stop.TheVariants.{NoMemory}
+use Rattle.ele_model.specs.declared.reply.Reply.{Reply}
 
 -- the answer that is meant, where it left this history; an explanation is none
 abbrev pub Means : Past → Said → Answer → Type 0

@@ -12,8 +12,8 @@ ghost use Rattle.ele_script.specs.declared.kind.WordKind.TheVariants.{Moment as 
 use crate::manner::Manner;
 use crate::said::Said;
 use ele_history::History;
+use ele_model::{Explaining, Moment, Refusal, Stop};
 use ele_script::{LineFault, Question, read_question};
-use ele_world::{Explaining, Moment, Refusal, Stop};
 use std::alloc::Global;
 
 /// What the line asks to be explained, if the manner explains.

@@ -19,8 +19,8 @@ use crate::end::{EndLine, RunEnd};
 use crate::keeper::Keeper;
 use crate::line_buffer::{LineBuffer, kept_line};
 use crate::said::Said;
+use ele_model::Explaining;
 use ele_script::{LineFault, Printer, WriteFault, put_fault};
-use ele_world::Explaining;
 use memchr::memchr;
 use std::io::Write;
 

@@ -9,12 +9,12 @@ ghost use Rattle.ele_runs.specs.Said.{HasText, Hears, HearsKept, IsSaidText, Rep
 use crate::explained::{asked, explain};
 use crate::manner::Manner;
 use ele_history::History;
+use ele_model::{Event, Explaining, Fate, KeyList, PassEnd, Refusal, Reply, Stop};
 use ele_printer::{put_history, put_in_front, put_trimmed};
 use ele_script::{
     Line, LineFault, Printer, WriteFault, put_ahead, put_answer, put_fault, put_pass, put_stop,
     put_why, read_line,
 };
-use ele_world::{Event, Explaining, Fate, KeyList, PassEnd, Refusal, Reply, Stop};
 use std::alloc::Global;
 use std::io::Write;
 

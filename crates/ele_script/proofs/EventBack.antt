@@ -12,7 +12,7 @@ use Rattle.ele_time_path.specs.PathAt.{tag_at}
 use Rattle.ele_time_path.specs.Tagged.{SpellsTag, SpellsTaggedPath}
 use Rattle.ele_time_path.specs.declared.tagged.Tag.{Tag}
 use Rattle.ele_time_path.specs.declared.tagged.Tag.TheVariants.{Now, At, Number as Numbered}
-use Rattle.ele_world.specs.declared.event.Source.TheVariants as source
+use Rattle.ele_model.specs.declared.event.Source.TheVariants as source
 use Rattle.ele_printer.specs.EventText.{IsTag, IsValue, event_words, value_word}
 use Rattle.ele_time_path.specs.PathText.{path_word, tag_text, tagged_word}
 use Rattle.ele_printer.specs.Parts.{parts_of}

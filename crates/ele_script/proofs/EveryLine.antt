@@ -4,7 +4,7 @@ use Rattle.ele_script.proofs.Prelude.{Line, Command, LineFault, Syntax, Value, M
 use Rattle.std.proofs.Math.Nat.{lt_of_not-le}
 use Rattle.ele_printer.specs.declared.command.Command.TheVariants.{Clock, Tick, MakeDir, RemoveDir, Create, Link, Unlink, Rename, Undelete, OpenWrite, OpenRead, Write, Truncate, Close, Revert, SetPolicy, Default, GroupMake, GroupDrop, GroupAdd, GroupRemove, Mark, Unmark, Clean, Read, Stat, Versions, ListNames, Restorable, Due, Usage, Groups, Pass, History, Trim}
 use Rattle.ele_printer.specs.declared.fault.LineFault.TheVariants.{LineTooLong}
-use Rattle.ele_world.specs.declared.event.Event.TheVariants as event
+use Rattle.ele_model.specs.declared.event.Event.TheVariants as event
 use Rattle.ele_script.specs.declared.reading.Line.TheVariants as asks
 use Rattle.ele_script.specs.CommandOf.{command_of}
 use Rattle.ele_script.specs.EveryLine.{EveryLineMeaning}

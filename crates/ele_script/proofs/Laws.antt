@@ -3,8 +3,8 @@ use Rattle.ele_script.proofs.Basics.{nat_tests, ◌≡◌, ◌≢◌, ◌==◌, 
 use Rattle.ele_script.proofs.Prelude.{OneMeaning, Line, Command, LineFault, NoMemory, WordKind, Value, word_kind, kinds_behind, kinds_if, longest_line, words_of, is_worded, SpellsValues, SpellsWords, SpellsLine, Asks, AsksEvent}
 use Rattle.ele_script.proofs.Prelude.{IsFirstWordFault, IsFaultOfWords, no_command, of_word, IsFirstFault, too_long, not_worded, of_words, IsEventFault, of_line, no_event}
 use Rattle.ele_printer.specs.Parts.{parts_of}
-use Rattle.ele_world.specs.declared.event.Event.{Event}
-use Rattle.ele_world.specs.declared.event.Event.TheVariants as event
+use Rattle.ele_model.specs.declared.event.Event.{Event}
+use Rattle.ele_model.specs.declared.event.Event.TheVariants as event
 use Rattle.ele_script.specs.Spells.{line_parts}
 use Rattle.ele_script.specs.declared.reading.Line.TheVariants as asks
 use Rattle.ele_script.specs.EventOf.{event_of}

@@ -23,8 +23,8 @@ use Rattle.ele_time_path.proofs.PathsAt.{fault_behind}
 use Rattle.ele_time_path.proofs.Pieces.{faults_from}
 use Rattle.ele_time_path.proofs.Spelled.{spelled, spelled_faultless}
 use Rattle.ele_time_path.proofs.Tags.{tag_begins}
-use Rattle.ele_world.specs.declared.event.Source.{Source}
-use Rattle.ele_world.specs.declared.event.Source.TheVariants.{Tagged, Of}
+use Rattle.ele_model.specs.declared.event.Source.{Source}
+use Rattle.ele_model.specs.declared.event.Source.TheVariants.{Tagged, Of}
 use Rattle.ele_script.specs.PathWord.{IsTimedWordFault, of_tagged}
 use Rattle.ele_script.proofs.Moments.{dec_moment, dec_number}
 

@@ -8,8 +8,8 @@ use Rattle.ele_time_path.specs.declared.tagged.TaggedPath.{TaggedPath}
 use Rattle.ele_time_path.specs.Tagged.{SpellsTag, SpellsTaggedPath}
 use Rattle.ele_time_path.specs.Path.{SpellsPath}
 use Rattle.ele_time_path.specs.PathAt.{tag_at, SpellsPathAt}
-use Rattle.ele_world.specs.declared.event.Source.{Source}
-use Rattle.ele_world.specs.declared.event.Source.TheVariants.{Tagged, Of}
+use Rattle.ele_model.specs.declared.event.Source.{Source}
+use Rattle.ele_model.specs.declared.event.Source.TheVariants.{Tagged, Of}
 use Rattle.ele_script.proofs.Moments.{one_number, one_moment}
 
 one_tag : (text : List ℕ) (a b : Tag) → SpellsTag text a → SpellsTag text b → a ≡ b

@@ -1,6 +1,6 @@
 -- The event in what was read of a line. No public clause cites this module.
 use Rattle.std.specs.Prelude.{Result, Ok, Err}
-use Rattle.ele_world.specs.declared.event.Event.{Event}
+use Rattle.ele_model.specs.declared.event.Event.{Event}
 use Rattle.ele_printer.specs.declared.fault.LineFault.{LineFault}
 use Rattle.ele_printer.specs.declared.fault.LineFault.TheVariants.{Syntax}
 use Rattle.ele_script.specs.declared.reading.Line.{Line}

@@ -15,7 +15,7 @@ use Rattle.ele_script.specs.Words.{longest_line, words_of, is_worded}
 use Rattle.ele_script.specs.Spells.{Asks}
 use Rattle.ele_script.specs.declared.reading.Line.{Line}
 use Rattle.ele_script.specs.declared.reading.Line.TheVariants as asks
-use Rattle.ele_world.specs.declared.event.Event.{Event}
+use Rattle.ele_model.specs.declared.event.Event.{Event}
 
 -- the word stands for some value of the kind
 abbrev pub IsOfKind : WordKind → List ℕ → Type 0

@@ -1,6 +1,6 @@
 -- What lines are in text, and which ask for something.
 use Rattle.std.specs.Prelude.{◌≡◌, ℕ, ◌≤◌, List, [], ◌∷◌, ◌++◌, length, true}
-use Rattle.ele_world.specs.declared.event.Event.{Event}
+use Rattle.ele_model.specs.declared.event.Event.{Event}
 use Rattle.ele_printer.specs.declared.command.Command.{Command}
 use Rattle.ele_printer.specs.declared.command.Command.TheVariants.{Pass, History, Trim}
 use Rattle.ele_script.specs.declared.reading.Line.{Line}

@@ -10,8 +10,8 @@ use Rattle.ele_time_path.specs.PathAt.{SpellsPathAt}
 pub use Rattle.ele_printer.specs.Value.{Value, Number, Moment, Name, Path, Tagged, Timed, Source, Bytes, Policy}
 pub use Rattle.ele_script.specs.declared.kind.WordKind.{WordKind}
 pub use Rattle.ele_script.specs.declared.kind.WordKind.TheVariants.{Number as NumberWord, Moment as MomentWord, Name as NameWord, Path as PathWord, Tagged as TaggedWord, Timed as TimedWord, Source as SourceWord, Bytes as BytesWord, Policy as PolicyWord}
-use Rattle.ele_world.specs.declared.event.Source.{Source as AnySource}
-use Rattle.ele_world.specs.declared.event.Source.TheVariants as source
+use Rattle.ele_model.specs.declared.event.Source.{Source as AnySource}
+use Rattle.ele_model.specs.declared.event.Source.TheVariants as source
 use Rattle.ele_script.specs.PolicyWord.{ReadsPolicy}
 
 -- the kind of words that stand for such a value

@@ -6,11 +6,11 @@ ghost use Rattle.ele_script.specs.Value as value;
 ghost use Rattle.ele_script.specs.Reads.{Reads};
 
 use crate::word;
+use ele_model::{ByteList, Source};
 use ele_moment::{Moment, Name};
 use ele_policy::Policy;
 use ele_printer::LineFault;
 use ele_time_path::{Path, PathAt, TaggedPath};
-use ele_world::{ByteList, Source};
 use std::alloc::Global;
 
 // The only word.

@@ -8,9 +8,9 @@ ghost use Rattle.ele_script.specs.Value.{MomentWord, TaggedWord};
 use crate::kind::WordKind;
 use crate::reading::words_in;
 use crate::word;
+use ele_model::Moment;
 use ele_printer::LineFault;
 use ele_time_path::TaggedPath;
-use ele_world::Moment;
 use std::alloc::Global;
 
 /// What a line asks to be explained, where a run explains.

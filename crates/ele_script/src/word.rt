@@ -11,11 +11,11 @@ ghost use Rattle.ele_script.specs.PathWord.{begins_path};
 ghost use Rattle.ele_script.specs.FirstFault.{IsOfKind, IsWordFault};
 
 use crate::pairs::{ladder_pairs, read_pair};
+use ele_model::{ByteList, Handle, Source};
 use ele_moment::{Moment, Name, read_number};
 use ele_policy::{Floor, Interval, Ladder, Policy};
 use ele_printer::LineFault;
 use ele_time_path::{Path, PathAt, TaggedPath};
-use ele_world::{ByteList, Handle, Source};
 use std::alloc::Global;
 
 /// A number.

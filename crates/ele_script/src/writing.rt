@@ -6,8 +6,8 @@ ghost use Rattle.ele_printer.specs.EventText.{event_text};
 ghost use Rattle.ele_printer.specs.Front.{AppendsFront};
 ghost use Rattle.ele_script.specs.Spells.{Spells};
 
+use ele_model::Event;
 use ele_printer::{WriteFault, write_event_text};
-use ele_world::Event;
 use std::io::Write;
 
 /// Writes the line that spells an event, and a line feed. At a fault of the writer it took a front

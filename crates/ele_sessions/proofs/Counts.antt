@@ -1,7 +1,7 @@
 -- How many handles read a thing, before and after a handle comes or goes.
 use Rattle.ele_sessions.proofs.Basics.{◌≡◌, ℕ, ◌+◌, Bool, cond, nat_lt, List, [], ◌∷◌, ◌++◌, Some, sym, ap, ◌∙◌, append-nil, count_by, sum_by, list_any, find, remove_first, all-any, sum_by-around, sum_by-remove_first, sum_by-same, any-count, arith, nat_tests}
 use Rattle.ele_sessions.proofs.Words.{reads_eq, reading, writes, reads_version, is_handle, is_open, is_writer, HandleRow, Reads, Version}
-use Rattle.ele_world.specs.declared.rows.Reads.TheVariants.{Draft}
+use Rattle.ele_model.specs.declared.rows.Reads.TheVariants.{Draft}
 
 abbrev pub one : Reads → HandleRow → ℕ
 one what h = cond (reads_eq h.reads what) 1 0

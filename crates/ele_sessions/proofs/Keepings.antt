@@ -1,7 +1,7 @@
 -- That the fields keep their order and counts when a handle comes or goes.
 use Rattle.ele_sessions.proofs.Basics.{◌≡◌, ℕ, ◌+◌, ◌-◌, true, Ok, Err, cond, nat_lt, List, [], ◌∷◌, ◌++◌, Some, ap, ◌∙◌, arith, list_any, find, length-append, nat_tests, remove_first, counted, Tally, remove_first-unfound, all-not_found, length-remove_first-le}
 use Rattle.ele_sessions.proofs.Words.{Layout, Store, RewritesDraft, Resizes, has_length, left_drafts, Keeps, reads_eq, reading, AreOrderly, Draft, AllSessions, is_handle, is_writer, is_draft, reads_by, file_by, HandleRow, Reads, Refusal}
-use Rattle.ele_world.specs.declared.rows.Reads.TheVariants as reads
+use Rattle.ele_model.specs.declared.rows.Reads.TheVariants as reads
 use Rattle.ele_sessions.proofs.Counts.{reading-push, reading-left, any-writer}
 use Rattle.ele_sessions.proofs.Orders.{reader_left, writer_left, its_draft, rewritten}
 

@@ -1,7 +1,7 @@
 -- That drafts and handles stay orderly when a handle comes or goes.
 use Rattle.ele_sessions.proofs.Basics.{◌≡◌, ℕ, ◌+◌, ◌<◌, true, false, not, eqb, List, [], ◌∷◌, ◌++◌, Some, refl, sym, ◌∙◌, arith, AllByRecursion, list_any, find, filter, nat_tests, update_first, remove_first, insert_before, filter-passes, all-push, all-weaker, all-both, all-none, all-update_first, all-insert_before, all-remove_first, all-found, found_passes, later-push, later-update_first, later-remove_first, later-insert_before, list_any-update_first, list_any-insert_before, list_any-remove_first, remove_first-key, list_any-append}
 use Rattle.ele_sessions.proofs.Words.{Layout, rewritten_by, left_drafts, with_draft, Rises, IsReadable, AreOrderly, Draft, AllSessions, is_draft, is_draft_after, is_handle, writes, is_writer, HandleRow, Reads}
-use Rattle.ele_world.specs.declared.rows.Reads.TheVariants as reads
+use Rattle.ele_model.specs.declared.rows.Reads.TheVariants as reads
 
 abbrev IsWritten : List HandleRow → Draft → Type 0
 IsWritten hs d = list_any (is_writer d.file) hs ≡ true

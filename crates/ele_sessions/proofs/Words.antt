@@ -11,8 +11,8 @@ pub use Rattle.ele_sessions.specs.Order.{Rises}
 pub use Rattle.ele_sessions.specs.Orderly.{AreOrderly, IsReadable}
 pub use Rattle.ele_sessions.specs.Sessions.{AllSessions, Draft, is_draft, is_draft_after}
 pub use Rattle.ele_sessions.specs.declared.entries.Entry.{Entry}
-pub use Rattle.ele_world.specs.World.{file_by, is_handle, is_open, is_writer, reads_by, reads_version, writes}
-pub use Rattle.ele_world.specs.declared.refusal.Refusal.{Refusal}
-pub use Rattle.ele_world.specs.declared.rows.HandleRow.{HandleRow}
-pub use Rattle.ele_world.specs.declared.rows.Reads.{Reads}
-pub use Rattle.ele_world.specs.declared.rows.Reads.TheVariants.{Version}
+pub use Rattle.ele_model.specs.World.{file_by, is_handle, is_open, is_writer, reads_by, reads_version, writes}
+pub use Rattle.ele_model.specs.declared.refusal.Refusal.{Refusal}
+pub use Rattle.ele_model.specs.declared.rows.HandleRow.{HandleRow}
+pub use Rattle.ele_model.specs.declared.rows.Reads.{Reads}
+pub use Rattle.ele_model.specs.declared.rows.Reads.TheVariants.{Version}

@@ -7,10 +7,10 @@ use Rattle.ele_blocks.specs.Layout.{Layout}
 use Rattle.ele_blocks.specs.Store.{Store}
 use Rattle.ele_lists.specs.Lists.{update_first}
 use Rattle.ele_sessions.specs.Sessions.{Draft, AllSessions, is_draft, handle_file, draft_by}
-use Rattle.ele_world.specs.World.{file_by}
-use Rattle.ele_world.specs.declared.refusal.Refusal.{Refusal}
-use Rattle.ele_world.specs.declared.refusal.Refusal.TheVariants.{TooBig}
-use Rattle.ele_world.specs.declared.rows.HandleRow.{HandleRow}
+use Rattle.ele_model.specs.World.{file_by}
+use Rattle.ele_model.specs.declared.refusal.Refusal.{Refusal}
+use Rattle.ele_model.specs.declared.refusal.Refusal.TheVariants.{TooBig}
+use Rattle.ele_model.specs.declared.rows.HandleRow.{HandleRow}
 
 -- why a write is refused, whatever memory there is
 abbrev pub write_refusal_of : Result ℕ Refusal → ℕ → List ℕ → Option Refusal

@@ -6,11 +6,11 @@ use Rattle.ele_sessions.specs.declared.closing.Closing.{Closing}
 use Rattle.ele_sessions.specs.declared.closing.Closing.TheVariants.{StillOpen, Clean, Changed, Unread}
 use Rattle.ele_lists.specs.Lists.{remove_first}
 use Rattle.ele_sessions.specs.Sessions.{Draft, AllSessions, is_draft}
-use Rattle.ele_world.specs.World.{is_handle, is_writer, reads_by}
-use Rattle.ele_world.specs.declared.refusal.Refusal.{Refusal}
-use Rattle.ele_world.specs.declared.rows.HandleRow.{HandleRow}
-use Rattle.ele_world.specs.declared.rows.Reads.{Reads}
-use Rattle.ele_world.specs.declared.rows.Reads.TheVariants as reads
+use Rattle.ele_model.specs.World.{is_handle, is_writer, reads_by}
+use Rattle.ele_model.specs.declared.refusal.Refusal.{Refusal}
+use Rattle.ele_model.specs.declared.rows.HandleRow.{HandleRow}
+use Rattle.ele_model.specs.declared.rows.Reads.{Reads}
+use Rattle.ele_model.specs.declared.rows.Reads.TheVariants as reads
 
 -- the handles that are left
 abbrev pub left_handles : AllSessions → ℕ → List HandleRow

@@ -6,7 +6,7 @@ use Rattle.ele_lists.specs.Keys.{stands_by, is_behind}
 use Rattle.ele_sessions.specs.declared.draft.Draft.{Draft as Fields}
 use Rattle.ele_sessions.specs.declared.entries.Entry.{Entry}
 use Rattle.ele_sessions.specs.Sessions.{Draft}
-use Rattle.ele_world.specs.declared.rows.HandleRow.{HandleRow}
+use Rattle.ele_model.specs.declared.rows.HandleRow.{HandleRow}
 
 -- the file's draft, with what is kept of it
 abbrev pub draft_with : ℕ → Fields → Draft

@@ -7,9 +7,9 @@ use Rattle.ele_sessions.specs.declared.sessions.Sessions.TheInside.{Inside}
 use Rattle.ele_sessions.specs.Inside.{drafts_of}
 use Rattle.ele_sessions.specs.Orderly.{AreOrderly}
 use Rattle.ele_sessions.specs.Sessions.{AllSessions}
-use Rattle.ele_world.specs.contracts.rows.ReadsPartialEq.TheImpl.{eq-value}
-use Rattle.ele_world.specs.declared.rows.HandleRow.{HandleRow}
-use Rattle.ele_world.specs.declared.rows.Reads.{Reads}
+use Rattle.ele_model.specs.contracts.rows.ReadsPartialEq.TheImpl.{eq-value}
+use Rattle.ele_model.specs.declared.rows.HandleRow.{HandleRow}
+use Rattle.ele_model.specs.declared.rows.Reads.{Reads}
 
 -- the two are one
 abbrev pub reads_eq : Reads → Reads → Bool

@@ -6,9 +6,9 @@ use Rattle.ele_blocks.specs.Owes.{Moves}
 use Rattle.ele_blocks.specs.Store.{Store}
 use Rattle.ele_lists.specs.Lists.{insert_before}
 use Rattle.ele_sessions.specs.Sessions.{Draft, AllSessions, is_draft, is_draft_after}
-use Rattle.ele_world.specs.declared.rows.HandleRow.{HandleRow}
-use Rattle.ele_world.specs.declared.rows.Reads.{Reads}
-use Rattle.ele_world.specs.declared.rows.Reads.TheVariants as reads
+use Rattle.ele_model.specs.declared.rows.HandleRow.{HandleRow}
+use Rattle.ele_model.specs.declared.rows.Reads.{Reads}
+use Rattle.ele_model.specs.declared.rows.Reads.TheVariants as reads
 
 -- a draft that is opened now, with that map's content
 abbrev pub new_draft : ℕ → ℕ → ℕ → Layout → Draft

@@ -3,9 +3,9 @@ use Rattle.std.specs.Prelude.{◌≡◌, ◌≤◌, true, List}
 use Rattle.std.specs.List.{AllByRecursion, list_any}
 use Rattle.ele_sessions.specs.Order.{Rises}
 use Rattle.ele_sessions.specs.Sessions.{Draft, AllSessions, is_draft}
-use Rattle.ele_world.specs.World.{is_writer}
-use Rattle.ele_world.specs.declared.rows.Reads.{Reads}
-use Rattle.ele_world.specs.declared.rows.Reads.TheVariants as reads
+use Rattle.ele_model.specs.World.{is_writer}
+use Rattle.ele_model.specs.declared.rows.Reads.{Reads}
+use Rattle.ele_model.specs.declared.rows.Reads.TheVariants as reads
 
 -- a draft that is read is there
 abbrev pub IsReadable : List Draft → Reads → Type 0

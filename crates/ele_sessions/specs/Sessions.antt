@@ -2,8 +2,8 @@
 use Rattle.std.specs.Prelude.{ℕ, ◌==◌, nat_lt, Bool, List, Option, Some, None, find}
 use Rattle.std.specs.Result.{result_ok}
 use Rattle.ele_blocks.specs.Layout.{Layout}
-use Rattle.ele_world.specs.World.{file_by}
-use Rattle.ele_world.specs.declared.rows.HandleRow.{HandleRow}
+use Rattle.ele_model.specs.World.{file_by}
+use Rattle.ele_model.specs.declared.rows.HandleRow.{HandleRow}
 
 -- a file's coming version: its number, when the draft was opened, the map of its content, and whether
 -- it was changed

@@ -6,13 +6,13 @@ ghost use Rattle.ele_sessions.specs.Inside.{IsAt, IsGap, file_in, number_in};
 ghost use Rattle.ele_sessions.specs.Kept.{reads_eq};
 ghost use Rattle.ele_sessions.specs.Order.{Rises};
 ghost use Rattle.ele_lists.specs.Lists.{remove_first};
-ghost use Rattle.ele_world.specs.World.{is_handle, reads_by, file_written, file_by};
-ghost use Rattle.ele_world.specs.declared.rows.Reads.{Reads};
+ghost use Rattle.ele_model.specs.World.{is_handle, reads_by, file_written, file_by};
+ghost use Rattle.ele_model.specs.declared.rows.Reads.{Reads};
 
 use crate::draft::Draft;
 use ele_lists::{Keyed, Tally};
+use ele_model::{HandleRow, Reads, Refusal};
 use ele_moment::{FileId, Handle};
-use ele_world::{HandleRow, Reads, Refusal};
 
 /// A file's draft. It lies apart, so that few bytes move when another draft comes or goes.
 #[derive(Debug, Drop)]

@@ -1,7 +1,7 @@
 //! Why a write or a truncate fails.
 //! A contract sees the variants.
+use ele_model::Refusal;
 use ele_moment::NoMemory;
-use ele_world::Refusal;
 use thiserror::Error;
 
 /// Why a write or a truncate fails. The drafts and the store are as they were.

@@ -3,11 +3,11 @@ use Rattle.std.proofs.Common.{◌≡◌, ℕ, zero, suc, ◌<◌, Bool, true, fa
 use mathlib.Core.Option.{some, some-ne-none}
 use lib.ListN.{get_elem?}
 use Rattle.std.proofs.lemmas.List.{map-append}
-use Rattle.ele_world.specs.declared.entry.Entry.{Entry}
-use Rattle.ele_world.specs.declared.event.Event.{Event}
-use Rattle.ele_world.specs.Run.{run_of}
-use Rattle.ele_world.specs.Step.{step}
-use Rattle.ele_world.specs.World.{World}
+use Rattle.ele_model.specs.declared.entry.Entry.{Entry}
+use Rattle.ele_model.specs.declared.event.Event.{Event}
+use Rattle.ele_model.specs.Run.{run_of}
+use Rattle.ele_model.specs.Step.{step}
+use Rattle.ele_model.specs.World.{World}
 use Rattle.ele_history.specs.Legal.{IsLegal}
 use Rattle.ele_history.specs.Past.{Past, events_of, reply_to, world_of}
 use Rattle.ele_shared.specs.declared.board.Call.{Call}

@@ -6,7 +6,7 @@ use lib.ListN.{get_elem?}
 use prog.Atomic.{either}
 use Rattle.atomic_table.specs.Table.{State, Me, Act, keeps, takes, gives, Valid, stepped, carried_after, step, Allows, put_back, rest}
 use Rattle.atomic_table.proofs.Lists.{at_set}
-use Rattle.ele_world.specs.declared.entry.Entry.{Entry}
+use Rattle.ele_model.specs.declared.entry.Entry.{Entry}
 use Rattle.ele_history.specs.Legal.{IsLegal}
 use Rattle.ele_history.specs.Past.{Past, reply_to, world_of}
 use Rattle.ele_shared.specs.declared.board.Call.{Call}

@@ -3,8 +3,8 @@ use Rattle.std.proofs.Common.{◌≡◌, ℕ, ◌+◌, Bool, true, false, MatchB
 use Rattle.std.proofs.lemmas.Bool.Decides.{nat_tests}
 use Rattle.atomic_table.specs.Table.{Me}
 use Rattle.atomic_table.specs.Seated.{TableId}
-use Rattle.ele_world.specs.declared.event.Event.{Event}
-use Rattle.ele_world.specs.declared.reply.Reply.{Reply}
+use Rattle.ele_model.specs.declared.event.Event.{Event}
+use Rattle.ele_model.specs.declared.reply.Reply.{Reply}
 use Rattle.ele_history.specs.Past.{Past, count_of}
 use Rattle.ele_shared.specs.declared.board.Call.{Call}
 use Rattle.ele_shared.specs.declared.board.View.{View}

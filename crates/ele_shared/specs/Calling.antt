@@ -1,9 +1,9 @@
 -- What a call leaves its seat.
 use Rattle.std.specs.Prelude.{◌≡◌, ℕ, ◌<◌, List, [], ◌∷◌, ◌++◌, true}
-use Rattle.ele_world.specs.declared.event.Event.{Event}
-use Rattle.ele_world.specs.declared.refusal.Stop.{Stop}
-use Rattle.ele_world.specs.declared.refusal.Stop.TheVariants.{NoMemory, HistoryFull}
-use Rattle.ele_world.specs.declared.reply.Reply.{Reply}
+use Rattle.ele_model.specs.declared.event.Event.{Event}
+use Rattle.ele_model.specs.declared.refusal.Stop.{Stop}
+use Rattle.ele_model.specs.declared.refusal.Stop.TheVariants.{NoMemory, HistoryFull}
+use Rattle.ele_model.specs.declared.reply.Reply.{Reply}
 use Rattle.ele_shared.specs.declared.board.Call.{Call}
 use Rattle.ele_shared.specs.declared.stop.TryStop.{TryStop}
 use Rattle.ele_shared.specs.declared.stop.TryStop.TheVariants.{NoMemory as TryNoMemory, HistoryFull as TryHistoryFull, Busy}

@@ -1,8 +1,8 @@
 -- The running history: who made which entry behind the opening history, in one order.
 use Rattle.std.specs.Prelude.{◌≡◌, ℕ, Bool, false, ◌==◌, ◌||◌, cond, List, [], ◌∷◌, ◌++◌}
-use Rattle.ele_world.specs.declared.entry.Entry.{Entry}
-use Rattle.ele_world.specs.declared.event.Event.{Event}
-use Rattle.ele_world.specs.declared.reply.Reply.{Reply}
+use Rattle.ele_model.specs.declared.entry.Entry.{Entry}
+use Rattle.ele_model.specs.declared.event.Event.{Event}
+use Rattle.ele_model.specs.declared.reply.Reply.{Reply}
 use Rattle.ele_history.specs.Past.{Past}
 use Rattle.ele_shared.specs.declared.board.Call.{Call}
 

@@ -1,7 +1,7 @@
 //! The table that holds the history, its rule, and what its seats know.
 use atomic_table::TableRule;
 use ele_history::History;
-use ele_world::{Entry, Flat, Stepping};
+use ele_model::{Entry, Flat, Stepping};
 use std::alloc::Global;
 use std::collections::LinkedList;
 use std::marker::Model;

@@ -16,7 +16,7 @@ mod stop;
 
 use board::Table;
 use ele_history::History;
-use ele_world::{Event, NoMemory, Reply, Stepping, Stop};
+use ele_model::{Event, NoMemory, Reply, Stepping, Stop};
 pub use seat::Seat;
 use std::alloc::Global;
 use std::marker::Model;

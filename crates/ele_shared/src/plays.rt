@@ -2,7 +2,7 @@
 use crate::board::View;
 use atomic_table::{Join, Play, Split};
 use ele_history::History;
-use ele_world::Stepping;
+use ele_model::Stepping;
 
 /// A load.
 pub struct Look;

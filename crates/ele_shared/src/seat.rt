@@ -1,6 +1,6 @@
 //! A thread's place at the shared object.
 use crate::board::Place;
-use ele_world::Stepping;
+use ele_model::Stepping;
 use std::marker::Model;
 
 /// A thread's place at the shared object, which it calls through. It takes no memory. A contract

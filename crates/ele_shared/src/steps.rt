@@ -7,7 +7,7 @@ ghost use Rattle.ele_shared.specs.Told.{knowledge};
 use crate::board::{Board, Place};
 use crate::plays::{Fork, GiveBack, Look, Meet, Publish, Register, Take, Unite};
 use crate::stop::TryStop;
-use ele_world::{Event, Reply, Stepping, Stop};
+use ele_model::{Event, Reply, Stepping, Stop};
 use std::sync::Wait;
 use std::thread::Parker;
 use std::time::Duration;

@@ -8,11 +8,11 @@ ghost use Rattle.ele_history.specs.Past.{fresh};
 ghost use Rattle.ele_runs.specs.Running.{RanToTheEnd, RanToAReadFault, RanPastABound, RanToAWriteFault};
 
 use ele_core::Core;
+use ele_model::Limits;
+pub use ele_model::audit;
 pub use ele_runs::ShellFault;
 use ele_runs::run_over;
 pub use ele_storm::{Flags, Meet, MeetEnd, StormFault, StormPlan, storm, work};
-use ele_world::Limits;
-pub use ele_world::audit;
 use std::alloc::Global;
 use std::io::{Read, Write};
 

@@ -4,11 +4,11 @@ use Rattle.ele_state.proofs.Changes.{passing}
 use Rattle.ele_moment.specs.Last.{last_moment}
 use Rattle.ele_due.specs.InOrder.{in_order}
 use Rattle.ele_due.specs.Key.{if_ripe}
-use Rattle.ele_world.proofs.Newer.{newest_newer}
-use Rattle.ele_world.proofs.RipeAt.{scan_members_at}
-use Rattle.ele_world.specs.Change.{Time, after_change}
-use Rattle.ele_world.specs.Due.{is_due}
-use Rattle.ele_world.specs.Scan.{scan}
+use Rattle.ele_model.proofs.Newer.{newest_newer}
+use Rattle.ele_model.proofs.RipeAt.{scan_members_at}
+use Rattle.ele_model.specs.Change.{Time, after_change}
+use Rattle.ele_model.specs.Due.{is_due}
+use Rattle.ele_model.specs.Scan.{scan}
 
 -- the due rows have the keys of the queue that are ripe
 pub due_keys : (rows : Rows) → IsSound rows → (k : Key) → has_key k (filter_map (due_key (world_of rows)) rows.files.versions) ≡ (is_ripe_by rows.moment k && has_key k rows.queue)

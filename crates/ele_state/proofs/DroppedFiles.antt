@@ -3,8 +3,8 @@ use Rattle.ele_state.proofs.Words.{subst, ◌≡◌, IsQueued, is_moment, ℕ, �
 use Rattle.ele_state.proofs.Booked.{booked, plus-cancel, same_kind}
 use Rattle.ele_state.proofs.NewNames.{other_target, unnamed}
 use Rattle.ele_lists.proofs.Edits.{all-not_found}
-use Rattle.ele_world.proofs.DropViews.{ripe_at_dropped}
-use Rattle.ele_world.proofs.DropUsage.{one_file, dropped_at}
+use Rattle.ele_model.proofs.DropViews.{ripe_at_dropped}
+use Rattle.ele_model.proofs.DropUsage.{one_file, dropped_at}
 
 -- ---- a file that isn't there
 

@@ -2,24 +2,24 @@
 use Rattle.ele_state.proofs.Words.{IsLawful, floor_in, is_live, newer_held, ◌≡◌, ℕ, ◌≤◌, ◌&&◌, Bool, true, false, List, [], ◌∷◌, Option, Some, None, IfSome, IsSome, refl, ap, sym, subst, ◌∙◌, arith, nat_tests, nat_le, find, slice_get, take, option_map, option_map_or, AllByRecursion, AllLater, all-found, any-found, found_passes, bytes_eq-Decides, IsSound, IsTold, Rows, world_of, Held, Policy, GroupRow, Stamps, VersionRow, Versions, World, Cover, MarkRow, cover_of, ripe_past, option_and_then, file_view, is_open, is_version, policy_of, stamps_of, in_order_of, ripe_at_is, ripe_at_near}
 use Rattle.ele_state.proofs.Changes.{none_any}
 use Rattle.ele_lists.proofs.Taken.{all-at, find-first_at}
-use Rattle.ele_world.proofs.Basics.{zero, suc}
-use Rattle.ele_world.proofs.Words.{IsVersion, Now}
+use Rattle.ele_model.proofs.Basics.{zero, suc}
+use Rattle.ele_model.proofs.Words.{IsVersion, Now}
 use Rattle.std.specs.Str.{bytes_eq}
 use Rattle.ele_policy.specs.Ladder.{shares}
 use Rattle.ele_moment.specs.Last.{last_moment}
 use Rattle.ele_policy.specs.Ripe.{alone, is_due_by, ripe_by, ripe_near}
 use Rattle.ele_groups.specs.Rows.{row_of}
 use Rattle.ele_state.specs.Fated.{IsFreeCause, IsFreeFate, MarksAt, closing_of}
-use Rattle.ele_world.proofs.Fates.{displaced_by, newer_found, protected_told}
-use Rattle.ele_world.proofs.RipeMoments.{ripens}
-use Rattle.ele_world.specs.Due.{is_due_at, ripe_of}
-use Rattle.ele_world.specs.Fate.{HasFate, IsCause, IsFate, IsMarkedBy}
-use Rattle.ele_world.specs.GroupRows.{group_named, has_covering, has_member, is_marked, is_member, keeps_at}
-use Rattle.ele_world.specs.Neighbours.{is_newer_of}
-use Rattle.ele_world.specs.declared.fate.Cause.{Cause}
-use Rattle.ele_world.specs.declared.fate.Cause.TheVariants.{AtOnce, Age, Displaced}
-use Rattle.ele_world.specs.declared.fate.Fate.{Fate}
-use Rattle.ele_world.specs.declared.fate.Fate.TheVariants.{Current, Open, Marked, Kept, Due}
+use Rattle.ele_model.proofs.Fates.{displaced_by, newer_found, protected_told}
+use Rattle.ele_model.proofs.RipeMoments.{ripens}
+use Rattle.ele_model.specs.Due.{is_due_at, ripe_of}
+use Rattle.ele_model.specs.Fate.{HasFate, IsCause, IsFate, IsMarkedBy}
+use Rattle.ele_model.specs.GroupRows.{group_named, has_covering, has_member, is_marked, is_member, keeps_at}
+use Rattle.ele_model.specs.Neighbours.{is_newer_of}
+use Rattle.ele_model.specs.declared.fate.Cause.{Cause}
+use Rattle.ele_model.specs.declared.fate.Cause.TheVariants.{AtOnce, Age, Displaced}
+use Rattle.ele_model.specs.declared.fate.Fate.{Fate}
+use Rattle.ele_model.specs.declared.fate.Fate.TheVariants.{Current, Open, Marked, Kept, Due}
 
 -- ---- the groups that have the file
 

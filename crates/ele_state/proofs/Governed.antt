@@ -4,8 +4,8 @@ use Rattle.std.proofs.lemmas.List.Folds.{list_any_more}
 use Rattle.ele_state.proofs.Asked.{under_told}
 use Rattle.ele_state.proofs.Changes.{Move, any_is, one_changes, one_stays, wider}
 use Rattle.ele_state.proofs.Booked.{booked, plus-cancel, same_kind}
-use Rattle.ele_world.proofs.PolicyUsage.{file_within, policy_usage}
-use Rattle.ele_world.proofs.PolicyMoments.{policy_others, policy_own}
+use Rattle.ele_model.proofs.PolicyUsage.{file_within, policy_usage}
+use Rattle.ele_model.proofs.PolicyMoments.{policy_others, policy_own}
 
 -- ---- the keys of a file's versions
 

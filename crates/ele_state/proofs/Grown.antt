@@ -5,8 +5,8 @@ use Rattle.ele_state.proofs.Booked.{few, of_kind, owed_by}
 use Rattle.ele_state.proofs.Bounded.{rows_few, versions_few}
 use Rattle.ele_state.proofs.ClosedSteps.{finished_queue, numbered, past}
 use Rattle.ele_state.proofs.ClosedSums.{HasAdded, source_short, version_owed}
-use Rattle.ele_world.proofs.Files.{policies-numbered}
-use Rattle.ele_world.specs.World.{is_handle}
+use Rattle.ele_model.proofs.Files.{policies-numbered}
+use Rattle.ele_model.specs.World.{is_handle}
 use Rattle.ele_state.specs.declared.append.Source.TheVariants.{Draft, Version}
 
 -- ---- what a sound state has

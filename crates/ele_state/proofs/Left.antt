@@ -1,12 +1,12 @@
 -- For how long marks keep, told by what is left where some of a group leave, and by that group.
 use Rattle.ele_state.proofs.Words.{AllLater, Bool, Cover, GroupRow, List, MarkRow, None, Option, Some, [], arith, cover_of, cover_without, false, filter, has_member, list_any, longer, members_of, nat_tests, not, option_map_or, refl, sym, true, ℕ, ◌&&◌, ◌==◌, ◌||◌, ◌∙◌, ◌∷◌, ◌≡◌}
 use Rattle.std.specs.Str.{bytes_eq}
-use Rattle.ele_world.proofs.Covers.{exceeds, exceeds_by, exceeds_longer, exceeds_same, reaches}
-use Rattle.ele_world.proofs.MarksChanged.{behind, is_over, is_rest, others_count, told_over, told_rest}
-use Rattle.ele_world.specs.Cover.{cover_by}
-use Rattle.ele_world.specs.GroupRows.{group_named, is_group}
-use Rattle.ele_world.specs.GroupsAsked.{is_left_out}
-use Rattle.ele_world.specs.declared.cover.Cover.TheVariants.{Free}
+use Rattle.ele_model.proofs.Covers.{exceeds, exceeds_by, exceeds_longer, exceeds_same, reaches}
+use Rattle.ele_model.proofs.MarksChanged.{behind, is_over, is_rest, others_count, told_over, told_rest}
+use Rattle.ele_model.specs.Cover.{cover_by}
+use Rattle.ele_model.specs.GroupRows.{group_named, is_group}
+use Rattle.ele_model.specs.GroupsAsked.{is_left_out}
+use Rattle.ele_model.specs.declared.cover.Cover.TheVariants.{Free}
 
 abbrev AreNamed : List GroupRow → Type 0
 AreNamed rows = AllLater (λ (earlier : GroupRow) later. bytes_eq earlier.name later.name ≡ false) rows

@@ -2,10 +2,10 @@
 use Rattle.ele_state.proofs.Words.{get_or, length, take, ◌+◌, ◌<◌, ◌≤◌, ◌||◌, HasParts, false≢true, is_live, option_and_then, ripe_past, unmarked_moment, AllByRecursion, AllLater, AreChanges, ArePlaced, Bool, Cover, Dropped, GroupChange, HasLeaving, IsQueued, IsSound, IsTold, Joined, Left, List, MakeGroup, Marked, MarksMove, None, Option, Rows, Some, Stamps, Unmarked, VersionRow, World, [], after_change, all-found, all_found, ap, append-nil, arith, change_of, cond, cover_after, cover_of, covers_moment, drop_moves, false, files_of, filter, filter-append, find, found_passes, had_life, if_changed, in_order_of, is_covered, is_moment, is_one, is_open, is_touched, is_version, leave_moves, list_any, lives_at, mark_moves, member_moves, moments_by, moments_of, nat_tests, option_map, option_map_or, placed_of, refl, ripe_at, ripe_at_near, stamps_of, sym, true, unmark_moves, world_of, ℕ, ◌&&◌, ◌==◌, ◌∙◌, ◌∷◌, ◌≡◌}
 use Rattle.ele_state.proofs.Asked.{covered_told}
 use Rattle.ele_state.proofs.Changes.{Move, found_is, passing, none_changes, one_changes, one_stays, same_change}
-use Rattle.ele_world.proofs.Versions.{IsFound}
+use Rattle.ele_model.proofs.Versions.{IsFound}
 use Rattle.std.proofs.lemmas.List.{take_all}
 use Rattle.std.proofs.lemmas.List.Folds.{list_any_more}
-use Rattle.ele_world.specs.GroupRows.{is_member, new_group}
+use Rattle.ele_model.specs.GroupRows.{is_member, new_group}
 
 -- ---- the version that was current at a moment, by its number
 

@@ -3,8 +3,8 @@ use Rattle.ele_state.proofs.Words.{Directory, MayHaveMore, any-found, floor_for,
 use Rattle.ele_state.proofs.Changes.{any_is}
 use Rattle.ele_lists.proofs.Cuts.{update_first-front}
 use Rattle.ele_names.specs.Rows.{Follows, born_row}
-use Rattle.ele_world.proofs.Basics.{list_any-update_found}
-use Rattle.ele_world.proofs.Files.{next_of-given}
+use Rattle.ele_model.proofs.Basics.{list_any-update_found}
+use Rattle.ele_model.proofs.Files.{next_of-given}
 
 -- the names there were are over
 pub follows_new : (rows : Rows) (directory : ℕ) (name : List ℕ) (target : Target) → IsSound rows → is_some (live_target rows.names directory name) ≡ false → AllByRecursion (λ row. Follows row (born_row directory name target rows.moment)) rows.names

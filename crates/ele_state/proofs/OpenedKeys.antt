@@ -3,7 +3,7 @@ use Rattle.ele_state.proofs.Words.{◌≡◌, ◌<◌, ◌∷◌, [], sym, subst
 use Rattle.ele_state.proofs.Asked.{ripe_told}
 use Rattle.ele_state.proofs.Following.{entry_follows}
 use Rattle.ele_state.proofs.Settled.{settled_by}
-use Rattle.ele_world.proofs.Basics.{list_any-insert_before}
+use Rattle.ele_model.proofs.Basics.{list_any-insert_before}
 
 -- a handle that writes touches no key
 pub opened_queue : (rows : Rows) (file : ℕ) → IsSound rows → IsQueued (with_rows (world_of rows) (opened_by rows.files file rows.moment)) rows.queue

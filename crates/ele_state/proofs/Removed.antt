@@ -2,7 +2,7 @@
 use Rattle.ele_state.proofs.Words.{DropIdle, ap, refl, step, nat_tests, ◌≡◌, ℕ, ◌+◌, Bool, true, List, length, Some, None, sym, subst, ◌∙◌, arith, find, option_map, content_of, world_of, IsSound, IsQueued, IsRekeyed, held_world, blocks_of, one_version, of_file, IsOwed, Rows, Key, Held, without, remove_first, length-remove_first, Kind, Book, sums_of, plus, IsWithin, VersionRow, first_due, Take, after_change, HasParts, CleanOne, is_file_of, bytes_in, usage_of, ChangesOnly, World, is_version, takes, event_keeps, IsDueKey, sum_by-remove_first, usage_changes, changes_removed}
 use Rattle.ele_state.proofs.Booked.{owed, and_none, size, bytes_are}
 use Rattle.ele_state.proofs.Following.{entry_follows}
-use Rattle.ele_world.proofs.CleanKeepsKeys.{take_keeps_keys}
+use Rattle.ele_model.proofs.CleanKeepsKeys.{take_keeps_keys}
 
 -- the queue without the first key
 pub removed_queue : (rows : Rows) (key : Key) (queue : List Key) → IsSound rows → first_due (world_of rows) ≡ Some key → IsRekeyed key.file key.number (Some key.ripe) None rows.queue queue

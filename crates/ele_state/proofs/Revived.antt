@@ -8,10 +8,10 @@ use Rattle.ele_state.proofs.Grown.{ready}
 use Rattle.ele_state.proofs.Settled.{named as may_named}
 use Rattle.ele_state.specs.declared.append.Source.TheVariants.{Version}
 use Rattle.ele_lists.proofs.Cuts.{any-found as first_passing}
-use Rattle.ele_world.proofs.Basics.{suc, zero}
-use Rattle.ele_world.proofs.Views.{policies_of}
-use Rattle.ele_world.proofs.Words.{Ended, IsOfLive}
-use Rattle.ele_world.proofs.Writers.{written_more}
+use Rattle.ele_model.proofs.Basics.{suc, zero}
+use Rattle.ele_model.proofs.Views.{policies_of}
+use Rattle.ele_model.proofs.Words.{Ended, IsOfLive}
+use Rattle.ele_model.proofs.Writers.{written_more}
 
 -- ---- whether the last version is held
 

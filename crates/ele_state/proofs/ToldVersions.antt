@@ -3,9 +3,9 @@ use Rattle.ele_state.proofs.Words.{Names, HasParts, is_held, meant_held, true, a
 use Rattle.ele_state.specs.Told.{found_of}
 use Rattle.ele_time_path.specs.declared.tagged.Tag.{Tag}
 use Rattle.ele_time_path.specs.declared.tagged.TaggedPath.{TaggedPath}
-use Rattle.ele_world.proofs.Versions.{IsFound}
-use Rattle.ele_world.specs.WalkAt.{walk_covering}
-use Rattle.ele_world.specs.declared.refusal.Refusal.TheVariants.{NoEntry}
+use Rattle.ele_model.proofs.Versions.{IsFound}
+use Rattle.ele_model.specs.WalkAt.{walk_covering}
+use Rattle.ele_model.specs.declared.refusal.Refusal.TheVariants.{NoEntry}
 
 -- ---- where a path leads is there
 

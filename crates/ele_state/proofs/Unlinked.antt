@@ -4,14 +4,14 @@ use Rattle.ele_state.proofs.Changes.{any_is}
 use Rattle.ele_state.proofs.Freed.{freed_is}
 use Rattle.ele_state.proofs.Governed.{floored, unheld}
 use Rattle.ele_state.proofs.NewNames.{names_queue}
-use Rattle.ele_world.proofs.Basics.{find-update_other}
-use Rattle.ele_world.proofs.NameMoments.{others_live as others_as_live}
-use Rattle.ele_world.proofs.Neighbours.{next_closing-ended}
-use Rattle.ele_world.proofs.Views.{policies_of}
-use Rattle.ele_world.proofs.Currents.{HasCurrent, has_current}
-use Rattle.ele_world.proofs.EndUsage.{usage_ended}
-use Rattle.ele_world.proofs.Words.{IsVersion}
-use Rattle.ele_world.specs.Neighbours.{is_newer_of}
+use Rattle.ele_model.proofs.Basics.{find-update_other}
+use Rattle.ele_model.proofs.NameMoments.{others_live as others_as_live}
+use Rattle.ele_model.proofs.Neighbours.{next_closing-ended}
+use Rattle.ele_model.proofs.Views.{policies_of}
+use Rattle.ele_model.proofs.Currents.{HasCurrent, has_current}
+use Rattle.ele_model.proofs.EndUsage.{usage_ended}
+use Rattle.ele_model.proofs.Words.{IsVersion}
+use Rattle.ele_model.specs.Neighbours.{is_newer_of}
 use Rattle.std.specs.Prelude.{max}
 
 -- an end that is set changes nothing of the book

@@ -5,17 +5,17 @@ use Rattle.ele_policy.specs.Ladder.{Rung, level_of, rung_at, shares}
 use Rattle.ele_policy.specs.Ripe.{ripe_near}
 use Rattle.ele_policy.specs.declared.policy.Policy.{Policy}
 use Rattle.ele_policy.specs.declared.policy.Policy.TheVariants.{One, Safe, Landmarks}
-use Rattle.ele_world.specs.declared.cover.Cover.{Cover}
-use Rattle.ele_world.specs.Cover.{ripe_past}
-use Rattle.ele_world.specs.declared.fate.Cause.{Cause}
-use Rattle.ele_world.specs.declared.fate.Cause.TheVariants.{AtOnce, Age, Displaced}
-use Rattle.ele_world.specs.declared.fate.Fate.{Fate}
-use Rattle.ele_world.specs.declared.fate.Fate.TheVariants.{Kept, Due}
-use Rattle.ele_world.specs.declared.rows.GroupRow.{GroupRow}
-use Rattle.ele_world.specs.declared.rows.MarkRow.{MarkRow}
-use Rattle.ele_world.specs.declared.rows.Stamps.{Stamps}
-use Rattle.ele_world.specs.Fate.{level_reached}
-use Rattle.ele_world.specs.GroupRows.{is_member, keeps_at}
+use Rattle.ele_model.specs.declared.cover.Cover.{Cover}
+use Rattle.ele_model.specs.Cover.{ripe_past}
+use Rattle.ele_model.specs.declared.fate.Cause.{Cause}
+use Rattle.ele_model.specs.declared.fate.Cause.TheVariants.{AtOnce, Age, Displaced}
+use Rattle.ele_model.specs.declared.fate.Fate.{Fate}
+use Rattle.ele_model.specs.declared.fate.Fate.TheVariants.{Kept, Due}
+use Rattle.ele_model.specs.declared.rows.GroupRow.{GroupRow}
+use Rattle.ele_model.specs.declared.rows.MarkRow.{MarkRow}
+use Rattle.ele_model.specs.declared.rows.Stamps.{Stamps}
+use Rattle.ele_model.specs.Fate.{level_reached}
+use Rattle.ele_model.specs.GroupRows.{is_member, keeps_at}
 
 -- the group at that place has the file, and this is its name, and its first mark that covers and is in force at the moment
 pub record MarksAt (groups : List GroupRow) (place file closed : ℕ) (ended : Option ℕ) (at : ℕ) (name : List ℕ) (mark : MarkRow) : Type 0 where

@@ -1,9 +1,9 @@
 -- Whether as much of a kind was made as may be.
 use Rattle.std.specs.Prelude.{nat_le, Bool}
-use Rattle.ele_world.specs.declared.refusal.Which.{Which}
-use Rattle.ele_world.specs.declared.refusal.Which.TheVariants.{Files, Directories, Names, Versions, Handles, Groups, Members, Marks}
-use Rattle.ele_world.specs.Step.{versions_made}
-use Rattle.ele_world.specs.World.{World}
+use Rattle.ele_model.specs.declared.refusal.Which.{Which}
+use Rattle.ele_model.specs.declared.refusal.Which.TheVariants.{Files, Directories, Names, Versions, Handles, Groups, Members, Marks}
+use Rattle.ele_model.specs.Step.{versions_made}
+use Rattle.ele_model.specs.World.{World}
 
 abbrev pub is_full : World → Which → Bool
 is_full w Files = nat_le w.limits.files w.made.files

@@ -1,8 +1,8 @@
 -- Where a new name may stand, and what it may stand for.
 use Rattle.std.specs.Prelude.{◌≡◌, ℕ, true}
-use Rattle.ele_world.specs.declared.rows.Target.{Target}
-use Rattle.ele_world.specs.WellFormed.{IsThere, IsDirectoryThere, has_directory, is_reached}
-use Rattle.ele_world.specs.World.{World}
+use Rattle.ele_model.specs.declared.rows.Target.{Target}
+use Rattle.ele_model.specs.WellFormed.{IsThere, IsDirectoryThere, has_directory, is_reached}
+use Rattle.ele_model.specs.World.{World}
 
 -- the directory is there, and has a live name or is the root
 pub record IsHome (w : World) (directory : ℕ) : Type 0 where

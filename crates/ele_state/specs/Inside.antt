@@ -3,10 +3,10 @@ use Rattle.ele_state.specs.declared.rows.Rows.{Rows}
 use Rattle.ele_state.specs.Shown.{Shown}
 use Rattle.ele_state.specs.Queued.{IsQueued}
 use Rattle.ele_state.specs.Tracked.{IsBooked}
-use Rattle.ele_world.specs.Bounds.{AreBounds}
-use Rattle.ele_world.specs.NoIdleStays.{HasNoIdle}
-use Rattle.ele_world.specs.Parts.{HasParts}
-use Rattle.ele_world.specs.World.{World}
+use Rattle.ele_model.specs.Bounds.{AreBounds}
+use Rattle.ele_model.specs.NoIdleStays.{HasNoIdle}
+use Rattle.ele_model.specs.Parts.{HasParts}
+use Rattle.ele_model.specs.World.{World}
 
 abbrev pub world_of : Rows → World
 world_of rows = record {

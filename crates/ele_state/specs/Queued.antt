@@ -10,19 +10,19 @@ use Rattle.ele_due.specs.HasKey.{has_key}
 use Rattle.ele_files.specs.Held.{Held}
 use Rattle.ele_policy.specs.declared.policy.Policy.{Policy}
 use Rattle.ele_policy.specs.Ripe.{ripe_near}
-use Rattle.ele_world.specs.declared.cover.Cover.{Cover}
-use Rattle.ele_world.specs.declared.rows.FileRow.{FileRow}
-use Rattle.ele_world.specs.declared.rows.GroupRow.{GroupRow}
-use Rattle.ele_world.specs.Due.{ripe_at}
-use Rattle.ele_world.specs.Neighbours.{floor_in, is_moment, moment_under, near_moment, newer_held, next_closing, with_newer}
-use Rattle.ele_world.specs.Cover.{cover_of, cover_until, longer}
-use Rattle.ele_world.specs.Change.{Change, AddMark, AddMember, DropGroup, RemoveMark, RemoveMember}
-use Rattle.ele_world.specs.GroupRows.{has_member, is_marked_at}
-use Rattle.ele_world.specs.GroupsAsked.{cover_with, cover_without, marks_of, members_of}
-use Rattle.ele_world.specs.Told.{stamps_of}
-use Rattle.ele_world.specs.declared.rows.Stamps.{Stamps}
-use Rattle.ele_world.specs.declared.rows.VersionRow.{VersionRow}
-use Rattle.ele_world.specs.World.{World, policy_of, next_of, is_live, is_open, is_version}
+use Rattle.ele_model.specs.declared.cover.Cover.{Cover}
+use Rattle.ele_model.specs.declared.rows.FileRow.{FileRow}
+use Rattle.ele_model.specs.declared.rows.GroupRow.{GroupRow}
+use Rattle.ele_model.specs.Due.{ripe_at}
+use Rattle.ele_model.specs.Neighbours.{floor_in, is_moment, moment_under, near_moment, newer_held, next_closing, with_newer}
+use Rattle.ele_model.specs.Cover.{cover_of, cover_until, longer}
+use Rattle.ele_model.specs.Change.{Change, AddMark, AddMember, DropGroup, RemoveMark, RemoveMember}
+use Rattle.ele_model.specs.GroupRows.{has_member, is_marked_at}
+use Rattle.ele_model.specs.GroupsAsked.{cover_with, cover_without, marks_of, members_of}
+use Rattle.ele_model.specs.Told.{stamps_of}
+use Rattle.ele_model.specs.declared.rows.Stamps.{Stamps}
+use Rattle.ele_model.specs.declared.rows.VersionRow.{VersionRow}
+use Rattle.ele_model.specs.World.{World, policy_of, next_of, is_live, is_open, is_version}
 
 -- the queue has the key of each version that has a ripe moment, and no other
 abbrev pub IsQueued : World → List Key → Type 0

@@ -1,6 +1,6 @@
 -- A state as contracts see it.
 use Rattle.std.specs.Prelude.{ℕ}
-use Rattle.ele_world.specs.World.{World}
+use Rattle.ele_model.specs.World.{World}
 
 -- its world, and how many version rows were read
 pub record Shown : Type 0 where

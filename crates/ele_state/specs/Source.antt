@@ -15,10 +15,10 @@ use Rattle.ele_state.specs.declared.keys.KeyChange.{KeyChange}
 use Rattle.ele_state.specs.declared.append.Source.TheVariants.{Draft, Version}
 use Rattle.ele_state.specs.declared.rows.Rows.{Rows}
 use Rattle.ele_usage.specs.Book.{Book, sums_of}
-use Rattle.ele_world.specs.Change.{Change, Append}
-use Rattle.ele_world.specs.WellFormed.{ArePlaced}
-use Rattle.ele_world.specs.World.{is_draft, is_live, is_version, reads_by}
-use Rattle.ele_world.specs.declared.rows.Reads.TheVariants as reads
+use Rattle.ele_model.specs.Change.{Change, Append}
+use Rattle.ele_model.specs.WellFormed.{ArePlaced}
+use Rattle.ele_model.specs.World.{is_draft, is_live, is_version, reads_by}
+use Rattle.ele_model.specs.declared.rows.Reads.TheVariants as reads
 
 -- the changes by which the file gets the version
 abbrev pub appending : Held → ℕ → ℕ → Source → List Change

@@ -7,12 +7,12 @@ use Rattle.ele_usage.specs.declared.usage.Usage.{Usage}
 use Rattle.ele_usage.specs.Book.{Book, sums_of}
 use Rattle.ele_usage.specs.OnlyAt.{only_at}
 use Rattle.ele_usage.specs.Sums.{nothing, plus}
-use Rattle.ele_world.specs.declared.rows.FileRow.{FileRow}
-use Rattle.ele_world.specs.declared.rows.VersionRow.{VersionRow}
-use Rattle.ele_world.specs.Bounds.{largest_bounds}
-use Rattle.ele_world.specs.declared.rows.DraftRow.{DraftRow}
-use Rattle.ele_world.specs.Usage.{is_file_of, places, usage_of}
-use Rattle.ele_world.specs.World.{World, fresh_world}
+use Rattle.ele_model.specs.declared.rows.FileRow.{FileRow}
+use Rattle.ele_model.specs.declared.rows.VersionRow.{VersionRow}
+use Rattle.ele_model.specs.Bounds.{largest_bounds}
+use Rattle.ele_model.specs.declared.rows.DraftRow.{DraftRow}
+use Rattle.ele_model.specs.Usage.{is_file_of, places, usage_of}
+use Rattle.ele_model.specs.World.{World, fresh_world}
 
 -- the world of these rows alone
 abbrev pub rows_world : List FileRow → List VersionRow → List DraftRow → World

@@ -7,12 +7,12 @@ ghost use Rattle.ele_due.specs.HasKey.{has_key};
 ghost use Rattle.ele_files.specs.Held.{Became};
 ghost use Rattle.ele_files.specs.Standing.{Stands};
 ghost use Rattle.ele_lists.specs.Lists.{AllLater};
-ghost use Rattle.ele_world.specs.Change.{after_changes};
-ghost use Rattle.ele_world.specs.Cover.{cover_of};
-ghost use Rattle.ele_world.specs.Neighbours.{near_moment, with_newer};
-ghost use Rattle.ele_world.specs.Told.{stamps_of};
-ghost use Rattle.ele_world.specs.WellFormed.{ArePlaced};
-ghost use Rattle.ele_world.specs.World.{next_of, policy_of};
+ghost use Rattle.ele_model.specs.Change.{after_changes};
+ghost use Rattle.ele_model.specs.Cover.{cover_of};
+ghost use Rattle.ele_model.specs.Neighbours.{near_moment, with_newer};
+ghost use Rattle.ele_model.specs.Told.{stamps_of};
+ghost use Rattle.ele_model.specs.WellFormed.{ArePlaced};
+ghost use Rattle.ele_model.specs.World.{next_of, policy_of};
 ghost use Rattle.ele_state.specs.Inside.{world_of};
 ghost use Rattle.ele_state.specs.Queued.{comes, former_moment, new_keys};
 ghost use Rattle.ele_state.specs.Source.{IsReady, IsRoomy, appending, coming, source_cells};
@@ -23,8 +23,8 @@ use crate::keys::{KeyChange, floor_in, near_moment, new_key, put_changed, take_b
 use crate::rows::Rows;
 use ele_files::{Files, Meter, NewVersion, Standing};
 use ele_groups::Groups;
+use ele_model::{FileId, Handle, Moment, NoMemory, Stamps, VersionNo};
 use ele_policy::Policy;
-use ele_world::{FileId, Handle, Moment, NoMemory, Stamps, VersionNo};
 
 // Where the content of a file's next version comes from: the draft that was opened then, of which the handle is the last one;
 // or the version of that number, which is held.

@@ -4,12 +4,12 @@ ghost use Rattle.ele_policy.specs.declared.policy.Kind.{Kind};
 ghost use Rattle.ele_usage.specs.Book.{sums_of};
 ghost use Rattle.ele_usage.specs.Sums.{plus, Fits, IsWithin};
 ghost use Rattle.ele_state.specs.Tracked.{blocks_of, only_blocks, one_version, of_file, IsOwed, IsOwedBy, IsBooked};
-ghost use Rattle.ele_world.specs.Usage.{is_file_of};
+ghost use Rattle.ele_model.specs.Usage.{is_file_of};
 
 use ele_files::Files;
+use ele_model::FileId;
 use ele_policy::Kind;
 use ele_usage::{Usage, UsageBook};
-use ele_world::FileId;
 
 // What so many blocks use.
 fn only_blocks(blocks: u64) -> Usage

@@ -3,17 +3,17 @@ ghost use Rattle.std.specs.Prelude.{◌≡◌, ◌<◌, ◌+◌, IfOk, OnErr, fi
 ghost use Rattle.std.specs.Option.{option_copied};
 ghost use Rattle.ele_lists.specs.Lists.{update_first, AllLater};
 ghost use Rattle.ele_policy.specs.Policy.{IsPolicy};
-ghost use Rattle.ele_world.specs.Change.{EndName, Govern, MakeDirectory, after_change, governed_by};
-ghost use Rattle.ele_world.specs.May.{MayEnd};
-ghost use Rattle.ele_world.specs.Walk.{live_target};
-ghost use Rattle.ele_world.specs.World.{default_of, is_directory};
+ghost use Rattle.ele_model.specs.Change.{EndName, Govern, MakeDirectory, after_change, governed_by};
+ghost use Rattle.ele_model.specs.May.{MayEnd};
+ghost use Rattle.ele_model.specs.Walk.{live_target};
+ghost use Rattle.ele_model.specs.World.{default_of, is_directory};
 ghost use Rattle.ele_state.specs.Home.{IsHome};
 
 use crate::State;
 use ele_lists::place_of;
+use ele_model::{DirId, DirectoryRow, Name, NoMemory, Target};
 use ele_names::Found;
 use ele_policy::{Floor, Interval, Policy};
-use ele_world::{DirId, DirectoryRow, Name, NoMemory, Target};
 
 // The place of the directory's row, by a binary search of the numbers.
 fn directory_at(directories: &[DirectoryRow], id: DirId) -> Option<usize>

@@ -1,15 +1,15 @@
 //! The versions that are due, and what the files use.
 ghost use Rattle.std.specs.Prelude.{◌≡◌, IfOk};
 ghost use Rattle.ele_due.specs.Key.{is_ripe_by};
-ghost use Rattle.ele_world.specs.Due.{is_due};
-ghost use Rattle.ele_world.specs.Scan.{scan, first_due};
-ghost use Rattle.ele_world.specs.Usage.{usages};
+ghost use Rattle.ele_model.specs.Due.{is_due};
+ghost use Rattle.ele_model.specs.Scan.{scan, first_due};
+ghost use Rattle.ele_model.specs.Usage.{usages};
 
 use crate::State;
 use crate::keys::free_moment;
 use ele_files::Meter;
+use ele_model::{FileId, Key, KeyList, ListOf, Moment, NoMemory, VersionNo};
 use ele_usage::Usage;
-use ele_world::{FileId, Key, KeyList, ListOf, Moment, NoMemory, VersionNo};
 
 // Whether the key's version is due at the moment.
 fn is_ripe(key: &Key, now: Moment) -> bool

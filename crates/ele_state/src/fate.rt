@@ -3,12 +3,12 @@ ghost use Rattle.std.specs.Prelude.{◌≡◌, ◌&&◌, true, false, Some, IfOk
 ghost use Rattle.std.specs.Str.{bytes_eq};
 ghost use Rattle.ele_lists.specs.Lists.{AllLater};
 ghost use Rattle.ele_policy.specs.Ripe.{alone, is_due_by};
-ghost use Rattle.ele_world.specs.Change.{Time, after_change};
-ghost use Rattle.ele_world.specs.Fate.{HasFate, IsMarkedBy, level_reached};
-ghost use Rattle.ele_world.specs.Cover.{ripe_past};
-ghost use Rattle.ele_world.specs.GroupRows.{has_covering, is_marked, is_member, keeps_at};
-ghost use Rattle.ele_world.specs.Scan.{scan};
-ghost use Rattle.ele_world.specs.World.{is_held};
+ghost use Rattle.ele_model.specs.Change.{Time, after_change};
+ghost use Rattle.ele_model.specs.Fate.{HasFate, IsMarkedBy, level_reached};
+ghost use Rattle.ele_model.specs.Cover.{ripe_past};
+ghost use Rattle.ele_model.specs.GroupRows.{has_covering, is_marked, is_member, keeps_at};
+ghost use Rattle.ele_model.specs.Scan.{scan};
+ghost use Rattle.ele_model.specs.World.{is_held};
 ghost use Rattle.ele_state.specs.Fated.{IsFreeCause, IsFreeFate, MarksAt, closing_of};
 ghost use Rattle.ele_state.specs.Inside.{world_of, IsSound};
 ghost use Rattle.ele_state.specs.Queued.{IsTold};
@@ -18,11 +18,11 @@ use crate::keys::floor_in;
 use crate::rows::Rows;
 use ele_files::Meter;
 use ele_groups::Groups;
-use ele_policy::ripe;
-use ele_world::{
+use ele_model::{
     Cause, Cover, Fate, FileId, KeyList, ListOf, MarkRow, Moment, Name, NoMemory, Policy, Stamps,
     VersionNo,
 };
+use ele_policy::ripe;
 
 // Whether the mark covers what was current from the one moment until the other, and is in force.
 fn keeps_at(closed: Moment, ended: Moment, now: Moment, mark: &MarkRow) -> bool
@@ -67,7 +67,7 @@ fn mark_at(
 
 // The first group, in order of making, that has the file and a mark that covers and is in force, by its name, and the first such
 // mark.
-#[tactic(auto, using(ele_world::proofs::GroupMarks::marked_lasts))]
+#[tactic(auto, using(ele_model::proofs::GroupMarks::marked_lasts))]
 fn first_mark(
     groups: &Groups,
     file: FileId,

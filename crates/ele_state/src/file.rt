@@ -1,9 +1,9 @@
 //! Files that are made, and the drop of one of which nothing is left.
 ghost use Rattle.std.specs.Prelude.{◌≡◌, ◌<◌, ◌+◌, IfOk, OnErr, is_some, false};
-ghost use Rattle.ele_world.specs.Change.{DropIdle, MakeFile, after_change};
-ghost use Rattle.ele_world.specs.Step.{versions_made};
-ghost use Rattle.ele_world.specs.Walk.{live_target};
-ghost use Rattle.ele_world.specs.World.{default_of, has_draft, policy_for};
+ghost use Rattle.ele_model.specs.Change.{DropIdle, MakeFile, after_change};
+ghost use Rattle.ele_model.specs.Step.{versions_made};
+ghost use Rattle.ele_model.specs.Walk.{live_target};
+ghost use Rattle.ele_model.specs.World.{default_of, has_draft, policy_for};
 ghost use Rattle.ele_state.specs.Home.{IsHome};
 ghost use Rattle.ele_state.specs.Inside.{world_of, IsTracked, IsSound};
 
@@ -11,9 +11,9 @@ use crate::State;
 use crate::book::blocks_fit;
 use crate::directory::default_in;
 use crate::rows::Rows;
+use ele_model::{DirId, FileId, Name, NoMemory, Target};
 use ele_policy::{Floor, Interval, Policy};
 use ele_usage::Usage;
-use ele_world::{DirId, FileId, Name, NoMemory, Target};
 
 // What a file uses that has no version and no draft.
 const ONE_FILE: Usage = Usage {

@@ -1,13 +1,13 @@
 //! Groups: their files and their marks.
 ghost use Rattle.std.specs.Option.{option_map_or};
 ghost use Rattle.std.specs.Prelude.{◌≡◌, nat_le, ◌<◌, true, false, OnOk, OnErr, IfOk};
-ghost use Rattle.ele_world.specs.Change.{AddMark, AddMember, DropGroup, MakeGroup, RemoveMark, RemoveMember, after_change};
-ghost use Rattle.ele_world.specs.GroupRows.{has_group, has_member, is_marked_at};
-ghost use Rattle.ele_world.specs.World.{next_of};
+ghost use Rattle.ele_model.specs.Change.{AddMark, AddMember, DropGroup, MakeGroup, RemoveMark, RemoveMember, after_change};
+ghost use Rattle.ele_model.specs.GroupRows.{has_group, has_member, is_marked_at};
+ghost use Rattle.ele_model.specs.World.{next_of};
 
 use crate::State;
 use crate::mark::{GroupChange, regroup};
-use ele_world::{FileId, GroupList, MarkRow, Moment, Name, NoMemory};
+use ele_model::{FileId, GroupList, MarkRow, Moment, Name, NoMemory};
 
 impl State {
     /// Whether there is a group of that name.

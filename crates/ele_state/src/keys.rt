@@ -2,15 +2,15 @@
 ghost use Rattle.std.specs.Prelude.{◌≡◌, ◌++◌, ◌<◌, ◌≤◌, ◌+◌, ◌-◌, ◌^◌, ◌||◌, ◌&&◌, not, Some, None, OnOk, OnErr};
 ghost use Rattle.ele_due.specs.declared.key.Key.{Key};
 ghost use Rattle.ele_due.specs.HasKey.{has_key};
-ghost use Rattle.ele_world.specs.Cover.{cover_of};
-ghost use Rattle.ele_world.specs.Neighbours.{floor_in, free_moment, near_moment};
+ghost use Rattle.ele_model.specs.Cover.{cover_of};
+ghost use Rattle.ele_model.specs.Neighbours.{floor_in, free_moment, near_moment};
 ghost use Rattle.ele_state.specs.Queued.{IsRekeyed, comes, goes, if_changed, unmarked_moment};
 
 use ele_due::DueQueue;
 use ele_files::{Files, Meter};
 use ele_groups::Groups;
+use ele_model::{FileId, Key, Moment, NoMemory, Stamps, VersionNo};
 use ele_policy::{Policy, ripe};
-use ele_world::{FileId, Key, Moment, NoMemory, Stamps, VersionNo};
 
 // Puts in the key of the version with that moment, if there is one.
 pub fn put(

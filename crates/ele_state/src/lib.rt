@@ -4,11 +4,11 @@
 
 ghost use Rattle.std.specs.Prelude.{◌≡◌, ◌≤◌, IfOk};
 ghost use Rattle.ele_moment.specs.Last.{last_moment};
-ghost use Rattle.ele_world.specs.Bounds.{AreBounds};
-ghost use Rattle.ele_world.specs.Change.{Time, after_change};
-ghost use Rattle.ele_world.specs.NoIdleStays.{HasNoIdle};
-ghost use Rattle.ele_world.specs.WellFormed.{IsWellFormed};
-ghost use Rattle.ele_world.specs.World.{fresh_world};
+ghost use Rattle.ele_model.specs.Bounds.{AreBounds};
+ghost use Rattle.ele_model.specs.Change.{Time, after_change};
+ghost use Rattle.ele_model.specs.NoIdleStays.{HasNoIdle};
+ghost use Rattle.ele_model.specs.WellFormed.{IsWellFormed};
+ghost use Rattle.ele_model.specs.World.{fresh_world};
 ghost use Rattle.ele_state.specs.Full.{is_full};
 
 mod append;
@@ -34,13 +34,13 @@ use ele_due::DueQueue;
 use ele_files::Files;
 pub use ele_files::Meter;
 use ele_groups::Groups;
+use ele_model::{
+    Counts, DirId, DirectoryRow, Flat, Limits, ListOf, Moment, NoMemory, Policy, Which,
+};
 use ele_names::Names;
 use ele_policy::laws::policies_are_lawful;
 use ele_policy::{Floor, Interval};
 use ele_usage::UsageBook;
-use ele_world::{
-    Counts, DirId, DirectoryRow, Flat, Limits, ListOf, Moment, NoMemory, Policy, Which,
-};
 use std::alloc::Global;
 use std::marker::Model;
 

@@ -4,15 +4,15 @@ ghost use Rattle.std.specs.List.{list_any};
 ghost use Rattle.std.specs.Option.{option_map_or};
 ghost use Rattle.std.specs.Str.{bytes_eq};
 ghost use Rattle.ele_lists.specs.Lists.{AllLater};
-ghost use Rattle.ele_world.proofs.GroupMoments.{is_touched};
-ghost use Rattle.ele_world.specs.Bounds.{AreBounds};
-ghost use Rattle.ele_world.specs.Change.{after_change};
-ghost use Rattle.ele_world.specs.Cover.{cover_by, cover_of, longer};
-ghost use Rattle.ele_world.specs.Due.{ripe_at};
-ghost use Rattle.ele_world.specs.GroupRows.{group_named};
-ghost use Rattle.ele_world.specs.May.{May};
-ghost use Rattle.ele_world.specs.World.{is_live};
-ghost use Rattle.ele_world.specs.declared.cover.Cover.TheVariants.{Free};
+ghost use Rattle.ele_model.proofs.GroupMoments.{is_touched};
+ghost use Rattle.ele_model.specs.Bounds.{AreBounds};
+ghost use Rattle.ele_model.specs.Change.{after_change};
+ghost use Rattle.ele_model.specs.Cover.{cover_by, cover_of, longer};
+ghost use Rattle.ele_model.specs.Due.{ripe_at};
+ghost use Rattle.ele_model.specs.GroupRows.{group_named};
+ghost use Rattle.ele_model.specs.May.{May};
+ghost use Rattle.ele_model.specs.World.{is_live};
+ghost use Rattle.ele_model.specs.declared.cover.Cover.TheVariants.{Free};
 ghost use Rattle.ele_state.specs.Inside.{world_of, IsSound, IsTracked};
 ghost use Rattle.ele_state.specs.Queued.{AreChanges, HasLeaving, change_of, cover_after, files_of, if_changed, moments_by, moments_of};
 
@@ -20,7 +20,7 @@ use crate::keys::{KeyChange, add_change, put_changed, settle, take_back, unmarke
 use crate::rows::Rows;
 use ele_files::Meter;
 use ele_groups::Groups;
-use ele_world::{Cover, FileId, MarkRow, Moment, Name, NoMemory};
+use ele_model::{Cover, FileId, MarkRow, Moment, Name, NoMemory};
 
 // A change of the group of that name, by which marks keep versions for longer, or less long.
 #[derive(Clone, Copy)]

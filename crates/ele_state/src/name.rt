@@ -1,13 +1,13 @@
 //! Names that come, move and die.
 ghost use Rattle.std.specs.Prelude.{◌≡◌, ◌<◌, OnOk, OnErr, IfOk, IfSome, None, Some, is_some, false, not};
 ghost use Rattle.std.specs.List.{count_by, list_any};
-ghost use Rattle.ele_world.specs.Change.{AddName, EndFileName, MoveName, after_change};
-ghost use Rattle.ele_world.specs.May.{MayHaveMore};
-ghost use Rattle.ele_world.specs.NameRows.{is_live_in, last_dead};
-ghost use Rattle.ele_world.specs.Told.{listing};
-ghost use Rattle.ele_world.specs.Walk.{live_target};
-ghost use Rattle.ele_world.specs.declared.rows.Target.TheVariants.{File};
-ghost use Rattle.ele_world.specs.World.{is_live_name_of};
+ghost use Rattle.ele_model.specs.Change.{AddName, EndFileName, MoveName, after_change};
+ghost use Rattle.ele_model.specs.May.{MayHaveMore};
+ghost use Rattle.ele_model.specs.NameRows.{is_live_in, last_dead};
+ghost use Rattle.ele_model.specs.Told.{listing};
+ghost use Rattle.ele_model.specs.Walk.{live_target};
+ghost use Rattle.ele_model.specs.declared.rows.Target.TheVariants.{File};
+ghost use Rattle.ele_model.specs.World.{is_live_name_of};
 ghost use Rattle.ele_state.specs.Home.{IsHome, IsPresent};
 ghost use Rattle.ele_state.specs.Inside.{world_of, IsTracked, IsSound};
 
@@ -15,8 +15,8 @@ use crate::State;
 use crate::keys::put_changed;
 use crate::policy::freed;
 use crate::rows::Rows;
+use ele_model::{DirId, FileId, ListOf, Moment, Name, NameList, NoMemory, Target};
 use ele_names::Found;
-use ele_world::{DirId, FileId, ListOf, Moment, Name, NameList, NoMemory, Target};
 
 impl State {
     /// Whether the name is live there.

@@ -1,15 +1,15 @@
 //! Where a path leads, now or at an earlier moment.
 ghost use Rattle.std.specs.Prelude.{◌≡◌, ◌<◌, ◌⊎◌, true, Ok, Some, IfOk, IfErr};
 ghost use Rattle.ele_names.specs.Stops.{StopsAtPlace};
-ghost use Rattle.ele_world.specs.Tagged.{walk_meant, walk_then};
-ghost use Rattle.ele_world.specs.Walk.{directory_in, directory_now, file_at, file_now, live_target, parent_now, stands_in, walk_now};
-ghost use Rattle.ele_world.specs.WellFormed.{IsThere};
-ghost use Rattle.ele_world.specs.World.{is_live, next_of};
+ghost use Rattle.ele_model.specs.Tagged.{walk_meant, walk_then};
+ghost use Rattle.ele_model.specs.Walk.{directory_in, directory_now, file_at, file_now, live_target, parent_now, stands_in, walk_now};
+ghost use Rattle.ele_model.specs.WellFormed.{IsThere};
+ghost use Rattle.ele_model.specs.World.{is_live, next_of};
 ghost use Rattle.ele_state.specs.Home.{IsHome};
 
 use crate::State;
+use ele_model::{DirId, FileId, Name, Path, PathAt, Refusal, Tag, Target};
 use ele_names::{Found, resolve_at, resolve_now};
-use ele_world::{DirId, FileId, Name, Path, PathAt, Refusal, Tag, Target};
 
 /// The target, where it is a file. Refused: `IsDirectory`.
 pub fn file_in(target: Target) -> Result<FileId, Refusal>

@@ -3,11 +3,11 @@ ghost use Rattle.std.specs.Prelude.{◌≡◌, ◌<◌, ◌+◌, ◌||◌, nat_l
 ghost use Rattle.ele_due.specs.declared.key.Key.{Key};
 ghost use Rattle.ele_lists.specs.Lists.{AllLater};
 ghost use Rattle.ele_policy.specs.Policy.{IsPolicy};
-ghost use Rattle.ele_world.specs.Change.{PutUnder, after_change};
-ghost use Rattle.ele_world.specs.Cover.{cover_of};
-ghost use Rattle.ele_world.specs.Neighbours.{floor_in, near_moment, newer_held};
-ghost use Rattle.ele_world.specs.WellFormed.{ArePlaced};
-ghost use Rattle.ele_world.specs.World.{is_live, next_of};
+ghost use Rattle.ele_model.specs.Change.{PutUnder, after_change};
+ghost use Rattle.ele_model.specs.Cover.{cover_of};
+ghost use Rattle.ele_model.specs.Neighbours.{floor_in, near_moment, newer_held};
+ghost use Rattle.ele_model.specs.WellFormed.{ArePlaced};
+ghost use Rattle.ele_model.specs.World.{is_live, next_of};
 ghost use Rattle.ele_state.specs.Inside.{world_of, IsSound};
 ghost use Rattle.ele_state.specs.Queued.{AreChanges, IsTold, comes, if_changed, is_freed, is_one, is_own, rule_in, unread_under};
 
@@ -15,8 +15,8 @@ use crate::State;
 use crate::keys::{KeyChange, add_change, floor_in, near_moment, new_key, put_changed, settle};
 use crate::rows::Rows;
 use ele_files::Meter;
+use ele_model::{FileId, Moment, NoMemory, Stamps};
 use ele_policy::Policy;
-use ele_world::{FileId, Moment, NoMemory, Stamps};
 
 impl State {
     /// The file gets the policy, under which its versions have other keys and count for its kind.

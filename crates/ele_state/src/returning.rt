@@ -1,13 +1,13 @@
 //! The names that may come back.
 ghost use Rattle.std.specs.Prelude.{◌≡◌, ◌-◌, IfOk};
-ghost use Rattle.ele_world.specs.Restorable.{may_return, nameless, restorable, returning_name};
-ghost use Rattle.ele_world.specs.World.{is_held, next_of};
+ghost use Rattle.ele_model.specs.Restorable.{may_return, nameless, restorable, returning_name};
+ghost use Rattle.ele_model.specs.World.{is_held, next_of};
 ghost use Rattle.ele_state.specs.Inside.{world_of, IsSound};
 
 use crate::State;
 use crate::rows::Rows;
 use ele_files::Meter;
-use ele_world::{DeadName, DeadNameList, DirId, FileId, ListOf, Name, NoMemory, Target};
+use ele_model::{DeadName, DeadNameList, DirId, FileId, ListOf, Name, NoMemory, Target};
 
 // Whether the file's last version is held.
 #[tactic(auto, using(crate::proofs::Words::nat_tests, crate::proofs::Revived::unheld, crate::proofs::Revived::no_next, crate::proofs::Revived::stamped, crate::proofs::ClosedSteps::number_told))]

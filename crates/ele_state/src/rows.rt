@@ -3,9 +3,9 @@
 use ele_due::DueQueue;
 use ele_files::{Files, Meter};
 use ele_groups::Groups;
+use ele_model::{DirectoryRow, Limits, Moment};
 use ele_names::Names;
 use ele_usage::UsageBook;
-use ele_world::{DirectoryRow, Limits, Moment};
 use std::alloc::Global;
 
 // How much was ever made, but for handles, which the files count.

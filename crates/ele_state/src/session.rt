@@ -2,12 +2,12 @@
 ghost use Rattle.std.specs.Prelude.{◌≡◌, ◌<◌, ◌≤◌, ◌+◌, ◌^◌, ◌∷◌, [], true, false, Some, None, Ok, IfOk, OnOk, OnErr, length};
 ghost use Rattle.ele_content.specs.Content.{content_of, longest_content};
 ghost use Rattle.ele_files.specs.Closing.{opening_by};
-ghost use Rattle.ele_world.specs.Change.{OpenHandle, StartDraft, TruncateDraft, WriteDraft, after_change, after_changes};
-ghost use Rattle.ele_world.specs.Step.{cells_read, step, versions_made};
-ghost use Rattle.ele_world.specs.World.{file_by, has_draft, is_held, next_of, reads_by};
-ghost use Rattle.ele_world.specs.declared.event.Event.TheVariants as event;
-ghost use Rattle.ele_world.specs.declared.reply.Reply.TheVariants.{Closed};
-ghost use Rattle.ele_world.specs.declared.rows.Reads.TheVariants.{Draft, Version};
+ghost use Rattle.ele_model.specs.Change.{OpenHandle, StartDraft, TruncateDraft, WriteDraft, after_change, after_changes};
+ghost use Rattle.ele_model.specs.Step.{cells_read, step, versions_made};
+ghost use Rattle.ele_model.specs.World.{file_by, has_draft, is_held, next_of, reads_by};
+ghost use Rattle.ele_model.specs.declared.event.Event.TheVariants as event;
+ghost use Rattle.ele_model.specs.declared.reply.Reply.TheVariants.{Closed};
+ghost use Rattle.ele_model.specs.declared.rows.Reads.TheVariants.{Draft, Version};
 ghost use Rattle.ele_state.specs.Inside.{world_of, IsTracked, IsSound};
 
 use crate::State;
@@ -17,7 +17,7 @@ use crate::file::drop_idle;
 use crate::keys::{free_moment, put, take};
 use crate::rows::Rows;
 use ele_files::Meter;
-use ele_world::{ByteList, FileId, Handle, Moment, NoMemory, Reads, Refusal, VersionNo};
+use ele_model::{ByteList, FileId, Handle, Moment, NoMemory, Reads, Refusal, VersionNo};
 
 impl State {
     /// What is read through the handle. Refused: `NoHandle`.

@@ -1,14 +1,14 @@
 //! Versions that come again or go, and what is asked of them.
 ghost use Rattle.std.specs.Prelude.{◌≡◌, ◌+◌, ◌-◌, ◌≤◌, ◌<◌, ◌^◌, ◌∷◌, [], true, false, Some, IfOk, OnOk, OnErr, filter, is_some, map};
 ghost use Rattle.std.specs.Result.{result_map_both};
-ghost use Rattle.ele_world.specs.Change.{Append, DropIdle, Revive, Take, after_change, after_changes};
-ghost use Rattle.ele_world.specs.FileView.{is_version_of};
-ghost use Rattle.ele_world.specs.Scan.{first_due};
-ghost use Rattle.ele_world.specs.Step.{version_cells, versions_made};
-ghost use Rattle.ele_world.specs.Tagged.{version_at, version_meant};
-ghost use Rattle.ele_world.specs.Told.{stamps_of};
-ghost use Rattle.ele_world.specs.Walk.{live_target};
-ghost use Rattle.ele_world.specs.World.{has_draft, is_held, is_live, next_of};
+ghost use Rattle.ele_model.specs.Change.{Append, DropIdle, Revive, Take, after_change, after_changes};
+ghost use Rattle.ele_model.specs.FileView.{is_version_of};
+ghost use Rattle.ele_model.specs.Scan.{first_due};
+ghost use Rattle.ele_model.specs.Step.{version_cells, versions_made};
+ghost use Rattle.ele_model.specs.Tagged.{version_at, version_meant};
+ghost use Rattle.ele_model.specs.Told.{stamps_of};
+ghost use Rattle.ele_model.specs.Walk.{live_target};
+ghost use Rattle.ele_model.specs.World.{has_draft, is_held, is_live, next_of};
 ghost use Rattle.ele_state.specs.Home.{IsHome};
 ghost use Rattle.ele_state.specs.Told.{found_of};
 
@@ -20,7 +20,7 @@ use crate::keys::{take, take_back};
 use crate::path::file_in;
 use crate::policy::freed;
 use ele_files::Meter;
-use ele_world::{
+use ele_model::{
     DirId, FileId, Key, Name, NoMemory, Refusal, Stamps, StampsList, Tag, TaggedPath, Target,
     VersionNo,
 };

@@ -7,7 +7,7 @@ use Rattle.ele_shared.specs.Closing.{Closes}
 use Rattle.ele_shared.specs.Knowledge.{Knowledge, Object}
 use Rattle.ele_shared.specs.Running.{entries_of, has, own_of}
 use Rattle.ele_shared.specs.Seats.{AreNew, IsNew}
-use Rattle.ele_world.specs.Bounds.{Bounds}
+use Rattle.ele_model.specs.Bounds.{Bounds}
 use Rattle.ele_storm.specs.declared.plan.StormPlan.{StormPlan}
 use Rattle.ele_storm.specs.Audited.{AreOfOne, IsAudited, IsBegun}
 use Rattle.ele_storm.specs.Plan.{storm_events}

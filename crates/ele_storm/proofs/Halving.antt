@@ -4,9 +4,9 @@ use Rattle.std.specs.Result.{result_and}
 use Rattle.ele_shared.specs.declared.board.Call.{Call}
 use Rattle.ele_shared.specs.Knowledge.{Knowledge}
 use Rattle.ele_shared.specs.Running.{entries_of, entry}
-use Rattle.ele_world.specs.declared.event.Event.{Event}
+use Rattle.ele_model.specs.declared.event.Event.{Event}
 use Rattle.ele_shared.specs.Seats.{Joined}
-use Rattle.ele_world.specs.declared.entry.Entry.{Entry}
+use Rattle.ele_model.specs.declared.entry.Entry.{Entry}
 use Rattle.ele_storm.specs.declared.fault.StormFault.{StormFault}
 use Rattle.ele_storm.specs.declared.plan.StormPlan.{StormPlan}
 use Rattle.ele_storm.specs.Halves.{Runs, size_before}

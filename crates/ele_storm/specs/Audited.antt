@@ -3,9 +3,9 @@ use Rattle.std.specs.Prelude.{◌≡◌, ℕ, ◌≤◌, Bool, List, [], length,
 use Rattle.ele_history.specs.Legal.{IsLegal}
 use Rattle.ele_history.specs.Past.{Past, fresh, world_of}
 use Rattle.ele_shared.specs.Knowledge.{Knowledge, Object}
-use Rattle.ele_world.specs.Bounds.{Bounds}
-use Rattle.ele_world.specs.declared.entry.Entry.{Entry}
-use Rattle.ele_world.specs.World.{fresh_world}
+use Rattle.ele_model.specs.Bounds.{Bounds}
+use Rattle.ele_model.specs.declared.entry.Entry.{Entry}
+use Rattle.ele_model.specs.World.{fresh_world}
 use Rattle.ele_storm.specs.declared.plan.StormPlan.{StormPlan}
 use Rattle.ele_storm.specs.Plan.{storm_events}
 

@@ -1,8 +1,8 @@
 -- The numbers and the names of what ends a storm early.
 use Rattle.std.specs.Prelude.{ℕ, List, codes}
-use Rattle.ele_world.specs.Answers.{stop_answer}
-use Rattle.ele_world.specs.declared.refusal.Stop.{Stop}
-use Rattle.ele_world.specs.declared.refusal.Stop.TheVariants as stop
+use Rattle.ele_model.specs.Answers.{stop_answer}
+use Rattle.ele_model.specs.declared.refusal.Stop.{Stop}
+use Rattle.ele_model.specs.declared.refusal.Stop.TheVariants as stop
 use Rattle.ele_storm.specs.declared.fault.AuditFault.{AuditFault}
 use Rattle.ele_storm.specs.declared.fault.AuditFault.TheVariants.{Storm, TurnHeld}
 use Rattle.ele_storm.specs.declared.fault.StormFault.{StormFault}

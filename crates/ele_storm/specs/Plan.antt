@@ -4,12 +4,12 @@ use Rattle.std.specs.Int.{to_be_bytes, w64}
 use Rattle.ele_time_path.specs.declared.tagged.Tag.TheVariants.{Now, Number}
 use Rattle.ele_time_path.specs.declared.tagged.TaggedPath.{TaggedPath}
 use Rattle.ele_time_path.specs.declared.tagged.Tag.{Tag}
-use Rattle.ele_world.specs.declared.entry.Entry.{Entry}
-use Rattle.ele_world.specs.declared.event.Event.{Event}
-use Rattle.ele_world.specs.declared.event.Event.TheVariants.{Tick, OpenWrite, Write, Close, Stat, Read, CleanOne}
-use Rattle.ele_world.specs.declared.event.Source.TheVariants.{Tagged}
-use Rattle.ele_world.specs.declared.reply.Reply.{Reply}
-use Rattle.ele_world.specs.declared.reply.Reply.TheVariants as reply
+use Rattle.ele_model.specs.declared.entry.Entry.{Entry}
+use Rattle.ele_model.specs.declared.event.Event.{Event}
+use Rattle.ele_model.specs.declared.event.Event.TheVariants.{Tick, OpenWrite, Write, Close, Stat, Read, CleanOne}
+use Rattle.ele_model.specs.declared.event.Source.TheVariants.{Tagged}
+use Rattle.ele_model.specs.declared.reply.Reply.{Reply}
+use Rattle.ele_model.specs.declared.reply.Reply.TheVariants as reply
 use Rattle.ele_history.specs.Past.{events_of}
 use Rattle.ele_storm.specs.declared.plan.StormPlan.{StormPlan}
 use Rattle.ele_storm.specs.declared.plan.Task.{Task}

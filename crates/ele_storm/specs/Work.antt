@@ -3,10 +3,10 @@ use Rattle.std.specs.Prelude.{◌≡◌, ℕ, List, [], ◌∷◌, ◌++◌, len
 use Rattle.ele_shared.specs.declared.board.Call.{Call}
 use Rattle.ele_shared.specs.Knowledge.{Knowledge}
 use Rattle.ele_shared.specs.Running.{entries_of, entry, StartsWith}
-use Rattle.ele_world.specs.declared.entry.Entry.{Entry}
+use Rattle.ele_model.specs.declared.entry.Entry.{Entry}
 use Rattle.ele_storm.specs.declared.plan.StormPlan.{StormPlan}
-use Rattle.ele_world.specs.declared.event.Event.{Event}
-use Rattle.ele_world.specs.declared.reply.Reply.{Reply}
+use Rattle.ele_model.specs.declared.event.Event.{Event}
+use Rattle.ele_model.specs.declared.reply.Reply.{Reply}
 use Rattle.ele_storm.specs.declared.plan.Task.{Task}
 use Rattle.ele_storm.specs.Plan.{AreOf, AreRounds, round_events, task_of}
 

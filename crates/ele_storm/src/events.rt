@@ -4,7 +4,7 @@ ghost use Rattle.std.specs.Int.{to_be_bytes, w64};
 ghost use Rattle.ele_time_path.specs.declared.tagged.Tag.TheVariants as tag;
 ghost use Rattle.ele_storm.specs.Plan.{file_of, handle_in, tagged};
 
-use ele_world::{ByteList, Handle, NoMemory, Path, Reply, TaggedPath};
+use ele_model::{ByteList, Handle, NoMemory, Path, Reply, TaggedPath};
 use std::alloc::Global;
 
 /// The path of the writer's file.

@@ -5,8 +5,8 @@ ghost use Rattle.ele_storm.specs.Fault.{fault_of_stop, name_of, number_of};
 ghost use Rattle.ele_storm.specs.declared.fault.AuditFault.TheVariants as audited;
 ghost use Rattle.ele_storm.specs.declared.fault.StormFault.TheVariants as storm;
 
+use ele_model::{NoMemory, Stop};
 use ele_shared::TurnHeld;
-use ele_world::{NoMemory, Stop};
 use thiserror::Error;
 
 /// Why a storm, or a worker of it, ended early. Events that were run stay in the history.

@@ -3,7 +3,7 @@ ghost use Rattle.std.specs.Prelude.{◌≡◌, ◌≤◌, IfOk};
 ghost use Rattle.ele_storm.specs.declared.meet.MeetEnd.TheVariants as meet;
 
 use crate::meet::{Meet, MeetEnd};
-use ele_world::NoMemory;
+use ele_model::NoMemory;
 use std::alloc::Global;
 use std::marker::Model;
 use std::sync::atomic::{AtomicBool, Ordering};

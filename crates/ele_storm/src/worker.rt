@@ -8,8 +8,8 @@ use crate::events::{bytes_of, file_now, file_of, first_version, handle_in};
 use crate::fault::StormFault;
 use crate::meet::{Meet, MeetEnd};
 use crate::plan::{StormPlan, Task};
+use ele_model::{Event, Reply, Source, Stepping};
 use ele_shared::{Seat, Shared};
-use ele_world::{Event, Reply, Source, Stepping};
 use std::alloc::Global;
 use std::sync::Wait;
 

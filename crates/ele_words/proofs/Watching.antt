@@ -9,7 +9,7 @@ use Rattle.ele_shared.specs.Seats.{Joined}
 use Rattle.ele_storm.specs.declared.plan.StormPlan.{StormPlan}
 use Rattle.ele_storm.specs.Audited.{AreOfOne}
 use Rattle.ele_storm.specs.Plan.{storm_events}
-use Rattle.ele_world.specs.Bounds.{largest_bounds}
+use Rattle.ele_model.specs.Bounds.{largest_bounds}
 use Rattle.ele_words.specs.Progress.{ShowsProgress}
 use Rattle.ele_words.specs.Watched.{Watched}
 

@@ -1,6 +1,6 @@
 -- What the program's words may ask for.
 use Rattle.std.specs.Prelude.{◌≡◌, ℕ, ◌≤◌}
-use Rattle.ele_world.specs.Bounds.{largest_bounds}
+use Rattle.ele_model.specs.Bounds.{largest_bounds}
 use Rattle.ele_words.specs.declared.asked.Asked.{Asked}
 use Rattle.ele_words.specs.declared.asked.Asked.TheVariants.{Run, Storm, Forecast, Help, NotUnderstood, NoMemory}
 

@@ -11,7 +11,7 @@ use Rattle.ele_storm.specs.declared.fault.AuditFault.{AuditFault}
 use Rattle.ele_storm.specs.declared.fault.AuditFault.TheVariants.{Storm, TurnHeld}
 use Rattle.ele_storm.specs.declared.fault.StormFault.TheVariants.{NoMemory, HistoryFull, NoThread, Alone}
 use Rattle.ele_storm.specs.declared.plan.StormPlan.{StormPlan}
-use Rattle.ele_world.specs.Bounds.{largest_bounds}
+use Rattle.ele_model.specs.Bounds.{largest_bounds}
 use Rattle.ele_words.specs.Status.{fault_status, Tells}
 
 abbrev pub storm_status : AuditFault → ℕ

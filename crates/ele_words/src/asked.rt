@@ -1,7 +1,7 @@
 //! What the program's words ask for.
 //! A contract sees the limits of a run, and that words which were refused ask for none.
 ghost use Rattle.std.specs.Prelude.{◌≡◌};
-ghost use Rattle.ele_world.specs.Bounds.{largest_bounds};
+ghost use Rattle.ele_model.specs.Bounds.{largest_bounds};
 ghost use Rattle.ele_words.specs.Asked.{IsEvents, IsAsked, IsRefusal};
 
 mod forecast;
@@ -10,11 +10,11 @@ mod storm;
 
 use clap::error::ErrorKind;
 use clap::{Arg, ArgAction, ArgMatches, Command, Error};
+use ele_model::Limits;
 use ele_moment::read_number;
 use ele_outlook::Ask;
 use ele_runs::Manner;
 use ele_storm::StormPlan;
-use ele_world::Limits;
 use forecast::{asked_forecast, forecast};
 use script::COMMANDS;
 use std::alloc::{AllocError, Global};

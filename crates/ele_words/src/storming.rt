@@ -9,10 +9,10 @@ ghost use Rattle.ele_words.specs.Watched.{Watched};
 
 use crate::ends::{tell, write_text};
 use crate::watched::watch_storm;
+use ele_model::{Auditable, Limits};
 use ele_runs::ShellFault;
 use ele_script::write_named;
 use ele_storm::{AuditFault, Flags, StormFault, StormPlan, storm_and_audit};
-use ele_world::{Auditable, Limits};
 use std::alloc::Global;
 use std::io::Write;
 use std::sync::Wait;

@@ -9,10 +9,10 @@ ghost use Rattle.ele_shared.specs.Knowledge.{Looked, count_seen};
 ghost use Rattle.ele_words.specs.Progress.{ShowsProgress, progress_line};
 ghost use Rattle.ele_words.specs.Watched.{Stormed, Watched};
 
+use ele_model::{Auditable, Limits, Stepping};
 use ele_script::{WriteFault, write_placed};
 use ele_shared::{Seat, Shared};
 use ele_storm::{AuditFault, Flags, StormFault, StormPlan, close_and_audit, share_fresh, storm};
-use ele_world::{Auditable, Limits, Stepping};
 use std::alloc::Global;
 use std::io::Write;
 use std::snapshot::Snapshot;

@@ -1,17 +1,17 @@
 -- The law of any due versions, by one due row after another from the front: whether the others are due is the same after each.
-use Rattle.ele_world.proofs.Basics.{◌≡◌, ℕ, Bool, true, false, not, cond, List, [], ◌∷◌, ◌++◌, Some, refl, ap, sym, subst, ◌∙◌, ◌&&◌, arith, nat_tests, filter, find, remove_first, AllByRecursion, AllLater, append_assoc}
-use Rattle.ele_world.proofs.Basics.{all-any, all-append, all-both, all-filter, all-right, all-weaker, filter-both, filter-same_all, filter-swap, later-around, remove_first-at}
+use Rattle.ele_model.proofs.Basics.{◌≡◌, ℕ, Bool, true, false, not, cond, List, [], ◌∷◌, ◌++◌, Some, refl, ap, sym, subst, ◌∙◌, ◌&&◌, arith, nat_tests, filter, find, remove_first, AllByRecursion, AllLater, append_assoc}
+use Rattle.ele_model.proofs.Basics.{all-any, all-append, all-both, all-filter, all-right, all-weaker, filter-both, filter-same_all, filter-swap, later-around, remove_first-at}
 use Rattle.ele_lists.proofs.Alls.{all-left}
 use Rattle.ele_lists.proofs.Cuts.{find-at}
-use Rattle.ele_world.proofs.Words.{VersionRow, ArePlaced, Take, after_change, HasParts, World, is_version}
+use Rattle.ele_model.proofs.Words.{VersionRow, ArePlaced, Take, after_change, HasParts, World, is_version}
 use Rattle.ele_world.specs.AnyDueLeave.{AreDue, LeavesOthersDue, without_versions}
-use Rattle.ele_world.specs.Due.{is_due, is_due_at}
-use Rattle.ele_world.proofs.DueRows.{due_has_ended, due_is_unread}
-use Rattle.ele_world.proofs.Formed.{well_formed}
-use Rattle.ele_world.proofs.KeptVersions.{take_keeps}
-use Rattle.ele_world.proofs.RemovalOrder.{IsBeside, stays, sides}
-use Rattle.ele_world.proofs.Versions.{IsFound, all_found, apart}
-use Rattle.ele_world.proofs.Views.{placed_of}
+use Rattle.ele_model.specs.Due.{is_due, is_due_at}
+use Rattle.ele_model.proofs.DueRows.{due_has_ended, due_is_unread}
+use Rattle.ele_model.proofs.Formed.{well_formed}
+use Rattle.ele_model.proofs.KeptVersions.{take_keeps}
+use Rattle.ele_model.proofs.RemovalOrder.{IsBeside, stays, sides}
+use Rattle.ele_model.proofs.Versions.{IsFound, all_found, apart}
+use Rattle.ele_model.proofs.Views.{placed_of}
 
 -- the world with these versions
 abbrev pub with_rows : World → List VersionRow → World

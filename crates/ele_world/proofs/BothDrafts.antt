@@ -1,23 +1,23 @@
 -- Changes of drafts and handles, and the dropping of a file, in a world and in one that lags behind it.
-use Rattle.ele_world.proofs.Basics.{◌≡◌, ◌<◌, ◌-◌, ℕ, Bool, true, false, not, List, [], refl, ap, sym, ◌∙◌, arith, nat_tests, list_any, remove_first, insert_before, update_first}
-use Rattle.ele_world.proofs.Basics.{all-filter, all-none, all-remove_first, list_any-insert_before, list_any-update_first, false≢true, filter-swap}
+use Rattle.ele_model.proofs.Basics.{◌≡◌, ◌<◌, ◌-◌, ℕ, Bool, true, false, not, List, [], refl, ap, sym, ◌∙◌, arith, nat_tests, list_any, remove_first, insert_before, update_first}
+use Rattle.ele_model.proofs.Basics.{all-filter, all-none, all-remove_first, list_any-insert_before, list_any-update_first, false≢true, filter-swap}
 use Rattle.ele_lists.proofs.Filters.{find-filter}
-use Rattle.ele_world.proofs.Words.{Cell, Change, Draft, DraftRow, DropIdle, EndDraft, HandleRow, HasParts, NameRow, OpenHandle, ShutHandle, StartDraft, TruncateDraft, VersionRow, World, WriteDraft, after_change, changed_by, current_cells, fitted_by, has_draft, is_draft, is_draft_after, is_file, is_handle, is_idle, is_live, is_open, is_target_file, is_version, is_version_of, new_draft, next_of, reads_version, ripe_at, without_file}
+use Rattle.ele_model.proofs.Words.{Cell, Change, Draft, DraftRow, DropIdle, EndDraft, HandleRow, HasParts, NameRow, OpenHandle, ShutHandle, StartDraft, TruncateDraft, VersionRow, World, WriteDraft, after_change, changed_by, current_cells, fitted_by, has_draft, is_draft, is_draft_after, is_file, is_handle, is_idle, is_live, is_open, is_target_file, is_version, is_version_of, new_draft, next_of, reads_version, ripe_at, without_file}
 use Rattle.ele_world.specs.Less.{less}
 use Rattle.ele_world.specs.Lags.{Lags}
 use Rattle.ele_world.proofs.AnyDueLeave.{remains}
 use Rattle.ele_world.proofs.Behind.{Behind, KeepsBehind, apart_from, change_on, lagging, live_there, drafted_there, unripe_there}
 use Rattle.ele_world.proofs.CleanLags.{parts_same, drop_lags}
-use Rattle.ele_world.proofs.Currents.{has_current}
-use Rattle.ele_world.proofs.Dropped.{IsIdle, drop_keeps, idle_is, live_other, next_of-removed}
-use Rattle.ele_world.proofs.DropViews.{ripe_at_dropped}
-use Rattle.ele_world.proofs.Elements.{any_none}
+use Rattle.ele_model.proofs.Currents.{has_current}
+use Rattle.ele_model.proofs.Dropped.{IsIdle, drop_keeps, idle_is, live_other, next_of-removed}
+use Rattle.ele_model.proofs.DropViews.{ripe_at_dropped}
+use Rattle.ele_model.proofs.Elements.{any_none}
 use Rattle.ele_world.proofs.Filters.{remove_first-filter}
-use Rattle.ele_world.proofs.KeptDrafts.{same_file}
+use Rattle.ele_model.proofs.KeptDrafts.{same_file}
 use Rattle.ele_world.proofs.Lagging.{stays_name, stays_file, live_same, next_same}
-use Rattle.ele_world.proofs.NameMoments.{moments_stay, no_moment}
-use Rattle.ele_world.proofs.Neighbours.{found_moment, in_order_of}
-use Rattle.ele_world.proofs.OpenMoments.{opened_others, read_moment}
+use Rattle.ele_model.proofs.NameMoments.{moments_stay, no_moment}
+use Rattle.ele_model.proofs.Neighbours.{found_moment, in_order_of}
+use Rattle.ele_model.proofs.OpenMoments.{opened_others, read_moment}
 
 -- what none passes, none passes without an element
 still_none : {X : Type 0} (p t : X → Bool) (xs : List X) → list_any t xs ≡ false → list_any t (remove_first p xs) ≡ false

@@ -1,17 +1,17 @@
 -- Changes of the clock, of directories and of names, in a world and in one that lags behind it.
-use Rattle.ele_world.proofs.Basics.{◌≡◌, ◌==◌, ◌≤◌, ◌-◌, ℕ, Bool, true, false, cond, not, ◌&&◌, List, [], ◌∷◌, ◌++◌, refl, ap, sym, ◌∙◌, arith, nat_tests, filter, list_any}
-use Rattle.ele_world.proofs.Basics.{all-weaker, list_any-append, list_any-update_fails, list_any-update_first, false≢true, update_first}
-use Rattle.ele_world.proofs.Words.{AddName, Change, EndFileName, EndName, Govern, HasParts, MakeDirectory, MoveName, NameRow, Policy, Target, Directory, File, Time, World, after_change, born_row, dies, ended_at, is_live, is_live_name, is_live_name_of, is_target_file, is_version, next_of, ripe_at, with_end}
+use Rattle.ele_model.proofs.Basics.{◌≡◌, ◌==◌, ◌≤◌, ◌-◌, ℕ, Bool, true, false, cond, not, ◌&&◌, List, [], ◌∷◌, ◌++◌, refl, ap, sym, ◌∙◌, arith, nat_tests, filter, list_any}
+use Rattle.ele_model.proofs.Basics.{all-weaker, list_any-append, list_any-update_fails, list_any-update_first, false≢true, update_first}
+use Rattle.ele_model.proofs.Words.{AddName, Change, EndFileName, EndName, Govern, HasParts, MakeDirectory, MoveName, NameRow, Policy, Target, Directory, File, Time, World, after_change, born_row, dies, ended_at, is_live, is_live_name, is_live_name_of, is_target_file, is_version, next_of, ripe_at, with_end}
 use Rattle.ele_world.specs.Less.{less, is_dropped}
 use Rattle.ele_world.proofs.AnyDueLeave.{remains}
 use Rattle.ele_world.proofs.Behind.{Behind, KeepsBehind, change_on, due_moment, live_there, names_live, unripe_there}
 use Rattle.ele_world.proofs.CleanLags.{parts_same}
-use Rattle.ele_world.proofs.Currents.{has_current}
+use Rattle.ele_model.proofs.Currents.{has_current}
 use Rattle.ele_world.proofs.Filters.{filter-push, update_first-filter, update_first-stay}
 use Rattle.ele_world.proofs.Lagging.{stays_name, live_same, next_same}
 use Rattle.ele_world.proofs.LiveNames.{StaysLive}
-use Rattle.ele_world.proofs.NameMoments.{kept_moments, moments_kept, moments_stay, no_moment}
-use Rattle.ele_world.proofs.Neighbours.{in_order_of}
+use Rattle.ele_model.proofs.NameMoments.{kept_moments, moments_kept, moments_stay, no_moment}
+use Rattle.ele_model.proofs.Neighbours.{in_order_of}
 
 module _ (gone : ℕ → ℕ → Bool) (dropped : ℕ → Bool) (u v : World) (b : Behind gone dropped u v) where
   abbrev behind : World

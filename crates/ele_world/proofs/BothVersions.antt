@@ -1,23 +1,23 @@
 -- A new file and a file's next version, in a world and in one that lags behind it.
-use Rattle.ele_world.proofs.Basics.{◌≡◌, ◌==◌, ◌<◌, ◌-◌, ◌+◌, ℕ, Bool, true, false, cond, not, ◌||◌, List, [], ◌∷◌, None, Some, Option, refl, ap, sym, subst, ◌∙◌, arith, nat_tests, filter, list_any, nat_le, IfSome, option_map_or, unwrap_or, option_and_then, update_first, AllLater}
-use Rattle.ele_world.proofs.Basics.{later-weaker, list_any-append, list_any-insert_before, list_any-update_first, false≢true, all-weaker, all-not_found, find, found_passes, not_found}
-use Rattle.ele_world.proofs.Words.{Cover, Always, Free, Until, cover_of, ripe_past, Append, Cell, Change, Files, IsLawful, HasParts, MakeFile, Policy, VersionRow, Versions, World, after_change, ended_at, is_file, is_live_name_of, is_open, is_version, is_version_after, near_moment, newer_held, ripe_near, next_of, next_version, numbered_on, policy_of, ripe_at, with_end, with_version, ArePlaced}
-use Rattle.ele_world.specs.Due.{ripe_of}
+use Rattle.ele_model.proofs.Basics.{◌≡◌, ◌==◌, ◌<◌, ◌-◌, ◌+◌, ℕ, Bool, true, false, cond, not, ◌||◌, List, [], ◌∷◌, None, Some, Option, refl, ap, sym, subst, ◌∙◌, arith, nat_tests, filter, list_any, nat_le, IfSome, option_map_or, unwrap_or, option_and_then, update_first, AllLater}
+use Rattle.ele_model.proofs.Basics.{later-weaker, list_any-append, list_any-insert_before, list_any-update_first, false≢true, all-weaker, all-not_found, find, found_passes, not_found}
+use Rattle.ele_model.proofs.Words.{Cover, Always, Free, Until, cover_of, ripe_past, Append, Cell, Change, Files, IsLawful, HasParts, MakeFile, Policy, VersionRow, Versions, World, after_change, ended_at, is_file, is_live_name_of, is_open, is_version, is_version_after, near_moment, newer_held, ripe_near, next_of, next_version, numbered_on, policy_of, ripe_at, with_end, with_version, ArePlaced}
+use Rattle.ele_model.specs.Due.{ripe_of}
 use Rattle.ele_world.specs.Less.{less}
 use Rattle.ele_world.proofs.AnyDueLeave.{remains}
-use Rattle.ele_world.proofs.AppendMoments.{MayGrow, gaining_is, gaining_was, has_newer, may_grow, next_before, others_after, touches}
+use Rattle.ele_model.proofs.AppendMoments.{MayGrow, gaining_is, gaining_was, has_newer, may_grow, next_before, others_after, touches}
 use Rattle.ele_world.proofs.Behind.{Behind, KeepsBehind, apart_from, change_on, new_there, unripe_there}
 use Rattle.ele_world.proofs.CleanLags.{parts_same}
-use Rattle.ele_world.proofs.Created.{created, made_is, new_file, new_name, first_version, versions_before}
-use Rattle.ele_world.proofs.Files.{next_of-given, next_of-numbered_le, next_of-push}
+use Rattle.ele_model.proofs.Created.{created, made_is, new_file, new_name, first_version, versions_before}
+use Rattle.ele_model.proofs.Files.{next_of-given, next_of-numbered_le, next_of-push}
 use Rattle.ele_world.proofs.Filters.{filter-push, insert_before-filter, update_first-filter}
-use Rattle.ele_world.proofs.KeptVersions.{behind_too, ended_versions}
+use Rattle.ele_model.proofs.KeptVersions.{behind_too, ended_versions}
 use Rattle.ele_world.proofs.Lagging.{stays_name, stays_file, live_same, next_same}
-use Rattle.ele_world.proofs.MadeMoments.{moment_stays}
-use Rattle.ele_world.proofs.Elements.{any_none}
-use Rattle.ele_world.proofs.Neighbours.{floor_for}
-use Rattle.ele_world.proofs.RipeAt.{is_due_is, ripe_at_is}
-use Rattle.ele_world.proofs.Views.{policies_of, policy_is}
+use Rattle.ele_model.proofs.MadeMoments.{moment_stays}
+use Rattle.ele_model.proofs.Elements.{any_none}
+use Rattle.ele_model.proofs.Neighbours.{floor_for}
+use Rattle.ele_model.proofs.RipeAt.{is_due_is, ripe_at_is}
+use Rattle.ele_model.proofs.Views.{policies_of, policy_is}
 
 -- a version that is due with no newer one beside it is so from the same moment on beside one
 near_keeps : (policy : Policy) (closed ended nearest at : ℕ) (met : Bool) → IsLawful policy → (o : Option ℕ) → ripe_near policy closed None met ended ≡ o → option_map_or (λ m. nat_le m at) o false ≡ true → ripe_near policy closed (Some nearest) true ended ≡ o

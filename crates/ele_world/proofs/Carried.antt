@@ -1,14 +1,14 @@
 -- What is true of the cells of all versions and drafts is so after each event that writes none, since it makes no others.
-use Rattle.ele_world.proofs.Basics.{rules, nat_tests, arith, ◌≡◌, ℕ, ◌-◌, ◌<◌, cond, Bool, true, false, List, [], ◌∷◌, Some, Ok, sym, find, AllByRecursion, AllLater, update_first, insert_before, all-both, all-found, all-insert_before, all-remove_first, all-update_first, all-weaker, found_passes}
-use Rattle.ele_world.proofs.Words.{World, Event, Cell, Close, CleanOne, Read, Create, Undelete, Unlink, OpenWrite, Revert, Write, Truncate, DraftRow, VersionRow, Reads, Draft, Version, HasParts, Drafts, Versions, DropIdle, EndDraft, ShutHandle, Take, after_change, is_draft_after, is_live, is_version_after, version_meant, with_end, with_version, without_name, current_cells, ended_at, is_draft, is_version, new_draft, next_of, plan, step}
+use Rattle.ele_model.proofs.Basics.{rules, nat_tests, arith, ◌≡◌, ℕ, ◌-◌, ◌<◌, cond, Bool, true, false, List, [], ◌∷◌, Some, Ok, sym, find, AllByRecursion, AllLater, update_first, insert_before, all-both, all-found, all-insert_before, all-remove_first, all-update_first, all-weaker, found_passes}
+use Rattle.ele_model.proofs.Words.{World, Event, Cell, Close, CleanOne, Read, Create, Undelete, Unlink, OpenWrite, Revert, Write, Truncate, DraftRow, VersionRow, Reads, Draft, Version, HasParts, Drafts, Versions, DropIdle, EndDraft, ShutHandle, Take, after_change, is_draft_after, is_live, is_version_after, version_meant, with_end, with_version, without_name, current_cells, ended_at, is_draft, is_version, new_draft, next_of, plan, step}
 use Rattle.ele_world.specs.OneContent.{file_read}
 use Rattle.ele_time_path.specs.declared.tagged.Tag.TheVariants as tag
-use Rattle.ele_world.specs.Change.{ended_if_nameless, next_version}
-use Rattle.ele_world.specs.Step.{cells_read}
-use Rattle.ele_world.proofs.Dropped.{dropped}
-use Rattle.ele_world.proofs.Meant.{is_meant}
-use Rattle.ele_world.proofs.Outcomes.{AfterAll, in_all}
-use Rattle.ele_world.proofs.Versions.{IsFound, all_found}
+use Rattle.ele_model.specs.Change.{ended_if_nameless, next_version}
+use Rattle.ele_model.specs.Step.{cells_read}
+use Rattle.ele_model.proofs.Dropped.{dropped}
+use Rattle.ele_model.proofs.Meant.{is_meant}
+use Rattle.ele_model.proofs.Outcomes.{AfterAll, in_all}
+use Rattle.ele_model.proofs.Versions.{IsFound, all_found}
 
 -- the event changes what a draft has
 abbrev pub edits : Event → Bool

@@ -1,20 +1,20 @@
 -- A clean of the world that lags: one more version has gone, and its file with it if nothing is left of that.
-use Rattle.ele_world.proofs.Basics.{◌≡◌, ◌==◌, ◌<◌, ℕ, Bool, true, false, not, ◌&&◌, ◌||◌, List, [], None, Some, Option, refl, ap, sym, subst, ◌∙◌, arith, nat_tests, filter, find, remove_first}
-use Rattle.ele_world.proofs.Basics.{all-found, all-none, all-weaker, list_any-filter, filter-both, filter-passes, filter-same, found_passes, later-filter, remove_first-key}
+use Rattle.ele_model.proofs.Basics.{◌≡◌, ◌==◌, ◌<◌, ℕ, Bool, true, false, not, ◌&&◌, ◌||◌, List, [], None, Some, Option, refl, ap, sym, subst, ◌∙◌, arith, nat_tests, filter, find, remove_first}
+use Rattle.ele_model.proofs.Basics.{all-found, all-none, all-weaker, list_any-filter, filter-both, filter-passes, filter-same, found_passes, later-filter, remove_first-key}
 use Rattle.ele_lists.proofs.Filters.{find-filter}
-use Rattle.ele_world.proofs.Words.{DropIdle, FileRow, Files, HasParts, Key, NameRow, Take, Target, VersionRow, World, after_change, clean_step, first_due, forgotten, is_file, is_target_file, is_version, is_version_of, without_file, is_held, next_of, Versions, GroupRow, IsVersion}
+use Rattle.ele_model.proofs.Words.{DropIdle, FileRow, Files, HasParts, Key, NameRow, Take, Target, VersionRow, World, after_change, clean_step, first_due, forgotten, is_file, is_target_file, is_version, is_version_of, without_file, is_held, next_of, Versions, GroupRow, IsVersion}
 use Rattle.ele_world.specs.AnyDueLeave.{AreDue}
-use Rattle.ele_world.specs.Due.{is_due, is_due_at}
+use Rattle.ele_model.specs.Due.{is_due, is_due_at}
 use Rattle.ele_world.specs.Lags.{Lags}
 use Rattle.ele_world.specs.Less.{less, is_dropped, IsEmptied}
 use Rattle.ele_world.proofs.AnyDueLeave.{remains}
-use Rattle.ele_world.proofs.Cleans.{clean_of}
-use Rattle.ele_world.proofs.Dropped.{IsIdle, dropped as dropped_by}
-use Rattle.ele_world.proofs.DueRows.{IsDueKey, first_is_due}
-use Rattle.ele_world.proofs.Elements.{any_none}
+use Rattle.ele_model.proofs.Cleans.{clean_of}
+use Rattle.ele_model.proofs.Dropped.{IsIdle, dropped as dropped_by}
+use Rattle.ele_model.proofs.DueRows.{IsDueKey, first_is_due}
+use Rattle.ele_model.proofs.Elements.{any_none}
 use Rattle.ele_world.proofs.Filters.{remove_first-version}
 use Rattle.ele_world.proofs.Lagging.{stays_file, stays_name, live_same, all_of_left, due_lags}
-use Rattle.ele_world.proofs.Views.{placed_of}
+use Rattle.ele_model.proofs.Views.{placed_of}
 
 -- a world with other files, names and versions
 abbrev pub with_parts : World → List FileRow → List NameRow → List VersionRow → World

@@ -1,6 +1,6 @@
 -- A list that has the same places, each once.
-use Rattle.ele_world.proofs.Basics.{nat_tests, arith, ◌≡◌, Bool, true, false, List, [], ◌∷◌, refl, AllByRecursion, list_any, all-weaker, false≢true}
-use Rattle.ele_world.proofs.Words.{Place, is_place}
+use Rattle.ele_model.proofs.Basics.{nat_tests, arith, ◌≡◌, Bool, true, false, List, [], ◌∷◌, refl, AllByRecursion, list_any, all-weaker, false≢true}
+use Rattle.ele_model.proofs.Words.{Place, is_place}
 use Rattle.ele_world.specs.CountsPlaces.{HasDifferent, CountsPlaces}
 
 same : (p q : Place) → is_place p q ≡ true → p ≡ q

@@ -1,25 +1,25 @@
 -- The law of an event made in both worlds: its plan is the same, and each change keeps what is missing.
-use Rattle.ele_world.proofs.Basics.{◌≡◌, ◌<◌, ℕ, Bool, true, false, cond, List, [], ◌∷◌, None, Some, Option, Result, Ok, Err, refl, ap, sym, subst, ◌∙◌, arith, nat_tests, find, list_any, option_map_or, all-found, any-found, found_passes, false≢true, filter, ◌+◌}
-use Rattle.ele_world.proofs.Words.{Append, AddName, Change, Clock, Close, Create, Directory, Draft, DraftRow, Drafts, DropIdle, EndDraft, EndFileName, EndName, Event, File, IsEvent, Govern, Handles, IsDraft, IsHandle, HasParts, Link, MakeDir, MakeDirectory, MakeFile, MoveName, OpenHandle, OpenWrite, Refusal, RemoveDir, Rename, Reply, SetDefault, ShutHandle, StartDraft, Target, Tick, Time, Truncate, TruncateDraft, Unlink, World, Write, WriteDraft}
-use Rattle.ele_world.proofs.Words.{after_change, after_changes, asks, draft_read, default_of, is_live_in, live_target, stands_in, walk, file_by, has_draft, is_draft, is_handle, next_of, outcome, plan, reads_by}
+use Rattle.ele_model.proofs.Basics.{◌≡◌, ◌<◌, ℕ, Bool, true, false, cond, List, [], ◌∷◌, None, Some, Option, Result, Ok, Err, refl, ap, sym, subst, ◌∙◌, arith, nat_tests, find, list_any, option_map_or, all-found, any-found, found_passes, false≢true, filter, ◌+◌}
+use Rattle.ele_model.proofs.Words.{Append, AddName, Change, Clock, Close, Create, Directory, Draft, DraftRow, Drafts, DropIdle, EndDraft, EndFileName, EndName, Event, File, IsEvent, Govern, Handles, IsDraft, IsHandle, HasParts, Link, MakeDir, MakeDirectory, MakeFile, MoveName, OpenHandle, OpenWrite, Refusal, RemoveDir, Rename, Reply, SetDefault, ShutHandle, StartDraft, Target, Tick, Time, Truncate, TruncateDraft, Unlink, World, Write, WriteDraft}
+use Rattle.ele_model.proofs.Words.{after_change, after_changes, asks, draft_read, default_of, is_live_in, live_target, stands_in, walk, file_by, has_draft, is_draft, is_handle, next_of, outcome, plan, reads_by}
 use Rattle.ele_world.specs.EventLags.{LagsAfter}
 use Rattle.ele_world.specs.Lags.{Lags}
 use Rattle.ele_world.specs.Less.{less, is_dropped}
-use Rattle.ele_world.specs.Plan.{found_outcome}
-use Rattle.ele_world.specs.Step.{has_other_writer}
+use Rattle.ele_model.specs.Plan.{found_outcome}
+use Rattle.ele_model.specs.Step.{has_other_writer}
 use Rattle.ele_world.specs.PlainEvents.{is_plain}
-use Rattle.ele_world.proofs.Allowed.{allowed}
+use Rattle.ele_model.proofs.Allowed.{allowed}
 use Rattle.ele_world.proofs.Behind.{Behind, drafted_there, lagging, live_there, names_live}
 use Rattle.ele_world.proofs.BothDrafts.{drop_both, end_draft_both, open_both, shut_both, start_both, truncate_both, write_both}
 use Rattle.ele_world.proofs.BothNames.{add_both, directory_both, end_both, end_file_both, govern_both, move_both, time_both}
 use Rattle.ele_world.proofs.BothSteps.{both_after, same_reply}
 use Rattle.ele_world.proofs.BothVersions.{append_both, make_both}
-use Rattle.ele_world.proofs.Keeps.{event_keeps}
+use Rattle.ele_model.proofs.Keeps.{event_keeps}
 use Rattle.ele_world.proofs.Lagging.{next_same, stays_name}
 use Rattle.ele_world.proofs.LiveNames.{names_in_stay, stands_stays, target_stays, walk_stays}
-use Rattle.ele_world.proofs.May.{MayBy}
-use Rattle.ele_world.proofs.Outcomes.{InAll, asking_stays}
-use Rattle.ele_world.proofs.Walks.{file_live, target_live}
+use Rattle.ele_model.proofs.May.{MayBy}
+use Rattle.ele_model.proofs.Outcomes.{InAll, asking_stays}
+use Rattle.ele_model.proofs.Walks.{file_live, target_live}
 
 -- answers that are the same of whatever is found
 found_same : {X : Type 0} (w : World) (found : Result X Refusal) (g h : X → Reply × World) → ((x : X) → found ≡ Ok x → g x ≡ h x) → found_outcome w found g ≡ found_outcome w found h

@@ -1,17 +1,17 @@
 -- What a policy event, a default event and a mark change, and that nothing else changes.
-use Rattle.ele_world.proofs.Basics.{nat_tests, arith, ◌≡◌, ℕ, ◌==◌, Bool, Option, true, false, List, [], ◌∷◌, map, Ok, refl, option_map_or, list_any, update_first, find-update_other, list_any-update_first, all-found}
-use Rattle.ele_world.proofs.Words.{World, Policy, FileRow, DirectoryRow, HasParts, Names, Homes, Directories, Directory, IsDirectoryThere, Govern, PutUnder, AddMark, after_change, directory_in, directory_now, file_now, governed_by, has_directory, has_member, is_directory, is_file, is_group, is_member, members_of, marks, put_under, root, walk_now, GroupRow, MarkRow, step}
+use Rattle.ele_model.proofs.Basics.{nat_tests, arith, ◌≡◌, ℕ, ◌==◌, Bool, Option, true, false, List, [], ◌∷◌, map, Ok, refl, option_map_or, list_any, update_first, find-update_other, list_any-update_first, all-found}
+use Rattle.ele_model.proofs.Words.{World, Policy, FileRow, DirectoryRow, HasParts, Names, Homes, Directories, Directory, IsDirectoryThere, Govern, PutUnder, AddMark, after_change, directory_in, directory_now, file_now, governed_by, has_directory, has_member, is_directory, is_file, is_group, is_member, members_of, marks, put_under, root, walk_now, GroupRow, MarkRow, step}
 use Rattle.ele_world.specs.DefaultGoverns.{GovernsDirectory}
 use Rattle.ele_world.specs.MarkMarks.{MarksMoment}
 use Rattle.ele_world.specs.PolicyGoverns.{GovernsFile}
 use Rattle.ele_lists.proofs.Cuts.{any-found as first_passing}
-use Rattle.ele_world.proofs.Elements.{find-updated, find-update_still}
-use Rattle.ele_world.proofs.Files.{next_of-put_under}
-use Rattle.ele_world.proofs.MarksChanged.{marked_more}
-use Rattle.ele_world.proofs.Outcomes.{in_all}
-use Rattle.ele_world.proofs.Walks.{file_there, live_row, walk_to}
-use Rattle.ele_world.specs.declared.reply.Reply.TheVariants as told
-use Rattle.ele_world.specs.declared.event.Event.TheVariants as asked
+use Rattle.ele_model.proofs.Elements.{find-updated, find-update_still}
+use Rattle.ele_model.proofs.Files.{next_of-put_under}
+use Rattle.ele_model.proofs.MarksChanged.{marked_more}
+use Rattle.ele_model.proofs.Outcomes.{in_all}
+use Rattle.ele_model.proofs.Walks.{file_there, live_row, walk_to}
+use Rattle.ele_model.specs.declared.reply.Reply.TheVariants as told
+use Rattle.ele_model.specs.declared.event.Event.TheVariants as asked
 
 map-update_first : {X Y : Type 0} (see : X → Y) (p : X → Bool) (f : X → X) (xs : List X) → ((x : X) → see (f x) ≡ see x) → map see (update_first p f xs) ≡ map see xs
 map-update_first see p f [] same = refl

@@ -1,16 +1,16 @@
 -- A world that lags: its files that are there are seen as in the other, so the same of its versions are due.
-use Rattle.ele_world.proofs.Basics.{◌≡◌, ℕ, None, Bool, true, false, not, List, refl, ap, sym, ◌∙◌, arith, nat_tests, filter, list_any, AllByRecursion, all-both, all-filter, all-weaker, filter-passes, list_any-filter, any-found}
+use Rattle.ele_model.proofs.Basics.{◌≡◌, ℕ, None, Bool, true, false, not, List, refl, ap, sym, ◌∙◌, arith, nat_tests, filter, list_any, AllByRecursion, all-both, all-filter, all-weaker, filter-passes, list_any-filter, any-found}
 use Rattle.ele_lists.proofs.Filters.{find-filter}
-use Rattle.ele_world.proofs.Words.{FileRow, NameRow, VersionRow, first_due, kept_rows, file_view, is_file, is_version, is_live_name_of, next_of, policy_of, HasParts, World}
+use Rattle.ele_model.proofs.Words.{FileRow, NameRow, VersionRow, first_due, kept_rows, file_view, is_file, is_version, is_live_name_of, next_of, policy_of, HasParts, World}
 use Rattle.ele_world.specs.AnyDueLeave.{AreDue, without_versions}
-use Rattle.ele_world.specs.Due.{is_due_at}
+use Rattle.ele_model.specs.Due.{is_due_at}
 use Rattle.ele_world.specs.Lags.{Lags}
 use Rattle.ele_world.specs.Less.{less, is_dropped, IsEmptied}
 use Rattle.ele_world.proofs.AnyDueLeave.{any_due_leave, remains, stays_due, IsDueAs}
-use Rattle.ele_world.proofs.DropViews.{SeesSame, due_same, kept_same}
-use Rattle.ele_world.proofs.PassEnds.{nothing_due}
-use Rattle.ele_world.proofs.Versions.{IsFound, all_found}
-use Rattle.ele_world.proofs.Views.{placed_of}
+use Rattle.ele_model.proofs.DropViews.{SeesSame, due_same, kept_same}
+use Rattle.ele_model.proofs.PassEnds.{nothing_due}
+use Rattle.ele_model.proofs.Versions.{IsFound, all_found}
+use Rattle.ele_model.proofs.Views.{placed_of}
 
 -- ---- of a file that isn't dropped the same is seen
 

@@ -1,13 +1,13 @@
 -- A held version's life before now stays: an event may end it, and then now.
-use Rattle.ele_world.proofs.Basics.{AllByRecursion, nat_tests, arith, ◌≡◌, ℕ, ◌<◌, ◌≤◌, List, [], ◌∷◌, Option, Some, None, find, AllLater, all-weaker, all-both}
-use Rattle.ele_world.proofs.Words.{World, Event, Change, Time, VersionRow, HasParts, ArePlaced, IsVersion, Versions, after_change, after_changes, ended_at, is_version, lives_at, plan}
+use Rattle.ele_model.proofs.Basics.{AllByRecursion, nat_tests, arith, ◌≡◌, ℕ, ◌<◌, ◌≤◌, List, [], ◌∷◌, Option, Some, None, find, AllLater, all-weaker, all-both}
+use Rattle.ele_model.proofs.Words.{World, Event, Change, Time, VersionRow, HasParts, ArePlaced, IsVersion, Versions, after_change, after_changes, ended_at, is_version, lives_at, plan}
 use Rattle.ele_world.specs.LifeStays.{LivesAsBefore}
-use Rattle.ele_world.proofs.Allowed.{allowed}
-use Rattle.ele_world.proofs.Keeps.{reached}
-use Rattle.ele_world.proofs.May.{MayBy, MayAll}
-use Rattle.ele_world.proofs.Moves.{IsPast, change_past, Moves, Same, Ended, Taken, change_moves}
-use Rattle.ele_world.proofs.Stays.{held_past}
-use Rattle.ele_world.proofs.Versions.{IsFound, all_found}
+use Rattle.ele_model.proofs.Allowed.{allowed}
+use Rattle.ele_model.proofs.Keeps.{reached}
+use Rattle.ele_model.proofs.May.{MayBy, MayAll}
+use Rattle.ele_model.proofs.Moves.{IsPast, change_past, Moves, Same, Ended, Taken, change_moves}
+use Rattle.ele_model.proofs.Stays.{held_past}
+use Rattle.ele_model.proofs.Versions.{IsFound, all_found}
 
 -- before the moment it lived as the row did
 abbrev LivesOn : ℕ → VersionRow → Option VersionRow → Type 0

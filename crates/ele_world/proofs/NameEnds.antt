@@ -1,12 +1,14 @@
 -- Where a name has died its path leads nowhere: so after a rmdir, an unlink and a rename, by which, as by a link, a new path leads.
-use Rattle.ele_world.proofs.Basics.{◌≡◌, ℕ, false, ◌==◌, ◌&&◌, List, [], ◌∷◌, ◌++◌, Some, None, Ok, Err, refl, ap, ◌∙◌, arith, bytes_eq, false≢true, nat_tests, bytes_eq-Decides, update_first, AllLater, later-weaker, find-update_other}
-use Rattle.ele_world.proofs.Basics.{find-update_none, sym, is_some, find-append}
-use Rattle.ele_world.proofs.Words.{dies, step, is_live_name, live_target, walk, walk_now, parent_now, AreApart, Names, HasParts, World, root, RemoveDir, NoEntry, Done, NameRow, Target, File, Directory, after_change, EndFileName, LeadsToSame, Link, Rename, Unlink}
-use Rattle.ele_world.proofs.Words.{EndsName, file_now, MoveName, born_row, LeadsInstead, comes_through, stands_in}
-use Rattle.ele_world.proofs.NameParts.{still_none, free_still}
-use Rattle.ele_world.proofs.Outcomes.{in_all}
-use Rattle.ele_world.proofs.Walks.{parent_is, file_of, last_names, new_leads, target_live, walk-push, IsParent, live_target-push, named_leads}
-use Rattle.ele_world.proofs.Currents.{has_current, last_ends}
+use Rattle.ele_model.proofs.Basics.{◌≡◌, ℕ, false, ◌==◌, ◌&&◌, List, [], ◌∷◌, ◌++◌, Some, None, Ok, Err, refl, ap, ◌∙◌, arith, bytes_eq, false≢true, nat_tests, bytes_eq-Decides, update_first, AllLater, later-weaker, find-update_other}
+use Rattle.ele_model.proofs.Basics.{find-update_none, sym, is_some, find-append}
+use Rattle.ele_model.proofs.Words.{dies, step, is_live_name, live_target, walk, walk_now, parent_now, AreApart, Names, HasParts, World, root, RemoveDir, NoEntry, Done, NameRow, Target, File, Directory, after_change, EndFileName, Link, Rename, Unlink}
+use Rattle.ele_world.proofs.Words.{LeadsToSame}
+use Rattle.ele_model.proofs.Words.{file_now, MoveName, born_row, comes_through, stands_in}
+use Rattle.ele_world.proofs.Words.{EndsName, LeadsInstead}
+use Rattle.ele_model.proofs.NameParts.{still_none, free_still}
+use Rattle.ele_model.proofs.Outcomes.{in_all}
+use Rattle.ele_model.proofs.Walks.{parent_is, file_of, last_names, new_leads, target_live, walk-push, IsParent, live_target-push, named_leads}
+use Rattle.ele_model.proofs.Currents.{has_current, last_ends}
 
 -- ---- the name that dies, and each other
 

@@ -1,15 +1,15 @@
 -- What a number reads, tells and opens, and which number is told where it was removed.
-use Rattle.ele_world.proofs.Basics.{nat_tests, arith, ◌≡◌, ℕ, ◌<◌, ◌≤◌, true, List, [], ◌∷◌, Option, Some, None, Ok, Err, Result, refl, find, AllByRecursion, AllLater, all-found, all-weaker, any-found, found_passes, last_has, last_passing, option_map}
-use Rattle.ele_world.proofs.Words.{World, TaggedPath, VersionRow, HasParts, ArePlaced, IsVersion, Versions, File, Forgotten, file_now, is_version, last_number, version_at, version_meant, walk_now, is_held, Refusal}
+use Rattle.ele_model.proofs.Basics.{nat_tests, arith, ◌≡◌, ℕ, ◌<◌, ◌≤◌, true, List, [], ◌∷◌, Option, Some, None, Ok, Err, Result, refl, find, AllByRecursion, AllLater, all-found, all-weaker, any-found, found_passes, last_has, last_passing, option_map}
+use Rattle.ele_model.proofs.Words.{World, TaggedPath, VersionRow, HasParts, ArePlaced, IsVersion, Versions, File, Forgotten, file_now, is_version, last_number, version_at, version_meant, walk_now, is_held, Refusal}
 use Rattle.ele_time_path.specs.declared.tagged.Tag.TheVariants as tag
-use Rattle.ele_world.specs.declared.refusal.Refusal.TheVariants.{NoVersion}
+use Rattle.ele_model.specs.declared.refusal.Refusal.TheVariants.{NoVersion}
 use Rattle.ele_lists.proofs.Cuts.{any-found as first_passing}
 use Rattle.ele_world.specs.Answered.{AnswersVersion, Refuses}
 use Rattle.ele_world.specs.NumberMeans.{IsGreatestBelow, MeansNumber}
-use Rattle.ele_world.specs.Tagged.{is_before}
-use Rattle.ele_world.proofs.Versions.{IsFound, all_found}
+use Rattle.ele_model.specs.Tagged.{is_before}
+use Rattle.ele_model.proofs.Versions.{IsFound, all_found}
 use Rattle.ele_world.proofs.Written.{handle_reads}
-use Rattle.ele_world.proofs.Walks.{file_of}
+use Rattle.ele_model.proofs.Walks.{file_of}
 
 pub all_held : (w : World) → HasParts w → AllByRecursion (λ row. is_held w row.file row.number ≡ true) w.versions
 all_held w k = all-weaker (IsFound w.versions) (λ row. is_held w row.file row.number ≡ true) w.versions (λ row found. any-found (is_version row.file row.number) (is_version row.file row.number) w.versions row found (grind (arith, nat_tests))) (all_found w.versions (k.holds Versions).placed)

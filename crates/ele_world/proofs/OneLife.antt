@@ -1,15 +1,16 @@
 -- In a run one version of a file lived at each moment, from the start on, that a name of the file covers.
-use Rattle.ele_world.proofs.Basics.{◌≡◌, ℕ, true, false, List, [], ◌∷◌, Option, Some, None, ap, subst, sym, ◌∙◌, arith, find, Ok, Err, AllByRecursion, option_or, false≢true, cases_lt, nat_tests, all-found, all-not_found, all-weaker, found_passes, any-found, AllLater}
-use Rattle.ele_world.proofs.Words.{Change, after_change, after_changes, last_stood, HasOneLife, NamesOneLife, OneLife, HasLivesFrom, NamesOneLifeFrom, OneLifeFrom, run_of, PoliciesAreLawful, plan, step, had_closed, had_life, last_number, lives_at, version_living, ArePlaced, Versions, HasParts, World, fresh_world, is_held, is_version, Event, Forgotten, VersionRow, IsEvent}
+use Rattle.ele_model.proofs.Basics.{◌≡◌, ℕ, true, false, List, [], ◌∷◌, Option, Some, None, ap, subst, sym, ◌∙◌, arith, find, Ok, Err, AllByRecursion, option_or, false≢true, cases_lt, nat_tests, all-found, all-not_found, all-weaker, found_passes, any-found, AllLater}
+use Rattle.ele_model.proofs.Words.{Change, after_change, after_changes, run_of, PoliciesAreLawful, plan, step, had_closed, had_life, last_number, lives_at, version_living, ArePlaced, Versions, HasParts, World, fresh_world, is_held, is_version, Event, Forgotten, VersionRow, IsEvent}
+use Rattle.ele_world.proofs.Words.{last_stood, HasOneLife, NamesOneLife, OneLife, HasLivesFrom, NamesOneLifeFrom, OneLifeFrom}
 use Rattle.ele_lists.proofs.Cuts.{any-found as first_passing}
-use Rattle.ele_world.proofs.Allowed.{allowed}
-use Rattle.ele_world.proofs.Keeps.{event_keeps, reached}
+use Rattle.ele_model.proofs.Allowed.{allowed}
+use Rattle.ele_model.proofs.Keeps.{event_keeps, reached}
 use Rattle.ele_world.proofs.Known.{change_known, known_first, Known, known_in, HadLife, IsCovered, AreKnown, or_none}
-use Rattle.ele_world.proofs.Moves.{row_of}
-use Rattle.ele_world.proofs.May.{MayAll}
-use Rattle.ele_world.proofs.StepKeeps.{fresh_is, step_keeps, run_keeps}
-use Rattle.ele_world.proofs.Versions.{all_found}
-use Rattle.ele_world.proofs.Formed.{in_parts}
+use Rattle.ele_model.proofs.Moves.{row_of}
+use Rattle.ele_model.proofs.May.{MayAll}
+use Rattle.ele_model.proofs.StepKeeps.{fresh_is, step_keeps, run_keeps}
+use Rattle.ele_model.proofs.Versions.{all_found}
+use Rattle.ele_model.proofs.Formed.{in_parts}
 
 -- ---- events
 

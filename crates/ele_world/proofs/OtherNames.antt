@@ -1,10 +1,10 @@
 -- The names that an event doesn't name stand for what they stood for.
-use Rattle.ele_world.proofs.Basics.{nat_tests, arith, ◌≡◌, ℕ, false, List, [], ◌∷◌, ◌++◌, refl, ap, ◌∙◌, filter, AllByRecursion, all-none, find-append}
-use Rattle.ele_world.proofs.Words.{World, Event, Close, CleanOne, Read, NameRow, DropIdle, EndDraft, ShutHandle, Take, after_change, is_live_name, is_live_name_of, live_target, plan}
+use Rattle.ele_model.proofs.Basics.{nat_tests, arith, ◌≡◌, ℕ, false, List, [], ◌∷◌, ◌++◌, refl, ap, ◌∙◌, filter, AllByRecursion, all-none, find-append}
+use Rattle.ele_model.proofs.Words.{World, Event, Close, CleanOne, Read, NameRow, DropIdle, EndDraft, ShutHandle, Take, after_change, is_live_name, is_live_name_of, live_target, plan}
 use Rattle.ele_world.specs.OtherNamesStay.{is_named_by, OtherNamesStay}
-use Rattle.ele_world.proofs.Dropped.{dropped, stays_named}
+use Rattle.ele_model.proofs.Dropped.{dropped, stays_named}
 use Rattle.ele_world.proofs.NameEnds.{other_stays}
-use Rattle.ele_world.proofs.Outcomes.{AfterAll, in_all}
+use Rattle.ele_model.proofs.Outcomes.{AfterAll, in_all}
 
 -- a name that is born elsewhere
 born : (rows : List NameRow) (row : NameRow) (d : ℕ) (n : List ℕ) → is_live_name d n row ≡ false → live_target (rows ++ row ∷ []) d n ≡ live_target rows d n

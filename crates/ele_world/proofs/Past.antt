@@ -1,9 +1,9 @@
 -- What name rows say of a moment before now stays so after an event, but for those of a file that goes.
-use Rattle.ele_world.proofs.Basics.{nat_tests, arith, ◌≡◌, ℕ, ◌<◌, Bool, true, false, List, [], ◌∷◌, ◌++◌, ◌&&◌, Option, Some, None, refl, ap, sym, ◌∙◌, ◌⊎◌, inl, inr, find, filter, option_map, AllByRecursion, AllLater, update_first, remove_first, list_any, find-append, not_found, all-not_found, all-filter, all-weaker, bytes_eq-Decides}
-use Rattle.ele_world.proofs.Words.{World, Event, Close, CleanOne, Read, NameRow, FileRow, Target, File, HasParts, Files, Names, AreApart, DropIdle, EndDraft, ShutHandle, Take, after_change, without_file, is_file, is_live_name, is_live_name_of, is_named, covers, target_at, dies, plan, step}
+use Rattle.ele_model.proofs.Basics.{nat_tests, arith, ◌≡◌, ℕ, ◌<◌, Bool, true, false, List, [], ◌∷◌, ◌++◌, ◌&&◌, Option, Some, None, refl, ap, sym, ◌∙◌, ◌⊎◌, inl, inr, find, filter, option_map, AllByRecursion, AllLater, update_first, remove_first, list_any, find-append, not_found, all-not_found, all-filter, all-weaker, bytes_eq-Decides}
+use Rattle.ele_model.proofs.Words.{World, Event, Close, CleanOne, Read, NameRow, FileRow, Target, File, HasParts, Files, Names, AreApart, DropIdle, EndDraft, ShutHandle, Take, after_change, without_file, is_file, is_live_name, is_live_name_of, is_named, covers, target_at, dies, plan, step}
 use Rattle.ele_world.specs.PastStays.{StoodAsBefore}
-use Rattle.ele_world.proofs.Dropped.{IsIdle, dropped, stays_named}
-use Rattle.ele_world.proofs.Outcomes.{AfterAll, in_all}
+use Rattle.ele_model.proofs.Dropped.{IsIdle, dropped, stays_named}
+use Rattle.ele_model.proofs.Outcomes.{AfterAll, in_all}
 
 -- what sees no change of what passes sees the same found
 pub found_still : {X Y : Type 0} (p t : X → Bool) (see : X → Y) (f : X → X) (xs : List X) → ((x : X) → p x ≡ true → (t (f x) ≡ t x) × (see (f x) ≡ see x)) → option_map see (find t (update_first p f xs)) ≡ option_map see (find t xs)

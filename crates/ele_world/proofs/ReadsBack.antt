@@ -1,17 +1,18 @@
 -- A version that is held has the cells that it had when it closed.
-use Rattle.ele_world.proofs.Basics.{nat_tests, arith, ◌≡◌, ℕ, List, [], ◌∷◌, Option, IfSome, refl, find, Ok, AllByRecursion, all-found, all-weaker, all-both, AllLater}
-use Rattle.ele_world.proofs.Words.{Cell, content_of, TaggedPath, Change, after_change, after_changes, PoliciesAreLawful, ReadsAsClosed, ReadsAsClosedInRuns, ReadsRow, fresh_world, run_of, plan, step, version_at, ArePlaced, IsVersion, Versions, Readers, HasParts, World, is_version, reads_by, Event, Read, Tagged, Of, Bytes, Version, VersionRow, IsEvent}
-use Rattle.ele_world.proofs.Allowed.{allowed}
-use Rattle.ele_world.proofs.Formed.{in_parts}
-use Rattle.ele_world.proofs.Keeps.{reached}
-use Rattle.ele_world.proofs.May.{MayAll}
+use Rattle.ele_model.proofs.Basics.{nat_tests, arith, ◌≡◌, ℕ, List, [], ◌∷◌, Option, IfSome, refl, find, Ok, AllByRecursion, all-found, all-weaker, all-both, AllLater}
+use Rattle.ele_model.proofs.Words.{Cell, content_of, TaggedPath, Change, after_change, after_changes, PoliciesAreLawful, fresh_world, run_of, plan, step, version_at, ArePlaced, IsVersion, Versions, Readers, HasParts, World, is_version, reads_by, Event, Read, Tagged, Of, Bytes, Version, VersionRow, IsEvent}
+use Rattle.ele_world.proofs.Words.{ReadsAsClosed, ReadsAsClosedInRuns, ReadsRow}
+use Rattle.ele_model.proofs.Allowed.{allowed}
+use Rattle.ele_model.proofs.Formed.{in_parts}
+use Rattle.ele_model.proofs.Keeps.{reached}
+use Rattle.ele_model.proofs.May.{MayAll}
 use Rattle.ele_lists.proofs.Cuts.{any-found}
-use Rattle.ele_world.proofs.Meant.{is_at}
-use Rattle.ele_world.proofs.OpenStays.{has_row}
-use Rattle.ele_world.proofs.Moves.{IsPast, change_past, Moves, change_moves}
-use Rattle.ele_world.proofs.Stays.{held_past}
-use Rattle.ele_world.proofs.StepKeeps.{step_keeps, run_keeps, run_has}
-use Rattle.ele_world.proofs.Versions.{IsFound, all_found}
+use Rattle.ele_model.proofs.Meant.{is_at}
+use Rattle.ele_model.proofs.OpenStays.{has_row}
+use Rattle.ele_model.proofs.Moves.{IsPast, change_past, Moves, change_moves}
+use Rattle.ele_model.proofs.Stays.{held_past}
+use Rattle.ele_model.proofs.StepKeeps.{step_keeps, run_keeps, run_has}
+use Rattle.ele_model.proofs.Versions.{IsFound, all_found}
 
 -- ---- its cells stay
 

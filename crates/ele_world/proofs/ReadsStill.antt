@@ -1,26 +1,26 @@
 -- What a path reads at a moment before now is read there after an event too, or nothing is.
-use Rattle.ele_world.proofs.Basics.{rules, nat_tests, arith, ◌≡◌, ◌⊎◌, inl, inr, ℕ, ◌-◌, ◌<◌, ◌≤◌, true, false, Bool, cond, option_map_or, List, [], ◌∷◌, Option, Some, None, Result, Ok, Err, refl, ap, sym, ◌∙◌, find, AllByRecursion, AllLater, all-found, all-insert_before, all-remove_first, all-update_first, all-weaker, found_passes, false≢true, nat_lt}
-use Rattle.ele_world.proofs.Words.{World, Event, IsEvent, Close, CleanOne, Read, Cell, NameRow, Refusal, Target, File, Directory, VersionRow, HasParts, ArePlaced, Versions, NoEntry, Forgotten, EndDraft, ShutHandle, Take, after_change, content_of, ended_at, had_closed, had_life, is_held, is_live, is_version, is_version_after, last_number, next_of, next_version, plan, root, step, target_at, version_living, with_end, with_version, file_at, TaggedPath, version_at, version_found, held_or_forgotten}
-use Rattle.ele_world.specs.declared.reply.Reply.TheVariants.{Bytes, Refused}
-use Rattle.ele_world.specs.Change.{ended_if_nameless}
+use Rattle.ele_model.proofs.Basics.{rules, nat_tests, arith, ◌≡◌, ◌⊎◌, inl, inr, ℕ, ◌-◌, ◌<◌, ◌≤◌, true, false, Bool, cond, option_map_or, List, [], ◌∷◌, Option, Some, None, Result, Ok, Err, refl, ap, sym, ◌∙◌, find, AllByRecursion, AllLater, all-found, all-insert_before, all-remove_first, all-update_first, all-weaker, found_passes, false≢true, nat_lt}
+use Rattle.ele_model.proofs.Words.{World, Event, IsEvent, Close, CleanOne, Read, Cell, NameRow, Refusal, Target, File, Directory, VersionRow, HasParts, ArePlaced, Versions, NoEntry, Forgotten, EndDraft, ShutHandle, Take, after_change, content_of, ended_at, had_closed, had_life, is_held, is_live, is_version, is_version_after, last_number, next_of, next_version, plan, root, step, target_at, version_living, with_end, with_version, file_at, TaggedPath, version_at, version_found, held_or_forgotten}
+use Rattle.ele_model.specs.declared.reply.Reply.TheVariants.{Bytes, Refused}
+use Rattle.ele_model.specs.Change.{ended_if_nameless}
 use Rattle.ele_world.specs.PastStays.{StoodAsBefore}
 use Rattle.ele_world.specs.ReadsPast.{read_at}
-use Rattle.ele_world.specs.WalkAt.{walk_covering}
+use Rattle.ele_model.specs.WalkAt.{walk_covering}
 use Rattle.ele_lists.proofs.Cuts.{any-found as first_passing}
 use Rattle.ele_time_path.specs.declared.tagged.Tag.TheVariants as tag
-use Rattle.ele_world.specs.HeldStays.{StaysSame}
+use Rattle.ele_model.specs.HeldStays.{StaysSame}
 use Rattle.ele_world.specs.LifeStays.{LivesAsBefore}
-use Rattle.ele_world.specs.Plan.{found_outcome}
-use Rattle.ele_world.specs.declared.reply.Reply.{Reply}
-use Rattle.ele_world.proofs.Dropped.{dropped_versions}
+use Rattle.ele_model.specs.Plan.{found_outcome}
+use Rattle.ele_model.specs.declared.reply.Reply.{Reply}
+use Rattle.ele_model.proofs.Dropped.{dropped_versions}
 use Rattle.ele_world.proofs.Lives.{life_stays}
 use Rattle.ele_world.proofs.Numbered.{all_held}
-use Rattle.ele_world.proofs.Outcomes.{AfterAll, in_all}
+use Rattle.ele_model.proofs.Outcomes.{AfterAll, in_all}
 use Rattle.ele_world.proofs.Past.{past_stays}
-use Rattle.ele_world.proofs.Rising.{numbers_rise}
-use Rattle.ele_world.proofs.Stays.{held_stays}
-use Rattle.ele_world.proofs.StepKeeps.{step_keeps}
-use Rattle.ele_world.proofs.Versions.{IsFound, all_found}
+use Rattle.ele_model.proofs.Rising.{numbers_rise}
+use Rattle.ele_model.proofs.Stays.{held_stays}
+use Rattle.ele_model.proofs.StepKeeps.{step_keeps}
+use Rattle.ele_model.proofs.Versions.{IsFound, all_found}
 
 -- ---- a version that comes closes then
 

@@ -1,6 +1,6 @@
 -- The law of the schedule: along a run the world that is cleaned lags behind the one that isn't.
-use Rattle.ele_world.proofs.Basics.{◌≡◌, ◌||◌, ℕ, true, false, not, List, [], ◌∷◌, refl, sym, subst, ◌∙◌, all-any, filter-all, arith, nat_tests, filter, cond, AllByRecursion, false≢true}
-use Rattle.ele_world.proofs.Words.{CleanOne, Event, IsEvent, IsPass, HasParts, World, asks, kept_rows, run_of, step, Reply, Target, File, Directory}
+use Rattle.ele_model.proofs.Basics.{◌≡◌, ◌||◌, ℕ, true, false, not, List, [], ◌∷◌, refl, sym, subst, ◌∙◌, all-any, filter-all, arith, nat_tests, filter, cond, AllByRecursion, false≢true}
+use Rattle.ele_model.proofs.Words.{CleanOne, Event, IsEvent, IsPass, HasParts, World, asks, kept_rows, run_of, step, Reply, Target, File, Directory}
 use Rattle.ele_world.specs.Lags.{Lags}
 use Rattle.ele_world.specs.Less.{less, is_dropped}
 use Rattle.ele_world.specs.PlainEvents.{is_clean, is_plain}
@@ -8,8 +8,8 @@ use Rattle.ele_world.specs.Schedule.{change_replies}
 use Rattle.ele_world.proofs.CleanLags.{clean_lags, parts_same}
 use Rattle.ele_world.proofs.EventLags.{event_lags}
 use Rattle.ele_world.proofs.Lagging.{lags_keeps}
-use Rattle.ele_world.proofs.PassEnds.{pass_leaves_kept}
-use Rattle.ele_world.proofs.StepKeeps.{step_keeps}
+use Rattle.ele_model.proofs.PassEnds.{pass_leaves_kept}
+use Rattle.ele_model.proofs.StepKeeps.{step_keeps}
 
 abbrev IsOfRun : Event → Type 0
 IsOfRun event = IsEvent event × ((is_clean event || is_plain event) ≡ true)

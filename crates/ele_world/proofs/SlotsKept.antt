@@ -1,6 +1,6 @@
 -- A write or a truncate leaves each cell that it doesn't write.
-use Rattle.ele_world.proofs.Basics.{nat_tests, arith, ◌≡◌, ℕ, zero, suc, ◌+◌, ◌-◌, ◌*◌, ◌<◌, ◌≤◌, ◌∙◌, Bool, true, false, cond, List, [], ◌∷◌, ◌++◌, length, take, drop, map, Some, refl, sym, ◌⊎◌, inl, inr, slice_get, take_all, nil_from_length, false≢true, length-append, length-drop, append-nil, append_assoc}
-use Rattle.ele_world.proofs.Words.{Cell, content_of, writer_at}
+use Rattle.ele_model.proofs.Basics.{nat_tests, arith, ◌≡◌, ℕ, zero, suc, ◌+◌, ◌-◌, ◌*◌, ◌<◌, ◌≤◌, ◌∙◌, Bool, true, false, cond, List, [], ◌∷◌, ◌++◌, length, take, drop, map, Some, refl, sym, ◌⊎◌, inl, inr, slice_get, take_all, nil_from_length, false≢true, length-append, length-drop, append-nil, append_assoc}
+use Rattle.ele_model.proofs.Words.{Cell, content_of, writer_at}
 use Rattle.std.specs.Prelude.{min, replicate}
 use Rattle.std.specs.List.{range_with_len}
 use Rattle.std.proofs.Math.Seq.{drop-append-add}

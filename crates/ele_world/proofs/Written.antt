@@ -1,6 +1,6 @@
 -- What handles read: a draft that begins or is written, or the version that was meant.
-use Rattle.ele_world.proofs.Basics.{nat_tests, arith, ◌≡◌, ℕ, ◌+◌, ◌==◌, Bool, true, false, List, [], ◌∷◌, ◌++◌, length, Ok, refl, all-found, all-none, all-weaker, find-append, find-inserted, find-remove_first, find-update_other, list_any, not_found, update_first, insert_before, remove_first, take_all, append-nil, rules}
-use Rattle.ele_world.proofs.Words.{World, Event, Close, Read, DraftRow, HandleRow, Reads, Draft, HasParts, IsHandle, Handles, ShutHandle, WriteDraft, TruncateDraft, DropIdle, EndDraft, Take, CleanOne, after_change, changed_by, content_of, file_by, file_now, fitted_by, has_draft, Done, is_draft, is_draft_after, is_handle, new_draft, next_of, plan, reads_by, Write, TaggedPath, step}
+use Rattle.ele_model.proofs.Basics.{nat_tests, arith, ◌≡◌, ℕ, ◌+◌, ◌==◌, Bool, true, false, List, [], ◌∷◌, ◌++◌, length, Ok, refl, all-found, all-none, all-weaker, find-append, find-inserted, find-remove_first, find-update_other, list_any, not_found, update_first, insert_before, remove_first, take_all, append-nil, rules}
+use Rattle.ele_model.proofs.Words.{World, Event, Close, Read, DraftRow, HandleRow, Reads, Draft, HasParts, IsHandle, Handles, ShutHandle, WriteDraft, TruncateDraft, DropIdle, EndDraft, Take, CleanOne, after_change, changed_by, content_of, file_by, file_now, fitted_by, has_draft, Done, is_draft, is_draft_after, is_handle, new_draft, next_of, plan, reads_by, Write, TaggedPath, step}
 use Rattle.ele_content.specs.Content.{content_after_write, content_after_truncate}
 use Rattle.ele_content.proofs.Contents.{content_of-written, content_of-truncated}
 use Rattle.ele_lists.proofs.Cuts.{any-found as first_passing}
@@ -8,15 +8,15 @@ use Rattle.ele_world.specs.DraftBegins.{BeginsDraft}
 use Rattle.ele_world.specs.HandleReads.{ReadsMeant}
 use Rattle.ele_world.specs.HandleStays.{closes}
 use Rattle.ele_world.specs.WriteLays.{ChangesDraft}
-use Rattle.ele_world.proofs.Currents.{has_current}
-use Rattle.ele_world.proofs.Dropped.{dropped}
-use Rattle.ele_world.proofs.Elements.{find-updated}
-use Rattle.ele_world.proofs.KeptDrafts.{same_file}
-use Rattle.ele_world.proofs.OpenStays.{has_row}
-use Rattle.ele_world.proofs.Outcomes.{AfterAll, in_all}
-use Rattle.ele_world.proofs.Walks.{file_live}
-use Rattle.ele_world.specs.declared.reply.Reply.TheVariants as told
-use Rattle.ele_world.specs.declared.event.Event.TheVariants as asked
+use Rattle.ele_model.proofs.Currents.{has_current}
+use Rattle.ele_model.proofs.Dropped.{dropped}
+use Rattle.ele_model.proofs.Elements.{find-updated}
+use Rattle.ele_model.proofs.KeptDrafts.{same_file}
+use Rattle.ele_model.proofs.OpenStays.{has_row}
+use Rattle.ele_model.proofs.Outcomes.{AfterAll, in_all}
+use Rattle.ele_model.proofs.Walks.{file_live}
+use Rattle.ele_model.specs.declared.reply.Reply.TheVariants as told
+use Rattle.ele_model.specs.declared.event.Event.TheVariants as asked
 
 -- ---- handles
 

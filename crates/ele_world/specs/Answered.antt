@@ -2,15 +2,15 @@
 use Rattle.std.specs.Prelude.{◌≡◌, ℕ, Ok}
 use Rattle.ele_content.specs.Content.{content_of}
 use Rattle.ele_time_path.specs.declared.tagged.TaggedPath.{TaggedPath}
-use Rattle.ele_world.specs.declared.event.Event.TheVariants.{OpenRead, Read, Stat}
-use Rattle.ele_world.specs.declared.event.Source.TheVariants.{Tagged}
-use Rattle.ele_world.specs.declared.refusal.Refusal.{Refusal}
-use Rattle.ele_world.specs.declared.reply.Reply.TheVariants.{Bytes, FileStat, Handle, Refused}
-use Rattle.ele_world.specs.declared.rows.Reads.TheVariants.{Version}
-use Rattle.ele_world.specs.declared.rows.VersionRow.{VersionRow}
-use Rattle.ele_world.specs.Step.{step}
-use Rattle.ele_world.specs.Told.{stamps_of}
-use Rattle.ele_world.specs.World.{World, policy_for, reads_by}
+use Rattle.ele_model.specs.declared.event.Event.TheVariants.{OpenRead, Read, Stat}
+use Rattle.ele_model.specs.declared.event.Source.TheVariants.{Tagged}
+use Rattle.ele_model.specs.declared.refusal.Refusal.{Refusal}
+use Rattle.ele_model.specs.declared.reply.Reply.TheVariants.{Bytes, FileStat, Handle, Refused}
+use Rattle.ele_model.specs.declared.rows.Reads.TheVariants.{Version}
+use Rattle.ele_model.specs.declared.rows.VersionRow.{VersionRow}
+use Rattle.ele_model.specs.Step.{step}
+use Rattle.ele_model.specs.Told.{stamps_of}
+use Rattle.ele_model.specs.World.{World, policy_for, reads_by}
 
 -- the version's bytes and moments, and it is what a handle reads that is opened
 pub record AnswersVersion (w : World) (tagged : TaggedPath) (row : VersionRow) : Type 0 where

@@ -1,8 +1,8 @@
 -- Whichever due versions go, at once or one by one in any order: the other due ones stay due, and no other becomes due.
 use Rattle.std.specs.Prelude.{◌≡◌, ℕ, Bool, true, not, filter}
-use Rattle.ele_world.specs.Due.{is_due, due_rows, kept_rows}
-use Rattle.ele_world.specs.WellFormed.{IsWellFormed}
-use Rattle.ele_world.specs.World.{World}
+use Rattle.ele_model.specs.Due.{is_due, due_rows, kept_rows}
+use Rattle.ele_model.specs.WellFormed.{IsWellFormed}
+use Rattle.ele_model.specs.World.{World}
 
 -- each version that the test names, by file and number, is held and due
 abbrev pub AreDue : World → (ℕ → ℕ → Bool) → Type 0

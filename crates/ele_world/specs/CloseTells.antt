@@ -1,11 +1,11 @@
 -- The close of a handle that writes makes a version just where the draft was changed and no other handle writes it, and tells its
 -- number; a close that tells of none has changed no version.
 use Rattle.std.specs.Prelude.{◌≡◌, ℕ, ◌&&◌, not, Some, None, Ok, find, if◌then◌else◌}
-use Rattle.ele_world.specs.declared.event.Event.TheVariants.{Close}
-use Rattle.ele_world.specs.declared.reply.Reply.TheVariants.{Closed}
-use Rattle.ele_world.specs.declared.rows.DraftRow.{DraftRow}
-use Rattle.ele_world.specs.Step.{step, has_other_writer}
-use Rattle.ele_world.specs.World.{World, file_by, is_draft, next_of}
+use Rattle.ele_model.specs.declared.event.Event.TheVariants.{Close}
+use Rattle.ele_model.specs.declared.reply.Reply.TheVariants.{Closed}
+use Rattle.ele_model.specs.declared.rows.DraftRow.{DraftRow}
+use Rattle.ele_model.specs.Step.{step, has_other_writer}
+use Rattle.ele_model.specs.World.{World, file_by, is_draft, next_of}
 
 abbrev pub CloseTells : Type 0
 CloseTells =

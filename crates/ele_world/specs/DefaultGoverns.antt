@@ -1,12 +1,12 @@
 -- After a default event the directory at its path gives the policy, every other directory its own, and nothing else has changed.
 use Rattle.std.specs.Prelude.{◌≡◌, ℕ, ◌==◌, false, List, map, Ok, find}
 use Rattle.ele_policy.specs.declared.policy.Policy.{Policy}
-use Rattle.ele_world.specs.declared.event.Event.TheVariants.{SetDefault}
-use Rattle.ele_world.specs.declared.reply.Reply.TheVariants.{Done}
-use Rattle.ele_world.specs.Step.{step}
-use Rattle.ele_world.specs.Walk.{directory_now}
-use Rattle.ele_world.specs.WellFormed.{IsWellFormed}
-use Rattle.ele_world.specs.World.{World, is_directory, default_of}
+use Rattle.ele_model.specs.declared.event.Event.TheVariants.{SetDefault}
+use Rattle.ele_model.specs.declared.reply.Reply.TheVariants.{Done}
+use Rattle.ele_model.specs.Step.{step}
+use Rattle.ele_model.specs.Walk.{directory_now}
+use Rattle.ele_model.specs.WellFormed.{IsWellFormed}
+use Rattle.ele_model.specs.World.{World, is_directory, default_of}
 
 pub record GovernsDirectory (before : World) (path : List (List ℕ)) (policy : Policy) (after : World) : Type 0 where
   pub directory : ℕ

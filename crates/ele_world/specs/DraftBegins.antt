@@ -1,14 +1,14 @@
 -- The first handle that writes a file reads the content of its current version, a later one what the file's draft has.
 use Rattle.std.specs.Prelude.{◌≡◌, ℕ, List, Some, true, false, Ok}
 use Rattle.ele_content.specs.Content.{content_of}
-use Rattle.ele_world.specs.declared.event.Event.TheVariants.{OpenWrite, Read}
-use Rattle.ele_world.specs.declared.event.Source.TheVariants.{Of}
-use Rattle.ele_world.specs.declared.reply.Reply.TheVariants.{Handle, Bytes}
-use Rattle.ele_world.specs.declared.rows.VersionRow.{VersionRow}
-use Rattle.ele_world.specs.Step.{step, draft_cells}
-use Rattle.ele_world.specs.Walk.{file_now}
-use Rattle.ele_world.specs.WellFormed.{IsWellFormed}
-use Rattle.ele_world.specs.World.{World, current_of, has_draft, file_by}
+use Rattle.ele_model.specs.declared.event.Event.TheVariants.{OpenWrite, Read}
+use Rattle.ele_model.specs.declared.event.Source.TheVariants.{Of}
+use Rattle.ele_model.specs.declared.reply.Reply.TheVariants.{Handle, Bytes}
+use Rattle.ele_model.specs.declared.rows.VersionRow.{VersionRow}
+use Rattle.ele_model.specs.Step.{step, draft_cells}
+use Rattle.ele_model.specs.Walk.{file_now}
+use Rattle.ele_model.specs.WellFormed.{IsWellFormed}
+use Rattle.ele_model.specs.World.{World, current_of, has_draft, file_by}
 
 pub record BeginsDraft (before : World) (path : List (List ℕ)) (handle : ℕ) (after : World) : Type 0 where
   pub file : ℕ

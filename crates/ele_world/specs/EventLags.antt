@@ -1,13 +1,13 @@
 -- An event made in a world and in one that lags behind it: it still lags, and an event that doesn't only ask is answered alike.
 use Rattle.std.specs.Prelude.{◌≡◌, true, false}
-use Rattle.ele_world.specs.declared.event.Event.{Event}
+use Rattle.ele_model.specs.declared.event.Event.{Event}
 use Rattle.ele_world.specs.Lags.{Lags}
-use Rattle.ele_world.specs.NothingChanges.{asks}
+use Rattle.ele_model.specs.NothingChanges.{asks}
 use Rattle.ele_world.specs.PlainEvents.{is_plain}
-use Rattle.ele_world.specs.Run.{IsEvent}
-use Rattle.ele_world.specs.Step.{step}
-use Rattle.ele_world.specs.WellFormed.{IsWellFormed}
-use Rattle.ele_world.specs.World.{World}
+use Rattle.ele_model.specs.Run.{IsEvent}
+use Rattle.ele_model.specs.Step.{step}
+use Rattle.ele_model.specs.WellFormed.{IsWellFormed}
+use Rattle.ele_model.specs.World.{World}
 
 pub record LagsAfter (u v : World) (event : Event) : Type 0 where
   pub lags : Lags ((step u event).1) ((step v event).1)

@@ -1,10 +1,10 @@
 -- The versions that ever closed in a run, held or removed since.
 use Rattle.std.specs.Prelude.{ℕ, List, [], ◌∷◌, Option, find}
 use Rattle.std.specs.Option.{option_or}
-use Rattle.ele_world.specs.declared.event.Event.{Event}
-use Rattle.ele_world.specs.declared.rows.VersionRow.{VersionRow}
-use Rattle.ele_world.specs.Step.{step}
-use Rattle.ele_world.specs.World.{World, is_version}
+use Rattle.ele_model.specs.declared.event.Event.{Event}
+use Rattle.ele_model.specs.declared.rows.VersionRow.{VersionRow}
+use Rattle.ele_model.specs.Step.{step}
+use Rattle.ele_model.specs.World.{World, is_version}
 
 -- the file's version with that number as it last stood in a world of the run, if it stood in one
 abbrev pub last_stood : World → List Event → (file number : ℕ) → Option VersionRow

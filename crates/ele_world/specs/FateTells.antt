@@ -1,11 +1,11 @@
 -- A held version has one fate, and is told to be due just where the scan has its key, since the moment of the key.
 use Rattle.std.specs.Prelude.{◌≡◌, ℕ, Some}
 use Rattle.ele_due.specs.HasKey.{has_key}
-use Rattle.ele_world.specs.declared.fate.Fate.{Fate}
-use Rattle.ele_world.specs.Fate.{HasFate, says_due}
-use Rattle.ele_world.specs.Scan.{scan}
-use Rattle.ele_world.specs.WellFormed.{IsWellFormed}
-use Rattle.ele_world.specs.World.{World}
+use Rattle.ele_model.specs.declared.fate.Fate.{Fate}
+use Rattle.ele_model.specs.Fate.{HasFate, says_due}
+use Rattle.ele_model.specs.Scan.{scan}
+use Rattle.ele_model.specs.WellFormed.{IsWellFormed}
+use Rattle.ele_model.specs.World.{World}
 
 abbrev pub OneFate : Type 0
 OneFate = (w : World) (file number : ℕ) (one other : Fate) → HasFate w file number one → HasFate w file number other → one ≡ other

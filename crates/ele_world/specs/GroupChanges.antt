@@ -1,10 +1,10 @@
 -- What a change of one group leaves: every other group is what it was, and but for groups and counts nothing has changed.
 use Rattle.std.specs.Prelude.{◌≡◌, ℕ, Bool, false, List, Option, Some}
 use Rattle.std.specs.Str.{bytes_eq}
-use Rattle.ele_world.specs.declared.rows.GroupRow.{GroupRow}
-use Rattle.ele_world.specs.declared.rows.MarkRow.{MarkRow}
-use Rattle.ele_world.specs.GroupRows.{group_named, is_member, mark_at}
-use Rattle.ele_world.specs.World.{World}
+use Rattle.ele_model.specs.declared.rows.GroupRow.{GroupRow}
+use Rattle.ele_model.specs.declared.rows.MarkRow.{MarkRow}
+use Rattle.ele_model.specs.GroupRows.{group_named, is_member, mark_at}
+use Rattle.ele_model.specs.World.{World}
 
 pub record ChangesGroup (before : World) (name : List ℕ) (is : Option GroupRow → Type 0) (after : World) : Type 0 where
   pub named : is (group_named after.groups name)

@@ -1,11 +1,11 @@
 -- After a `group make` there is a group of that name, without files and marks; after a `group drop` there is none.
 use Rattle.std.specs.Prelude.{◌≡◌, ℕ, List, [], Some, None}
-use Rattle.ele_world.specs.declared.event.Event.TheVariants.{GroupMake, GroupDrop}
-use Rattle.ele_world.specs.declared.reply.Reply.TheVariants.{Done}
+use Rattle.ele_model.specs.declared.event.Event.TheVariants.{GroupMake, GroupDrop}
+use Rattle.ele_model.specs.declared.reply.Reply.TheVariants.{Done}
 use Rattle.ele_world.specs.GroupChanges.{ChangesGroup}
-use Rattle.ele_world.specs.Step.{step}
-use Rattle.ele_world.specs.WellFormed.{IsWellFormed}
-use Rattle.ele_world.specs.World.{World}
+use Rattle.ele_model.specs.Step.{step}
+use Rattle.ele_model.specs.WellFormed.{IsWellFormed}
+use Rattle.ele_model.specs.World.{World}
 
 abbrev pub GroupComes : Type 0
 GroupComes =

@@ -1,14 +1,14 @@
 -- A handle that is opened for reading reads the version that was meant.
 use Rattle.std.specs.Prelude.{◌≡◌, ℕ, Ok}
 use Rattle.ele_time_path.specs.declared.tagged.TaggedPath.{TaggedPath}
-use Rattle.ele_world.specs.declared.event.Event.TheVariants.{OpenRead}
-use Rattle.ele_world.specs.declared.reply.Reply.TheVariants.{Handle}
-use Rattle.ele_world.specs.declared.rows.Reads.TheVariants.{Version}
-use Rattle.ele_world.specs.declared.rows.VersionRow.{VersionRow}
-use Rattle.ele_world.specs.Step.{step}
-use Rattle.ele_world.specs.Tagged.{version_at}
-use Rattle.ele_world.specs.WellFormed.{IsWellFormed}
-use Rattle.ele_world.specs.World.{World, reads_by}
+use Rattle.ele_model.specs.declared.event.Event.TheVariants.{OpenRead}
+use Rattle.ele_model.specs.declared.reply.Reply.TheVariants.{Handle}
+use Rattle.ele_model.specs.declared.rows.Reads.TheVariants.{Version}
+use Rattle.ele_model.specs.declared.rows.VersionRow.{VersionRow}
+use Rattle.ele_model.specs.Step.{step}
+use Rattle.ele_model.specs.Tagged.{version_at}
+use Rattle.ele_model.specs.WellFormed.{IsWellFormed}
+use Rattle.ele_model.specs.World.{World, reads_by}
 
 pub record ReadsMeant (before : World) (tagged : TaggedPath) (handle : ℕ) (after : World) : Type 0 where
   pub row : VersionRow

@@ -1,10 +1,10 @@
 -- Whichever due versions go, and with them the files of which nothing is left.
 use Rattle.std.specs.Prelude.{ℕ, Bool, map}
 use Rattle.ele_world.specs.AnyDueLeave.{AreDue, without_versions, LeavesOthersDue}
-use Rattle.ele_world.specs.Change.{DropIdle, after_changes}
-use Rattle.ele_world.specs.NoIdleStays.{HasNoIdle}
-use Rattle.ele_world.specs.WellFormed.{IsWellFormed}
-use Rattle.ele_world.specs.World.{World}
+use Rattle.ele_model.specs.Change.{DropIdle, after_changes}
+use Rattle.ele_model.specs.NoIdleStays.{HasNoIdle}
+use Rattle.ele_model.specs.WellFormed.{IsWellFormed}
+use Rattle.ele_model.specs.World.{World}
 
 -- the world without the files of which nothing is left
 abbrev pub without_idle : World → World

@@ -2,12 +2,12 @@
 -- the other keeps, and after a clean of it alone it still lags.
 use Rattle.std.specs.Prelude.{◌≡◌, ℕ, Bool, true, None, []}
 use Rattle.ele_world.specs.AnyDueLeave.{AreDue}
-use Rattle.ele_world.specs.Due.{kept_rows}
+use Rattle.ele_model.specs.Due.{kept_rows}
 use Rattle.ele_world.specs.Less.{less, IsEmptied}
-use Rattle.ele_world.specs.Scan.{first_due}
-use Rattle.ele_world.specs.Step.{clean_step}
-use Rattle.ele_world.specs.WellFormed.{IsWellFormed}
-use Rattle.ele_world.specs.World.{World}
+use Rattle.ele_model.specs.Scan.{first_due}
+use Rattle.ele_model.specs.Step.{clean_step}
+use Rattle.ele_model.specs.WellFormed.{IsWellFormed}
+use Rattle.ele_model.specs.World.{World}
 
 -- the first world is the second without such versions and such files; there are no groups
 pub record Lags (u v : World) : Type 0 where

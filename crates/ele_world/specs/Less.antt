@@ -1,9 +1,9 @@
 -- A world without some versions, and without files of which nothing else is left.
 use Rattle.std.specs.Prelude.{◌≡◌, ℕ, ◌<◌, Bool, true, false, not, filter}
-use Rattle.ele_world.specs.declared.rows.Target.{Target}
-use Rattle.ele_world.specs.declared.rows.Target.TheVariants.{File, Directory}
+use Rattle.ele_model.specs.declared.rows.Target.{Target}
+use Rattle.ele_model.specs.declared.rows.Target.TheVariants.{File, Directory}
 use Rattle.ele_world.specs.AnyDueLeave.{without_versions}
-use Rattle.ele_world.specs.World.{World, next_of, is_live, is_held, has_draft}
+use Rattle.ele_model.specs.World.{World, next_of, is_live, is_held, has_draft}
 
 abbrev pub is_dropped : (ℕ → Bool) → Target → Bool
 is_dropped dropped (File file) = dropped file

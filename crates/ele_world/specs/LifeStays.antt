@@ -1,12 +1,12 @@
 -- A version's life stays: while it is held, it lived at each moment before now after an event as before it.
 use Rattle.std.specs.Prelude.{◌≡◌, ℕ, ◌<◌, Some, find}
 use Rattle.std.specs.List.{AllByRecursion}
-use Rattle.ele_world.specs.declared.event.Event.{Event}
-use Rattle.ele_world.specs.declared.rows.VersionRow.{VersionRow}
-use Rattle.ele_world.specs.Step.{step}
-use Rattle.ele_world.specs.Tagged.{lives_at}
-use Rattle.ele_world.specs.WellFormed.{IsWellFormed}
-use Rattle.ele_world.specs.World.{World, is_version}
+use Rattle.ele_model.specs.declared.event.Event.{Event}
+use Rattle.ele_model.specs.declared.rows.VersionRow.{VersionRow}
+use Rattle.ele_model.specs.Step.{step}
+use Rattle.ele_model.specs.Tagged.{lives_at}
+use Rattle.ele_model.specs.WellFormed.{IsWellFormed}
+use Rattle.ele_model.specs.World.{World, is_version}
 
 abbrev pub LivesAsBefore : World → Event → VersionRow → Type 0
 LivesAsBefore w event row =

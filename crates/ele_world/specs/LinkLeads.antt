@@ -1,11 +1,11 @@
 -- After a link both paths lead to the file.
 use Rattle.std.specs.Prelude.{◌≡◌, ℕ, List}
-use Rattle.ele_world.specs.declared.event.Event.TheVariants.{Link}
-use Rattle.ele_world.specs.declared.reply.Reply.TheVariants.{Done}
-use Rattle.ele_world.specs.Step.{step}
-use Rattle.ele_world.specs.Walk.{file_now}
-use Rattle.ele_world.specs.WellFormed.{IsWellFormed}
-use Rattle.ele_world.specs.World.{World}
+use Rattle.ele_model.specs.declared.event.Event.TheVariants.{Link}
+use Rattle.ele_model.specs.declared.reply.Reply.TheVariants.{Done}
+use Rattle.ele_model.specs.Step.{step}
+use Rattle.ele_model.specs.Walk.{file_now}
+use Rattle.ele_model.specs.WellFormed.{IsWellFormed}
+use Rattle.ele_model.specs.World.{World}
 
 pub record LeadsToSame (before : World) (from to : List (List ℕ)) (after : World) : Type 0 where
   pub leads : file_now after.names to ≡ file_now before.names from

@@ -1,13 +1,13 @@
 -- After a mkdir its path leads to the new directory.
 use Rattle.std.specs.Prelude.{◌≡◌, ℕ, List, true, false, Ok}
 use Rattle.std.specs.List.{list_any}
-use Rattle.ele_world.specs.declared.event.Event.TheVariants.{MakeDir}
-use Rattle.ele_world.specs.declared.reply.Reply.TheVariants.{Directory}
-use Rattle.ele_world.specs.NameRows.{is_live_in}
-use Rattle.ele_world.specs.Step.{step}
-use Rattle.ele_world.specs.Walk.{directory_now, parent_now}
-use Rattle.ele_world.specs.WellFormed.{has_directory, IsWellFormed}
-use Rattle.ele_world.specs.World.{World, default_of}
+use Rattle.ele_model.specs.declared.event.Event.TheVariants.{MakeDir}
+use Rattle.ele_model.specs.declared.reply.Reply.TheVariants.{Directory}
+use Rattle.ele_model.specs.NameRows.{is_live_in}
+use Rattle.ele_model.specs.Step.{step}
+use Rattle.ele_model.specs.Walk.{directory_now, parent_now}
+use Rattle.ele_model.specs.WellFormed.{has_directory, IsWellFormed}
+use Rattle.ele_model.specs.World.{World, default_of}
 
 -- the directory is there, the path leads to it, no name stands in it, and its policy is that of the one that it stands in
 pub record LeadsToDirectory (before : World) (path : List (List ℕ)) (id : ℕ) (after : World) : Type 0 where

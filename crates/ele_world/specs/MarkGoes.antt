@@ -1,12 +1,12 @@
 -- After an unmark the group has its other marks, and its files.
 use Rattle.std.specs.Prelude.{◌≡◌, ℕ, ◌==◌, List, None, if◌then◌else◌}
-use Rattle.ele_world.specs.declared.event.Event.TheVariants.{Unmark}
-use Rattle.ele_world.specs.declared.reply.Reply.TheVariants.{Done}
+use Rattle.ele_model.specs.declared.event.Event.TheVariants.{Unmark}
+use Rattle.ele_model.specs.declared.reply.Reply.TheVariants.{Done}
 use Rattle.ele_world.specs.GroupChanges.{ChangesGroup, IsGroupOf}
-use Rattle.ele_world.specs.GroupRows.{group_named, is_member, mark_at}
-use Rattle.ele_world.specs.Step.{step}
-use Rattle.ele_world.specs.WellFormed.{IsWellFormed}
-use Rattle.ele_world.specs.World.{World}
+use Rattle.ele_model.specs.GroupRows.{group_named, is_member, mark_at}
+use Rattle.ele_model.specs.Step.{step}
+use Rattle.ele_model.specs.WellFormed.{IsWellFormed}
+use Rattle.ele_model.specs.World.{World}
 
 abbrev pub MarkGoes : Type 0
 MarkGoes =

@@ -1,13 +1,13 @@
 -- After a mark what was current then of the group's files is marked until the mark ends, beside what was marked before, and
 -- nothing else.
 use Rattle.std.specs.Prelude.{◌≡◌, ℕ, ◌+◌, ◌||◌, ◌&&◌, List, Option}
-use Rattle.ele_world.specs.declared.event.Event.TheVariants.{Mark}
-use Rattle.ele_world.specs.declared.reply.Reply.TheVariants.{Done}
-use Rattle.ele_world.specs.declared.rows.MarkRow.{MarkRow}
-use Rattle.ele_world.specs.GroupRows.{has_group, has_member, is_marked, keeps_at}
-use Rattle.ele_world.specs.Step.{step}
-use Rattle.ele_world.specs.WellFormed.{IsWellFormed}
-use Rattle.ele_world.specs.World.{World}
+use Rattle.ele_model.specs.declared.event.Event.TheVariants.{Mark}
+use Rattle.ele_model.specs.declared.reply.Reply.TheVariants.{Done}
+use Rattle.ele_model.specs.declared.rows.MarkRow.{MarkRow}
+use Rattle.ele_model.specs.GroupRows.{has_group, has_member, is_marked, keeps_at}
+use Rattle.ele_model.specs.Step.{step}
+use Rattle.ele_model.specs.WellFormed.{IsWellFormed}
+use Rattle.ele_model.specs.World.{World}
 
 -- of each file, of what was current from the one moment until the other, and at each moment; no group or member comes or goes
 pub record MarksMoment (before : World) (name : List ℕ) (mark : MarkRow) (after : World) : Type 0 where

@@ -1,13 +1,13 @@
 -- After a `group add` the group has the file at the path beside its others, after a `group remove` just the others, with its marks.
 use Rattle.std.specs.Prelude.{◌≡◌, ℕ, ◌==◌, ◌&&◌, ◌||◌, not, List, Ok}
-use Rattle.ele_world.specs.declared.event.Event.TheVariants.{GroupAdd, GroupRemove}
-use Rattle.ele_world.specs.declared.reply.Reply.TheVariants.{Done}
+use Rattle.ele_model.specs.declared.event.Event.TheVariants.{GroupAdd, GroupRemove}
+use Rattle.ele_model.specs.declared.reply.Reply.TheVariants.{Done}
 use Rattle.ele_world.specs.GroupChanges.{ChangesGroup, IsGroupOf}
-use Rattle.ele_world.specs.GroupRows.{group_named, is_member, mark_at}
-use Rattle.ele_world.specs.Step.{step}
-use Rattle.ele_world.specs.Walk.{file_now}
-use Rattle.ele_world.specs.WellFormed.{IsWellFormed}
-use Rattle.ele_world.specs.World.{World}
+use Rattle.ele_model.specs.GroupRows.{group_named, is_member, mark_at}
+use Rattle.ele_model.specs.Step.{step}
+use Rattle.ele_model.specs.Walk.{file_now}
+use Rattle.ele_model.specs.WellFormed.{IsWellFormed}
+use Rattle.ele_model.specs.World.{World}
 
 abbrev pub MemberComes : Type 0
 MemberComes =

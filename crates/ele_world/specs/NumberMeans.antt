@@ -3,12 +3,12 @@
 use Rattle.std.specs.Prelude.{◌≡◌, ◌⊎◌, ℕ, ◌<◌, ◌≤◌, true, List, Option, Some, None, Ok, find}
 use Rattle.ele_time_path.specs.declared.tagged.Tag.TheVariants.{Number}
 use Rattle.ele_time_path.specs.declared.tagged.TaggedPath.{TaggedPath}
-use Rattle.ele_world.specs.declared.refusal.Refusal.TheVariants.{Forgotten, NoVersion}
-use Rattle.ele_world.specs.declared.rows.VersionRow.{VersionRow}
+use Rattle.ele_model.specs.declared.refusal.Refusal.TheVariants.{Forgotten, NoVersion}
+use Rattle.ele_model.specs.declared.rows.VersionRow.{VersionRow}
 use Rattle.ele_world.specs.Answered.{AnswersVersion, Refuses}
-use Rattle.ele_world.specs.Walk.{file_now}
-use Rattle.ele_world.specs.WellFormed.{IsWellFormed}
-use Rattle.ele_world.specs.World.{World, is_held, is_version, next_of}
+use Rattle.ele_model.specs.Walk.{file_now}
+use Rattle.ele_model.specs.WellFormed.{IsWellFormed}
+use Rattle.ele_model.specs.World.{World, is_held, is_version, next_of}
 
 -- the greatest number of the file that is held below, if one is
 pub record IsGreatestBelow (w : World) (file number : ℕ) (before : Option ℕ) : Type 0 where

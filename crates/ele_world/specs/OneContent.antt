@@ -3,14 +3,14 @@
 use Rattle.std.specs.Prelude.{◌≡◌, ℕ, List, Some, slice_get}
 use Rattle.std.specs.List.{AllByRecursion}
 use Rattle.ele_content.specs.declared.cell.Cell.{Cell}
-use Rattle.ele_world.specs.Bounds.{Bounds, AreBounds}
-use Rattle.ele_world.specs.declared.event.Event.{Event}
-use Rattle.ele_world.specs.declared.rows.Reads.{Reads}
-use Rattle.ele_world.specs.declared.rows.Reads.TheVariants.{Draft, Version}
-use Rattle.ele_world.specs.Run.{run_of, IsEvent}
-use Rattle.ele_world.specs.Step.{step, cells_read}
-use Rattle.ele_world.specs.WellFormed.{IsWellFormed}
-use Rattle.ele_world.specs.World.{World, fresh_world}
+use Rattle.ele_model.specs.Bounds.{Bounds, AreBounds}
+use Rattle.ele_model.specs.declared.event.Event.{Event}
+use Rattle.ele_model.specs.declared.rows.Reads.{Reads}
+use Rattle.ele_model.specs.declared.rows.Reads.TheVariants.{Draft, Version}
+use Rattle.ele_model.specs.Run.{run_of, IsEvent}
+use Rattle.ele_model.specs.Step.{step, cells_read}
+use Rattle.ele_model.specs.WellFormed.{IsWellFormed}
+use Rattle.ele_model.specs.World.{World, fresh_world}
 
 abbrev pub file_read : Reads → ℕ
 file_read (Draft file) = file

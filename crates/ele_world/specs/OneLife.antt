@@ -2,17 +2,17 @@
 -- once it was removed the answer is `Forgotten`.
 use Rattle.std.specs.Prelude.{◌≡◌, ℕ, true, false, List, Option, Some, Ok, Err}
 use Rattle.std.specs.List.{AllByRecursion}
-use Rattle.ele_world.specs.declared.event.Event.{Event}
-use Rattle.ele_world.specs.declared.refusal.Refusal.TheVariants.{Forgotten}
-use Rattle.ele_world.specs.declared.rows.NameRow.{NameRow}
-use Rattle.ele_world.specs.declared.rows.Target.TheVariants.{File}
-use Rattle.ele_world.specs.declared.rows.VersionRow.{VersionRow}
-use Rattle.ele_world.specs.Bounds.{Bounds, AreBounds}
+use Rattle.ele_model.specs.declared.event.Event.{Event}
+use Rattle.ele_model.specs.declared.refusal.Refusal.TheVariants.{Forgotten}
+use Rattle.ele_model.specs.declared.rows.NameRow.{NameRow}
+use Rattle.ele_model.specs.declared.rows.Target.TheVariants.{File}
+use Rattle.ele_model.specs.declared.rows.VersionRow.{VersionRow}
+use Rattle.ele_model.specs.Bounds.{Bounds, AreBounds}
 use Rattle.ele_world.specs.Ever.{last_stood}
-use Rattle.ele_world.specs.NameRows.{covers}
-use Rattle.ele_world.specs.Run.{run_of, IsEvent}
-use Rattle.ele_world.specs.Tagged.{lives_at, version_living}
-use Rattle.ele_world.specs.World.{World, fresh_world, is_held}
+use Rattle.ele_model.specs.NameRows.{covers}
+use Rattle.ele_model.specs.Run.{run_of, IsEvent}
+use Rattle.ele_model.specs.Tagged.{lives_at, version_living}
+use Rattle.ele_model.specs.World.{World, fresh_world, is_held}
 
 -- of all versions of the file that ever closed in the run, this one lived at the moment, and no other
 pub record HasOneLife (first : World) (events : List Event) (file moment : ℕ) : Type 0 where

@@ -2,17 +2,17 @@
 -- before that world isn't known, so an earlier moment is told of only where a version that stood in the run lived then.
 use Rattle.std.specs.Prelude.{◌≡◌, ◌≤◌, ℕ, true, List, Some}
 use Rattle.std.specs.List.{AllByRecursion}
-use Rattle.ele_world.specs.declared.event.Event.{Event}
-use Rattle.ele_world.specs.declared.rows.NameRow.{NameRow}
-use Rattle.ele_world.specs.declared.rows.Target.TheVariants.{File}
-use Rattle.ele_world.specs.declared.rows.VersionRow.{VersionRow}
+use Rattle.ele_model.specs.declared.event.Event.{Event}
+use Rattle.ele_model.specs.declared.rows.NameRow.{NameRow}
+use Rattle.ele_model.specs.declared.rows.Target.TheVariants.{File}
+use Rattle.ele_model.specs.declared.rows.VersionRow.{VersionRow}
 use Rattle.ele_world.specs.Ever.{last_stood}
-use Rattle.ele_world.specs.NameRows.{covers}
+use Rattle.ele_model.specs.NameRows.{covers}
 use Rattle.ele_world.specs.OneLife.{HasOneLife}
-use Rattle.ele_world.specs.Run.{run_of, IsEvent}
-use Rattle.ele_world.specs.Tagged.{lives_at}
-use Rattle.ele_world.specs.WellFormed.{IsWellFormed}
-use Rattle.ele_world.specs.World.{World}
+use Rattle.ele_model.specs.Run.{run_of, IsEvent}
+use Rattle.ele_model.specs.Tagged.{lives_at}
+use Rattle.ele_model.specs.WellFormed.{IsWellFormed}
+use Rattle.ele_model.specs.World.{World}
 
 -- at each moment from the first world on that the name covers, if it is a file's
 abbrev pub NamesOneLifeFrom : World → List Event → NameRow → Type 0

@@ -2,16 +2,16 @@
 -- itself, at any depth.
 use Rattle.std.specs.Prelude.{◌≡◌, ◌==◌, ◌&&◌, ℕ, suc, zero, Bool, true, false, List, [], None, Ok}
 use Rattle.std.specs.List.{AllByRecursion, list_any}
-use Rattle.ele_world.specs.Bounds.{Bounds, AreBounds}
-use Rattle.ele_world.specs.declared.event.Event.{Event}
-use Rattle.ele_world.specs.declared.rows.NameRow.{NameRow}
-use Rattle.ele_world.specs.declared.rows.Target.TheVariants.{Directory}
-use Rattle.ele_world.specs.NameRows.{is_live_directory, is_name_of_directory}
-use Rattle.ele_world.specs.Run.{run_of, IsEvent}
-use Rattle.ele_world.specs.Step.{step}
-use Rattle.ele_world.specs.Walk.{walk}
-use Rattle.ele_world.specs.WellFormed.{IsWellFormed}
-use Rattle.ele_world.specs.World.{World, fresh_world, root}
+use Rattle.ele_model.specs.Bounds.{Bounds, AreBounds}
+use Rattle.ele_model.specs.declared.event.Event.{Event}
+use Rattle.ele_model.specs.declared.rows.NameRow.{NameRow}
+use Rattle.ele_model.specs.declared.rows.Target.TheVariants.{Directory}
+use Rattle.ele_model.specs.NameRows.{is_live_directory, is_name_of_directory}
+use Rattle.ele_model.specs.Run.{run_of, IsEvent}
+use Rattle.ele_model.specs.Step.{step}
+use Rattle.ele_model.specs.Walk.{walk}
+use Rattle.ele_model.specs.WellFormed.{IsWellFormed}
+use Rattle.ele_model.specs.World.{World, fresh_world, root}
 
 -- the directory hangs from the root by so many live names, each in the directory of the one before
 abbrev pub hangs_by : List NameRow → ℕ → ℕ → Bool

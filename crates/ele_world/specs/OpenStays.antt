@@ -1,10 +1,10 @@
 -- A version that a handle reads never leaves, whatever the event.
 use Rattle.std.specs.Prelude.{◌≡◌, ℕ, true, Ok}
-use Rattle.ele_world.specs.declared.event.Event.{Event}
-use Rattle.ele_world.specs.declared.rows.Reads.TheVariants.{Version}
-use Rattle.ele_world.specs.Step.{step}
-use Rattle.ele_world.specs.WellFormed.{IsWellFormed}
-use Rattle.ele_world.specs.World.{World, is_held, reads_by}
+use Rattle.ele_model.specs.declared.event.Event.{Event}
+use Rattle.ele_model.specs.declared.rows.Reads.TheVariants.{Version}
+use Rattle.ele_model.specs.Step.{step}
+use Rattle.ele_model.specs.WellFormed.{IsWellFormed}
+use Rattle.ele_model.specs.World.{World, is_held, reads_by}
 
 abbrev pub OpenStays : Type 0
 OpenStays =

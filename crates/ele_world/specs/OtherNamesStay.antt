@@ -1,12 +1,12 @@
 -- A name that an event doesn't name stands after it for what it stood for.
 use Rattle.std.specs.Prelude.{◌≡◌, ℕ, ◌==◌, ◌&&◌, ◌||◌, Bool, false, List, Result, Ok, Err}
 use Rattle.std.specs.Str.{bytes_eq}
-use Rattle.ele_world.specs.declared.event.Event.{Event}
-use Rattle.ele_world.specs.declared.event.Event.TheVariants.{MakeDir, RemoveDir, Create, Link, Unlink, Rename, Undelete}
-use Rattle.ele_world.specs.declared.refusal.Refusal.{Refusal}
-use Rattle.ele_world.specs.Step.{step}
-use Rattle.ele_world.specs.Walk.{live_target, parent_now}
-use Rattle.ele_world.specs.World.{World}
+use Rattle.ele_model.specs.declared.event.Event.{Event}
+use Rattle.ele_model.specs.declared.event.Event.TheVariants.{MakeDir, RemoveDir, Create, Link, Unlink, Rename, Undelete}
+use Rattle.ele_model.specs.declared.refusal.Refusal.{Refusal}
+use Rattle.ele_model.specs.Step.{step}
+use Rattle.ele_model.specs.Walk.{live_target, parent_now}
+use Rattle.ele_model.specs.World.{World}
 
 -- it is that name in that directory
 abbrev pub is_home : ℕ → List ℕ → Result (ℕ × List ℕ) Refusal → Bool

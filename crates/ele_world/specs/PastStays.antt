@@ -1,12 +1,12 @@
 -- What a name stood for at a moment before now stays so after any event, unless it was a file that has gone, with all its names.
 use Rattle.std.specs.Prelude.{◌≡◌, ◌⊎◌, ℕ, ◌<◌, true, false, List, Some, None, find}
-use Rattle.ele_world.specs.declared.event.Event.{Event}
-use Rattle.ele_world.specs.declared.rows.Target.TheVariants.{File}
-use Rattle.ele_world.specs.Change.{is_idle}
-use Rattle.ele_world.specs.NameRows.{target_at}
-use Rattle.ele_world.specs.Step.{step}
-use Rattle.ele_world.specs.WellFormed.{IsWellFormed}
-use Rattle.ele_world.specs.World.{World, is_file, is_live}
+use Rattle.ele_model.specs.declared.event.Event.{Event}
+use Rattle.ele_model.specs.declared.rows.Target.TheVariants.{File}
+use Rattle.ele_model.specs.Change.{is_idle}
+use Rattle.ele_model.specs.NameRows.{target_at}
+use Rattle.ele_model.specs.Step.{step}
+use Rattle.ele_model.specs.WellFormed.{IsWellFormed}
+use Rattle.ele_model.specs.World.{World, is_file, is_live}
 
 -- the name stood for a file without a live name, of which nothing is left after the event, and stands for nothing any more
 pub record WentWithFile (before after : World) (moment directory : ℕ) (name : List ℕ) : Type 0 where

@@ -1,7 +1,7 @@
 -- The events of which it doesn't matter when versions are cleaned that are due.
 use Rattle.std.specs.Prelude.{Bool, true, false}
-use Rattle.ele_world.specs.declared.event.Event.{Event}
-use Rattle.ele_world.specs.declared.event.Event.TheVariants.{Undelete, Revert, OpenRead, SetPolicy, GroupMake, GroupDrop, GroupAdd, GroupRemove, Mark, Unmark, CleanOne}
+use Rattle.ele_model.specs.declared.event.Event.{Event}
+use Rattle.ele_model.specs.declared.event.Event.TheVariants.{Undelete, Revert, OpenRead, SetPolicy, GroupMake, GroupDrop, GroupAdd, GroupRemove, Mark, Unmark, CleanOne}
 
 abbrev pub is_clean : Event → Bool
 is_clean CleanOne = true

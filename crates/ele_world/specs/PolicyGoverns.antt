@@ -1,12 +1,12 @@
 -- After a policy event the file at its path has the policy, every other file its own, and nothing else has changed.
 use Rattle.std.specs.Prelude.{◌≡◌, ℕ, ◌==◌, false, List, map, Some, Ok, find}
 use Rattle.ele_policy.specs.declared.policy.Policy.{Policy}
-use Rattle.ele_world.specs.declared.event.Event.TheVariants.{SetPolicy}
-use Rattle.ele_world.specs.declared.reply.Reply.TheVariants.{Done}
-use Rattle.ele_world.specs.Step.{step}
-use Rattle.ele_world.specs.Walk.{file_now}
-use Rattle.ele_world.specs.WellFormed.{IsWellFormed}
-use Rattle.ele_world.specs.World.{World, is_file, policy_of, next_of}
+use Rattle.ele_model.specs.declared.event.Event.TheVariants.{SetPolicy}
+use Rattle.ele_model.specs.declared.reply.Reply.TheVariants.{Done}
+use Rattle.ele_model.specs.Step.{step}
+use Rattle.ele_model.specs.Walk.{file_now}
+use Rattle.ele_model.specs.WellFormed.{IsWellFormed}
+use Rattle.ele_model.specs.World.{World, is_file, policy_of, next_of}
 
 pub record GovernsFile (before : World) (path : List (List ℕ)) (policy : Policy) (after : World) : Type 0 where
   pub file : ℕ

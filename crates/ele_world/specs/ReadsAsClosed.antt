@@ -3,18 +3,18 @@ use Rattle.std.specs.Prelude.{◌≡◌, ℕ, List, Ok}
 use Rattle.std.specs.List.{AllByRecursion}
 use Rattle.ele_content.specs.Content.{content_of}
 use Rattle.ele_time_path.specs.declared.tagged.TaggedPath.{TaggedPath}
-use Rattle.ele_world.specs.declared.event.Event.{Event}
-use Rattle.ele_world.specs.declared.event.Event.TheVariants.{Read}
-use Rattle.ele_world.specs.declared.event.Source.TheVariants.{Tagged, Of}
-use Rattle.ele_world.specs.declared.reply.Reply.TheVariants.{Bytes}
-use Rattle.ele_world.specs.declared.rows.Reads.TheVariants.{Version}
-use Rattle.ele_world.specs.declared.rows.VersionRow.{VersionRow}
-use Rattle.ele_world.specs.Bounds.{Bounds, AreBounds}
-use Rattle.ele_world.specs.Run.{run_of, IsEvent}
-use Rattle.ele_world.specs.Step.{step}
-use Rattle.ele_world.specs.Tagged.{version_at}
-use Rattle.ele_world.specs.WellFormed.{IsWellFormed}
-use Rattle.ele_world.specs.World.{World, fresh_world, reads_by}
+use Rattle.ele_model.specs.declared.event.Event.{Event}
+use Rattle.ele_model.specs.declared.event.Event.TheVariants.{Read}
+use Rattle.ele_model.specs.declared.event.Source.TheVariants.{Tagged, Of}
+use Rattle.ele_model.specs.declared.reply.Reply.TheVariants.{Bytes}
+use Rattle.ele_model.specs.declared.rows.Reads.TheVariants.{Version}
+use Rattle.ele_model.specs.declared.rows.VersionRow.{VersionRow}
+use Rattle.ele_model.specs.Bounds.{Bounds, AreBounds}
+use Rattle.ele_model.specs.Run.{run_of, IsEvent}
+use Rattle.ele_model.specs.Step.{step}
+use Rattle.ele_model.specs.Tagged.{version_at}
+use Rattle.ele_model.specs.WellFormed.{IsWellFormed}
+use Rattle.ele_model.specs.World.{World, fresh_world, reads_by}
 
 -- a read of the version gives the row's bytes, by whatever path and tag, and by whatever handle
 pub record ReadsRow (w : World) (row : VersionRow) : Type 0 where

@@ -2,16 +2,16 @@
 -- as `Forgotten` once the version was removed, or as `NoEntry` once the file has gone.
 use Rattle.std.specs.Prelude.{◌≡◌, ◌⊎◌, ℕ, ◌<◌, List, Option}
 use Rattle.ele_time_path.specs.declared.tagged.Tag.TheVariants.{At}
-use Rattle.ele_world.specs.declared.event.Event.{Event}
-use Rattle.ele_world.specs.declared.event.Event.TheVariants.{Read}
-use Rattle.ele_world.specs.declared.event.Source.TheVariants.{Tagged}
-use Rattle.ele_world.specs.declared.refusal.Refusal.TheVariants.{Forgotten, NoEntry}
-use Rattle.ele_world.specs.declared.reply.Reply.{Reply}
-use Rattle.ele_world.specs.declared.reply.Reply.TheVariants.{Bytes, Refused}
-use Rattle.ele_world.specs.Run.{IsEvent}
-use Rattle.ele_world.specs.Step.{step}
-use Rattle.ele_world.specs.WellFormed.{IsWellFormed}
-use Rattle.ele_world.specs.World.{World}
+use Rattle.ele_model.specs.declared.event.Event.{Event}
+use Rattle.ele_model.specs.declared.event.Event.TheVariants.{Read}
+use Rattle.ele_model.specs.declared.event.Source.TheVariants.{Tagged}
+use Rattle.ele_model.specs.declared.refusal.Refusal.TheVariants.{Forgotten, NoEntry}
+use Rattle.ele_model.specs.declared.reply.Reply.{Reply}
+use Rattle.ele_model.specs.declared.reply.Reply.TheVariants.{Bytes, Refused}
+use Rattle.ele_model.specs.Run.{IsEvent}
+use Rattle.ele_model.specs.Step.{step}
+use Rattle.ele_model.specs.WellFormed.{IsWellFormed}
+use Rattle.ele_model.specs.World.{World}
 
 -- what the path reads that is read at the moment
 abbrev pub read_at : World → List (List ℕ) → ℕ → Reply

@@ -1,12 +1,12 @@
 -- After a rmdir its path leads nowhere.
 use Rattle.std.specs.Prelude.{◌≡◌, ℕ, List, Err}
-use Rattle.ele_world.specs.declared.event.Event.TheVariants.{RemoveDir}
-use Rattle.ele_world.specs.declared.refusal.Refusal.TheVariants.{NoEntry}
-use Rattle.ele_world.specs.declared.reply.Reply.TheVariants.{Done}
-use Rattle.ele_world.specs.Step.{step}
-use Rattle.ele_world.specs.Walk.{walk_now}
-use Rattle.ele_world.specs.WellFormed.{IsWellFormed}
-use Rattle.ele_world.specs.World.{World}
+use Rattle.ele_model.specs.declared.event.Event.TheVariants.{RemoveDir}
+use Rattle.ele_model.specs.declared.refusal.Refusal.TheVariants.{NoEntry}
+use Rattle.ele_model.specs.declared.reply.Reply.TheVariants.{Done}
+use Rattle.ele_model.specs.Step.{step}
+use Rattle.ele_model.specs.Walk.{walk_now}
+use Rattle.ele_model.specs.WellFormed.{IsWellFormed}
+use Rattle.ele_model.specs.World.{World}
 
 abbrev pub RemoveDirEnds : Type 0
 RemoveDirEnds =

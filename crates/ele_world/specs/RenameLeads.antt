@@ -1,12 +1,12 @@
 -- After a rename the new path leads where the old one led, the old one leads nowhere, and no version has changed.
 use Rattle.std.specs.Prelude.{◌≡◌, ℕ, List, Err}
-use Rattle.ele_world.specs.declared.event.Event.TheVariants.{Rename}
-use Rattle.ele_world.specs.declared.refusal.Refusal.TheVariants.{NoEntry}
-use Rattle.ele_world.specs.declared.reply.Reply.TheVariants.{Done}
-use Rattle.ele_world.specs.Step.{step}
-use Rattle.ele_world.specs.Walk.{walk_now}
-use Rattle.ele_world.specs.WellFormed.{IsWellFormed}
-use Rattle.ele_world.specs.World.{World}
+use Rattle.ele_model.specs.declared.event.Event.TheVariants.{Rename}
+use Rattle.ele_model.specs.declared.refusal.Refusal.TheVariants.{NoEntry}
+use Rattle.ele_model.specs.declared.reply.Reply.TheVariants.{Done}
+use Rattle.ele_model.specs.Step.{step}
+use Rattle.ele_model.specs.Walk.{walk_now}
+use Rattle.ele_model.specs.WellFormed.{IsWellFormed}
+use Rattle.ele_model.specs.World.{World}
 
 pub record LeadsInstead (before : World) (from to : List (List ℕ)) (after : World) : Type 0 where
   pub leads : walk_now after.names to ≡ walk_now before.names from

@@ -4,10 +4,10 @@ use Rattle.std.specs.Prelude.{◌≡◌, ℕ, List, map, find}
 use Rattle.std.specs.List.Sorted.{IsStrictlySortedBy}
 use Rattle.std.specs.Option.{option_map}
 use Rattle.ele_lists.specs.Last.{passing}
-use Rattle.ele_world.specs.NameRows.{last_dead}
-use Rattle.ele_world.specs.Restorable.{name_cmp, may_return, restorable}
+use Rattle.ele_model.specs.NameRows.{last_dead}
+use Rattle.ele_model.specs.Restorable.{name_cmp, may_return, restorable}
 use Rattle.ele_world.specs.UndeleteTakes.{is_dead_name}
-use Rattle.ele_world.specs.World.{World}
+use Rattle.ele_model.specs.World.{World}
 
 pub record ListsRestorable (w : World) : Type 0 where
   pub in_order : IsStrictlySortedBy name_cmp (map (λ dead. (dead.directory, dead.name)) (restorable w))

@@ -2,16 +2,16 @@
 -- what the scan keeps of the run without them, and the events that neither clean nor ask are answered as there.
 use Rattle.std.specs.Prelude.{◌≡◌, ℕ, true, not, ◌||◌, List, [], ◌∷◌, filter, if◌then◌else◌}
 use Rattle.std.specs.List.{AllByRecursion}
-use Rattle.ele_world.specs.declared.event.Event.{Event}
-use Rattle.ele_world.specs.declared.reply.Reply.{Reply}
-use Rattle.ele_world.specs.Due.{kept_rows}
-use Rattle.ele_world.specs.NothingChanges.{asks}
-use Rattle.ele_world.specs.Pass.{IsPass}
+use Rattle.ele_model.specs.declared.event.Event.{Event}
+use Rattle.ele_model.specs.declared.reply.Reply.{Reply}
+use Rattle.ele_model.specs.Due.{kept_rows}
+use Rattle.ele_model.specs.NothingChanges.{asks}
+use Rattle.ele_model.specs.Pass.{IsPass}
 use Rattle.ele_world.specs.PlainEvents.{is_clean, is_plain}
-use Rattle.ele_world.specs.Run.{run_of, IsEvent}
-use Rattle.ele_world.specs.Step.{step}
-use Rattle.ele_world.specs.WellFormed.{IsWellFormed}
-use Rattle.ele_world.specs.World.{World}
+use Rattle.ele_model.specs.Run.{run_of, IsEvent}
+use Rattle.ele_model.specs.Step.{step}
+use Rattle.ele_model.specs.WellFormed.{IsWellFormed}
+use Rattle.ele_model.specs.World.{World}
 
 -- the replies to the events that neither clean nor ask
 abbrev pub change_replies : World → List Event → List Reply

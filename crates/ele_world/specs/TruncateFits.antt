@@ -1,11 +1,11 @@
 -- After a truncate the file's draft has as many bytes as told of what it had, or zeros behind them, and nothing else has changed.
 use Rattle.std.specs.Prelude.{◌≡◌, ℕ}
 use Rattle.ele_content.specs.Content.{content_after_truncate}
-use Rattle.ele_world.specs.declared.event.Event.TheVariants.{Truncate}
-use Rattle.ele_world.specs.declared.reply.Reply.TheVariants.{Done}
-use Rattle.ele_world.specs.Step.{step}
-use Rattle.ele_world.specs.WellFormed.{IsWellFormed}
-use Rattle.ele_world.specs.World.{World}
+use Rattle.ele_model.specs.declared.event.Event.TheVariants.{Truncate}
+use Rattle.ele_model.specs.declared.reply.Reply.TheVariants.{Done}
+use Rattle.ele_model.specs.Step.{step}
+use Rattle.ele_model.specs.WellFormed.{IsWellFormed}
+use Rattle.ele_model.specs.World.{World}
 use Rattle.ele_world.specs.WriteLays.{ChangesDraft}
 
 abbrev pub TruncateFits : Type 0

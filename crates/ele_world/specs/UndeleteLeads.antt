@@ -1,15 +1,15 @@
 -- After an undelete the path leads to what its name last stood for; where a version was made, it has the cells of the one before.
 use Rattle.std.specs.Prelude.{◌≡◌, ℕ, List, Some, None, Ok}
-use Rattle.ele_world.specs.declared.event.Event.TheVariants.{Undelete}
-use Rattle.ele_world.specs.declared.reply.Reply.TheVariants.{Done, Version}
-use Rattle.ele_world.specs.declared.rows.Target.{Target}
-use Rattle.ele_world.specs.declared.rows.Target.TheVariants.{File}
-use Rattle.ele_world.specs.declared.rows.VersionRow.{VersionRow}
-use Rattle.ele_world.specs.NameRows.{last_dead}
-use Rattle.ele_world.specs.Step.{step}
-use Rattle.ele_world.specs.Walk.{walk_now, parent_now}
-use Rattle.ele_world.specs.WellFormed.{IsWellFormed}
-use Rattle.ele_world.specs.World.{World, current_of}
+use Rattle.ele_model.specs.declared.event.Event.TheVariants.{Undelete}
+use Rattle.ele_model.specs.declared.reply.Reply.TheVariants.{Done, Version}
+use Rattle.ele_model.specs.declared.rows.Target.{Target}
+use Rattle.ele_model.specs.declared.rows.Target.TheVariants.{File}
+use Rattle.ele_model.specs.declared.rows.VersionRow.{VersionRow}
+use Rattle.ele_model.specs.NameRows.{last_dead}
+use Rattle.ele_model.specs.Step.{step}
+use Rattle.ele_model.specs.Walk.{walk_now, parent_now}
+use Rattle.ele_model.specs.WellFormed.{IsWellFormed}
+use Rattle.ele_model.specs.World.{World, current_of}
 
 -- the path leads to the target, which its name last stood for
 pub record LeadsAgain (before : World) (path : List (List ℕ)) (target : Target) (after : World) : Type 0 where

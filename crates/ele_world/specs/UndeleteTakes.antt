@@ -2,16 +2,16 @@
 use Rattle.std.specs.Prelude.{◌≡◌, ℕ, ◌==◌, ◌&&◌, Bool, true, false, not, List, Ok}
 use Rattle.std.specs.List.{list_any}
 use Rattle.std.specs.Str.{bytes_eq}
-use Rattle.ele_world.specs.declared.event.Event.TheVariants.{Undelete}
-use Rattle.ele_world.specs.declared.refusal.Refusal.TheVariants.{Exists, NoEntry, NotRestorable}
-use Rattle.ele_world.specs.declared.reply.Reply.{Reply}
-use Rattle.ele_world.specs.declared.reply.Reply.TheVariants.{Refused}
-use Rattle.ele_world.specs.declared.rows.DeadName.{DeadName}
-use Rattle.ele_world.specs.Restorable.{restorable}
-use Rattle.ele_world.specs.Step.{step}
-use Rattle.ele_world.specs.Walk.{parent_now}
-use Rattle.ele_world.specs.WellFormed.{IsWellFormed}
-use Rattle.ele_world.specs.World.{World}
+use Rattle.ele_model.specs.declared.event.Event.TheVariants.{Undelete}
+use Rattle.ele_model.specs.declared.refusal.Refusal.TheVariants.{Exists, NoEntry, NotRestorable}
+use Rattle.ele_model.specs.declared.reply.Reply.{Reply}
+use Rattle.ele_model.specs.declared.reply.Reply.TheVariants.{Refused}
+use Rattle.ele_model.specs.declared.rows.DeadName.{DeadName}
+use Rattle.ele_model.specs.Restorable.{restorable}
+use Rattle.ele_model.specs.Step.{step}
+use Rattle.ele_model.specs.Walk.{parent_now}
+use Rattle.ele_model.specs.WellFormed.{IsWellFormed}
+use Rattle.ele_model.specs.World.{World}
 
 abbrev pub is_dead_name : ℕ → List ℕ → DeadName → Bool
 is_dead_name directory name dead = (dead.directory == directory) && bytes_eq dead.name name

@@ -1,13 +1,13 @@
 -- After an unlink its path leads nowhere, and a file without another name has no current version any more: it ended then.
 use Rattle.std.specs.Prelude.{◌≡◌, ℕ, List, true, false, Some, Ok, Err}
 use Rattle.std.specs.Option.{option_map}
-use Rattle.ele_world.specs.declared.event.Event.TheVariants.{Unlink}
-use Rattle.ele_world.specs.declared.refusal.Refusal.TheVariants.{NoEntry}
-use Rattle.ele_world.specs.declared.reply.Reply.TheVariants.{Done}
-use Rattle.ele_world.specs.Step.{step}
-use Rattle.ele_world.specs.Walk.{walk_now, file_now}
-use Rattle.ele_world.specs.WellFormed.{IsWellFormed}
-use Rattle.ele_world.specs.World.{World, is_live, current_of}
+use Rattle.ele_model.specs.declared.event.Event.TheVariants.{Unlink}
+use Rattle.ele_model.specs.declared.refusal.Refusal.TheVariants.{NoEntry}
+use Rattle.ele_model.specs.declared.reply.Reply.TheVariants.{Done}
+use Rattle.ele_model.specs.Step.{step}
+use Rattle.ele_model.specs.Walk.{walk_now, file_now}
+use Rattle.ele_model.specs.WellFormed.{IsWellFormed}
+use Rattle.ele_model.specs.World.{World, is_live, current_of}
 
 pub record EndsName (before : World) (path : List (List ℕ)) (after : World) : Type 0 where
   pub file : ℕ

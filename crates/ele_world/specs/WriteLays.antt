@@ -1,12 +1,12 @@
 -- After a write the file's draft has what it had with the bytes laid over it, and nothing else has changed; without bytes nothing has.
 use Rattle.std.specs.Prelude.{◌≡◌, ℕ, ◌==◌, true, false, List, length, Some, Ok, find}
 use Rattle.ele_content.specs.Content.{content_of, content_after_write}
-use Rattle.ele_world.specs.declared.event.Event.TheVariants.{Write}
-use Rattle.ele_world.specs.declared.reply.Reply.TheVariants.{Done}
-use Rattle.ele_world.specs.declared.rows.DraftRow.{DraftRow}
-use Rattle.ele_world.specs.Step.{step}
-use Rattle.ele_world.specs.WellFormed.{IsWellFormed}
-use Rattle.ele_world.specs.World.{World, is_draft, file_by}
+use Rattle.ele_model.specs.declared.event.Event.TheVariants.{Write}
+use Rattle.ele_model.specs.declared.reply.Reply.TheVariants.{Done}
+use Rattle.ele_model.specs.declared.rows.DraftRow.{DraftRow}
+use Rattle.ele_model.specs.Step.{step}
+use Rattle.ele_model.specs.WellFormed.{IsWellFormed}
+use Rattle.ele_model.specs.World.{World, is_draft, file_by}
 
 -- the draft that the handle writes had the one content and has the other, and each other draft is what it was
 pub record ChangesDraft (before : World) (handle : ℕ) (becomes : List ℕ → List ℕ) (after : World) : Type 0 where

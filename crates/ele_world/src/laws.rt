@@ -1,31 +1,28 @@
 //! What every event does to a well-formed world, and so what is true of every run: each law is the contract of a function that
 //! does nothing.
-ghost use Rattle.ele_world.specs.CleanKeepsKeys.{CleanKeepsKeys};
-ghost use Rattle.ele_world.specs.ChangeKeeps.{ChangeKeepsWellFormed};
-ghost use Rattle.ele_world.specs.CloseKeeps.{CloseKeeps};
+ghost use Rattle.ele_model.specs.CleanKeepsKeys.{CleanKeepsKeys};
+ghost use Rattle.ele_model.specs.ChangeKeeps.{ChangeKeepsWellFormed};
+ghost use Rattle.ele_model.specs.CloseKeeps.{CloseKeeps};
 ghost use Rattle.ele_world.specs.CreateLeads.{CreateLeads};
-ghost use Rattle.ele_world.specs.AlwaysWellFormed.{FreshIsWellFormed, StepKeepsWellFormed, AlwaysWellFormed};
 ghost use Rattle.ele_world.specs.LinkLeads.{LinkLeads};
 ghost use Rattle.ele_world.specs.MakeDirLeads.{MakeDirLeads};
-ghost use Rattle.ele_world.specs.NoIdleStays.{NoIdleStays, NoIdleStaysInRuns};
+ghost use Rattle.ele_model.specs.NoIdleStays.{NoIdleStays, NoIdleStaysInRuns};
 ghost use Rattle.ele_world.specs.RemoveDirEnds.{RemoveDirEnds};
-ghost use Rattle.ele_world.specs.HeldStays.{HeldStays};
-ghost use Rattle.ele_world.specs.NothingChanges.{RefusedStays, AskingStays};
-ghost use Rattle.ele_world.specs.MarkedStays.{MarkedStays};
+ghost use Rattle.ele_model.specs.HeldStays.{HeldStays};
+ghost use Rattle.ele_model.specs.NothingChanges.{RefusedStays, AskingStays};
+ghost use Rattle.ele_model.specs.MarkedStays.{MarkedStays};
 ghost use Rattle.ele_world.specs.OneLife.{OneLife};
 ghost use Rattle.ele_world.specs.OneLifeFrom.{OneLifeFrom};
 ghost use Rattle.ele_world.specs.OpenStays.{OpenStays};
-ghost use Rattle.ele_world.specs.OnlyDueLeave.{OnlyDueLeave};
+ghost use Rattle.ele_model.specs.OnlyDueLeave.{OnlyDueLeave};
 ghost use Rattle.ele_world.specs.PassLeavesKept.{PassLeavesKept};
-ghost use Rattle.ele_world.specs.ReadersStay.{ReadersStay};
 ghost use Rattle.ele_world.specs.ReadsAsClosed.{ReadsAsClosed, ReadsAsClosedInRuns};
-ghost use Rattle.ele_world.specs.RemovalOrder.{RemovalOrder};
+ghost use Rattle.ele_model.specs.RemovalOrder.{RemovalOrder};
 ghost use Rattle.ele_world.specs.RenameLeads.{RenameLeads};
-ghost use Rattle.ele_world.specs.RevertKeeps.{RevertKeeps};
+ghost use Rattle.ele_model.specs.RevertKeeps.{RevertKeeps};
 ghost use Rattle.ele_world.specs.UndeleteLeads.{UndeleteLeads};
 ghost use Rattle.ele_world.specs.UnlinkEnds.{UnlinkEnds};
-ghost use Rattle.ele_world.specs.RipeMoments.{DueFromRipe, RipeIsAnswered};
-ghost use Rattle.ele_world.specs.UsageFits.{UsageFits};
+ghost use Rattle.ele_model.specs.RipeMoments.{DueFromRipe, RipeIsAnswered};
 
 pub mod effects;
 pub mod fate;
@@ -34,54 +31,29 @@ pub mod lists;
 pub mod past;
 pub mod tree;
 
+pub use ele_model::laws::{
+    always_well_formed, fresh_is_well_formed, readers_stay, step_keeps_well_formed, usage_fits,
+};
 use ele_policy::laws::policies_are_lawful;
 
-/// The fresh world is well formed.
-#[tactic(auto, using(crate::proofs::StepKeeps::fresh_is))]
-pub fn fresh_is_well_formed()
-    ensures { FreshIsWellFormed }
-{}
-
 /// A change that may be made leaves a well-formed world well formed.
-#[tactic(auto, using(crate::proofs::Keeps::change_keeps_well_formed))]
+#[tactic(auto, using(ele_model::proofs::Keeps::change_keeps_well_formed))]
 pub fn change_keeps_well_formed()
     ensures { ChangeKeepsWellFormed }
 {
     policies_are_lawful();
 }
 
-/// An event leaves a well-formed world well formed.
-#[tactic(auto, using(crate::proofs::StepKeeps::step_keeps_well_formed))]
-pub fn step_keeps_well_formed()
-    ensures { StepKeepsWellFormed }
-{
-    policies_are_lawful();
-}
-
-/// After any list of events the world is well formed.
-#[tactic(auto, using(crate::proofs::StepKeeps::always_well_formed))]
-pub fn always_well_formed()
-    ensures { AlwaysWellFormed }
-{
-    policies_are_lawful();
-}
-
 /// An event that is refused changes nothing.
-#[tactic(auto, using(crate::proofs::Outcomes::refused_stays))]
+#[tactic(auto, using(ele_model::proofs::Outcomes::refused_stays))]
 pub fn refused_stays()
     ensures { RefusedStays }
 {}
 
 /// An event that only asks changes nothing.
-#[tactic(auto, using(crate::proofs::Outcomes::asking_stays))]
+#[tactic(auto, using(ele_model::proofs::Outcomes::asking_stays))]
 pub fn asking_stays()
     ensures { AskingStays }
-{}
-
-/// An event whose reply takes memory to copy changes nothing.
-#[tactic(auto, using(crate::proofs::Outcomes::readers_stay))]
-pub fn readers_stay()
-    ensures { ReadersStay }
 {}
 
 /// After a mkdir its path leads to the new directory, which has no names, and the policy of the directory that it stands in.
@@ -141,7 +113,7 @@ pub fn no_idle_stays()
 }
 
 /// After any list of events there is none.
-#[tactic(auto, using(crate::proofs::NoIdle::runs_have_none, crate::proofs::StepKeeps::fresh_is, crate::proofs::Formed::in_parts, crate::proofs::Words::fresh_world))]
+#[tactic(auto, using(ele_model::proofs::NoIdle::runs_have_none, ele_model::proofs::StepKeeps::fresh_is, ele_model::proofs::Formed::in_parts, ele_model::proofs::Words::fresh_world))]
 pub fn no_idle_stays_in_runs()
     ensures { NoIdleStaysInRuns }
 {
@@ -226,13 +198,6 @@ pub fn reads_as_closed_in_runs()
 /// An undisturbed finished pass leaves exactly the versions that the scan at its start kept.
 pub fn pass_leaves_kept()
     ensures { PassLeavesKept }
-{
-    policies_are_lawful();
-}
-
-/// What the files of each kind of policy use in a well-formed world fits in 64 bits.
-pub fn usage_fits()
-    ensures { UsageFits }
 {
     policies_are_lawful();
 }

@@ -7,19 +7,19 @@ use Rattle.ele_policy.specs.Policy.{IsPolicy}
 use Rattle.ele_policy.specs.declared.policy.Policy.TheVariants.{Safe}
 use Rattle.ele_policy.specs.declared.policy.Policy.{Policy}
 use Rattle.ele_usage.specs.declared.usage.Usage.{Usage}
-use Rattle.ele_world.specs.Bounds.{Bounds, AreBounds}
-use Rattle.ele_world.specs.Change.{Time, after_change}
-use Rattle.ele_world.specs.Scan.{scan}
-use Rattle.ele_world.specs.AlwaysWellFormed.{FreshIsWellFormed, StepKeepsWellFormed}
-use Rattle.ele_world.specs.Step.{step}
-use Rattle.ele_world.specs.Restorable.{restorable}
-use Rattle.ele_world.specs.Usage.{usage_of, usages}
-use Rattle.ele_world.specs.declared.event.Event.TheVariants as event
-use Rattle.ele_world.specs.declared.refusal.Refusal.TheVariants.{NoEntry}
-use Rattle.ele_world.specs.declared.reply.Reply.{Reply}
-use Rattle.ele_world.specs.declared.reply.Reply.TheVariants.{Refused, Nothing, Now, UsageList}
-use Rattle.ele_world.specs.World.{World, fresh_world}
-use Rattle.ele_world.specs.WellFormed.{IsWellFormed}
+use Rattle.ele_model.specs.Bounds.{Bounds, AreBounds}
+use Rattle.ele_model.specs.Change.{Time, after_change}
+use Rattle.ele_model.specs.Scan.{scan}
+use Rattle.ele_model.specs.AlwaysWellFormed.{FreshIsWellFormed, StepKeepsWellFormed}
+use Rattle.ele_model.specs.Step.{step}
+use Rattle.ele_model.specs.Restorable.{restorable}
+use Rattle.ele_model.specs.Usage.{usage_of, usages}
+use Rattle.ele_model.specs.declared.event.Event.TheVariants as event
+use Rattle.ele_model.specs.declared.refusal.Refusal.TheVariants.{NoEntry}
+use Rattle.ele_model.specs.declared.reply.Reply.{Reply}
+use Rattle.ele_model.specs.declared.reply.Reply.TheVariants.{Refused, Nothing, Now, UsageList}
+use Rattle.ele_model.specs.World.{World, fresh_world}
+use Rattle.ele_model.specs.WellFormed.{IsWellFormed}
 use Rattle.empty_world.specs.Empty.{empty, IsEmpty}
 
 abbrev no_use : Usage

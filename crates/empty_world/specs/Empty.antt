@@ -1,8 +1,8 @@
 -- A world without files and names.
 use Rattle.std.specs.Prelude.{◌≡◌, ℕ, [], ◌∷◌}
 use Rattle.ele_policy.specs.declared.policy.Policy.{Policy}
-use Rattle.ele_world.specs.Bounds.{Bounds}
-use Rattle.ele_world.specs.World.{World, fresh_world, root}
+use Rattle.ele_model.specs.Bounds.{Bounds}
+use Rattle.ele_model.specs.World.{World, fresh_world, root}
 
 -- it is some moment, and the root gives some policy; all else is as at first
 abbrev pub empty : ℕ → Policy → Bounds → World

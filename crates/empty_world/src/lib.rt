@@ -5,19 +5,19 @@
 ghost use Rattle.std.specs.Prelude.{◌≡◌, ◌≤◌};
 ghost use Rattle.ele_moment.specs.Last.{last_moment};
 ghost use Rattle.ele_policy.specs.Policy.{IsPolicy};
-ghost use Rattle.ele_world.specs.Step.{step};
-ghost use Rattle.ele_world.specs.declared.event.Event.TheVariants as event;
+ghost use Rattle.ele_model.specs.Step.{step};
+ghost use Rattle.ele_model.specs.declared.event.Event.TheVariants as event;
 ghost use Rattle.empty_world.specs.Empty.{IsEmpty};
 
+use ele_model::laws::{fresh_is_well_formed, step_keeps_well_formed};
+use ele_model::{
+    Auditable, Counts, DeadNameList, DirId, DirectoryRow, Event, Explaining, Fate, Flat, KeyList,
+    Limits, ListOf, NoMemory, Refusal, Reply, Stepping,
+};
 use ele_moment::Moment;
 use ele_policy::{Floor, Interval, Policy};
 use ele_time_path::{Path, Tag, TaggedPath};
 use ele_usage::Usage;
-use ele_world::laws::{fresh_is_well_formed, step_keeps_well_formed};
-use ele_world::{
-    Auditable, Counts, DeadNameList, DirId, DirectoryRow, Event, Explaining, Fate, Flat, KeyList,
-    Limits, ListOf, NoMemory, Refusal, Reply, Stepping,
-};
 use std::alloc::Global;
 use std::marker::Model;
 
@@ -32,7 +32,7 @@ pub struct EmptyWorld {
 }
 
 impl Model for EmptyWorld {
-    ghost use Rattle.ele_world.specs.World.{World};
+    ghost use Rattle.ele_model.specs.World.{World};
     ghost use Rattle.empty_world.specs.Empty.{empty};
 
     ghost Value = { World };

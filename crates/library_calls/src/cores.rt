@@ -1,7 +1,7 @@
 //! The calls of a core that no script reaches. What they answer is in their contracts; here it is that they find memory.
 use ele_core::{ByteList, Core, Event, FileId, Handle, PassEnd, Reply};
+use ele_model::Limits;
 use ele_script::read_event;
-use ele_world::Limits;
 use std::alloc::Global;
 use std::test::Fail;
 

@@ -2,8 +2,8 @@
 use crate::cores::reply_to;
 use crate::rooms::moment;
 use ele_core::{Cause, Core, Fate, FileId, Key, Moment, Name, VersionNo};
+use ele_model::{Limits, MarkRow};
 use ele_policy::Interval;
-use ele_world::{Limits, MarkRow};
 use std::alloc::Global;
 use std::test::Fail;
 

@@ -1,8 +1,8 @@
 //! Groups and what their marks cover, called with ample memory.
 use crate::rooms::moment;
 use ele_groups::Groups;
+use ele_model::Cover;
 use ele_moment::{FileId, Name};
-use ele_world::Cover;
 use std::test::Fail;
 
 #[test]

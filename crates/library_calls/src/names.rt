@@ -1,9 +1,9 @@
 //! Names and paths, called with ample memory.
 use crate::rooms::moment;
+use ele_model::{DirId, Target};
 use ele_moment::{FileId, Moment, Name, VersionNo};
 use ele_names::Names;
 use ele_time_path::{Path, PathFault, Tag, TaggedPath};
-use ele_world::{DirId, Target};
 use std::test::Fail;
 
 #[test]

@@ -1,7 +1,7 @@
 //! Vaults, called with ample memory, and histories that are told and run again.
+use ele_model::{FileId, Limits, Reply};
 use ele_script::{Line, Printer, put_history, read_event, read_line};
 use ele_vault::{PassEnd, Vault};
-use ele_world::{FileId, Limits, Reply};
 use std::alloc::Global;
 use std::test::Fail;
 

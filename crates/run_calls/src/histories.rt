@@ -1,8 +1,8 @@
 //! Histories over a world that stays empty, and copies of replies, each with ample memory.
 use ele_history::History;
 use ele_lists::ListOf;
+use ele_model::{Event, Key, Limits, Moment, PassEnd, Reply};
 use ele_moment::{FileId, VersionNo};
-use ele_world::{Event, Key, Limits, Moment, PassEnd, Reply};
 use empty_world::EmptyWorld;
 use std::test::Fail;
 

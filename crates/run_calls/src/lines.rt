@@ -1,10 +1,10 @@
 //! Lines that a library reads and writes by itself.
 use crate::ends::{Full, SlowWriter};
+use ele_model::{Event, FileId, Reply, VersionNo};
 use ele_moment::{BadMoment, BadName, NoMemory};
 use ele_policy::BadLadder;
 use ele_runs::ShellFault;
 use ele_script::{Line, LineFault, WriteFault, read_event, read_line, write_reply};
-use ele_world::{Event, FileId, Reply, VersionNo};
 use std::test::Fail;
 
 #[test]

@@ -1,8 +1,8 @@
 //! What a run tells beside the blocks of its bad lines.
 use crate::ends::{Full, SlowWriter};
+use ele_model::Limits;
 use ele_runs::{Manner, run_in};
 use ele_words::{Asked, Noted, answer};
-use ele_world::Limits;
 use empty_world::EmptyWorld;
 use std::test::Fail;
 

@@ -1,8 +1,8 @@
 //! Runs of scripts over readers and writers that fail.
 use crate::ends::{Full, SlowReader, SlowWriter};
 use crate::pieces::{LineReader, SharedWriter};
+use ele_model::Limits;
 use ele_runs::{ShellFault, run_over};
-use ele_world::Limits;
 use empty_world::EmptyWorld;
 use std::alloc::Global;
 use std::cell::RefCell;

@@ -1,8 +1,8 @@
 //! What the program writes, and how it ends.
+use ele_model::Limits;
 use ele_runs::Manner;
 use ele_storm::StormPlan;
 use ele_words::{Asked, Noted, answer};
-use ele_world::Limits;
 use empty_world::EmptyWorld;
 use std::alloc::Global;
 use std::io;

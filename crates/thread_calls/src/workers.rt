@@ -1,6 +1,6 @@
 //! Workers of a storm by themselves, and the flags where they arrive.
+use ele_model::{Limits, Stepping};
 use ele_storm::{Flags, Meet, MeetEnd, StormFault, StormPlan, share_fresh, work};
-use ele_world::{Limits, Stepping};
 use empty_world::EmptyWorld;
 use std::alloc::Global;
 use std::sync::Wait;

@@ -3,9 +3,9 @@
 
 use anyhow::{Context, Result, anyhow};
 use ele_core::Core;
+use ele_model::Limits;
 use ele_runs::{Manner, run_in};
 use ele_shell::run;
-use ele_world::Limits;
 use std::{fs, io};
 
 /// What names the scripts under the largest limits, a line each: NAME.script has its NAME.output.

@@ -5,13 +5,13 @@ ghost use Rattle.std.specs.List.{list_any};
 ghost use Rattle.std.specs.Option.{option_map};
 ghost use Rattle.ele_content.specs.Content.{content_of};
 ghost use Rattle.ele_files.specs.Held.{cells_of_draft};
-ghost use Rattle.ele_world.specs.World.{policy_of, is_file, is_draft, is_open, reads_by, file_by};
+ghost use Rattle.ele_model.specs.World.{policy_of, is_file, is_draft, is_open, reads_by, file_by};
 
 use crate::files::{Files, file_of};
 use ele_lists::{ByteList, ListOf};
+use ele_model::{Reads, Refusal};
 use ele_moment::{FileId, Handle, NoMemory, VersionNo};
 use ele_policy::Policy;
-use ele_world::{Reads, Refusal};
 
 impl Files {
     /// The file's policy; none where there is no such file.

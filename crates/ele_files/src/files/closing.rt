@@ -8,7 +8,7 @@ ghost use Rattle.ele_content.specs.Content.{content_of};
 ghost use Rattle.ele_files.specs.Appending.{IsGivenUp, opening_of};
 ghost use Rattle.ele_files.specs.Closing.{opening_by, left_by, finishing, IsPast};
 ghost use Rattle.ele_files.specs.Held.{Became, cells_of_draft};
-ghost use Rattle.ele_world.specs.World.{next_of, file_by};
+ghost use Rattle.ele_model.specs.World.{next_of, file_by};
 
 use crate::file::NewVersion;
 use crate::files::{Files, place_of};

@@ -11,8 +11,8 @@ use crate::file::File;
 use crate::files::Files;
 use ele_blocks::{BlockMap, BlockStore};
 use ele_lists::ListOf;
+use ele_model::{Cell, DraftRow, FileRow, HandleRow, VersionRow};
 use ele_moment::NoMemory;
-use ele_world::{Cell, DraftRow, FileRow, HandleRow, VersionRow};
 use std::alloc::Global;
 
 impl Files {

@@ -3,7 +3,7 @@
 ghost use Rattle.std.specs.Prelude.{◌≡◌, ◌<◌, true, vec_len};
 ghost use Rattle.std.specs.List.{list_any, remove};
 ghost use Rattle.ele_files.specs.Held.{is_bare, without_file};
-ghost use Rattle.ele_world.specs.FileView.{is_version_of};
+ghost use Rattle.ele_model.specs.FileView.{is_version_of};
 
 use crate::boxed::BoxedFile;
 use crate::files::{Files, file_of, place_of};

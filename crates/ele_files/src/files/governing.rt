@@ -2,7 +2,7 @@
 //! A contract sees the rows of all files before and after.
 ghost use Rattle.std.specs.Prelude.{◌≡◌, [], ◌∷◌};
 ghost use Rattle.ele_files.specs.Held.{changed_at};
-ghost use Rattle.ele_world.specs.Change.{PutUnder};
+ghost use Rattle.ele_model.specs.Change.{PutUnder};
 
 use crate::files::{Files, place_of};
 use ele_moment::FileId;

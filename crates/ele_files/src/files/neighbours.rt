@@ -2,15 +2,15 @@
 //! A contract sees each answer as a look at the rows.
 ghost use Rattle.std.specs.Prelude.{◌≡◌, ◌<◌, ◌≤◌, ◌+◌, ◌^◌, IfNone, IfSome};
 ghost use Rattle.ele_files.specs.Standing.{Stands};
-ghost use Rattle.ele_world.specs.Neighbours.{next_closing};
-ghost use Rattle.ele_world.specs.World.{next_of};
+ghost use Rattle.ele_model.specs.Neighbours.{next_closing};
+ghost use Rattle.ele_model.specs.World.{next_of};
 
 use crate::files::{Files, file_of};
 use crate::meant::stamps_of;
 use ele_inode_log::Meter;
+use ele_model::Stamps;
 use ele_moment::{FileId, Moment, VersionNo};
 use ele_policy::Policy;
-use ele_world::Stamps;
 
 /// How a file stands: what its next version is, and what the moments of its versions depend on.
 #[derive(Clone, Copy)]

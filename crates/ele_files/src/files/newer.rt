@@ -2,14 +2,14 @@
 //! A contract sees each answer as a look at the rows.
 ghost use Rattle.std.specs.Prelude.{◌≡◌, ◌<◌, ◌≤◌, ◌+◌, ◌^◌, find, nat_le};
 ghost use Rattle.std.specs.Option.{option_map};
-ghost use Rattle.ele_world.specs.Neighbours.{is_newer_of, newer_held, with_newer};
-ghost use Rattle.ele_world.specs.Told.{stamps_of};
+ghost use Rattle.ele_model.specs.Neighbours.{is_newer_of, newer_held, with_newer};
+ghost use Rattle.ele_model.specs.Told.{stamps_of};
 
 use crate::files::{Files, file_of};
 use crate::meant::stamps_of;
 use ele_inode_log::Meter;
+use ele_model::Stamps;
 use ele_moment::{FileId, VersionNo};
-use ele_world::Stamps;
 
 impl Files {
     /// What is told of the file's next held version behind the number; none where there is none. It

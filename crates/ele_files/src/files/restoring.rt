@@ -5,8 +5,8 @@ ghost use Rattle.std.specs.List.{AllByRecursion, list_any};
 ghost use Rattle.ele_content.specs.Content.{content_of};
 ghost use Rattle.ele_files.specs.Closing.{IsPast};
 ghost use Rattle.ele_files.specs.Held.{Became, cells_of_version, current_ended};
-ghost use Rattle.ele_world.specs.Change.{Append};
-ghost use Rattle.ele_world.specs.World.{is_draft, is_version, next_of};
+ghost use Rattle.ele_model.specs.Change.{Append};
+ghost use Rattle.ele_model.specs.World.{is_draft, is_version, next_of};
 
 use crate::file::NewVersion;
 use crate::files::{Files, place_of};

@@ -8,16 +8,16 @@ ghost use Rattle.ele_blocks.specs.Stock.{StockLaws};
 ghost use Rattle.ele_content.specs.Place.{different, is_place};
 ghost use Rattle.ele_files.specs.Inside.{IsFileKept};
 ghost use Rattle.ele_files.specs.Met.{Meets, log_bytes, log_places};
-ghost use Rattle.ele_world.specs.FileView.{is_version_of};
-ghost use Rattle.ele_world.specs.FileUsage.{file_usage};
-ghost use Rattle.ele_world.specs.Usage.{bytes_in, places, places_from};
-ghost use Rattle.ele_world.specs.World.{is_draft};
+ghost use Rattle.ele_model.specs.FileView.{is_version_of};
+ghost use Rattle.ele_model.specs.FileUsage.{file_usage};
+ghost use Rattle.ele_model.specs.Usage.{bytes_in, places, places_from};
+ghost use Rattle.ele_model.specs.World.{is_draft};
 
 use crate::file::File;
 use crate::files::{Files, file_of};
 use ele_blocks::{BlockMap, BlockStore};
+use ele_model::Usage;
 use ele_moment::{FileId, NoMemory};
-use ele_world::Usage;
 use std::collections::HashSet;
 
 // Meets the slots of the map.

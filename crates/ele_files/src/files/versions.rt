@@ -6,18 +6,18 @@ ghost use Rattle.std.specs.Result.{result_map_both};
 ghost use Rattle.ele_content.specs.Content.{content_of};
 ghost use Rattle.ele_files.specs.Held.{cells_of_version};
 ghost use Rattle.ele_files.specs.Meant.{stamps_in};
-ghost use Rattle.ele_world.specs.FileView.{is_version_of};
-ghost use Rattle.ele_world.specs.Tagged.{had_life, version_meant};
-ghost use Rattle.ele_world.specs.Told.{stamps_of};
-ghost use Rattle.ele_world.specs.World.{is_version, next_of};
+ghost use Rattle.ele_model.specs.FileView.{is_version_of};
+ghost use Rattle.ele_model.specs.Tagged.{had_life, version_meant};
+ghost use Rattle.ele_model.specs.Told.{stamps_of};
+ghost use Rattle.ele_model.specs.World.{is_version, next_of};
 
 use crate::file::File;
 use crate::files::{Files, file_of};
 use crate::meant::stamps_of;
 use ele_inode_log::Meter;
 use ele_lists::{ByteList, ListOf};
+use ele_model::{Refusal, Stamps, StampsList, Tag};
 use ele_moment::{FileId, Moment, NoMemory, VersionNo};
-use ele_world::{Refusal, Stamps, StampsList, Tag};
 use std::alloc::Global;
 
 impl Files {

@@ -5,7 +5,7 @@ ghost use Rattle.std.specs.Option.{option_map, option_copied};
 ghost use Rattle.ele_sessions.specs.Closes.{closing};
 ghost use Rattle.ele_sessions.specs.Orderly.{AreOrderly};
 ghost use Rattle.ele_sessions.specs.Sessions.{draft_of};
-ghost use Rattle.ele_world.specs.World.{file_by, is_open, reads_by};
+ghost use Rattle.ele_model.specs.World.{file_by, is_open, reads_by};
 
 use crate::closing::Closing;
 use crate::draft::Draft;
@@ -13,8 +13,8 @@ use crate::entries::{file_by, place_of, reads_by};
 use crate::leaving::peek;
 use crate::sessions::Sessions;
 use ele_blocks::BlockMap;
+use ele_model::{HandleRow, Reads, Refusal};
 use ele_moment::{FileId, Handle, Moment, VersionNo};
-use ele_world::{HandleRow, Reads, Refusal};
 
 impl Sessions {
     /// How many handles were ever opened.

@@ -2,13 +2,13 @@
 //! that does nothing.
 ghost use Rattle.ele_world.specs.DraftsWritten.{DraftsWritten, DraftsWrittenInRuns};
 ghost use Rattle.ele_world.specs.LifeStays.{LifeStays};
-ghost use Rattle.ele_world.specs.NameRowsStay.{NameRowsStay};
-ghost use Rattle.ele_world.specs.NumbersRise.{NumbersRise};
+ghost use Rattle.ele_model.specs.NameRowsStay.{NameRowsStay};
 ghost use Rattle.ele_world.specs.OneContent.{OneContentStays, OneContentInRuns};
 ghost use Rattle.ele_world.specs.OtherNamesStay.{OtherNamesStay};
 ghost use Rattle.ele_world.specs.PastStays.{PastStays};
 ghost use Rattle.ele_world.specs.ReadsPast.{ReadsPast};
 
+pub use ele_model::laws::numbers_rise;
 use ele_policy::laws::policies_are_lawful;
 
 /// What a name stood for at a moment before now stays so, unless it was a file that has gone.
@@ -38,13 +38,6 @@ pub fn other_names_stay()
     ensures { OtherNamesStay }
 {}
 
-/// The time never goes back, and no number is given twice.
-pub fn numbers_rise()
-    ensures { NumbersRise }
-{
-    policies_are_lawful();
-}
-
 /// What a path reads at a moment before now is after an event the same bytes, or refused as `Forgotten` or `NoEntry`.
 pub fn reads_past()
     ensures { ReadsPast }
@@ -60,7 +53,7 @@ pub fn drafts_written()
 }
 
 /// After any list of events each draft has one.
-#[tactic(auto, using(crate::proofs::Writing::runs_have_writers, crate::proofs::StepKeeps::fresh_is, crate::proofs::Formed::in_parts, crate::proofs::Words::fresh_world))]
+#[tactic(auto, using(crate::proofs::Writing::runs_have_writers, ele_model::proofs::StepKeeps::fresh_is, ele_model::proofs::Formed::in_parts, ele_model::proofs::Words::fresh_world))]
 pub fn drafts_written_in_runs()
     ensures { DraftsWrittenInRuns }
 {
@@ -75,7 +68,7 @@ pub fn one_content_stays()
 }
 
 /// After any list of events it is the same.
-#[tactic(auto, using(crate::proofs::OneContent::runs_have_one, crate::proofs::StepKeeps::fresh_is, crate::proofs::Formed::in_parts, crate::proofs::Words::fresh_world))]
+#[tactic(auto, using(crate::proofs::OneContent::runs_have_one, ele_model::proofs::StepKeeps::fresh_is, ele_model::proofs::Formed::in_parts, ele_model::proofs::Words::fresh_world))]
 pub fn one_content_in_runs()
     ensures { OneContentInRuns }
 {

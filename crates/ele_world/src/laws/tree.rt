@@ -11,7 +11,7 @@ pub fn one_tree()
 }
 
 /// After any list of events they are one.
-#[tactic(auto, using(crate::proofs::OneTree::runs_are, crate::proofs::StepKeeps::fresh_is, crate::proofs::Formed::in_parts, crate::proofs::Words::fresh_world))]
+#[tactic(auto, using(crate::proofs::OneTree::runs_are, ele_model::proofs::StepKeeps::fresh_is, ele_model::proofs::Formed::in_parts, ele_model::proofs::Words::fresh_world))]
 pub fn one_tree_in_runs()
     ensures { OneTreeInRuns }
 {

@@ -1,8 +1,8 @@
 use Rattle.ele_core.proofs.Passes.{finished}
-use Rattle.ele_world.proofs.Basics.{arith, nat_tests, refl, subst}
-use Rattle.ele_world.proofs.Formed.{in_parts}
-use Rattle.ele_world.proofs.PassEnds.{budget_ends}
-use Rattle.ele_world.proofs.Words.{HasParts, IsCleaned}
+use Rattle.ele_model.proofs.Basics.{arith, nat_tests, refl, subst}
+use Rattle.ele_model.proofs.Formed.{in_parts}
+use Rattle.ele_model.proofs.PassEnds.{budget_ends}
+use Rattle.ele_model.proofs.Words.{HasParts, IsCleaned}
 use Rattle.ele_core.proofs.Core.clean_pass.Goals as goal
 
 pub returns-then-is_none-clause-end : goal.returns-then-is_none-clause-end

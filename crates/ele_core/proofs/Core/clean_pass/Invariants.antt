@@ -1,4 +1,4 @@
-use Rattle.ele_world.proofs.Words.{IsCleaned}
+use Rattle.ele_model.proofs.Words.{IsCleaned}
 use Rattle.ele_core.proofs.Core.clean_pass.Given as goal
 
 abbrev pub invariant-loop-removed : goal.invariant-loop-removed

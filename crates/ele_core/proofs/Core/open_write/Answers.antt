@@ -1,8 +1,8 @@
 use Rattle.ele_core.proofs.Opened.{opened}
-use Rattle.ele_world.proofs.Basics.{◌≡◌, [], ◌∷◌, false, arith, nat_tests, subst}
-use Rattle.ele_world.specs.Change.{OpenHandle, StartDraft, after_changes}
-use Rattle.ele_world.specs.World.{World, has_draft}
-use Rattle.ele_world.specs.declared.rows.Reads.TheVariants.{Draft}
+use Rattle.ele_model.proofs.Basics.{◌≡◌, [], ◌∷◌, false, arith, nat_tests, subst}
+use Rattle.ele_model.specs.Change.{OpenHandle, StartDraft, after_changes}
+use Rattle.ele_model.specs.World.{World, has_draft}
+use Rattle.ele_model.specs.declared.rows.Reads.TheVariants.{Draft}
 use Rattle.ele_core.proofs.Core.open_write.Goals as goal
 
 pub returns : goal.returns

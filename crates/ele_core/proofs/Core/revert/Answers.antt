@@ -1,5 +1,5 @@
 use Rattle.ele_core.proofs.Meant.{numbered, numbered_held}
-use Rattle.ele_world.proofs.Basics.{arith, nat_tests}
+use Rattle.ele_model.proofs.Basics.{arith, nat_tests}
 use Rattle.ele_core.proofs.Core.revert.Goals as goal
 
 pub bring_back-requires-clause-held : goal.bring_back-requires-clause-held

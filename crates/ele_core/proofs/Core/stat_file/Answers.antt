@@ -1,5 +1,5 @@
 use Rattle.ele_core.proofs.Meant.{stat_is}
-use Rattle.ele_world.proofs.Basics.{arith, nat_tests}
+use Rattle.ele_model.proofs.Basics.{arith, nat_tests}
 use Rattle.ele_core.proofs.Core.stat_file.Goals as goal
 
 pub returns-clause-ok : goal.returns-clause-ok

@@ -1,7 +1,7 @@
 use Rattle.ele_state.proofs.Words.{arith, is_version, nat_tests, subst, world_of, ℕ}
 use Rattle.ele_state.proofs.Asked.{told_under}
 use Rattle.ele_state.proofs.Changes.{none_any}
-use Rattle.ele_world.specs.Fate.{HasFate}
+use Rattle.ele_model.specs.Fate.{HasFate}
 use Rattle.ele_state.proofs.State.fate.Goals as goal
 
 pub returns-in_err-stamps-clause-none : goal.returns-in_err-stamps-clause-none

@@ -1,5 +1,5 @@
 use Rattle.ele_state.proofs.Words.{◌∙◌, Names}
-use Rattle.ele_world.proofs.Listed.{listing_is}
+use Rattle.ele_model.proofs.Listed.{listing_is}
 use Rattle.ele_state.proofs.State.names_in.Goals as goal
 
 pub returns : goal.returns

@@ -1,7 +1,7 @@
 use Rattle.ele_state.proofs.Words.{Ok, Shown, ap, last_dead, ◌∙◌, rules, tests, items_from_collect, YieldsList-from_filter_map, returning_name}
 use Rattle.std.proofs.lemmas.Iterator.Adapters.{YieldsList-from_vec}
 use Rattle.std.specs.declared.alloc.AllocError.{AllocError}
-use Rattle.ele_world.proofs.Newest.{restorable_is}
+use Rattle.ele_model.proofs.Newest.{restorable_is}
 use Rattle.ele_state.proofs.State.restorable.Goals as goal
 
 pub returns : goal.returns

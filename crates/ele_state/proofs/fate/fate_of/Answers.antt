@@ -1,6 +1,6 @@
 use Rattle.ele_state.proofs.Words.{Groups, refl, sym, ◌∙◌}
 use Rattle.ele_state.proofs.Fated.{fate_made, fate_told, fate_ungoverned}
-use Rattle.ele_world.specs.declared.fate.Fate.TheVariants.{Current, Open, Marked}
+use Rattle.ele_model.specs.declared.fate.Fate.TheVariants.{Current, Open, Marked}
 use Rattle.ele_state.proofs.fate.fate_of.Goals as goal
 
 pub returns-in_default : goal.returns-in_default

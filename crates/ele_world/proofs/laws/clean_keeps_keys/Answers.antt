@@ -1,5 +1,5 @@
-use Rattle.ele_world.proofs.Formed.{in_parts}
-use Rattle.ele_world.proofs.CleanKeepsKeys.{clean_keeps_keys}
+use Rattle.ele_model.proofs.Formed.{in_parts}
+use Rattle.ele_model.proofs.CleanKeepsKeys.{clean_keeps_keys}
 use Rattle.ele_world.proofs.laws.clean_keeps_keys.Goals as goal
 
 pub returns : goal.returns

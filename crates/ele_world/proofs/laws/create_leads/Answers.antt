@@ -1,4 +1,4 @@
-use Rattle.ele_world.proofs.Formed.{in_parts}
+use Rattle.ele_model.proofs.Formed.{in_parts}
 use Rattle.ele_world.proofs.Leads.{create_leads}
 use Rattle.ele_world.proofs.laws.create_leads.Goals as goal
 

@@ -1,5 +1,5 @@
-use Rattle.ele_world.proofs.Formed.{in_parts}
-use Rattle.ele_world.proofs.RipeMoments.{due_from_ripe}
+use Rattle.ele_model.proofs.Formed.{in_parts}
+use Rattle.ele_model.proofs.RipeMoments.{due_from_ripe}
 use Rattle.ele_world.proofs.laws.due_from_ripe.Goals as goal
 
 pub returns : goal.returns

@@ -1,5 +1,5 @@
-use Rattle.ele_world.proofs.Formed.{in_parts}
-use Rattle.ele_world.proofs.NoIdle.{no_idle_stays}
+use Rattle.ele_model.proofs.Formed.{in_parts}
+use Rattle.ele_model.proofs.NoIdle.{no_idle_stays}
 use Rattle.ele_world.proofs.laws.no_idle_stays.Goals as goal
 
 pub returns : goal.returns

@@ -1,5 +1,5 @@
-use Rattle.ele_world.proofs.Formed.{in_parts}
-use Rattle.ele_world.proofs.PassEnds.{pass_leaves_kept}
+use Rattle.ele_model.proofs.Formed.{in_parts}
+use Rattle.ele_model.proofs.PassEnds.{pass_leaves_kept}
 use Rattle.ele_world.proofs.laws.pass_leaves_kept.Goals as goal
 
 pub returns : goal.returns

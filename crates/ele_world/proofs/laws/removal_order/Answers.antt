@@ -1,5 +1,5 @@
-use Rattle.ele_world.proofs.Formed.{in_parts}
-use Rattle.ele_world.proofs.RemovalOrder.{removal_order}
+use Rattle.ele_model.proofs.Formed.{in_parts}
+use Rattle.ele_model.proofs.RemovalOrder.{removal_order}
 use Rattle.ele_world.proofs.laws.removal_order.Goals as goal
 
 pub returns : goal.returns

@@ -1,5 +1,5 @@
-use Rattle.ele_world.proofs.Formed.{in_parts}
-use Rattle.ele_world.proofs.RipeMoments.{ripe_is_answered}
+use Rattle.ele_model.proofs.Formed.{in_parts}
+use Rattle.ele_model.proofs.RipeMoments.{ripe_is_answered}
 use Rattle.ele_world.proofs.laws.ripe_is_answered.Goals as goal
 
 pub returns : goal.returns

@@ -1,4 +1,4 @@
-use Rattle.ele_world.proofs.Formed.{in_parts}
+use Rattle.ele_model.proofs.Formed.{in_parts}
 use Rattle.ele_world.proofs.NameEnds.{unlink_ends}
 use Rattle.ele_world.proofs.laws.unlink_ends.Goals as goal
 

@@ -1,4 +1,4 @@
-use Rattle.ele_world.proofs.Formed.{in_parts}
+use Rattle.ele_model.proofs.Formed.{in_parts}
 use Rattle.ele_world.proofs.AnyDueLeave.{any_due_leave}
 use Rattle.ele_world.proofs.schedule.any_due_leave.Goals as goal
 

@@ -1,4 +1,4 @@
-use Rattle.ele_world.proofs.Formed.{in_parts}
+use Rattle.ele_model.proofs.Formed.{in_parts}
 use Rattle.ele_world.proofs.EventLags.{event_lags}
 use Rattle.ele_world.proofs.schedule.event_lags.Goals as goal
 

@@ -1,4 +1,4 @@
-use Rattle.ele_world.proofs.Formed.{in_parts}
+use Rattle.ele_model.proofs.Formed.{in_parts}
 use Rattle.ele_world.proofs.IdleLeave.{idle_leave}
 use Rattle.ele_world.proofs.schedule.idle_leave.Goals as goal
 

@@ -1,4 +1,4 @@
-use Rattle.ele_world.proofs.Formed.{in_parts}
+use Rattle.ele_model.proofs.Formed.{in_parts}
 use Rattle.ele_world.proofs.Lagging.{lags_keeps}
 use Rattle.ele_world.proofs.schedule.lags_keeps.Goals as goal
 

@@ -1,4 +1,4 @@
-use Rattle.ele_world.proofs.Formed.{in_parts}
+use Rattle.ele_model.proofs.Formed.{in_parts}
 use Rattle.ele_world.proofs.RunsLag.{schedule}
 use Rattle.ele_world.proofs.schedule.schedule.Goals as goal
 

@@ -1,7 +1,7 @@
 use Rattle.std.proofs.Common.{refl, sym, ap, ◌∙◌}
 use Rattle.std.specs.Map.{values_of}
 use Rattle.std.specs.Prelude.{is_some}
-use Rattle.ele_world.specs.GroupRows.{adds}
+use Rattle.ele_model.specs.GroupRows.{adds}
 use Rattle.ele_groups.proofs.Named.{changed_rows, found, unwritten}
 use Rattle.ele_groups.proofs.Kept.{kept_changed, kept_over, present, unnamed}
 use Rattle.ele_groups.proofs.Placed.{placed_come, placed_undone}

@@ -1,5 +1,5 @@
 use Rattle.std.proofs.Common.{refl}
-use Rattle.ele_world.specs.GroupRows.{unmarks}
+use Rattle.ele_model.specs.GroupRows.{unmarks}
 use Rattle.ele_groups.proofs.Named.{changed_rows}
 use Rattle.ele_groups.proofs.Kept.{kept_marked}
 use Rattle.ele_groups.proofs.groups.Groups.take_mark.Goals as goal

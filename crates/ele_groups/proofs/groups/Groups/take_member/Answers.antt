@@ -1,5 +1,5 @@
 use Rattle.std.proofs.Common.{refl}
-use Rattle.ele_world.specs.GroupRows.{removes}
+use Rattle.ele_model.specs.GroupRows.{removes}
 use Rattle.ele_groups.proofs.Named.{changed_rows}
 use Rattle.ele_groups.proofs.Kept.{kept_changed}
 use Rattle.ele_groups.proofs.Placed.{placed_gone}

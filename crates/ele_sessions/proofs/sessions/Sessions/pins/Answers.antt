@@ -1,6 +1,6 @@
 use Rattle.ele_sessions.proofs.Basics.{arith}
 use Rattle.ele_sessions.proofs.Counts.{any-reader}
-use Rattle.ele_world.specs.declared.rows.Reads.TheVariants.{Version}
+use Rattle.ele_model.specs.declared.rows.Reads.TheVariants.{Version}
 use Rattle.ele_sessions.proofs.sessions.Sessions.pins.Goals as goal
 
 pub returns : goal.returns

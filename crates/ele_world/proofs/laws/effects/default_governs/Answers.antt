@@ -1,4 +1,4 @@
-use Rattle.ele_world.proofs.Formed.{in_parts}
+use Rattle.ele_model.proofs.Formed.{in_parts}
 use Rattle.ele_world.proofs.Governs.{default_governs}
 use Rattle.ele_world.proofs.laws.effects.default_governs.Goals as goal
 

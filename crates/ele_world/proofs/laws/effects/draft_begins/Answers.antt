@@ -1,4 +1,4 @@
-use Rattle.ele_world.proofs.Formed.{in_parts}
+use Rattle.ele_model.proofs.Formed.{in_parts}
 use Rattle.ele_world.proofs.Written.{draft_begins}
 use Rattle.ele_world.proofs.laws.effects.draft_begins.Goals as goal
 

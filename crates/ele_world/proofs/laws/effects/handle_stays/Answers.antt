@@ -1,4 +1,4 @@
-use Rattle.ele_world.proofs.Formed.{in_parts}
+use Rattle.ele_model.proofs.Formed.{in_parts}
 use Rattle.ele_world.proofs.Written.{handle_stays}
 use Rattle.ele_world.proofs.laws.effects.handle_stays.Goals as goal
 

@@ -1,4 +1,4 @@
-use Rattle.ele_world.proofs.Formed.{in_parts}
+use Rattle.ele_model.proofs.Formed.{in_parts}
 use Rattle.ele_world.proofs.Governs.{mark_marks}
 use Rattle.ele_world.proofs.laws.effects.mark_marks.Goals as goal
 

@@ -1,4 +1,4 @@
-use Rattle.ele_world.proofs.Formed.{in_parts}
+use Rattle.ele_model.proofs.Formed.{in_parts}
 use Rattle.ele_world.proofs.Numbered.{number_means}
 use Rattle.ele_world.proofs.laws.effects.number_means.Goals as goal
 

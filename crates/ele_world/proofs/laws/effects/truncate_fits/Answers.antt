@@ -1,4 +1,4 @@
-use Rattle.ele_world.proofs.Formed.{in_parts}
+use Rattle.ele_model.proofs.Formed.{in_parts}
 use Rattle.ele_world.proofs.Written.{truncate_fits}
 use Rattle.ele_world.proofs.laws.effects.truncate_fits.Goals as goal
 

@@ -1,4 +1,4 @@
-use Rattle.ele_world.proofs.Formed.{in_parts}
+use Rattle.ele_model.proofs.Formed.{in_parts}
 use Rattle.ele_world.proofs.Written.{write_lays}
 use Rattle.ele_world.proofs.laws.effects.write_lays.Goals as goal
 

@@ -1,5 +1,5 @@
-use Rattle.ele_world.proofs.Fates.{due_fate}
-use Rattle.ele_world.proofs.Formed.{in_parts}
+use Rattle.ele_model.proofs.Fates.{due_fate}
+use Rattle.ele_model.proofs.Formed.{in_parts}
 use Rattle.ele_world.proofs.laws.fate.due_fate.Goals as goal
 
 pub returns : goal.returns

@@ -1,4 +1,4 @@
-use Rattle.ele_world.proofs.Formed.{in_parts}
+use Rattle.ele_model.proofs.Formed.{in_parts}
 use Rattle.ele_world.proofs.GroupsChanged.{member_comes}
 use Rattle.ele_world.proofs.laws.groups.member_comes.Goals as goal
 

@@ -1,4 +1,4 @@
-use Rattle.ele_world.proofs.Formed.{in_parts}
+use Rattle.ele_model.proofs.Formed.{in_parts}
 use Rattle.ele_world.proofs.Restores.{undelete_takes}
 use Rattle.ele_world.proofs.laws.lists.undelete_takes.Goals as goal
 

@@ -1,4 +1,4 @@
-use Rattle.ele_world.proofs.Formed.{in_parts}
+use Rattle.ele_model.proofs.Formed.{in_parts}
 use Rattle.ele_world.proofs.Writing.{drafts_written}
 use Rattle.ele_world.proofs.laws.past.drafts_written.Goals as goal
 

@@ -1,4 +1,4 @@
-use Rattle.ele_world.proofs.Formed.{in_parts}
+use Rattle.ele_model.proofs.Formed.{in_parts}
 use Rattle.ele_world.proofs.OneContent.{one_content_stays}
 use Rattle.ele_world.proofs.laws.past.one_content_stays.Goals as goal
 

@@ -1,4 +1,4 @@
-use Rattle.ele_world.proofs.Formed.{in_parts}
+use Rattle.ele_model.proofs.Formed.{in_parts}
 use Rattle.ele_world.proofs.Past.{past_stays}
 use Rattle.ele_world.proofs.laws.past.past_stays.Goals as goal
 

@@ -1,4 +1,4 @@
-use Rattle.ele_world.proofs.Formed.{in_parts}
+use Rattle.ele_model.proofs.Formed.{in_parts}
 use Rattle.ele_world.proofs.ReadsStill.{reads_past}
 use Rattle.ele_world.proofs.laws.past.reads_past.Goals as goal
 

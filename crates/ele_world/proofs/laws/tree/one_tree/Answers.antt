@@ -1,4 +1,4 @@
-use Rattle.ele_world.proofs.Formed.{in_parts}
+use Rattle.ele_model.proofs.Formed.{in_parts}
 use Rattle.ele_world.proofs.OneTree.{one_tree}
 use Rattle.ele_world.proofs.laws.tree.one_tree.Goals as goal
 

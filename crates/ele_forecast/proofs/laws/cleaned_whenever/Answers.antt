@@ -1,5 +1,0 @@
-use Rattle.ele_forecast.proofs.Whenever.{cleaned_whenever}
-use Rattle.ele_forecast.proofs.laws.cleaned_whenever.Goals as goal
-
-pub returns : goal.returns
-returns c = cleaned_whenever c.schedule.ensures

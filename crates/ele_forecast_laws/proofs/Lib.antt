@@ -1,0 +1,2 @@
+-- what a finished pass leaves
+mod Whenever

@@ -1,0 +1,31 @@
+-- The versions of which a forecast says that they stay are those that a finished pass leaves, whatever was cleaned before.
+use Rattle.std.specs.Prelude.{◌≡◌, ℕ, true, not, ◌||◌, List, [], filter}
+use Rattle.std.specs.List.{AllByRecursion}
+use Rattle.ele_policy.specs.declared.policy.Policy.{Policy}
+use Rattle.ele_model.specs.declared.event.Event.{Event}
+use Rattle.ele_model.specs.FileView.{file_view}
+use Rattle.ele_model.specs.Pass.{IsPass}
+use Rattle.ele_world.specs.PlainEvents.{is_clean, is_plain}
+use Rattle.ele_model.specs.Run.{run_of, IsEvent}
+use Rattle.ele_model.specs.WellFormed.{IsWellFormed}
+use Rattle.ele_model.specs.World.{World}
+use Rattle.ele_forecast.specs.FileOf.{IsFileOf}
+use Rattle.ele_forecast.specs.Stays.{AreKept, come_by, numbers_of}
+
+-- a finished pass from the world leaves them of the file that has closed as often
+abbrev pub PassLeavesStaying : Type 0
+PassLeavesStaying =
+    (policy : Policy) (closings : List ℕ) (at : ℕ) (numbers : List ℕ) → AreKept policy closings at numbers
+    → (w : World) (file : ℕ) → IsWellFormed w → w.now ≡ at → IsFileOf policy (come_by at closings) (file_view w file)
+    → (removed : ℕ) (after : World) → IsPass w removed after → numbers ≡ numbers_of file after.versions
+
+-- in a run with cleans in it, told by the world that its other events lead to: from any well-formed world without groups, of events
+-- of which it doesn't matter when due versions are cleaned
+abbrev pub CleanedWhenever : Type 0
+CleanedWhenever =
+    (policy : Policy) (closings : List ℕ) (at : ℕ) (numbers : List ℕ) → AreKept policy closings at numbers
+    → (w : World) (events : List Event) (file : ℕ) → IsWellFormed w → w.groups ≡ []
+    → AllByRecursion (λ event. IsEvent event × ((is_clean event || is_plain event) ≡ true)) events
+    → let uncleaned = run_of w (filter (λ event. not (is_clean event)) events) in
+    uncleaned.now ≡ at → IsFileOf policy (come_by at closings) (file_view uncleaned file)
+    → (removed : ℕ) (after : World) → IsPass (run_of w events) removed after → numbers ≡ numbers_of file after.versions

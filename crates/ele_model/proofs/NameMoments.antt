@@ -1,0 +1,93 @@
+-- Which ripe moments change where names come, go or move: with a file's last name that of its last version, and those of versions
+-- that the floor kept.
+use Rattle.ele_model.proofs.Basics.{◌≡◌, ℕ, ◌-◌, Bool, Option, true, false, ◌==◌, ◌&&◌, List, Some, None, refl, ap, ◌∙◌, arith, cond, false≢true, find, is_some, nat_le, option_and_then, nat_tests, find-update_other, list_any-update_fails, list_any-update_found}
+use Rattle.ele_model.proofs.Words.{Policy, dies, ended_at, floor_in, newer_held, with_end, after_change, EndFileName, File, is_live_name, is_live_name_of, live_target, ripe_at, file_view, cover_of, near_moment, next_closing, Versions, HasParts, World, policy_of, next_of, is_live, is_open, is_version}
+use Rattle.ele_model.specs.Due.{ripe_of}
+use Rattle.ele_model.proofs.Currents.{HasCurrent, last_ends}
+use Rattle.ele_model.proofs.KeptVersions.{ended_versions}
+use Rattle.ele_model.proofs.Neighbours.{AreInOrder, floor_for, found_kept, found_moment, in_order_of, met_of, newer_held-ended, next_closing-ended, no_floor, none_past, ripe_at_near, versions_in_order}
+use Rattle.ele_model.proofs.RipeAt.{ripe_at_is, unended}
+use Rattle.ele_model.proofs.Views.{policies_of}
+
+-- where files, versions, handles and groups stay, so do the moments of a file that is live as before, or has no floor
+pub moments_stay : (w v : World) → AreInOrder w.files w.versions → v.files ≡ w.files → v.versions ≡ w.versions → v.handles ≡ w.handles → v.groups ≡ w.groups
+    → (file number : ℕ) → floor_for v file ≡ floor_for w file → ripe_at v file number ≡ ripe_at w file number
+moments_stay w v ordered files versions handles groups file number floor = grind (arith, nat_tests, found_moment)
+
+-- what has enough newer ones in a live file has them in a nameless one
+met_stays : (policy : Option Policy) (live then : Bool) (newer : ℕ) → (live ≡ false → then ≡ false) → nat_le (floor_in policy live) newer ≡ true → nat_le (floor_in policy then) newer ≡ true
+met_stays policy live then newer nameless met = grind (arith, nat_tests, nameless, met)
+
+-- and those that are there already of a file that doesn't become live
+pub moments_kept : (w v : World) → AreInOrder w.files w.versions → v.files ≡ w.files → v.versions ≡ w.versions → v.handles ≡ w.handles → v.groups ≡ w.groups
+    → (file number : ℕ) → (is_live w file ≡ false → is_live v file ≡ false) → is_some (ripe_at w file number) ≡ true → ripe_at v file number ≡ ripe_at w file number
+moments_kept w v ordered files versions handles groups file number nameless some =
+    found_kept w v file number ordered (rw (files, versions) ordered) (λ closed ended. rw groups refl) (rw files refl) (rw (files, versions) (met_stays (policy_of w.files file) (is_live w file) (is_live v file) (newer_held w.versions file number) nameless)) (rw handles refl) (rw versions refl) (rw versions refl) some
+
+-- ---- the end of a file's name
+
+module _ (w : World) (directory : ℕ) (name : List ℕ) (file : ℕ) where
+  abbrev after : World
+  after = after_change w (EndFileName directory name file)
+
+  abbrev last : ℕ
+  last = next_of w.files file - 1
+
+  pub ended_in_order : HasParts w → AreInOrder after.files after.versions
+  ended_in_order k = grind (arith, nat_tests, in_order_of, versions_in_order, policies_of, k.holds Versions, ended_versions w file)
+
+  -- no file becomes live by it
+  pub still_nameless : (f : ℕ) → is_live w f ≡ false → is_live after f ≡ false
+  still_nameless f none =
+      let more = list_any-update_fails (is_live_name directory name) (is_live_name_of f) (dies w.now) w.names (λ row. grind (arith, nat_tests)) in
+      grind (arith, nat_tests, more, none, false≢true)
+
+  -- and each other stays as live as it is
+  pub others_live : live_target w.names directory name ≡ Some (File file) → (f : ℕ) → (f == file) ≡ false → is_live after f ≡ is_live w f
+  others_live stands f other = list_any-update_found (is_live_name directory name) (is_live_name_of f) (dies w.now) w.names (λ row found. grind (arith, nat_tests, stands, found, other))
+
+  -- while it has another name all stay
+  pub live_moments : HasParts w → is_live after file ≡ true → (f n : ℕ) → floor_for after f ≡ floor_for w f → ripe_at after f n ≡ ripe_at w f n
+  live_moments k live f n floor = moments_stay w after (in_order_of w k) refl (rw live refl) refl refl f n floor
+
+  module _ (k : HasParts w) (f n : ℕ) (apart : ((f == file) && (n == last)) ≡ false) where
+    same_next : next_closing after.versions f n ≡ next_closing w.versions f n
+    same_next = by (is_live after file) where
+      by : (l : Bool) → next_closing (cond l w.versions (with_end w file)) f n ≡ next_closing w.versions f n
+      by true = refl
+      by false = next_closing-ended (is_version file last) w.now w.versions f n
+
+    same_newer : newer_held after.versions f n ≡ newer_held w.versions f n
+    same_newer = by (is_live after file) where
+      by : (l : Bool) → newer_held (cond l w.versions (with_end w file)) f n ≡ newer_held w.versions f n
+      by true = refl
+      by false = newer_held-ended (is_version file last) w.now w.versions f n
+
+    same_found : find (is_version f n) after.versions ≡ find (is_version f n) w.versions
+    same_found = by (is_live after file) where
+      by : (l : Bool) → find (is_version f n) (cond l w.versions (with_end w file)) ≡ find (is_version f n) w.versions
+      by true = refl
+      by false = find-update_other (is_version file last) (is_version f n) (ended_at w.now) w.versions (λ row is. grind (arith, nat_tests, apart, is))
+
+    -- those of all other versions stay, where no floor goes
+    pub other_moments : floor_for after f ≡ floor_for w f → ripe_at after f n ≡ ripe_at w f n
+    other_moments floor = found_moment w after f n (in_order_of w k) (ended_in_order k) (λ closed ended. refl) refl (rw (floor, same_newer) refl) refl same_next same_found
+
+    -- and those that are there
+    pub kept_moments : is_some (ripe_at w f n) ≡ true → ripe_at after f n ≡ ripe_at w f n
+    kept_moments some = found_kept w after f n (in_order_of w k) (ended_in_order k) (λ closed ended. refl) refl
+        (rw same_newer (met_stays (policy_of w.files f) (is_live w f) (is_live after f) (newer_held w.versions f n) (still_nameless f))) refl same_next same_found some
+
+  module _ (current : HasCurrent w file) where
+    -- its last version, which had none, gets one, as it ends now
+    pub no_moment : ripe_at w file last ≡ None
+    unfolding ripe_of
+    no_moment = ripe_at_is w file last ∙ ap (option_and_then (ripe_of w)) current.found ∙ unended (file_view w current.row.file) current.row current.no_end
+
+    -- without a newer one beside it, and no floor
+    pub ended_moment : HasParts w → is_live after file ≡ false → ripe_at after file last ≡ cond (is_open w.handles file last) None (near_moment (cover_of w.groups file) (policy_of w.files file) None true current.row.closed w.now)
+    ended_moment k dead =
+        let found : find (is_version file last) after.versions ≡ Some (ended_at w.now current.row) = rw dead (last_ends w file current) in
+        let next : next_closing after.versions file last ≡ None = rw dead (none_past w.files w.now (with_end w file) file last (ended_versions w file (k.holds Versions)).each (omega arith)) in
+        let met : met_of after file last ≡ true = ap (λ l. nat_le (floor_in (policy_of w.files file) l) (newer_held after.versions file last)) dead ∙ no_floor (newer_held after.versions file last) in
+        ripe_at_near after file last (ended_in_order k) ∙ rw (found, next, current.no_end, met) refl

@@ -1,0 +1,93 @@
+-- What becomes of a held version, and why.
+use Rattle.std.specs.Prelude.{◌≡◌, ℕ, ◌-◌, ◌==◌, Bool, true, false, ◌&&◌, List, Option, Some, None, IsSome, find}
+use Rattle.std.specs.Option.{option_map}
+use Rattle.ele_policy.specs.Ladder.{Rung, level_of, rung_at, shares}
+use Rattle.ele_policy.specs.declared.policy.Policy.{Policy}
+use Rattle.ele_policy.specs.declared.policy.Policy.TheVariants.{One, Safe, Landmarks}
+use Rattle.ele_model.specs.declared.fate.Cause.{Cause}
+use Rattle.ele_model.specs.declared.fate.Cause.TheVariants.{AtOnce, Age, Displaced}
+use Rattle.ele_model.specs.declared.fate.Fate.{Fate}
+use Rattle.ele_model.specs.declared.fate.Fate.TheVariants.{Current, Open, Marked, Kept, Due}
+use Rattle.ele_model.specs.declared.rows.GroupRow.{GroupRow}
+use Rattle.ele_model.specs.declared.rows.MarkRow.{MarkRow}
+use Rattle.ele_model.specs.declared.rows.VersionRow.{VersionRow}
+use Rattle.ele_model.specs.Due.{is_due_at, ripe_of}
+use Rattle.ele_model.specs.FileView.{FileView, file_view, is_newer, is_protected}
+use Rattle.ele_model.specs.GroupRows.{has_covering, is_member, keeps_at}
+use Rattle.ele_model.specs.World.{World, is_open, is_version}
+
+-- ---- why it is marked
+
+-- of the file's version that closed and ended then, at the moment: the mark is the first that covers and is in force, of the first
+-- group that has the file and a mark that does, in order of making
+pub record IsMarkedBy (groups : List GroupRow) (file closed : ℕ) (ended : Option ℕ) (at : ℕ) (name : List ℕ) (mark : MarkRow) : Type 0 where
+  pub group : GroupRow
+  pub first_group : find (λ g. is_member file g && has_covering closed ended at g) groups ≡ Some group
+  pub named : group.name ≡ name
+  pub first_mark : find (keeps_at closed ended at) group.marks ≡ Some mark
+
+-- ---- why it is kept
+
+-- the level of the ladder that it has reached at the moment; no other policy has levels
+abbrev pub level_reached : Option Policy → Option ℕ → ℕ → Option ℕ
+level_reached (Some (Landmarks rungs)) (Some ended) at = Some (level_of rungs (at - ended))
+level_reached policy ended at = None
+
+-- ---- why it is due
+
+-- the number of the nearest newer of the versions that closed in the span of the rung in which this one closed
+abbrev pub displacing : List VersionRow → VersionRow → Rung → Option ℕ
+displacing rows row rung = option_map (λ other. other.number) (find (λ other. is_newer row other && shares row.closed other.closed rung) rows)
+
+-- as it became due, its age had reached the level of the ladder, and in its span of that level that version displaces it
+pub record IsDisplaced (v : FileView) (row : VersionRow) (since level by : ℕ) : Type 0 where
+  pub rungs : List Rung
+  pub ladder : v.policy ≡ Some (Landmarks rungs)
+  pub reached : level_reached v.policy row.ended since ≡ Some level
+  pub rung : Rung
+  pub at_level : rung_at rungs level ≡ Some rung
+  pub by_is : displacing v.rows row rung ≡ Some by
+
+-- the file is kept safe for so many seconds, with whatever floor
+pub record IsSafeFor (v : FileView) (seconds : ℕ) : Type 0 where
+  pub floor : ℕ
+  pub safe : v.policy ≡ Some (Safe seconds floor)
+
+abbrev pub IsCause : FileView → VersionRow → ℕ → Cause → Type 0
+IsCause v row since AtOnce = v.policy ≡ Some One
+IsCause v row since (Age seconds) = IsSafeFor v seconds
+IsCause v row since (Displaced level by) = IsDisplaced v row since level by
+
+-- ---- what becomes of it
+
+-- it has ended, is neither open nor marked, and isn't due now; it is from then on, if ever
+pub record IsKept (w : World) (row : VersionRow) (until level : Option ℕ) : Type 0 where
+  pub has_ended : IsSome row.ended
+  pub unprotected : is_protected (file_view w row.file) row w.now ≡ false
+  pub not_due : is_due_at w row w.now ≡ false
+  pub until_is : until ≡ ripe_of w row
+  pub level_is : level ≡ level_reached (file_view w row.file).policy row.ended w.now
+
+-- it is due now, and has been since its ripe moment
+pub record IsDueSince (w : World) (row : VersionRow) (since : ℕ) (cause : Cause) : Type 0 where
+  pub due : is_due_at w row w.now ≡ true
+  pub ripe : ripe_of w row ≡ Some since
+  pub why : IsCause (file_view w row.file) row since cause
+
+abbrev pub IsFate : World → VersionRow → Fate → Type 0
+IsFate w row Current = row.ended ≡ None
+IsFate w row Open = IsSome row.ended × (is_open w.handles row.file row.number ≡ true)
+IsFate w row (Marked group mark) = IsSome row.ended × (is_open w.handles row.file row.number ≡ false) × IsMarkedBy w.groups row.file row.closed row.ended w.now group mark
+IsFate w row (Kept until level) = IsKept w row until level
+IsFate w row (Due since cause) = IsDueSince w row since cause
+
+-- the file's version with that number is held, and this becomes of it
+pub record HasFate (w : World) (file number : ℕ) (fate : Fate) : Type 0 where
+  pub row : VersionRow
+  pub held : find (is_version file number) w.versions ≡ Some row
+  pub is : IsFate w row fate
+
+-- the answer says that the version is due since then
+abbrev pub says_due : ℕ → Option Fate → Bool
+says_due ripe (Some (Due since cause)) = since == ripe
+says_due ripe answer = false

@@ -1,0 +1,20 @@
+-- An event whose reply takes memory to copy changes nothing.
+use Rattle.std.specs.Prelude.{◌≡◌, Bool, true, false}
+use Rattle.ele_model.specs.declared.event.Event.{Event}
+use Rattle.ele_model.specs.declared.reply.Reply.{Reply}
+use Rattle.ele_model.specs.declared.reply.Reply.TheVariants.{Bytes, Rows, NameList, RestoreList, DueList, GroupList}
+use Rattle.ele_model.specs.Step.{step}
+use Rattle.ele_model.specs.World.{World}
+
+-- the reply holds a list, which a copy wants memory for
+abbrev pub needs_memory : Reply → Bool
+needs_memory (Bytes bytes) = true
+needs_memory (Rows rows) = true
+needs_memory (NameList names) = true
+needs_memory (RestoreList names) = true
+needs_memory (DueList keys) = true
+needs_memory (GroupList groups) = true
+needs_memory reply = false
+
+abbrev pub ReadersStay : Type 0
+ReadersStay = (w : World) (event : Event) → needs_memory ((step w event).0) ≡ true → (step w event).1 ≡ w

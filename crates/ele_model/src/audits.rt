@@ -1,0 +1,58 @@
+//! An audit: whether answers are what the scans of plain rows give.
+ghost use Rattle.std.specs.Prelude.{◌≡◌, ◌↔◌, IfOk, IsTrue};
+ghost use Rattle.std.specs.List.{AllByRecursion};
+ghost use Rattle.ele_usage.specs.Sums.{Fits};
+ghost use Rattle.ele_model.specs.Restorable.{restorable};
+ghost use Rattle.ele_model.specs.Scan.{scan};
+ghost use Rattle.ele_model.specs.Usage.{usages};
+
+use crate::flat::Flat;
+use crate::rows::DeadName;
+use ele_due::Key;
+use ele_moment::NoMemory;
+use ele_usage::Usage;
+
+// Whether both are the same keys.
+fn are_same_keys(keys: &[Key], others: &[Key]) -> bool
+    ensures { IsTrue result ↔ (keys.now ≡ others.now) }
+{
+    keys == others
+}
+
+// Whether both are the same names.
+fn are_same_names(names: &[DeadName], others: &[DeadName]) -> bool
+    ensures { IsTrue result ↔ (names.now ≡ others.now) }
+{
+    names == others
+}
+
+// Whether both use the same.
+fn are_same_sums(sums: &[Usage; 4], others: &[Usage; 4]) -> bool
+    ensures { IsTrue result ↔ (sums.now ≡ others.now) }
+{
+    sums == others
+}
+
+/// Whether these are the keys of the versions that are due, the names that may come back and the
+/// usage of each kind of policy, as the three scans of the world tell them. The caller knows that
+/// the sums of usage are within 64 bits.
+///
+/// `NoMemory` where memory for a scan is refused.
+pub fn audit(
+    due: &[Key],
+    names: &[DeadName],
+    usage: &[Usage; 4],
+    world: &Flat,
+) -> Result<bool, NoMemory>
+    requires { AllByRecursion Fits (usages world.now) }
+    ensures { IfOk result (λ equal. IsTrue equal ↔ ((due.now ≡ scan world.entry.now)
+        × (names.now ≡ restorable world.entry.now) × (usage.now ≡ usages world.entry.now))) }
+{
+    let keys = world.due()?;
+    let dead = world.restorable()?;
+    Ok(
+        are_same_keys(due, keys.as_slice())
+            && are_same_names(names, dead.as_slice())
+            && are_same_sums(usage, &world.usage()),
+    )
+}

@@ -1,0 +1,71 @@
+//! Copies of replies.
+ghost use Rattle.std.specs.Prelude.{◌≡◌, IfOk, IsOk, false};
+ghost use Rattle.ele_model.specs.ReadersStay.{needs_memory};
+
+use crate::list::GroupList;
+use crate::reply::Reply;
+use crate::rows::GroupRow;
+use ele_lists::ListOf;
+use ele_moment::NoMemory;
+use std::alloc::Global;
+
+/// A copy of plain items.
+fn copy_list<T: Copy + Drop>(alloc: Global, items: &ListOf<T>) -> Result<ListOf<T>, NoMemory>
+    ensures { IfOk result (λ copied. copied ≡ items.now) }
+{
+    Ok(ListOf::from_vec(Vec::from_slice(alloc, items.as_slice())?))
+}
+
+/// A copy of a group, with lists of its own.
+fn copy_group(alloc: Global, group: &GroupRow) -> Result<GroupRow, NoMemory>
+    ensures { IfOk result (λ copied. copied ≡ group.now) }
+{
+    Ok(GroupRow {
+        name: group.name,
+        members: copy_list(alloc, &group.members)?,
+        marks: copy_list(alloc, &group.marks)?,
+    })
+}
+
+/// A copy of groups, in their order.
+fn copy_groups(alloc: Global, groups: &GroupList) -> Result<GroupList, NoMemory>
+    ensures { IfOk result (λ copied. copied ≡ groups.now) }
+{
+    let mut rows = Vec::new(alloc);
+    for group in groups.as_slice() {
+        rows.push(copy_group(alloc, group)?)?;
+    }
+    Ok(ListOf::from_vec(rows))
+}
+
+impl Reply {
+    /// A copy of the reply.
+    ///
+    /// `NoMemory` where memory is refused. A reply without a list takes none.
+    pub fn copy(&self, alloc: Global) -> Result<Reply, NoMemory>
+        ensures same { IfOk result (λ reply. reply ≡ self.now) }
+        ensures ready { needs_memory self.now ≡ false → IsOk result }
+    {
+        Ok(match self {
+            Reply::Done => Reply::Done,
+            Reply::Nothing => Reply::Nothing,
+            Reply::Now(moment) => Reply::Now(*moment),
+            Reply::Directory(id) => Reply::Directory(*id),
+            Reply::File(id) => Reply::File(*id),
+            Reply::Handle(handle) => Reply::Handle(*handle),
+            Reply::Version(number) => Reply::Version(*number),
+            Reply::Closed(number) => Reply::Closed(*number),
+            Reply::Removed(key) => Reply::Removed(*key),
+            Reply::Bytes(bytes) => Reply::Bytes(copy_list(alloc, bytes)?),
+            Reply::FileStat(stat) => Reply::FileStat(*stat),
+            Reply::DirStat(row) => Reply::DirStat(*row),
+            Reply::Rows(rows) => Reply::Rows(copy_list(alloc, rows)?),
+            Reply::NameList(names) => Reply::NameList(copy_list(alloc, names)?),
+            Reply::RestoreList(names) => Reply::RestoreList(copy_list(alloc, names)?),
+            Reply::DueList(keys) => Reply::DueList(copy_list(alloc, keys)?),
+            Reply::UsageList(usage) => Reply::UsageList(*usage),
+            Reply::GroupList(groups) => Reply::GroupList(copy_groups(alloc, groups)?),
+            Reply::Refused(refusal) => Reply::Refused(*refusal),
+        })
+    }
+}

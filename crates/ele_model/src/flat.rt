@@ -1,0 +1,63 @@
+//! The world as flat rows, which is what contracts speak of.
+ghost use Rattle.std.specs.Prelude.{◌≡◌, IfOk};
+ghost use Rattle.std.specs.List.{AllByRecursion};
+ghost use Rattle.ele_usage.specs.Sums.{Fits};
+ghost use Rattle.ele_model.specs.Restorable.{restorable};
+ghost use Rattle.ele_model.specs.Scan.{scan};
+ghost use Rattle.ele_model.specs.Usage.{usages};
+
+use crate::limits::{Counts, Limits};
+use crate::list::{DeadNameList, KeyList};
+use crate::rows::{DirectoryRow, DraftRow, FileRow, GroupRow, HandleRow, NameRow, VersionRow};
+use crate::{returning, scan, sums};
+use ele_lists::ListOf;
+use ele_moment::{Moment, NoMemory};
+use ele_policy::Kind;
+use ele_usage::Usage;
+
+/// All rows and counts of a world. Directories and files stand by id, names and groups in order of making, versions by
+/// file and then by number, drafts by file, handles by number.
+#[derive(Debug, Drop, PartialEq, Eq)]
+pub struct Flat {
+    pub now: Moment,
+    pub directories: ListOf<DirectoryRow>,
+    pub files: ListOf<FileRow>,
+    pub names: ListOf<NameRow>,
+    pub versions: ListOf<VersionRow>,
+    pub drafts: ListOf<DraftRow>,
+    pub handles: ListOf<HandleRow>,
+    pub groups: ListOf<GroupRow>,
+    pub made: Counts,
+    pub limits: Limits,
+}
+
+impl Flat {
+    /// The keys of the versions that are due now, in order.
+    pub fn due(&self) -> Result<KeyList, NoMemory>
+        ensures { IfOk result (λ keys. keys ≡ scan self.entry.now) }
+    {
+        scan::due(self)
+    }
+
+    /// The names that may come back, by directory and then by the bytes of the name.
+    pub fn restorable(&self) -> Result<DeadNameList, NoMemory>
+        ensures { IfOk result (λ names. names ≡ restorable self.entry.now) }
+    {
+        returning::restorable(self)
+    }
+
+    /// What the files of each kind of policy use, in the order of `Kind`: how many they are, their versions, the bytes of
+    /// these, and how many different blocks they and the drafts have. The caller knows that each number is within 64
+    /// bits. It takes no memory, and looks at all rows for each slot.
+    pub fn usage(&self) -> [Usage; 4]
+        requires { AllByRecursion Fits (usages self.now) }
+        ensures { result ≡ usages self.entry.now }
+    {
+        [
+            sums::usage_of(self, Kind::One),
+            sums::usage_of(self, Kind::All),
+            sums::usage_of(self, Kind::Safe),
+            sums::usage_of(self, Kind::Landmarks),
+        ]
+    }
+}

@@ -1,0 +1,50 @@
+//! The definitions: events, replies, the world that they change, and what is true of every run. All of it is plain data, and
+//! a contract sees the world as the flat rows of `Flat`.
+#![tactic(auto)]
+
+mod auditable;
+mod audits;
+mod copy;
+mod cover;
+mod entry;
+mod event;
+mod explaining;
+mod fate;
+mod flat;
+pub mod laws;
+mod limits;
+mod list;
+mod pass;
+mod refusal;
+mod reply;
+mod returning;
+mod rows;
+mod scan;
+mod stepping;
+mod sums;
+
+pub use auditable::Auditable;
+pub use audits::audit;
+pub use cover::Cover;
+pub use ele_content::Cell;
+pub use ele_due::Key;
+pub use ele_lists::{ByteList, ListOf};
+pub use ele_moment::{DirId, FileId, Handle, Moment, Name, NoMemory, VersionNo};
+pub use ele_policy::{Floor, Interval, Kind, Ladder, Policy};
+pub use ele_time_path::{Path, PathAt, Tag, TaggedPath};
+pub use ele_usage::Usage;
+pub use entry::Entry;
+pub use event::{Event, Source};
+pub use explaining::Explaining;
+pub use fate::{Cause, Fate};
+pub use flat::Flat;
+pub use limits::{Counts, LimitNumbers, Limits};
+pub use list::{DeadNameList, GroupList, KeyList, NameList, StampsList};
+pub use pass::PassEnd;
+pub use refusal::{Refusal, Stop, Which};
+pub use reply::Reply;
+pub use rows::{
+    DeadName, DirectoryRow, DraftRow, FileRow, FileStat, GroupRow, HandleRow, MarkRow, NameRow,
+    Reads, Stamps, Target, VersionRow,
+};
+pub use stepping::Stepping;

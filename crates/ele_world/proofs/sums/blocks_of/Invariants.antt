@@ -1,6 +1,0 @@
-use Rattle.ele_world.proofs.Basics.{◌≡◌, ◌+◌, drop}
-use Rattle.ele_world.proofs.Words.{is_file_of, different_of}
-use Rattle.ele_world.proofs.sums.blocks_of.Given as goal
-
-abbrev pub invariant-loop-i : goal.invariant-loop-i
-invariant-loop-i l = l.blocks + different_of (is_file_of l.files l.kind) (drop l.i l.versions) l.drafts ≡ different_of (is_file_of l.files l.kind) l.versions l.drafts

@@ -1,6 +1,0 @@
-use Rattle.ele_world.proofs.Basics.{◌≡◌, ◌+◌, length, drop}
-use Rattle.ele_world.proofs.Words.{content_of}
-use Rattle.ele_world.proofs.sums.length_of.Given as goal
-
-abbrev pub invariant-loop-cell : goal.invariant-loop-cell
-invariant-loop-cell l = l.bytes + length (content_of (drop l.cell-index l.cells)) ≡ length (content_of l.cells)

@@ -1,8 +1,0 @@
--- Each change that may be made leaves a well-formed world well formed.
-use Rattle.ele_world.specs.Change.{Change, after_change}
-use Rattle.ele_world.specs.May.{May}
-use Rattle.ele_world.specs.WellFormed.{IsWellFormed}
-use Rattle.ele_world.specs.World.{World}
-
-abbrev pub ChangeKeepsWellFormed : Type 0
-ChangeKeepsWellFormed = (w : World) (change : Change) → May w change → IsWellFormed w → IsWellFormed (after_change w change)

@@ -1,9 +1,0 @@
--- What the files of each kind use in a well-formed world fits in 64 bits, so `Flat::usage` may be asked of it.
-use Rattle.std.specs.List.{AllByRecursion}
-use Rattle.ele_usage.specs.Sums.{Fits}
-use Rattle.ele_world.specs.Usage.{usages}
-use Rattle.ele_world.specs.WellFormed.{IsWellFormed}
-use Rattle.ele_world.specs.World.{World}
-
-abbrev pub UsageFits : Type 0
-UsageFits = (w : World) → IsWellFormed w → AllByRecursion Fits (usages w)
