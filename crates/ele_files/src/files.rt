@@ -63,7 +63,7 @@ fn place_of(files: &[BoxedFile], id: FileId) -> Option<usize>
     requires { AllLater (λ x y. x.id < y.id) files.now }
     ensures { result ≡ position (is_id id) files.now }
 {
-    match ele_lists::place_of(files, id.0) {
+    match ele_rows::place_of(files, id.0) {
         Ok(at) => Some(at),
         Err(_gap) => None,
     }

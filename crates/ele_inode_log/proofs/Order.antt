@@ -1,5 +1,6 @@
 -- Rows in order, after each change, and which of them lives at a moment.
-pub use Rattle.ele_lists.proofs.Keys.{before_sinks, behind_sinks, remove_first-key as remove_first_key}
+pub use Rattle.ele_lists.proofs.Keys.{remove_first-key as remove_first_key}
+pub use Rattle.ele_rows.proofs.Parted.{before_sinks, behind_sinks}
 pub use Rattle.ele_lists.proofs.Shown.{is_some-copied as is_some_copied}
 pub use Rattle.ele_lists.proofs.Alls.{all-place as all_place}
 use Rattle.std.proofs.Common.{◌≡◌, ℕ, ◌<◌, ◌≤◌, Bool, true, false, cond, List, [], ◌∷◌, ◌++◌, reverse, Some, None, refl, sym, ap, ◌∙◌, arith}
@@ -11,7 +12,7 @@ use Rattle.ele_inode_log.specs.declared.row.VersionRow.{VersionRow}
 use Rattle.ele_inode_log.specs.Rows.{AllLater, AreInOrder, Precedes, EndsInTime, CanEndAt, last_of, update_last, ended_at, has_closed_by, ends_after, lives_at}
 use Rattle.ele_lists.specs.Last.{last_passing, passing}
 use Rattle.ele_lists.specs.Lists.{remove_first}
-use Rattle.ele_lists.specs.Chunks.{Sinks}
+use Rattle.ele_rows.specs.Chunks.{Sinks}
 use Rattle.ele_lists.specs.Keys.{Rises}
 use Rattle.ele_lists.proofs.Edits.{all-weaker, all-both, later-push, all-remove_first, later-remove_first}
 use Rattle.ele_lists.proofs.Alls.{all-append, later-weaker}

@@ -8,8 +8,8 @@ ghost use Rattle.ele_lists.specs.Last.{last_passing, passing};
 
 use crate::meter::Meter;
 use crate::row::{ClosedBy, EndsAt, VersionRow};
-use ele_lists::{BeforeKey, BehindKey, ChunkRows, Chunks};
 use ele_moment::{Moment, NoMemory, VersionNo};
+use ele_rows::{BeforeKey, BehindKey, ChunkRows, Chunks};
 use std::alloc::Global;
 use std::marker::Model;
 

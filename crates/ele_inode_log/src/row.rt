@@ -1,8 +1,9 @@
 //! The row of a held version, where a search by closing cuts such rows, and how a version ends.
 //! A contract sees its fields, the cells as the layout of their block map.
 use ele_blocks::BlockMap;
-use ele_lists::{Change, Cut, Keyed};
+use ele_lists::Keyed;
 use ele_moment::{Moment, VersionNo};
+use ele_rows::{Change, Cut};
 
 /// A version of a file: its number, when its writers opened it, when the last of them closed it,
 /// when it ended if it has, and its content. The content's blocks stand in a store of which the row

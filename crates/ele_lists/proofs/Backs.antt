@@ -1,6 +1,6 @@
--- The element that has so many behind it: in lists after one another, in chunks, and among rows of rising keys, where so many have a
+-- The element that has so many behind it: in lists after one another, and among rows of rising keys, where so many have a
 -- greater one.
-use Rattle.ele_lists.proofs.Basics.{AllByRecursion, AllLater, Bool, Global, List, None, Rises, Some, Vec, [], append-nil, append_assoc, arith, cond, count_by, count_by-le-length, eqb, false, filter, find, flat, is_behind, last_passing, leb, length, length-append, length-map, length-reverse, map, nat_tests, option_map, option_map_or, refl, reverse, reverse-append, slice_get, slice_get_past, suc, take, true, zero, ℕ, ◌++◌, ◌+◌, ◌-◌, ◌<◌, ◌∷◌, ◌≡◌, ◌≤◌}
+use Rattle.ele_lists.proofs.Basics.{AllByRecursion, AllLater, Bool, Global, List, None, Rises, Some, Vec, [], append-nil, append_assoc, arith, cond, count_by, count_by-le-length, eqb, false, filter, find, is_behind, last_passing, leb, length, length-append, length-map, length-reverse, map, nat_tests, option_map, option_map_or, refl, reverse, reverse-append, slice_get, slice_get_past, suc, take, true, zero, ℕ, ◌++◌, ◌+◌, ◌-◌, ◌<◌, ◌∷◌, ◌≡◌, ◌≤◌}
 use Rattle.ele_lists.proofs.Edits.{all-weaker}
 use Rattle.ele_lists.proofs.Found.{find-same_all}
 use Rattle.ele_lists.proofs.Sums.{count-all, count-cons}
@@ -33,21 +33,6 @@ module _ {X : Type 0} where
 pub back-map : {X Y : Type 0} (h : X → Y) (xs : List X) (n : ℕ) → slice_get (reverse (map h xs)) n ≡ option_map h (slice_get (reverse xs) n)
 back-map h [] n = refl
 back-map h (x ∷ xs) n = grind (arith, nat_tests, back-cons (h x) (map h xs) n, back-cons x xs n, length-map xs h, back-map h xs n)
-
--- of chunks the last holds it, or else it stands so many fewer from the end of those before
-module _ {X : Type 0} (cs : List (Vec X Global)) (i : ℕ) (here : Vec X Global) (is : slice_get cs i ≡ Some here) where
-  flat-more : flat (take (i + 1) cs) ≡ flat (take i cs) ++ here.items
-  flat-more = by cs i is where
-    by : (ds : List (Vec X Global)) (k : ℕ) → slice_get ds k ≡ Some here → flat (take (k + 1) ds) ≡ flat (take k ds) ++ here.items
-    by [] k found = grind arith
-    by (d ∷ ds) zero found = grind (arith, append-nil d.items)
-    by (d ∷ ds) (suc k) found = grind (arith, by ds k found, append_assoc d.items (flat (take k ds)) here.items)
-
-  pub chunk-near : (n : ℕ) → n < length here.items → slice_get (reverse (flat (take (i + 1) cs))) n ≡ slice_get here.items (length here.items - 1 - n)
-  chunk-near n near = rw flat-more (back-near (flat (take i cs)) here.items n near)
-
-  pub chunk-far : (n : ℕ) → length here.items ≤ n → slice_get (reverse (flat (take (i + 1) cs))) n ≡ slice_get (reverse (flat (take i cs))) (n - length here.items)
-  chunk-far n far = rw flat-more (back-far (flat (take i cs)) here.items n far)
 
 none-back : {X : Type 0} (xs : List X) → slice_get (reverse xs) 0 ≡ None → length xs ≡ 0
 none-back [] none = refl

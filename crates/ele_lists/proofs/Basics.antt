@@ -1,12 +1,8 @@
 -- The words and lemmas of std, and the words of lists, that proofs here use, in one place.
-pub use Rattle.ele_lists.specs.Chunks.{AreFilled, IsPlaceOf, IsSeam, Sinks, before_place, behind_place, ends_before, flat, last_room, room_of, rows_at}
 pub use Rattle.ele_lists.specs.Ends.{last_of, update_last}
-pub use Rattle.ele_lists.specs.Index.{IsLastOf, entry_cmp, has, is_entry}
 pub use Rattle.ele_lists.specs.Keys.{Rises, stands_by, is_behind}
 pub use Rattle.ele_lists.specs.Last.{last_passing, passing}
 pub use Rattle.ele_lists.specs.Lists.{AllLater, insert_before, remove_first, update_first}
-pub use Rattle.ele_lists.specs.Serial.{is_placed, value_at}
-pub use Rattle.ele_lists.specs.declared.index.Index.{Index}
 pub use Rattle.std.proofs.Common.{Bool, Bor, Equal, Global, Greater, IsTrue, Less, List, None, Option, Ordering, Some, Vec, [], ap, append-nil, append_assoc, arith, cond, count_by, drop, eqb, false, filter, filter_map, find, flat_map, get_or, get_or-set_same, inl, inr, insert, is_eq, is_lt, is_some, leb, length, length-set, length-take, ltb, map, nat_cmp, nat_lt, not, option_and_then, option_copied, option_map, position, refl, remove, reverse, rules, set, slice_get, suc, sum_by, sym, take, take-append-drop, take_all, true, unwrap_or, zero, ℕ, ◌&&◌, ◌++◌, ◌+◌, ◌-◌, ◌<◌, ◌==◌, ◌^◌, ◌||◌, ◌∙◌, ◌∷◌, ◌≡◌, ◌≢◌, ◌≤◌, ◌⊎◌}
 pub use Rattle.std.proofs.lemmas.Bool.{false≢true}
 pub use Rattle.std.proofs.lemmas.Bool.Decides.{nat_tests}

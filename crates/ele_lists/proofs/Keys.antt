@@ -1,5 +1,5 @@
 -- Rows of rising keys: what a binary search by a key finds (`place_of`), and that rising keys are parted at any key.
-use Rattle.ele_lists.proofs.Basics.{AllLater, Bool, IsNonDecreasingBy, IsPartitionPoint, IsPartitionedBy, IsPartitionedBy-ltb, List, None, Rises, Sinks, Some, [], arith, false, filter, get_or, stands_by, is_behind, leb, length, ltb, nat_tests, not, position, position_or_len_is, refl, remove_first, suc, true, unwrap_or, ℕ, ◌<◌, ◌∷◌, ◌≡◌, ◌≢◌, ◌≤◌}
+use Rattle.ele_lists.proofs.Basics.{AllLater, Bool, IsNonDecreasingBy, IsPartitionPoint, IsPartitionedBy, IsPartitionedBy-ltb, List, None, Rises, Some, [], arith, false, filter, get_or, stands_by, is_behind, leb, length, ltb, nat_tests, not, position, position_or_len_is, refl, remove_first, suc, true, unwrap_or, ℕ, ◌<◌, ◌∷◌, ◌≡◌, ◌≢◌, ◌≤◌}
 use Rattle.ele_lists.proofs.Alls.{later-place, later-weaker}
 use Rattle.ele_lists.proofs.Edits.{all-weaker}
 use Rattle.ele_lists.proofs.Filters.{filter-all}
@@ -55,14 +55,6 @@ module _ {X : Type 0} (key : X → ℕ) where
 
       pub end-gap : i ≤ length xs → unwrap_or (position (is_behind key this) xs) (length xs) ≡ i
       end-gap within = grind (arith, position-none (is_behind key this) xs (λ k d lt. grind (arith, nat_tests, below k d)))
-
--- rows of rising keys are parted before a key, and behind it
-module _ {X : Type 0} (key : X → ℕ) (this : ℕ) (xs : List X) (rises : Rises key xs) where
-  pub before_sinks : AllLater (Sinks (λ x. ltb (key x) this)) xs
-  before_sinks = later-weaker (λ x y. key x < key y) (Sinks (λ x. ltb (key x) this)) xs (λ x y lt h. grind (arith, nat_tests, lt, h)) rises
-
-  pub behind_sinks : AllLater (Sinks (λ x. leb (key x) this)) xs
-  behind_sinks = later-weaker (λ x y. key x < key y) (Sinks (λ x. leb (key x) this)) xs (λ x y lt h. grind (arith, nat_tests, lt, h)) rises
 
 -- the others, where the row of a key is taken out
 pub remove_first-key : {X : Type 0} (key : X → ℕ) (this : ℕ) (xs : List X) → Rises key xs → remove_first (stands_by key this) xs ≡ filter (λ x. not (stands_by key this x)) xs

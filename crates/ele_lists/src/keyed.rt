@@ -1,11 +1,6 @@
-//! Rows by a numeric key that rises along them.
-//! A contract sees the keys of the rows, and a place as the first of that key.
-ghost use Rattle.std.specs.Prelude.{◌≡◌, Some, None, IfOk, IfErr, IfSome, length};
-ghost use Rattle.std.specs.List.{position};
-ghost use Rattle.std.specs.Option.{unwrap_or};
-ghost use Rattle.ele_lists.specs.Keys.{Rises, stands_by, is_behind};
-
-use crate::cut::Cut;
+//! A row by its numeric key.
+//! A contract sees the key.
+ghost use Rattle.std.specs.Prelude.{◌≡◌};
 
 /// A row that stands by a number.
 pub trait Keyed {
@@ -16,66 +11,4 @@ pub trait Keyed {
     /// The number that the row stands by.
     fn key(&self) -> u64
         ensures { result ≡ key self.now };
-}
-
-/// The place of the row of that key, or else the place where one would stand: before the first row
-/// of a greater key, or at the end where there is none.
-pub fn place_of<T: Keyed>(rows: &[T], key: u64) -> Result<usize, usize>
-    requires { Rises T.key rows.now }
-    ensures found { IfOk result (λ at. position (stands_by T.key key) rows.now ≡ Some at) }
-    ensures missing { IfErr result (λ at. position (stands_by T.key key) rows.now ≡ None) }
-    ensures gap { IfErr result (λ at. unwrap_or (position (is_behind T.key key) rows.now)
-        (length rows.now) ≡ at) }
-{
-    if let Some(at) = place_if_dense(rows, key) {
-        return Ok(at);
-    }
-    let at = rows.partition_point(|row| row.key() < key);
-    match rows.get(at) {
-        Some(row) if row.key() == key => Ok(at),
-        _ => Err(at),
-    }
-}
-
-/// The place of the row of that key, if no number between the first row's key and this one is
-/// missing. Rows that are numbered as they are made stand so until one leaves, and this look spares
-/// the search.
-pub(crate) fn place_if_dense<T: Keyed>(rows: &[T], key: u64) -> Option<usize>
-    requires { Rises T.key rows.now }
-    ensures { IfSome result (λ at. position (stands_by T.key key) rows.now ≡ Some at) }
-{
-    let first = rows.first()?.key();
-    let at = usize::try_from(key.checked_sub(first)?).ok()?;
-    match rows.get(at) {
-        Some(row) if row.key() == key => Some(at),
-        _ => None,
-    }
-}
-
-/// The cut before a key: rows of lesser keys stand before it.
-#[derive(Clone, Copy, Debug)]
-pub struct BeforeKey(pub u64);
-
-/// The cut behind a key: rows of keys up to it stand before it.
-#[derive(Clone, Copy, Debug)]
-pub struct BehindKey(pub u64);
-
-impl<T: Keyed> Cut<T> for BeforeKey {
-    ghost use Rattle.std.specs.Prelude.{nat_lt};
-
-    ghost before = { λ cut row. nat_lt (T.key row) cut.0 };
-
-    fn is_behind(&self, row: &T) -> bool {
-        row.key() < self.0
-    }
-}
-
-impl<T: Keyed> Cut<T> for BehindKey {
-    ghost use Rattle.std.specs.Prelude.{nat_le};
-
-    ghost before = { λ cut row. nat_le (T.key row) cut.0 };
-
-    fn is_behind(&self, row: &T) -> bool {
-        row.key() <= self.0
-    }
 }

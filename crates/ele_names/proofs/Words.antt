@@ -5,14 +5,14 @@ pub use Rattle.ele_lists.proofs.Edits.{all-any, all-push, all-weaker, later-push
 pub use Rattle.ele_lists.proofs.Entries.{lookup-insert_entry, sorted-insert_entry}
 pub use Rattle.ele_lists.proofs.Filters.{filter-all}
 pub use Rattle.ele_lists.proofs.Lasts.{find_last}
-pub use Rattle.ele_lists.proofs.Serials.{IsRising, IsSplitAt, after_head, all_from_each, all_keys_without, at_itself, found_key, is_last, later_at, none_last, not_true, not_yet, pushed, rest_rises, split_at}
+pub use Rattle.ele_rows.proofs.Serials.{IsRising, IsSplitAt, after_head, all_from_each, all_keys_without, at_itself, found_key, is_last, later_at, none_last, not_true, not_yet, pushed, rest_rises, split_at}
 pub use Rattle.ele_lists.proofs.Taken.{all-at}
 pub use Rattle.ele_lists.proofs.Sums.{any-count as any_count, sum_by-around, sum_by-same}
-pub use Rattle.ele_lists.specs.Index.{IsLastOf, has, is_entry}
+pub use Rattle.ele_rows.specs.Index.{IsLastOf, has, is_entry}
 pub use Rattle.ele_lists.specs.Last.{last_passing, passing}
 pub use Rattle.ele_lists.specs.Lists.{AllLater, update_first}
-pub use Rattle.ele_lists.specs.Serial.{is_placed, value_at}
-pub use Rattle.ele_lists.specs.Tally.{counted}
+pub use Rattle.ele_rows.specs.Serial.{is_placed, value_at}
+pub use Rattle.ele_rows.specs.Tally.{counted}
 pub use Rattle.ele_moment.specs.Last.{last_moment}
 pub use Rattle.ele_names.specs.Births.{AreBelow, AreBirthsOf, has_birth, is_born, is_up_to, newest_of}
 pub use Rattle.ele_names.specs.declared.births.Births.{Births}

@@ -2,8 +2,8 @@
 use Rattle.std.specs.Prelude.{◌≡◌, ℕ, ◌<◌, ◌^◌, ◌==◌, ◌&&◌, ◌||◌, nat_lt, nat_le, Bool, true, false, Option, slice_get}
 use Rattle.std.specs.Option.{option_and_then, option_map_or}
 use Rattle.std.specs.Ordering.{nat_cmp}
-use Rattle.ele_lists.specs.Index.{has}
-use Rattle.ele_lists.specs.Serial.{is_placed}
+use Rattle.ele_rows.specs.Index.{has}
+use Rattle.ele_rows.specs.Serial.{is_placed}
 use Rattle.ele_names.specs.declared.births.Births.{Births}
 use Rattle.ele_names.specs.declared.births.Born.{Born}
 

@@ -5,7 +5,7 @@ use Rattle.std.specs.List.Sorted.{IsStrictlySortedBy}
 use Rattle.std.specs.Ordering.{nat_cmp}
 use Rattle.std.specs.Map.{keys_of, values_of}
 use Rattle.ele_lists.specs.Lists.{AllLater}
-use Rattle.ele_lists.specs.Serial.{value_at}
+use Rattle.ele_rows.specs.Serial.{value_at}
 use Rattle.ele_moment.specs.Last.{last_moment}
 use Rattle.ele_model.specs.declared.rows.NameRow.{NameRow}
 use Rattle.ele_model.specs.declared.rows.Target.{Target}

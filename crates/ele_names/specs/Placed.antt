@@ -4,7 +4,7 @@ use Rattle.std.specs.Bool.{nat_eq}
 use Rattle.std.specs.HashMap.{keys}
 use Rattle.std.specs.List.{position_or_len}
 use Rattle.std.specs.Str.{bytes_eq}
-use Rattle.ele_lists.specs.Tally.{counted}
+use Rattle.ele_rows.specs.Tally.{counted}
 use Rattle.ele_model.specs.declared.rows.NameRow.{NameRow}
 use Rattle.ele_model.specs.declared.rows.Target.{Target}
 use Rattle.ele_model.specs.declared.rows.Target.TheVariants.{Directory, File}

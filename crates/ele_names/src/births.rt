@@ -3,11 +3,11 @@
 ghost use Rattle.std.specs.Prelude.{◌≡◌, ℕ, ◌≤◌, ◌<◌, ◌^◌, cond, true, false, None, length, OnOk, OnErr, IfSome, IfNone};
 ghost use Rattle.std.specs.Bool.{nat_eq};
 ghost use Rattle.std.specs.Ordering.{nat_cmp};
-ghost use Rattle.ele_lists.specs.Index.{has, is_entry, IsLastOf};
+ghost use Rattle.ele_rows.specs.Index.{has, is_entry, IsLastOf};
 ghost use Rattle.ele_names.specs.Births.{AreBelow, is_up_to, has_birth, newest_of};
 
-use ele_lists::Index;
 use ele_moment::NoMemory;
+use ele_rows::Index;
 use std::alloc::Global;
 
 /// When a row was born, in seconds, and its serial number.

@@ -6,7 +6,7 @@ ghost use Rattle.std.specs.List.{AllByRecursion};
 ghost use Rattle.std.specs.Map.{keys_of, remove_entry, values_of};
 ghost use Rattle.std.specs.Option.{option_copied};
 ghost use Rattle.std.specs.Ordering.{nat_cmp};
-ghost use Rattle.ele_lists.specs.Serial.{value_at};
+ghost use Rattle.ele_rows.specs.Serial.{value_at};
 ghost use Rattle.ele_model.specs.declared.rows.NameRow.{NameRow};
 ghost use Rattle.ele_names.specs.Rows.{dies};
 

@@ -13,9 +13,9 @@ ghost use Rattle.ele_names.specs.Targets.{is_live_of, target_eq};
 
 use crate::births::Births;
 use crate::chains::Chains;
-use ele_lists::Tally;
 use ele_model::{NameRow, Target};
 use ele_moment::{DirId, NoMemory};
+use ele_rows::Tally;
 use std::alloc::Global;
 
 /// The rows of one name by birth, those of one file from the newest back with a count of the live

@@ -8,8 +8,8 @@ pub use Rattle.ele_lists.proofs.ShownAt.{any-missing, any-shown, find-missing, f
 pub use Rattle.ele_lists.proofs.Sums.{any-count, sum_by-around, sum_by-remove_first, sum_by-same}
 pub use Rattle.ele_lists.specs.Keys.{stands_by, is_behind}
 pub use Rattle.ele_lists.specs.Lists.{insert_before, remove_first, update_first}
-pub use Rattle.ele_lists.specs.Tally.{counted}
-pub use Rattle.ele_lists.specs.declared.tally.Tally.{Tally}
+pub use Rattle.ele_rows.specs.Tally.{counted}
+pub use Rattle.ele_rows.specs.declared.tally.Tally.{Tally}
 pub use Rattle.std.proofs.Common.{Bool, Err, List, MatchBool, None, Ok, Option, Result, Some, [], ap, append-nil, arith, cond, eqb, false, get_or, length, nat_lt, not, refl, sym, true, ℕ, ◌++◌, ◌+◌, ◌-◌, ◌<◌, ◌||◌, ◌∙◌, ◌∷◌, ◌≡◌, ◌≤◌}
 pub use Rattle.std.proofs.Math.ListN.{set}
 pub use Rattle.std.proofs.Math.Seq.{map-set_same}

@@ -1,8 +1,8 @@
 -- What the fields keep. No public clause cites this module.
 use Rattle.std.specs.Prelude.{◌≡◌, ℕ, ◌≤◌, Bool, List, length}
 use Rattle.std.specs.List.{count_by}
-use Rattle.ele_lists.specs.declared.tally.Tally.{Tally}
-use Rattle.ele_lists.specs.Tally.{counted}
+use Rattle.ele_rows.specs.declared.tally.Tally.{Tally}
+use Rattle.ele_rows.specs.Tally.{counted}
 use Rattle.ele_sessions.specs.declared.sessions.Sessions.TheInside.{Inside}
 use Rattle.ele_sessions.specs.Inside.{drafts_of}
 use Rattle.ele_sessions.specs.Orderly.{AreOrderly}

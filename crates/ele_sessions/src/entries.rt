@@ -1,7 +1,7 @@
 //! The drafts by file id and the handles by number, each found by a binary search.
 //! A contract sees the lists of both.
 ghost use Rattle.std.specs.Prelude.{◌≡◌, ◌<◌, ◌+◌, ◌^◌, [], ◌∷◌, ◌++◌, Ok, IfOk, IfErr, vec_len, vec_capacity, if◌then◌else◌};
-ghost use Rattle.ele_lists.specs.Tally.{counted, room};
+ghost use Rattle.ele_rows.specs.Tally.{counted, room};
 ghost use Rattle.ele_sessions.specs.Inside.{IsAt, IsGap, file_in, number_in};
 ghost use Rattle.ele_sessions.specs.Kept.{reads_eq};
 ghost use Rattle.ele_sessions.specs.Order.{Rises};
@@ -10,9 +10,10 @@ ghost use Rattle.ele_model.specs.World.{is_handle, reads_by, file_written, file_
 ghost use Rattle.ele_model.specs.declared.rows.Reads.{Reads};
 
 use crate::draft::Draft;
-use ele_lists::{Keyed, Tally};
+use ele_lists::Keyed;
 use ele_model::{HandleRow, Reads, Refusal};
 use ele_moment::{FileId, Handle};
+use ele_rows::Tally;
 
 /// A file's draft. It lies apart, so that few bytes move when another draft comes or goes.
 #[derive(Debug, Drop)]
@@ -35,7 +36,7 @@ pub fn place_of(drafts: &[Entry], file: FileId) -> Result<usize, usize>
     ensures found { IfOk result (IsAt file_in file drafts.now) }
     ensures gap { IfErr result (IsGap file_in file drafts.now) }
 {
-    ele_lists::place_of(drafts, file.0)
+    ele_rows::place_of(drafts, file.0)
 }
 
 /// The place of the handle of that number, or where it would stand.
@@ -44,7 +45,7 @@ pub fn handle_place(handles: &[HandleRow], number: Handle) -> Result<usize, usiz
     ensures found { IfOk result (IsAt number_in number handles.now) }
     ensures gap { IfErr result (IsGap number_in number handles.now) }
 {
-    ele_lists::place_of(handles, number.0)
+    ele_rows::place_of(handles, number.0)
 }
 
 /// One handle more, in reserved room. It is counted with those that read the same.

@@ -12,8 +12,8 @@ ghost use Rattle.ele_sessions.specs.Sessions.{is_draft_after};
 use crate::draft::Draft;
 use crate::entries::{Entry, place_of};
 use ele_blocks::{BlockMap, BlockStore};
-use ele_lists::put_at;
 use ele_moment::{FileId, Moment, NoMemory, VersionNo};
+use ele_rows::put_at;
 use std::alloc::Global;
 
 /// The version that a draft is to be, and when the draft is opened.

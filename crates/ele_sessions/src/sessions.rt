@@ -21,9 +21,9 @@ use crate::fault::SessionFault;
 use crate::leaving::leave;
 use crate::opening::{Coming, join};
 use ele_blocks::{BlockMap, BlockStore};
-use ele_lists::Tally;
 use ele_model::{HandleRow, Reads, Refusal};
 use ele_moment::{FileId, Handle, Moment, NoMemory, VersionNo};
+use ele_rows::Tally;
 use std::alloc::Global;
 use std::marker::Model;
 

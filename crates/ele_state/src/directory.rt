@@ -10,10 +10,10 @@ ghost use Rattle.ele_model.specs.World.{default_of, is_directory};
 ghost use Rattle.ele_state.specs.Home.{IsHome};
 
 use crate::State;
-use ele_lists::place_of;
 use ele_model::{DirId, DirectoryRow, Name, NoMemory, Target};
 use ele_names::Found;
 use ele_policy::{Floor, Interval, Policy};
+use ele_rows::place_of;
 
 // The place of the directory's row, by a binary search of the numbers.
 fn directory_at(directories: &[DirectoryRow], id: DirId) -> Option<usize>

@@ -1,0 +1,4 @@
+pub mod Chunks
+pub mod Tally
+pub mod Index
+pub mod Serial

@@ -1,0 +1,20 @@
+//! Where rows are kept: by a rising key, in chunks, counted, and in indexes.
+//! A contract sees chunks as the list of their rows, a tally as counts, and an index as a test.
+#![tactic(auto)]
+
+mod chunks;
+mod cut;
+mod index;
+mod keyed;
+mod room;
+mod rows;
+mod seam;
+mod tally;
+
+pub use chunks::Chunks;
+pub use cut::{Change, Cut};
+pub use index::Index;
+pub use keyed::{BeforeKey, BehindKey, place_of};
+pub use room::put_at;
+pub use rows::ChunkRows;
+pub use tally::Tally;

@@ -1,0 +1,49 @@
+//! The rows of a list in chunks, one after the other.
+//! A contract sees those that are left.
+ghost use Rattle.std.specs.Prelude.{◌≡◌};
+ghost use Rattle.std.specs.Iterator.{YieldsFirstRef, item_count};
+
+use std::iter::FusedIterator;
+use std::marker::Model;
+
+/// Goes over the rows of a list in chunks.
+#[derive(Drop)]
+pub struct ChunkRows<'a, T> {
+    /// What is left of the chunk in hand.
+    pub(crate) rows: &'a [T],
+    /// The chunks behind it.
+    pub(crate) chunks: &'a [Vec<T>],
+}
+
+impl<'a, T> Model for ChunkRows<'a, T> {
+    ghost use Rattle.std.specs.Prelude.{List, ◌++◌};
+
+    ghost Value = { List T };
+
+    ghost use Rattle.ele_rows.specs.Chunks.{AreFilled, flat};
+
+    ghost view = { λ left. left.rows.now ++ flat left.chunks.now };
+
+    ghost invariant = { λ left. AreFilled left.chunks.now };
+}
+
+impl<'a, T> Iterator for ChunkRows<'a, T> {
+    type Item = &'a T;
+
+    ghost next_gives = { YieldsFirstRef (λ rest. rest) };
+
+    ghost remaining = { item_count (λ rest. rest) };
+
+    fn next(&mut self) -> Option<&'a T> {
+        if self.rows.is_empty() {
+            let (chunk, behind) = self.chunks.split_first()?;
+            self.rows = chunk.as_slice();
+            self.chunks = behind;
+        }
+        let (row, left) = self.rows.split_first()?;
+        self.rows = left;
+        Some(row)
+    }
+}
+
+impl<T> FusedIterator for ChunkRows<'_, T> {}
