@@ -20,6 +20,8 @@ PROGRAM = OUT / NAME
 # What it was made of: the commit, the kit, and a sum and a path for each source. Written last, so without it there is no program.
 STAMP = OUT / "stamp"
 PARTS = ("src", "specs", "proofs")
+# A check takes up to 3.5 GB, in MB.
+CHECK_MEMORY = 3500
 # The status where this machine lacks something (as EX_UNAVAILABLE of sysexits.h). The program's own are 0 to 5.
 UNAVAILABLE = 69
 
@@ -83,9 +85,17 @@ def lay_out(room, crates, rows=()):
                 shutil.copyfile(source / file, target / file)
 
 
+def gate_environment():
+    """Returns the environment for `rt ci`: as many checks at once as there are processors, and memory for. Left to itself it gives a
+    check up to four processors where no other waits; as a check uses little more than one, the next ones then wait for nothing."""
+    checks = min(len(os.sched_getaffinity(0)), free_memory() // CHECK_MEMORY)
+    return {"RT_JOBS": str(max(checks, 1)), **os.environ}
+
+
 def run_gate(room):
     """Runs `rt ci` in a room, and returns whether all is proved, and what it said. What was proved before on this machine it takes."""
-    ran = subprocess.run(["rt", "ci"], cwd=room, stdin=subprocess.DEVNULL, stdout=subprocess.PIPE, stderr=subprocess.STDOUT, encoding="utf-8", errors="replace", check=False)
+    pipes = {"stdin": subprocess.DEVNULL, "stdout": subprocess.PIPE, "stderr": subprocess.STDOUT, "encoding": "utf-8", "errors": "replace"}
+    ran = subprocess.run(["rt", "ci"], cwd=room, env=gate_environment(), check=False, **pipes)
     return ran.returncode == 0, ran.stdout
 
 
