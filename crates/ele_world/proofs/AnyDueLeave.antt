@@ -3,7 +3,8 @@ use Rattle.ele_model.proofs.Basics.{◌≡◌, ℕ, Bool, true, false, not, cond
 use Rattle.ele_model.proofs.Basics.{all-any, all-append, all-both, all-filter, all-right, all-weaker, filter-both, filter-same_all, filter-swap, later-around, remove_first-at}
 use Rattle.ele_lists.proofs.Alls.{all-left}
 use Rattle.ele_lists.proofs.Cuts.{find-at}
-use Rattle.ele_model.proofs.Words.{VersionRow, ArePlaced, Take, after_change, HasParts, World, is_version}
+use Rattle.ele_model.proofs.Words.{ArePlaced, Take, after_change, HasParts, World, is_version}
+use Rattle.ele_world.proofs.Words.{VersionRow}
 use Rattle.ele_world.specs.AnyDueLeave.{AreDue, LeavesOthersDue, without_versions}
 use Rattle.ele_model.specs.Due.{is_due, is_due_at}
 use Rattle.ele_model.proofs.DueRows.{due_has_ended, due_is_unread}

@@ -1,7 +1,8 @@
 -- A change made in a world and in one that lags behind it, with the same versions and files missing before and after.
 use Rattle.ele_model.proofs.Basics.{◌≡◌, ◌==◌, ◌≤◌, ℕ, Bool, true, false, not, List, [], ◌∷◌, ◌++◌, None, Some, Option, refl, ap, sym, ◌∙◌, arith, nat_tests, nat_le, list_any, option_map_or, AllByRecursion}
 use Rattle.ele_model.proofs.Basics.{all-split, false≢true, list_any-append, is_none, is_some}
-use Rattle.ele_model.proofs.Words.{Change, HasParts, NameRow, Target, File, Directory, World, after_change, has_draft, is_live, is_live_name_of, ripe_at, next_of}
+use Rattle.ele_model.proofs.Words.{Change, HasParts, World, after_change, has_draft, is_live, is_live_name_of, ripe_at, next_of}
+use Rattle.ele_world.proofs.Words.{NameRow, Target, File, Directory}
 use Rattle.ele_world.specs.AnyDueLeave.{AreDue}
 use Rattle.ele_world.specs.Lags.{Lags}
 use Rattle.ele_world.specs.Less.{less, is_dropped, IsEmptied}

@@ -2,7 +2,8 @@
 use Rattle.ele_model.proofs.Basics.{◌≡◌, ◌<◌, ◌-◌, ℕ, Bool, true, false, not, List, [], refl, ap, sym, ◌∙◌, arith, nat_tests, list_any, remove_first, insert_before, update_first}
 use Rattle.ele_model.proofs.Basics.{all-filter, all-none, all-remove_first, list_any-insert_before, list_any-update_first, false≢true, filter-swap}
 use Rattle.ele_lists.proofs.Filters.{find-filter}
-use Rattle.ele_model.proofs.Words.{Cell, Change, Draft, DraftRow, DropIdle, EndDraft, HandleRow, HasParts, NameRow, OpenHandle, ShutHandle, StartDraft, TruncateDraft, VersionRow, World, WriteDraft, after_change, changed_by, current_cells, fitted_by, has_draft, is_draft, is_draft_after, is_file, is_handle, is_idle, is_live, is_open, is_target_file, is_version, is_version_of, new_draft, next_of, reads_version, ripe_at, without_file}
+use Rattle.ele_model.proofs.Words.{Cell, Change, DropIdle, EndDraft, HasParts, OpenHandle, ShutHandle, StartDraft, TruncateDraft, World, WriteDraft, after_change, changed_by, current_cells, fitted_by, has_draft, is_draft, is_draft_after, is_file, is_handle, is_idle, is_live, is_open, is_target_file, is_version, is_version_of, new_draft, next_of, reads_version, ripe_at, without_file}
+use Rattle.ele_world.proofs.Words.{Draft, DraftRow, HandleRow, NameRow, VersionRow}
 use Rattle.ele_world.specs.Less.{less}
 use Rattle.ele_world.specs.Lags.{Lags}
 use Rattle.ele_world.proofs.AnyDueLeave.{remains}

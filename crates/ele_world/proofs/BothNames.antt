@@ -1,7 +1,8 @@
 -- Changes of the clock, of directories and of names, in a world and in one that lags behind it.
 use Rattle.ele_model.proofs.Basics.{◌≡◌, ◌==◌, ◌≤◌, ◌-◌, ℕ, Bool, true, false, cond, not, ◌&&◌, List, [], ◌∷◌, ◌++◌, refl, ap, sym, ◌∙◌, arith, nat_tests, filter, list_any}
 use Rattle.ele_model.proofs.Basics.{all-weaker, list_any-append, list_any-update_fails, list_any-update_first, false≢true, update_first}
-use Rattle.ele_model.proofs.Words.{AddName, Change, EndFileName, EndName, Govern, HasParts, MakeDirectory, MoveName, NameRow, Policy, Target, Directory, File, Time, World, after_change, born_row, dies, ended_at, is_live, is_live_name, is_live_name_of, is_target_file, is_version, next_of, ripe_at, with_end}
+use Rattle.ele_model.proofs.Words.{AddName, Change, EndFileName, EndName, Govern, HasParts, MakeDirectory, MoveName, Policy, Time, World, after_change, born_row, dies, ended_at, is_live, is_live_name, is_live_name_of, is_target_file, is_version, next_of, ripe_at, with_end}
+use Rattle.ele_world.proofs.Words.{NameRow, Target, Directory, File}
 use Rattle.ele_world.specs.Less.{less, is_dropped}
 use Rattle.ele_world.proofs.AnyDueLeave.{remains}
 use Rattle.ele_world.proofs.Behind.{Behind, KeepsBehind, change_on, due_moment, live_there, names_live, unripe_there}

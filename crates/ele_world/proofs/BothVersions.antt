@@ -1,7 +1,8 @@
 -- A new file and a file's next version, in a world and in one that lags behind it.
 use Rattle.ele_model.proofs.Basics.{◌≡◌, ◌==◌, ◌<◌, ◌-◌, ◌+◌, ℕ, Bool, true, false, cond, not, ◌||◌, List, [], ◌∷◌, None, Some, Option, refl, ap, sym, subst, ◌∙◌, arith, nat_tests, filter, list_any, nat_le, IfSome, option_map_or, unwrap_or, option_and_then, update_first, AllLater}
 use Rattle.ele_model.proofs.Basics.{later-weaker, list_any-append, list_any-insert_before, list_any-update_first, false≢true, all-weaker, all-not_found, find, found_passes, not_found}
-use Rattle.ele_model.proofs.Words.{Cover, Always, Free, Until, cover_of, ripe_past, Append, Cell, Change, Files, IsLawful, HasParts, MakeFile, Policy, VersionRow, Versions, World, after_change, ended_at, is_file, is_live_name_of, is_open, is_version, is_version_after, near_moment, newer_held, ripe_near, next_of, next_version, numbered_on, policy_of, ripe_at, with_end, with_version, ArePlaced}
+use Rattle.ele_model.proofs.Words.{cover_of, ripe_past, Append, Cell, Change, Files, IsLawful, HasParts, MakeFile, Policy, Versions, World, after_change, ended_at, is_file, is_live_name_of, is_open, is_version, is_version_after, near_moment, newer_held, ripe_near, next_of, next_version, numbered_on, policy_of, ripe_at, with_end, with_version, ArePlaced}
+use Rattle.ele_world.proofs.Words.{Cover, Always, Free, Until, VersionRow}
 use Rattle.ele_model.specs.Due.{ripe_of}
 use Rattle.ele_world.specs.Less.{less}
 use Rattle.ele_world.proofs.AnyDueLeave.{remains}

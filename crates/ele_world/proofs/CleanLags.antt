@@ -2,7 +2,8 @@
 use Rattle.ele_model.proofs.Basics.{◌≡◌, ◌==◌, ◌<◌, ℕ, Bool, true, false, not, ◌&&◌, ◌||◌, List, [], None, Some, Option, refl, ap, sym, subst, ◌∙◌, arith, nat_tests, filter, find, remove_first}
 use Rattle.ele_model.proofs.Basics.{all-found, all-none, all-weaker, list_any-filter, filter-both, filter-passes, filter-same, found_passes, later-filter, remove_first-key}
 use Rattle.ele_lists.proofs.Filters.{find-filter}
-use Rattle.ele_model.proofs.Words.{DropIdle, FileRow, Files, HasParts, Key, NameRow, Take, Target, VersionRow, World, after_change, clean_step, first_due, forgotten, is_file, is_target_file, is_version, is_version_of, without_file, is_held, next_of, Versions, GroupRow, IsVersion}
+use Rattle.ele_model.proofs.Words.{DropIdle, Files, HasParts, Key, Take, World, after_change, clean_step, first_due, forgotten, is_file, is_target_file, is_version, is_version_of, without_file, is_held, next_of, Versions, IsVersion}
+use Rattle.ele_world.proofs.Words.{FileRow, NameRow, Target, VersionRow, GroupRow}
 use Rattle.ele_world.specs.AnyDueLeave.{AreDue}
 use Rattle.ele_model.specs.Due.{is_due, is_due_at}
 use Rattle.ele_world.specs.Lags.{Lags}

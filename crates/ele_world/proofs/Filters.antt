@@ -1,6 +1,7 @@
 -- Changes of a list beside a filter of it.
 use Rattle.ele_model.proofs.Basics.{◌≡◌, ℕ, Bool, true, false, not, List, [], ◌∷◌, ◌++◌, refl, arith, nat_tests, filter, find, list_any, AllByRecursion, AllLater, all-weaker, filter-all, insert_before, remove_first, update_first}
-use Rattle.ele_model.proofs.Words.{VersionRow, ArePlaced, is_version}
+use Rattle.ele_model.proofs.Words.{ArePlaced, is_version}
+use Rattle.ele_world.proofs.Words.{VersionRow}
 
 -- q is a filter's test, p the test of a change; all that pass p stay, or none does
 module _ {X : Type 0} (q p : X → Bool) where

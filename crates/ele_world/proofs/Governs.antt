@@ -1,6 +1,7 @@
 -- What a policy event, a default event and a mark change, and that nothing else changes.
 use Rattle.ele_model.proofs.Basics.{nat_tests, arith, ◌≡◌, ℕ, ◌==◌, Bool, Option, true, false, List, [], ◌∷◌, map, Ok, refl, option_map_or, list_any, update_first, find-update_other, list_any-update_first, all-found}
-use Rattle.ele_model.proofs.Words.{World, Policy, FileRow, DirectoryRow, HasParts, Names, Homes, Directories, Directory, IsDirectoryThere, Govern, PutUnder, AddMark, after_change, directory_in, directory_now, file_now, governed_by, has_directory, has_member, is_directory, is_file, is_group, is_member, members_of, marks, put_under, root, walk_now, GroupRow, MarkRow, step}
+use Rattle.ele_model.proofs.Words.{World, Policy, HasParts, Names, Homes, Directories, IsDirectoryThere, Govern, PutUnder, AddMark, after_change, directory_in, directory_now, file_now, governed_by, has_directory, has_member, is_directory, is_file, is_group, is_member, members_of, marks, put_under, root, walk_now, step}
+use Rattle.ele_world.proofs.Words.{FileRow, DirectoryRow, Directory, GroupRow, MarkRow}
 use Rattle.ele_world.specs.DefaultGoverns.{GovernsDirectory}
 use Rattle.ele_world.specs.MarkMarks.{MarksMoment}
 use Rattle.ele_world.specs.PolicyGoverns.{GovernsFile}

@@ -1,6 +1,7 @@
 -- What the events of groups make of the group that they name, and that they leave every other one.
 use Rattle.ele_model.proofs.Basics.{nat_tests, arith, ◌≡◌, ℕ, ◌==◌, ◌&&◌, ◌||◌, not, cond, find, Bool, false, List, [], ◌∷◌, Option, Some, None, Ok, refl, subst, AllLater, list_any, bytes_eq, bytes_eq-Decides, all-found, all-weaker, all-none, find-append, find-remove_first, find-update_other, list_any-append, not_found, update_first, remove_first}
-use Rattle.ele_model.proofs.Words.{World, GroupRow, MarkRow, HasParts, IsGroup, Groups, AddMember, MakeGroup, RemoveMark, RemoveMember, adds, after_change, file_now, group_named, has_group, is_group, is_mark, is_member, mark_at, new_group, removes, unmarks, plan, step, Done, GroupAdd, GroupDrop, GroupMake, GroupRemove, Unmark}
+use Rattle.ele_model.proofs.Words.{World, HasParts, IsGroup, Groups, AddMember, MakeGroup, RemoveMark, RemoveMember, adds, after_change, file_now, group_named, has_group, is_group, is_mark, is_member, mark_at, new_group, removes, unmarks, plan, step}
+use Rattle.ele_world.proofs.Words.{GroupRow, MarkRow, Done, GroupAdd, GroupDrop, GroupMake, GroupRemove, Unmark}
 use Rattle.ele_world.specs.GroupChanges.{ChangesGroup, IsGroupOf}
 use Rattle.ele_lists.proofs.Cuts.{any-found as first_passing}
 use Rattle.ele_model.proofs.Elements.{any_none, find-updated}

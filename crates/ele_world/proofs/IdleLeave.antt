@@ -1,6 +1,7 @@
 -- The law of any due versions where the files go with them of which nothing is left, one after the other.
 use Rattle.ele_model.proofs.Basics.{◌≡◌, ◌==◌, true, false, not, List, [], ◌∷◌, refl, sym, ◌∙◌, arith, nat_tests, map, list_any, remove_first, AllByRecursion, false≢true, all-both, all-remove_first, all-weaker, filter-passes, remove_first-key, filter-same_all, subst, ℕ, Bool}
-use Rattle.ele_model.proofs.Words.{DropIdle, after_change, after_changes, is_idle, without_file, kept_rows, is_file, FileRow, HasNoIdle, Files, HasParts, World}
+use Rattle.ele_model.proofs.Words.{DropIdle, after_change, after_changes, is_idle, without_file, kept_rows, is_file, HasNoIdle, Files, HasParts, World}
+use Rattle.ele_world.proofs.Words.{FileRow}
 use Rattle.ele_world.specs.AnyDueLeave.{AreDue, LeavesOthersDue, without_versions}
 use Rattle.ele_model.specs.Due.{due_rows}
 use Rattle.ele_world.specs.IdleLeave.{without_idle}

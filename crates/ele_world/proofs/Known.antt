@@ -1,7 +1,8 @@
 -- What a history knows of versions: those that are held, and those that were removed as they last stood; at each moment from its
 -- start on that a name covers a version of its file lived. A change keeps that.
 use Rattle.ele_model.proofs.Basics.{◌≡◌, ℕ, ◌-◌, ◌<◌, ◌≤◌, true, false, List, [], Option, Some, None, refl, ap, sym, subst, ◌∙◌, arith, find, AllByRecursion, option_or, false≢true, nat_tests, all-found, find-insert_before, find-inserted, not_found, remove_first, all-not_found, all-remove_first, all-weaker, found_passes, AllLater, ◌++◌, ◌∷◌, list_any, cases_lt, update_first, all-filter, all-both, all-push}
-use Rattle.ele_model.proofs.Words.{Cell, current_cells, Change, Time, EndFileName, Revive, MakeFile, Append, Take, DropIdle, after_change, ended_at, next_version, with_end, with_file, with_name, with_version, covers, lives_at, ArePlaced, IsVersion, Versions, HasParts, World, is_live, is_version, is_version_after, next_of, Event, NameRow, File, VersionRow, MakeDirectory, EndName, AddName, MoveName, born_row, dies, is_live_name, IsNameRow, Names, is_live_name_of, Target, Directory}
+use Rattle.ele_model.proofs.Words.{Cell, current_cells, Change, Time, EndFileName, Revive, MakeFile, Append, Take, DropIdle, after_change, ended_at, next_version, with_end, with_file, with_name, with_version, covers, lives_at, ArePlaced, IsVersion, Versions, HasParts, World, is_live, is_version, is_version_after, next_of, MakeDirectory, EndName, AddName, MoveName, born_row, dies, is_live_name, IsNameRow, Names, is_live_name_of}
+use Rattle.ele_world.proofs.Words.{Event, NameRow, File, VersionRow, Target, Directory}
 use Rattle.ele_model.proofs.Dropped.{dropped, dropped_versions, stays_named}
 use Rattle.ele_model.proofs.May.{MayBy}
 use Rattle.ele_model.proofs.Moves.{IsBehind, IsPast, change_past, Moves, row_of, found_updated, Same, Ended, Taken, change_moves}

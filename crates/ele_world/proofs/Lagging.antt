@@ -1,7 +1,8 @@
 -- A world that lags: its files that are there are seen as in the other, so the same of its versions are due.
 use Rattle.ele_model.proofs.Basics.{◌≡◌, ℕ, None, Bool, true, false, not, List, refl, ap, sym, ◌∙◌, arith, nat_tests, filter, list_any, AllByRecursion, all-both, all-filter, all-weaker, filter-passes, list_any-filter, any-found}
 use Rattle.ele_lists.proofs.Filters.{find-filter}
-use Rattle.ele_model.proofs.Words.{FileRow, NameRow, VersionRow, first_due, kept_rows, file_view, is_file, is_version, is_live_name_of, next_of, policy_of, HasParts, World}
+use Rattle.ele_model.proofs.Words.{first_due, kept_rows, file_view, is_file, is_version, is_live_name_of, next_of, policy_of, HasParts, World}
+use Rattle.ele_world.proofs.Words.{FileRow, NameRow, VersionRow}
 use Rattle.ele_world.specs.AnyDueLeave.{AreDue, without_versions}
 use Rattle.ele_model.specs.Due.{is_due_at}
 use Rattle.ele_world.specs.Lags.{Lags}

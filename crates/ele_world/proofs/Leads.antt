@@ -1,10 +1,8 @@
 -- After a create, a mkdir or an undelete its path leads to what is made, or to what the name last stood for.
 use Rattle.ele_model.proofs.Basics.{◌≡◌, ℕ, ◌+◌, false, List, Some, Ok, ap, subst, arith, is_some, nat_tests, find-append, all-weaker, not_found, ◌≤◌, refl, list_any-append}
-use Rattle.ele_model.proofs.Words.{after_change, MakeFile, Policy, plan, step, live_target, file_at, parent_now, Files, HasParts, World, default_of, next_of, current_of, Create, File, MakeDirectory, is_live_in, Done}
-use Rattle.ele_world.proofs.Words.{LeadsToNew, LeadsToDirectory}
-use Rattle.ele_model.proofs.Words.{directory_in, Directories, Homes, is_directory, MakeDir, Directory, AddName, Revive, current_cells, next_version, with_name, last_target, Versions, Undelete}
-use Rattle.ele_world.proofs.Words.{LeadsAgain, HasNameAgain, HasVersionAgain}
-use Rattle.ele_model.proofs.Words.{Target}
+use Rattle.ele_model.proofs.Words.{after_change, MakeFile, Policy, plan, step, live_target, file_at, parent_now, Files, HasParts, World, default_of, next_of, current_of, MakeDirectory, is_live_in}
+use Rattle.ele_world.proofs.Words.{Create, Directory, Done, File, HasNameAgain, HasVersionAgain, LeadsAgain, LeadsToDirectory, LeadsToNew, MakeDir, Target, Undelete}
+use Rattle.ele_model.proofs.Words.{directory_in, Directories, Homes, is_directory, AddName, Revive, current_cells, next_version, with_name, last_target, Versions}
 use Rattle.ele_model.specs.declared.reply.Reply.TheVariants as reply
 use Rattle.ele_model.proofs.Created.{new_file, made_is, versions_before, named_live}
 use Rattle.ele_model.proofs.Files.{next_of-new, next_of-numbered_on}

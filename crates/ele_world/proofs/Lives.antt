@@ -1,6 +1,7 @@
 -- A held version's life before now stays: an event may end it, and then now.
 use Rattle.ele_model.proofs.Basics.{AllByRecursion, nat_tests, arith, ◌≡◌, ℕ, ◌<◌, ◌≤◌, List, [], ◌∷◌, Option, Some, None, find, AllLater, all-weaker, all-both}
-use Rattle.ele_model.proofs.Words.{World, Event, Change, Time, VersionRow, HasParts, ArePlaced, IsVersion, Versions, after_change, after_changes, ended_at, is_version, lives_at, plan}
+use Rattle.ele_model.proofs.Words.{World, Change, Time, HasParts, ArePlaced, IsVersion, Versions, after_change, after_changes, ended_at, is_version, lives_at, plan}
+use Rattle.ele_world.proofs.Words.{Event, VersionRow}
 use Rattle.ele_world.specs.LifeStays.{LivesAsBefore}
 use Rattle.ele_model.proofs.Allowed.{allowed}
 use Rattle.ele_model.proofs.Keeps.{reached}

@@ -1,6 +1,7 @@
 -- A place has one content, after each event and so in every run.
 use Rattle.ele_model.proofs.Basics.{nat_tests, arith, ◌≡◌, ℕ, ◌<◌, ◌≤◌, ◌==◌, length, Bool, true, false, List, [], ◌∷◌, Some, refl, sym, AllByRecursion, update_first, inr, slice_get, all-found, found_passes, find-update_other}
-use Rattle.ele_model.proofs.Words.{World, Event, IsEvent, Cell, Write, Truncate, DraftRow, Reads, Draft, Version, HasParts, Drafts, Versions, WriteDraft, TruncateDraft, after_change, AreWrittenBy, IsContent, content_of, changed_by, fitted_by, is_draft, next_of, plan, run_of, step}
+use Rattle.ele_model.proofs.Words.{World, IsEvent, Cell, HasParts, Drafts, Versions, WriteDraft, TruncateDraft, after_change, AreWrittenBy, IsContent, content_of, changed_by, fitted_by, is_draft, next_of, plan, run_of, step}
+use Rattle.ele_world.proofs.Words.{Event, Write, Truncate, DraftRow, Reads, Draft, Version}
 use Rattle.ele_world.specs.OneContent.{file_read, Agree, HasOneContent}
 use Rattle.ele_lists.proofs.Alls.{all-got}
 use Rattle.ele_model.specs.Step.{cells_read}

@@ -1,7 +1,7 @@
 -- In a run one version of a file lived at each moment, from the start on, that a name of the file covers.
 use Rattle.ele_model.proofs.Basics.{◌≡◌, ℕ, true, false, List, [], ◌∷◌, Option, Some, None, ap, subst, sym, ◌∙◌, arith, find, Ok, Err, AllByRecursion, option_or, false≢true, cases_lt, nat_tests, all-found, all-not_found, all-weaker, found_passes, any-found, AllLater}
-use Rattle.ele_model.proofs.Words.{Change, after_change, after_changes, run_of, PoliciesAreLawful, plan, step, had_closed, had_life, last_number, lives_at, version_living, ArePlaced, Versions, HasParts, World, fresh_world, is_held, is_version, Event, Forgotten, VersionRow, IsEvent}
-use Rattle.ele_world.proofs.Words.{last_stood, HasOneLife, NamesOneLife, OneLife, HasLivesFrom, NamesOneLifeFrom, OneLifeFrom}
+use Rattle.ele_model.proofs.Words.{Change, after_change, after_changes, run_of, PoliciesAreLawful, plan, step, had_closed, had_life, last_number, lives_at, version_living, ArePlaced, Versions, HasParts, World, fresh_world, is_held, is_version, IsEvent}
+use Rattle.ele_world.proofs.Words.{Event, Forgotten, HasLivesFrom, HasOneLife, NamesOneLife, NamesOneLifeFrom, OneLife, OneLifeFrom, VersionRow, last_stood}
 use Rattle.ele_lists.proofs.Cuts.{any-found as first_passing}
 use Rattle.ele_model.proofs.Allowed.{allowed}
 use Rattle.ele_model.proofs.Keeps.{event_keeps, reached}

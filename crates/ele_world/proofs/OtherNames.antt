@@ -1,6 +1,7 @@
 -- The names that an event doesn't name stand for what they stood for.
 use Rattle.ele_model.proofs.Basics.{nat_tests, arith, ◌≡◌, ℕ, false, List, [], ◌∷◌, ◌++◌, refl, ap, ◌∙◌, filter, AllByRecursion, all-none, find-append}
-use Rattle.ele_model.proofs.Words.{World, Event, Close, CleanOne, Read, NameRow, DropIdle, EndDraft, ShutHandle, Take, after_change, is_live_name, is_live_name_of, live_target, plan}
+use Rattle.ele_model.proofs.Words.{World, DropIdle, EndDraft, ShutHandle, Take, after_change, is_live_name, is_live_name_of, live_target, plan}
+use Rattle.ele_world.proofs.Words.{Event, Close, CleanOne, Read, NameRow}
 use Rattle.ele_world.specs.OtherNamesStay.{is_named_by, OtherNamesStay}
 use Rattle.ele_model.proofs.Dropped.{dropped, stays_named}
 use Rattle.ele_world.proofs.NameEnds.{other_stays}

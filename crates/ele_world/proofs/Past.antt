@@ -1,6 +1,7 @@
 -- What name rows say of a moment before now stays so after an event, but for those of a file that goes.
 use Rattle.ele_model.proofs.Basics.{nat_tests, arith, ◌≡◌, ℕ, ◌<◌, Bool, true, false, List, [], ◌∷◌, ◌++◌, ◌&&◌, Option, Some, None, refl, ap, sym, ◌∙◌, ◌⊎◌, inl, inr, find, filter, option_map, AllByRecursion, AllLater, update_first, remove_first, list_any, find-append, not_found, all-not_found, all-filter, all-weaker, bytes_eq-Decides}
-use Rattle.ele_model.proofs.Words.{World, Event, Close, CleanOne, Read, NameRow, FileRow, Target, File, HasParts, Files, Names, AreApart, DropIdle, EndDraft, ShutHandle, Take, after_change, without_file, is_file, is_live_name, is_live_name_of, is_named, covers, target_at, dies, plan, step}
+use Rattle.ele_model.proofs.Words.{World, HasParts, Files, Names, AreApart, DropIdle, EndDraft, ShutHandle, Take, after_change, without_file, is_file, is_live_name, is_live_name_of, is_named, covers, target_at, dies, plan, step}
+use Rattle.ele_world.proofs.Words.{Event, Close, CleanOne, Read, NameRow, FileRow, Target, File}
 use Rattle.ele_world.specs.PastStays.{StoodAsBefore}
 use Rattle.ele_model.proofs.Dropped.{IsIdle, dropped, stays_named}
 use Rattle.ele_model.proofs.Outcomes.{AfterAll, in_all}

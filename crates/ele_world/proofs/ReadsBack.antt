@@ -1,7 +1,7 @@
 -- A version that is held has the cells that it had when it closed.
 use Rattle.ele_model.proofs.Basics.{nat_tests, arith, ◌≡◌, ℕ, List, [], ◌∷◌, Option, IfSome, refl, find, Ok, AllByRecursion, all-found, all-weaker, all-both, AllLater}
-use Rattle.ele_model.proofs.Words.{Cell, content_of, TaggedPath, Change, after_change, after_changes, PoliciesAreLawful, fresh_world, run_of, plan, step, version_at, ArePlaced, IsVersion, Versions, Readers, HasParts, World, is_version, reads_by, Event, Read, Tagged, Of, Bytes, Version, VersionRow, IsEvent}
-use Rattle.ele_world.proofs.Words.{ReadsAsClosed, ReadsAsClosedInRuns, ReadsRow}
+use Rattle.ele_model.proofs.Words.{Cell, content_of, TaggedPath, Change, after_change, after_changes, PoliciesAreLawful, fresh_world, run_of, plan, step, version_at, ArePlaced, IsVersion, Versions, Readers, HasParts, World, is_version, reads_by, IsEvent}
+use Rattle.ele_world.proofs.Words.{Bytes, Event, Of, Read, ReadsAsClosed, ReadsAsClosedInRuns, ReadsRow, Tagged, Version, VersionRow}
 use Rattle.ele_model.proofs.Allowed.{allowed}
 use Rattle.ele_model.proofs.Formed.{in_parts}
 use Rattle.ele_model.proofs.Keeps.{reached}

@@ -1,6 +1,7 @@
 -- The list of restorable names is in order and has a name just where it may come back, and an undelete takes just these.
 use Rattle.ele_model.proofs.Basics.{nat_tests, arith, ◌≡◌, ℕ, ◌==◌, ◌&&◌, ◌||◌, not, Bool, true, false, List, [], ◌∷◌, map, Option, Some, None, Ok, refl, ap, sym, subst, cons_option, ◌∙◌, find, is_none, is_some, AllByRecursion, AllLater, filter_map, list_any, keys_of, lookup, is_at, option_map, passing, bytes_eq, bytes_eq-Decides, later-weaker, unsigned_tied, is_eq-slice_cmp, Less, eq_by_cmp_equiv, IsDistinct-from_sorted}
-use Rattle.ele_model.proofs.Words.{World, DeadName, NameRow, Target, Names, AreApart, is_live_name, is_named, last_dead, live_target, may_return, name_cmp, newest_rows, parent_now, returning, plan, outcome, Undelete, HasParts, step}
+use Rattle.ele_model.proofs.Words.{World, Names, AreApart, is_live_name, is_named, last_dead, live_target, may_return, name_cmp, newest_rows, parent_now, returning, plan, outcome, HasParts, step}
+use Rattle.ele_world.proofs.Words.{DeadName, NameRow, Target, Undelete}
 use Rattle.std.specs.List.Sorted.{IsStrictlySortedBy}
 use Rattle.std.proofs.lemmas.Map.{lookup-none}
 use Rattle.std.proofs.lemmas.Map.Entries.{none_past_head}

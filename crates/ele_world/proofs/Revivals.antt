@@ -1,6 +1,7 @@
 -- A file that has a name again: its last version had ended, and it may have its next one.
 use Rattle.ele_model.proofs.Basics.{nat_tests, ℕ, List, arith}
-use Rattle.ele_model.proofs.Words.{with_name, Versions, HasParts, World, File}
+use Rattle.ele_model.proofs.Words.{with_name, Versions, HasParts, World}
+use Rattle.ele_world.proofs.Words.{File}
 use Rattle.ele_model.proofs.AppendMoments.{MayGrow, may_grow}
 use Rattle.ele_model.proofs.KeptRevived.{last_is}
 use Rattle.ele_model.proofs.May.{MayRevive}

@@ -1,6 +1,7 @@
 -- The law of the schedule: along a run the world that is cleaned lags behind the one that isn't.
 use Rattle.ele_model.proofs.Basics.{◌≡◌, ◌||◌, ℕ, true, false, not, List, [], ◌∷◌, refl, sym, subst, ◌∙◌, all-any, filter-all, arith, nat_tests, filter, cond, AllByRecursion, false≢true}
-use Rattle.ele_model.proofs.Words.{CleanOne, Event, IsEvent, IsPass, HasParts, World, asks, kept_rows, run_of, step, Reply, Target, File, Directory}
+use Rattle.ele_model.proofs.Words.{IsEvent, IsPass, HasParts, World, asks, kept_rows, run_of, step}
+use Rattle.ele_world.proofs.Words.{CleanOne, Event, Reply, Target, File, Directory}
 use Rattle.ele_world.specs.Lags.{Lags}
 use Rattle.ele_world.specs.Less.{less, is_dropped}
 use Rattle.ele_world.specs.PlainEvents.{is_clean, is_plain}

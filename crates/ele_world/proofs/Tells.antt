@@ -1,6 +1,7 @@
 -- Which closes and which undeletes make a version.
 use Rattle.ele_model.proofs.Basics.{nat_tests, arith, ◌≡◌, ℕ, false, List, Some, None, Ok, refl, subst}
-use Rattle.ele_model.proofs.Words.{World, Close, Draft, Target, File, Undelete, EndDraft, ShutHandle, after_change, file_by, has_draft, last_target, nameless, next_of, parent_now, plan, reads_by}
+use Rattle.ele_model.proofs.Words.{World, EndDraft, ShutHandle, after_change, file_by, has_draft, last_target, nameless, next_of, parent_now, plan, reads_by}
+use Rattle.ele_world.proofs.Words.{Close, Draft, Target, File, Undelete}
 use Rattle.ele_model.specs.declared.reply.Reply.TheVariants as reply
 use Rattle.ele_world.specs.CloseTells.{CloseTells, CloseLeaves}
 use Rattle.ele_world.specs.UndeleteRevives.{RevivesFile, UndeleteRevives}

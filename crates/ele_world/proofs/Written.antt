@@ -1,6 +1,7 @@
 -- What handles read: a draft that begins or is written, or the version that was meant.
 use Rattle.ele_model.proofs.Basics.{nat_tests, arith, ◌≡◌, ℕ, ◌+◌, ◌==◌, Bool, true, false, List, [], ◌∷◌, ◌++◌, length, Ok, refl, all-found, all-none, all-weaker, find-append, find-inserted, find-remove_first, find-update_other, list_any, not_found, update_first, insert_before, remove_first, take_all, append-nil, rules}
-use Rattle.ele_model.proofs.Words.{World, Event, Close, Read, DraftRow, HandleRow, Reads, Draft, HasParts, IsHandle, Handles, ShutHandle, WriteDraft, TruncateDraft, DropIdle, EndDraft, Take, CleanOne, after_change, changed_by, content_of, file_by, file_now, fitted_by, has_draft, Done, is_draft, is_draft_after, is_handle, new_draft, next_of, plan, reads_by, Write, TaggedPath, step}
+use Rattle.ele_model.proofs.Words.{World, HasParts, IsHandle, Handles, ShutHandle, WriteDraft, TruncateDraft, DropIdle, EndDraft, Take, after_change, changed_by, content_of, file_by, file_now, fitted_by, has_draft, is_draft, is_draft_after, is_handle, new_draft, next_of, plan, reads_by, TaggedPath, step}
+use Rattle.ele_world.proofs.Words.{Event, Close, Read, DraftRow, HandleRow, Reads, Draft, CleanOne, Done, Write}
 use Rattle.ele_content.specs.Content.{content_after_write, content_after_truncate}
 use Rattle.ele_content.proofs.Contents.{content_of-written, content_of-truncated}
 use Rattle.ele_lists.proofs.Cuts.{any-found as first_passing}
