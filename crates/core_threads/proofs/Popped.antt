@@ -1,7 +1,7 @@
 -- What is known of a new seat that is taken from the end of its row.
 use Rattle.std.proofs.Common.{◌≡◌, ℕ, List, [], ◌∷◌, ◌++◌}
-use Rattle.ele_shared.specs.Knowledge.{Knowledge, Object}
-use Rattle.ele_shared.specs.Seats.{AreNew}
+use Rattle.ele_shared_history.specs.Knowledge.{Knowledge, Object}
+use Rattle.ele_shared_history.specs.Seats.{AreNew}
 
 -- the last one is of the object
 pub last_is_of : (object : Object) (ns : List ℕ) (ks : List Knowledge) (k : Knowledge) → AreNew object ns (ks ++ k ∷ []) → k.object ≡ object

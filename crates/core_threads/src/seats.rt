@@ -5,7 +5,7 @@ use ele_core::Core;
 use ele_history::History;
 use ele_model::{ByteList, Event, FileId, Handle, Limits, NoMemory, Reply, Stepping, Stop};
 use ele_script::read_event;
-use ele_shared::{Seat, Shared};
+use ele_shared_history::{Seat, Shared};
 use std::alloc::Global;
 use std::sync::Wait;
 use std::test::Fail;

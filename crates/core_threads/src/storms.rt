@@ -7,7 +7,7 @@ use crate::tally::{are_prepared, are_ten_rounds};
 use ele_core::Core;
 use ele_model::laws::usage_fits;
 use ele_model::{Auditable, NoMemory, Stepping, audit};
-use ele_shared::{Seat, Shared};
+use ele_shared_history::{Seat, Shared};
 use ele_storm::{Flags, Meet, StormFault, StormPlan, storm, work};
 use std::alloc::Global;
 use std::sync::Wait;

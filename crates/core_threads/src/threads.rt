@@ -4,7 +4,7 @@ ghost use Rattle.std.specs.Prelude.{◌≡◌};
 use crate::seats::{Answer, opened};
 use ele_core::Core;
 use ele_model::{Entry, Event, Stepping, Stop};
-use ele_shared::{Seat, Shared};
+use ele_shared_history::{Seat, Shared};
 use std::alloc::Global;
 use std::sync::Wait;
 use std::test::Fail;

@@ -1,10 +1,10 @@
 -- The version that a question or a revert means, by its stamps.
 use Rattle.ele_state.specs.Told.{found_of}
-use Rattle.ele_time_path.specs.declared.tagged.TaggedPath.{TaggedPath}
+use Rattle.ele_path.specs.declared.tagged.TaggedPath.{TaggedPath}
 use Rattle.ele_model.proofs.Basics.{◌≡◌, ℕ, Result, Ok, Err, true, refl, Some, subst, find, any-found, found_passes}
 use Rattle.ele_model.proofs.Meant.{is_meant, made_of, numbered_found}
-use Rattle.ele_time_path.specs.declared.tagged.Tag.{Tag}
-use Rattle.ele_time_path.specs.declared.tagged.Tag.TheVariants as tag
+use Rattle.ele_path.specs.declared.tagged.Tag.{Tag}
+use Rattle.ele_path.specs.declared.tagged.Tag.TheVariants as tag
 use Rattle.ele_model.specs.Fate.{HasFate}
 use Rattle.ele_model.specs.Tagged.{version_at, version_meant}
 use Rattle.ele_model.specs.Told.{file_stat, stamps_of}

@@ -37,9 +37,9 @@ pub use ele_model::{
     TaggedPath, Target, Usage, VersionNo, VersionRow, Which,
 };
 pub use ele_moment::{BadMoment, BadName};
+pub use ele_path::{PathAtFault, PathFault};
 pub use ele_policy::{BadLadder, Floor, Interval};
 use ele_state::{Meter, State};
-pub use ele_time_path::{PathAtFault, PathFault};
 use std::alloc::Global;
 use std::marker::Model;
 

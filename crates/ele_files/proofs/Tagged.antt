@@ -3,7 +3,7 @@ use Rattle.ele_files.proofs.Words.{AllByRecursion, AllSessions, Bool, Err, File,
 use Rattle.ele_files.proofs.Rows.{file_of, next_found, tagged, version_of, any_draft}
 use Rattle.ele_files.proofs.Stock.{logs_live, row_lives}
 use Rattle.ele_model.specs.World.{is_draft}
-use Rattle.ele_time_path.specs.declared.tagged.Tag.TheVariants as tag
+use Rattle.ele_path.specs.declared.tagged.Tag.TheVariants as tag
 use Rattle.ele_model.specs.Tagged as world
 use Rattle.ele_sessions.specs.Sessions as sessions
 

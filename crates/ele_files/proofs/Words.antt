@@ -40,7 +40,7 @@ pub use Rattle.ele_sessions.specs.Opening.{Opens, new_draft, with_draft}
 pub use Rattle.ele_sessions.specs.Order.{Rises}
 pub use Rattle.ele_sessions.specs.Orderly.{AreOrderly}
 pub use Rattle.ele_sessions.specs.Sessions.{AllSessions, Draft, draft_by, draft_for, draft_of, handle_file, is_draft, is_draft_after}
-pub use Rattle.ele_time_path.specs.declared.tagged.Tag.{Tag}
+pub use Rattle.ele_path.specs.declared.tagged.Tag.{Tag}
 pub use Rattle.ele_model.proofs.Created.{named_live}
 pub use Rattle.ele_model.proofs.Files.{next_of-numbered_other, next_of-push}
 pub use Rattle.ele_model.proofs.Newer.{enough_newer, newer_own, with_newer_own}

@@ -5,8 +5,8 @@ use Rattle.ele_files.specs.declared.file.File.{File}
 use Rattle.ele_inode_log.specs.declared.row.VersionRow as log
 use Rattle.ele_inode_log.specs.Rows.{has_number, is_before, has_closed_by, lives_at}
 use Rattle.ele_lists.specs.Last.{last_passing}
-use Rattle.ele_time_path.specs.declared.tagged.Tag.{Tag}
-use Rattle.ele_time_path.specs.declared.tagged.Tag.TheVariants as tag
+use Rattle.ele_path.specs.declared.tagged.Tag.{Tag}
+use Rattle.ele_path.specs.declared.tagged.Tag.TheVariants as tag
 use Rattle.ele_model.specs.declared.refusal.Refusal.{Refusal}
 use Rattle.ele_model.specs.declared.refusal.Refusal.TheVariants.{Forgotten, NoVersion}
 use Rattle.ele_model.specs.declared.rows.Stamps.{Stamps}

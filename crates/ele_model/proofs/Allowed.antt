@@ -3,7 +3,7 @@ use Rattle.ele_model.proofs.Basics.{nat_tests, arith, ◌≡◌, ℕ, true, fals
 use Rattle.ele_model.proofs.Basics.{length-remove_first, list_any-insert_before, insert_before}
 use Rattle.ele_model.proofs.Words.{is_named, last_target, may_return, nameless, IsThere, IsDirectoryThere, IsNameRow, IsHoused, Names, Homes, HasParts, World, NameRow, Target, Key, new_draft, EndDraft, ShutHandle, after_changes, first_due, plan}
 use Rattle.ele_model.proofs.Words.{version_meant, live_target, parent_now, IsPolicy, default_of, DirectoryRow, Counted, Directories, Versions, Drafts, next_of, is_draft, is_draft_after, Event, MakeDir, Create, Undelete, OpenWrite, OpenRead, Close, Revert, CleanOne, Read, DraftRow, VersionRow}
-use Rattle.ele_time_path.specs.declared.tagged.Tag.TheVariants as tag
+use Rattle.ele_path.specs.declared.tagged.Tag.TheVariants as tag
 use Rattle.ele_lists.proofs.Cuts.{any-found}
 use Rattle.ele_model.proofs.May.{HasRoom, MayName, MayAdd, MayRevive, MayAppend, MayClean, MayPlan}
 use Rattle.ele_model.proofs.DueRows.{first_is_due, due_has_ended, due_is_unread}

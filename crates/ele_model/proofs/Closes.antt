@@ -3,7 +3,7 @@ use Rattle.ele_model.proofs.Basics.{◌≡◌, ℕ, ◌-◌, false, List, [], �
 use Rattle.ele_model.proofs.Words.{after_changes, ShutHandle, EndDraft, Append, DraftRow, is_draft, ended_at, next_version, with_end, with_version, KeepsDraft, draft_read, step, IsVersion, Versions, HasParts, World, next_of, is_version, Revert}
 use Rattle.ele_model.proofs.Words.{is_version_after, reads_by, Close, FileRow, Reads, VersionRow, after_change, file_now, version_meant, CopiesVersion, Names}
 use Rattle.ele_model.specs.declared.reply.Reply.TheVariants as reply
-use Rattle.ele_time_path.specs.declared.tagged.Tag.TheVariants as tag
+use Rattle.ele_path.specs.declared.tagged.Tag.TheVariants as tag
 use Rattle.ele_model.proofs.Outcomes.{in_all}
 use Rattle.ele_model.proofs.Files.{next_of-numbered_on}
 use Rattle.ele_model.proofs.Walks.{file_there}

@@ -1,7 +1,7 @@
 -- The version that a tag means is one of its file that is held.
 use Rattle.ele_model.proofs.Basics.{◌≡◌, ℕ, Bool, true, List, Some, arith, find, Ok, nat_tests, found_passes, any-found}
 use Rattle.ele_model.proofs.Words.{Tag, TaggedPath, version_meant, version_numbered, version_at, World, is_held, is_version, FileRow, VersionRow}
-use Rattle.ele_time_path.specs.declared.tagged.Tag.TheVariants as tag
+use Rattle.ele_path.specs.declared.tagged.Tag.TheVariants as tag
 
 -- it was found by a test that only the file's versions pass
 pub record IsMeant (versions : List VersionRow) (file : ℕ) (row : VersionRow) : Type 0 where

@@ -14,8 +14,8 @@ pub use Rattle.ele_policy.specs.Ripe.{Beside, IsNearest, IsToldBy, candidates, e
 pub use Rattle.ele_policy.specs.declared.policy.Kind.{Kind}
 pub use Rattle.ele_policy.specs.declared.policy.Policy.{Policy}
 pub use Rattle.ele_policy.specs.declared.policy.Policy.TheVariants.{All, One, Safe}
-pub use Rattle.ele_time_path.specs.declared.tagged.Tag.{Tag}
-pub use Rattle.ele_time_path.specs.declared.tagged.TaggedPath.{TaggedPath}
+pub use Rattle.ele_path.specs.declared.tagged.Tag.{Tag}
+pub use Rattle.ele_path.specs.declared.tagged.TaggedPath.{TaggedPath}
 pub use Rattle.ele_usage.specs.OnlyAt.{only_at}
 pub use Rattle.ele_usage.specs.Sums.{Fits, IsWithin, nothing, plus}
 pub use Rattle.ele_usage.specs.declared.usage.Usage.{Usage}

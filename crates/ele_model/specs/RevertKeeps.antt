@@ -1,6 +1,6 @@
 -- A revert gives the file a current version with the cells of the one that was named; that one and all others keep theirs.
 use Rattle.std.specs.Prelude.{◌≡◌, ℕ, List, Some, Ok}
-use Rattle.ele_time_path.specs.declared.tagged.Tag.TheVariants.{Number}
+use Rattle.ele_path.specs.declared.tagged.Tag.TheVariants.{Number}
 use Rattle.ele_model.specs.declared.event.Event.TheVariants.{Revert}
 use Rattle.ele_model.specs.declared.reply.Reply.TheVariants.{Version}
 use Rattle.ele_model.specs.declared.rows.VersionRow.{VersionRow}

@@ -1,7 +1,7 @@
 -- Why the version that a tagged path means is held or may go, and which versions will be due.
 use Rattle.std.specs.Prelude.{◌≡◌, ℕ, ◌<◌, ◌≤◌, List, Result, Ok, Err}
 use Rattle.ele_due.specs.declared.key.Key.{Key}
-use Rattle.ele_time_path.specs.declared.tagged.TaggedPath.{TaggedPath}
+use Rattle.ele_path.specs.declared.tagged.TaggedPath.{TaggedPath}
 use Rattle.ele_model.specs.declared.fate.Fate.{Fate}
 use Rattle.ele_model.specs.declared.refusal.Refusal.{Refusal}
 use Rattle.ele_model.specs.declared.refusal.Refusal.TheVariants.{NotAhead}

@@ -1,8 +1,8 @@
 //! Events: the commands that a world takes.
 use ele_lists::ByteList;
 use ele_moment::{Handle, Moment, Name, VersionNo};
+use ele_path::{Path, PathAt, TaggedPath};
 use ele_policy::Policy;
-use ele_time_path::{Path, PathAt, TaggedPath};
 
 /// What is read.
 #[derive(Debug, Drop, PartialEq, Eq)]

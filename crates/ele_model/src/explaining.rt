@@ -6,7 +6,7 @@ use crate::list::KeyList;
 use crate::refusal::Refusal;
 use crate::stepping::Stepping;
 use ele_moment::{Moment, NoMemory};
-use ele_time_path::TaggedPath;
+use ele_path::TaggedPath;
 
 /// A world that events change, and that tells of its versions why they are held. Neither call changes anything.
 pub trait Explaining: Stepping {

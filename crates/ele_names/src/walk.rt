@@ -11,7 +11,7 @@ use crate::found::Found;
 use crate::names::Names;
 use ele_model::{Refusal, Target};
 use ele_moment::{DirId, Moment, Name};
-use ele_time_path::Path;
+use ele_path::Path;
 
 /// The directory from which each path starts.
 const ROOT: DirId = DirId(0);

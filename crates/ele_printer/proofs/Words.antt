@@ -3,7 +3,7 @@ use Rattle.ele_printer.proofs.Basics.{nat_tests, arith, rules, true, false, ◌=
 use Rattle.ele_printer.proofs.Prelude.{line_text}
 use Rattle.ele_printer.specs.Command.{command_words, name_of}
 use Rattle.ele_printer.specs.EventText.{event_words, value_word}
-use Rattle.ele_time_path.specs.PathText.{path_word}
+use Rattle.ele_path.specs.PathText.{path_word}
 use Rattle.ele_printer.specs.HistoryText.{entry_line}
 use Rattle.ele_printer.specs.Parts.{parts_of}
 use Rattle.ele_printer.specs.Printed.{bytes_word}

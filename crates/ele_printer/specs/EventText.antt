@@ -6,11 +6,11 @@ use Rattle.ele_moment.specs.Last.{last_moment}
 use Rattle.ele_moment.specs.Name.{IsName}
 use Rattle.ele_policy.specs.Policy.{IsPolicy}
 use Rattle.ele_policy.specs.PolicyText.{policy_word}
-use Rattle.ele_time_path.specs.Path.{IsPath}
-use Rattle.ele_time_path.specs.PathAt.{tag_at}
-use Rattle.ele_time_path.specs.PathText.{path_word, tagged_word}
-use Rattle.ele_time_path.specs.declared.tagged.Tag.{Tag}
-use Rattle.ele_time_path.specs.declared.tagged.Tag.TheVariants.{Now, At, Number as Numbered}
+use Rattle.ele_path.specs.Path.{IsPath}
+use Rattle.ele_path.specs.PathAt.{tag_at}
+use Rattle.ele_path.specs.PathText.{path_word, tagged_word}
+use Rattle.ele_path.specs.declared.tagged.Tag.{Tag}
+use Rattle.ele_path.specs.declared.tagged.Tag.TheVariants.{Now, At, Number as Numbered}
 use Rattle.ele_model.specs.declared.event.Event.{Event}
 use Rattle.ele_model.specs.declared.event.Source.{Source as AnySource}
 use Rattle.ele_model.specs.declared.event.Source.TheVariants as source

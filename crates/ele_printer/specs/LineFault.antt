@@ -1,9 +1,9 @@
 -- The faults of lines: their numbers, their names, and those of paths among them.
 use Rattle.std.specs.Prelude.{ℕ, List, codes}
-use Rattle.ele_time_path.specs.declared.fault.PathFault.{PathFault}
-use Rattle.ele_time_path.specs.declared.fault.PathFault.TheVariants as path
-use Rattle.ele_time_path.specs.declared.fault.PathAtFault.{PathAtFault}
-use Rattle.ele_time_path.specs.declared.fault.PathAtFault.TheVariants as timed
+use Rattle.ele_path.specs.declared.fault.PathFault.{PathFault}
+use Rattle.ele_path.specs.declared.fault.PathFault.TheVariants as path
+use Rattle.ele_path.specs.declared.fault.PathAtFault.{PathAtFault}
+use Rattle.ele_path.specs.declared.fault.PathAtFault.TheVariants as timed
 use Rattle.ele_model.specs.Answers.{stop_answer}
 use Rattle.ele_model.specs.declared.refusal.Stop.TheVariants as stop
 use Rattle.ele_printer.specs.declared.fault.LineFault.{LineFault}

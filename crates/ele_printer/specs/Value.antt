@@ -1,8 +1,8 @@
 -- What a word behind a command stands for.
 use Rattle.std.specs.Prelude.{ℕ, List, [], ◌∷◌, Option, Some, None}
 use Rattle.ele_policy.specs.declared.policy.Policy.{Policy as AnyPolicy}
-use Rattle.ele_time_path.specs.declared.path_at.PathAt.{PathAt}
-use Rattle.ele_time_path.specs.declared.tagged.TaggedPath.{TaggedPath}
+use Rattle.ele_path.specs.declared.path_at.PathAt.{PathAt}
+use Rattle.ele_path.specs.declared.tagged.TaggedPath.{TaggedPath}
 use Rattle.ele_model.specs.declared.event.Source.{Source as AnySource}
 
 pub data Value : Type 0 where

@@ -3,7 +3,7 @@ ghost use Rattle.std.specs.Prelude.{◌≡◌};
 ghost use Rattle.ele_printer.specs.LineFault.{fault_number, fault_name, write_fault_number, write_fault_name, fault_of_path, fault_of_path_at};
 ghost use Rattle.ele_printer.specs.declared.fault.LineFault.TheVariants.{BadName, BadLadder, NoMemory};
 
-use ele_time_path::{PathAtFault, PathFault};
+use ele_path::{PathAtFault, PathFault};
 use std::alloc::AllocError;
 use thiserror::Error;
 

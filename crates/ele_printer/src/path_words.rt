@@ -3,14 +3,14 @@
 ghost use Rattle.std.specs.Prelude.{◌≡◌, ◌∷◌, ◌++◌};
 ghost use Rattle.ele_printer.specs.EventText.{IsTag};
 ghost use Rattle.ele_printer.specs.Prints.{Prints};
-ghost use Rattle.ele_time_path.specs.PathAt.{tag_at};
-ghost use Rattle.ele_time_path.specs.PathText.{path_word, tag_text};
+ghost use Rattle.ele_path.specs.PathAt.{tag_at};
+ghost use Rattle.ele_path.specs.PathText.{path_word, tag_text};
 
 use crate::fault::WriteFault;
 use crate::printer::Printer;
 use crate::rows::put_listed;
 use ele_moment::Moment;
-use ele_time_path::{Path, Tag};
+use ele_path::{Path, Tag};
 use std::io::Write;
 
 /// Puts a space and a path: a slash for the root, or the names, each with a slash in front.

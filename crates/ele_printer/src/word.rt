@@ -12,8 +12,8 @@ use crate::printer::{Printer, put_word};
 use crate::rows::{put_listed, put_policy};
 use ele_model::Source;
 use ele_moment::{Handle, Moment, Name, VersionNo};
+use ele_path::{Path, PathAt, TaggedPath};
 use ele_policy::Policy;
-use ele_time_path::{Path, PathAt, TaggedPath};
 use std::io::Write;
 
 /// What is told in a word of its own.

@@ -13,8 +13,8 @@ use Rattle.ele_script.specs.FirstFault.{IsWordFault}
 use Rattle.ele_script.specs.Question.{asked_in}
 use Rattle.ele_script.specs.declared.kind.WordKind.{WordKind}
 use Rattle.ele_script.specs.declared.kind.WordKind.TheVariants.{Moment as MomentWord, Tagged as TaggedWord}
-use Rattle.ele_time_path.specs.Tagged.{SpellsTaggedPath}
-use Rattle.ele_time_path.specs.declared.tagged.TaggedPath.{TaggedPath}
+use Rattle.ele_path.specs.Tagged.{SpellsTaggedPath}
+use Rattle.ele_path.specs.declared.tagged.TaggedPath.{TaggedPath}
 use Rattle.ele_model.specs.Why.{IsAhead, IsWhy}
 use Rattle.ele_model.specs.World.{World}
 use Rattle.ele_model.specs.declared.fate.Fate.{Fate}

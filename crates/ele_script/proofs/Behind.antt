@@ -3,8 +3,8 @@ use Rattle.ele_script.proofs.Basics.{◌≡◌, ℕ, List, [], ◌∷◌, true, 
 use Rattle.ele_script.proofs.Prelude.{SpellsNumber, LineFault, NoMemory, Syntax, IsTaggedFault, fault_of_path, IsTaggedWordFault, begins_path, of_handle, NumberWord, MomentWord, PathWord, SourceWord, PolicyWord, IsOfKind, IsWordFault, IsRefused}
 use Rattle.ele_script.proofs.Prelude.{bad_word}
 use Rattle.std.specs.Prelude.{IfSome}
-use Rattle.ele_time_path.specs.declared.fault.PathFault.{PathFault}
-use Rattle.ele_time_path.specs.declared.fault.PathFault.TheVariants as path
+use Rattle.ele_path.specs.declared.fault.PathFault.{PathFault}
+use Rattle.ele_path.specs.declared.fault.PathFault.TheVariants as path
 use Rattle.ele_moment.specs.Spelled.{SpellsMoment}
 use Rattle.ele_printer.specs.declared.fault.LineFault.TheVariants.{BadMoment}
 use Rattle.ele_script.specs.Value.{Number, Moment}

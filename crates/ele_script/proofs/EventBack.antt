@@ -7,14 +7,14 @@ use Rattle.std.proofs.lemmas.List.Folds.{list_all-append}
 use Rattle.hex.proofs.HexLemmas.{decode_of-encode_lower, length-encode_with}
 use Rattle.hex.specs.Hex.{lower_digits}
 use Rattle.ele_moment.specs.Last.{last_moment}
-use Rattle.ele_time_path.specs.Path.{IsPath, SpellsPath}
-use Rattle.ele_time_path.specs.PathAt.{tag_at}
-use Rattle.ele_time_path.specs.Tagged.{SpellsTag, SpellsTaggedPath}
-use Rattle.ele_time_path.specs.declared.tagged.Tag.{Tag}
-use Rattle.ele_time_path.specs.declared.tagged.Tag.TheVariants.{Now, At, Number as Numbered}
+use Rattle.ele_path.specs.Path.{IsPath, SpellsPath}
+use Rattle.ele_path.specs.PathAt.{tag_at}
+use Rattle.ele_path.specs.Tagged.{SpellsTag, SpellsTaggedPath}
+use Rattle.ele_path.specs.declared.tagged.Tag.{Tag}
+use Rattle.ele_path.specs.declared.tagged.Tag.TheVariants.{Now, At, Number as Numbered}
 use Rattle.ele_model.specs.declared.event.Source.TheVariants as source
 use Rattle.ele_printer.specs.EventText.{IsTag, IsValue, event_words, value_word}
-use Rattle.ele_time_path.specs.PathText.{path_word, tag_text, tagged_word}
+use Rattle.ele_path.specs.PathText.{path_word, tag_text, tagged_word}
 use Rattle.ele_printer.specs.Parts.{parts_of}
 use Rattle.ele_printer.specs.Printed.{bytes_word}
 use Rattle.ele_script.specs.declared.reading.Line.TheVariants as asks

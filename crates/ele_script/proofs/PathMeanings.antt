@@ -4,25 +4,25 @@ use Rattle.ele_script.proofs.Prelude.{LineFault, Syntax, fault_of_path, fault_of
 use Rattle.std.specs.List.{cons_option, position_or_len}
 use Rattle.std.specs.Prelude.{All, slice_get}
 use Rattle.ele_moment.specs.Name.{IsName}
-use Rattle.ele_time_path.specs.Begins.{is_tag_text}
-use Rattle.ele_time_path.specs.FirstFault.{path_fault, piece_fault, piece_faults}
-use Rattle.ele_time_path.specs.Path.{SpellsPath, pieces_of}
-use Rattle.ele_time_path.specs.PathAt.{IsMomentFault, SpellsPathAt, tag_at}
-use Rattle.ele_time_path.specs.Tagged.{SpellsTag, SpellsTaggedPath, is_mark}
-use Rattle.ele_time_path.specs.TaggedFault.{IsTagFault, no_moment, no_number, of_path, of_tag}
-use Rattle.ele_time_path.specs.declared.fault.PathAtFault.{PathAtFault}
-use Rattle.ele_time_path.specs.declared.fault.PathAtFault.TheVariants as timed
-use Rattle.ele_time_path.specs.declared.fault.PathFault.{PathFault}
-use Rattle.ele_time_path.specs.declared.fault.PathFault.TheVariants.{BadMoment, BadPath}
-use Rattle.ele_time_path.specs.declared.path_at.PathAt.{PathAt}
-use Rattle.ele_time_path.specs.declared.tagged.Tag.{Tag}
-use Rattle.ele_time_path.specs.declared.tagged.Tag.TheVariants.{At, Now, Number}
-use Rattle.ele_time_path.specs.declared.tagged.TaggedPath.{TaggedPath}
-use Rattle.ele_time_path.proofs.Names.{is_name-decides}
-use Rattle.ele_time_path.proofs.PathsAt.{fault_behind}
-use Rattle.ele_time_path.proofs.Pieces.{faults_from}
-use Rattle.ele_time_path.proofs.Spelled.{spelled, spelled_faultless}
-use Rattle.ele_time_path.proofs.Tags.{tag_begins}
+use Rattle.ele_path.specs.Begins.{is_tag_text}
+use Rattle.ele_path.specs.FirstFault.{path_fault, piece_fault, piece_faults}
+use Rattle.ele_path.specs.Path.{SpellsPath, pieces_of}
+use Rattle.ele_path.specs.PathAt.{IsMomentFault, SpellsPathAt, tag_at}
+use Rattle.ele_path.specs.Tagged.{SpellsTag, SpellsTaggedPath, is_mark}
+use Rattle.ele_path.specs.TaggedFault.{IsTagFault, no_moment, no_number, of_path, of_tag}
+use Rattle.ele_path.specs.declared.fault.PathAtFault.{PathAtFault}
+use Rattle.ele_path.specs.declared.fault.PathAtFault.TheVariants as timed
+use Rattle.ele_path.specs.declared.fault.PathFault.{PathFault}
+use Rattle.ele_path.specs.declared.fault.PathFault.TheVariants.{BadMoment, BadPath}
+use Rattle.ele_path.specs.declared.path_at.PathAt.{PathAt}
+use Rattle.ele_path.specs.declared.tagged.Tag.{Tag}
+use Rattle.ele_path.specs.declared.tagged.Tag.TheVariants.{At, Now, Number}
+use Rattle.ele_path.specs.declared.tagged.TaggedPath.{TaggedPath}
+use Rattle.ele_path.proofs.Names.{is_name-decides}
+use Rattle.ele_path.proofs.PathsAt.{fault_behind}
+use Rattle.ele_path.proofs.Pieces.{faults_from}
+use Rattle.ele_path.proofs.Spelled.{spelled, spelled_faultless}
+use Rattle.ele_path.proofs.Tags.{tag_begins}
 use Rattle.ele_model.specs.declared.event.Source.{Source}
 use Rattle.ele_model.specs.declared.event.Source.TheVariants.{Tagged, Of}
 use Rattle.ele_script.specs.PathWord.{IsTimedWordFault, of_tagged}

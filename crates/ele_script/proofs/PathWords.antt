@@ -1,13 +1,13 @@
 -- Words of paths with tags or at a moment, and of sources: each one value, or one fault.
 use Rattle.ele_script.proofs.Basics.{nat_tests, ◌≡◌, ◌==◌, ℕ, Bool, true, false, true≢false, List, [], ◌∷◌, ◌++◌, refl, sym, ap, subst, ◌∙◌, arith, Option, AllDigits, eqb-true, decimal_is_IsNumeral}
 use Rattle.ele_script.proofs.Prelude.{SpellsNumber, path_part, tag_part, OneMeaning, LineFault, fault_of_path, IsTaggedWordFault, begins_path, IsSourceFault, SpellsSource}
-use Rattle.ele_time_path.specs.declared.path_at.PathAt.{PathAt}
-use Rattle.ele_time_path.specs.declared.tagged.Tag.{Tag}
-use Rattle.ele_time_path.specs.declared.tagged.Tag.TheVariants.{At, Number}
-use Rattle.ele_time_path.specs.declared.tagged.TaggedPath.{TaggedPath}
-use Rattle.ele_time_path.specs.Tagged.{SpellsTag, SpellsTaggedPath}
-use Rattle.ele_time_path.specs.Path.{SpellsPath}
-use Rattle.ele_time_path.specs.PathAt.{tag_at, SpellsPathAt}
+use Rattle.ele_path.specs.declared.path_at.PathAt.{PathAt}
+use Rattle.ele_path.specs.declared.tagged.Tag.{Tag}
+use Rattle.ele_path.specs.declared.tagged.Tag.TheVariants.{At, Number}
+use Rattle.ele_path.specs.declared.tagged.TaggedPath.{TaggedPath}
+use Rattle.ele_path.specs.Tagged.{SpellsTag, SpellsTaggedPath}
+use Rattle.ele_path.specs.Path.{SpellsPath}
+use Rattle.ele_path.specs.PathAt.{tag_at, SpellsPathAt}
 use Rattle.ele_model.specs.declared.event.Source.{Source}
 use Rattle.ele_model.specs.declared.event.Source.TheVariants.{Tagged, Of}
 use Rattle.ele_script.proofs.Moments.{one_number, one_moment}

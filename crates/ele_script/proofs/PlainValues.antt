@@ -10,12 +10,12 @@ use Rattle.hex.proofs.HexLemmas.{decode_of-encode_lower, decode_of-ok}
 use Rattle.ele_policy.specs.Policy.{IsPolicy}
 use Rattle.ele_policy.specs.declared.policy.Policy.{Policy as AnyPolicy}
 use Rattle.ele_policy.specs.declared.policy.Policy.TheVariants as policy
-use Rattle.ele_time_path.specs.PathAt.{tag_at}
+use Rattle.ele_path.specs.PathAt.{tag_at}
 use Rattle.ele_model.specs.declared.event.Source.TheVariants as source
 use Rattle.ele_printer.specs.EventText.{IsValue, value_word}
 use Rattle.ele_printer.specs.Printed.{bytes_word}
 use Rattle.ele_policy.specs.PolicyText.{floor_word, policy_word}
-use Rattle.ele_time_path.specs.PathText.{path_word}
+use Rattle.ele_path.specs.PathText.{path_word}
 use Rattle.ele_script.specs.Value.{Number, Tagged, Source, Policy}
 use Rattle.ele_script.proofs.PolicyBack.{spelled_pairs}
 use Rattle.ele_script.proofs.PlainWords.{all_so, is_inner, is_word, joined_all, name_plain, number_inner, number_is, path_inner, path_some, tagged_is, word_is}

@@ -6,11 +6,11 @@ use Rattle.std.proofs.lemmas.List.Elements.{All-weaker}
 use Rattle.std.proofs.lemmas.List.Folds.{list_all-append}
 use Rattle.std.proofs.lemmas.List.Sums.{AllPass-from_list_all, list_all-from_AllPass}
 use Rattle.ele_moment.specs.Name.{IsName, is_name_byte}
-use Rattle.ele_time_path.specs.Path.{IsPath, path_text}
-use Rattle.ele_time_path.specs.declared.tagged.Tag.{Tag}
-use Rattle.ele_time_path.specs.declared.tagged.Tag.TheVariants.{Now, At, Number as Numbered}
+use Rattle.ele_path.specs.Path.{IsPath, path_text}
+use Rattle.ele_path.specs.declared.tagged.Tag.{Tag}
+use Rattle.ele_path.specs.declared.tagged.Tag.TheVariants.{Now, At, Number as Numbered}
 use Rattle.ele_printer.specs.EventText.{IsTag}
-use Rattle.ele_time_path.specs.PathText.{path_word, tag_text, tagged_word}
+use Rattle.ele_path.specs.PathText.{path_word, tag_text, tagged_word}
 use Rattle.ele_script.proofs.Words.{has_byte}
 
 -- a byte that may stand in a word

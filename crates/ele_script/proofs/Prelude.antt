@@ -21,5 +21,5 @@ pub use Rattle.ele_printer.specs.declared.command.Command.{Command}
 pub use Rattle.ele_printer.specs.declared.fault.LineFault.{LineFault}
 pub use Rattle.ele_printer.specs.declared.fault.LineFault.TheVariants.{BadLadder, BadMoment, NoMemory, Syntax}
 pub use Rattle.ele_script.specs.declared.reading.Line.{Line}
-pub use Rattle.ele_time_path.specs.OneMeaning.{OneMeaning}
-pub use Rattle.ele_time_path.specs.TaggedFault.{IsTaggedFault, path_part, tag_part}
+pub use Rattle.ele_path.specs.OneMeaning.{OneMeaning}
+pub use Rattle.ele_path.specs.TaggedFault.{IsTaggedFault, path_part, tag_part}

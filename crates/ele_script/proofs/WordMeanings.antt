@@ -4,8 +4,8 @@ use Rattle.ele_script.proofs.Prelude.{LineFault, BadMoment, Syntax, WordKind, Nu
 use Rattle.ele_script.proofs.Prelude.{fault_of_path, SpellsValues, IsOfKind, IsWordFault, IsFirstWordFault}
 use Rattle.ele_printer.specs.declared.fault.LineFault.TheVariants.{BadName}
 use Rattle.ele_moment.specs.Name.{IsName}
-use Rattle.ele_time_path.specs.FirstFault.{is_name}
-use Rattle.ele_time_path.proofs.Names.{is_name-decides}
+use Rattle.ele_path.specs.FirstFault.{is_name}
+use Rattle.ele_path.proofs.Names.{is_name-decides}
 use Rattle.ele_script.specs.Value.{Number, Tagged, Source, Policy}
 use Rattle.ele_script.proofs.Decided.{dec_same, told}
 use Rattle.ele_script.proofs.Laws.{kinds_of}

@@ -1,7 +1,7 @@
 -- The first fault of a line that asks for nothing.
 use Rattle.std.specs.Prelude.{◌≡◌, ◌≢◌, ℕ, ◌<◌, ◌≤◌, List, ◌∷◌, ◌++◌, length, Some, Err, true, false, ◌⊎◌}
 use Rattle.std.specs.Option.{option_map}
-use Rattle.ele_time_path.specs.FirstFault.{path_fault}
+use Rattle.ele_path.specs.FirstFault.{path_fault}
 use Rattle.ele_printer.specs.declared.command.Command.{Command}
 use Rattle.ele_printer.specs.declared.fault.LineFault.{LineFault}
 use Rattle.ele_printer.specs.declared.fault.LineFault.TheVariants.{BadName, BadMoment, Syntax, LineTooLong}

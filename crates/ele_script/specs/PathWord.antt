@@ -1,10 +1,10 @@
 -- What is wrong with a word where a path stands with a tag or at a moment, or a handle in its place.
 use Rattle.std.specs.Prelude.{◌≡◌, ℕ, ◌==◌, Bool, true, false, List, [], ◌∷◌}
 use Rattle.ele_moment.specs.Number.{SpellsNumber}
-use Rattle.ele_time_path.specs.TaggedFault.{IsTaggedFault}
-use Rattle.ele_time_path.specs.PathAt.{IsPathAtFault}
-use Rattle.ele_time_path.specs.declared.fault.PathFault.{PathFault}
-use Rattle.ele_time_path.specs.declared.fault.PathAtFault.{PathAtFault}
+use Rattle.ele_path.specs.TaggedFault.{IsTaggedFault}
+use Rattle.ele_path.specs.PathAt.{IsPathAtFault}
+use Rattle.ele_path.specs.declared.fault.PathFault.{PathFault}
+use Rattle.ele_path.specs.declared.fault.PathAtFault.{PathAtFault}
 use Rattle.ele_printer.specs.declared.fault.LineFault.{LineFault}
 use Rattle.ele_printer.specs.declared.fault.LineFault.TheVariants.{Syntax}
 use Rattle.ele_printer.specs.LineFault.{fault_of_path, fault_of_path_at}

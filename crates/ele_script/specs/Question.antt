@@ -2,7 +2,7 @@
 use Rattle.std.specs.Prelude.{◌≡◌, ℕ, List, [], ◌∷◌, codes, Option, Some, None, Result, Ok, Err, ◌⊎◌, if◌then◌else◌}
 use Rattle.std.specs.Str.{bytes_eq}
 use Rattle.ele_moment.specs.Spelled.{SpellsMoment}
-use Rattle.ele_time_path.specs.Tagged.{SpellsTaggedPath}
+use Rattle.ele_path.specs.Tagged.{SpellsTaggedPath}
 use Rattle.ele_printer.specs.declared.fault.LineFault.{LineFault}
 use Rattle.ele_printer.specs.declared.fault.LineFault.TheVariants.{NoMemory}
 use Rattle.ele_script.specs.FirstFault.{IsWordFault}

@@ -4,9 +4,9 @@ use Rattle.hex.specs.Hex.{decode_of}
 use Rattle.ele_moment.specs.Name.{IsName}
 use Rattle.ele_moment.specs.Number.{SpellsNumber}
 use Rattle.ele_moment.specs.Spelled.{SpellsMoment}
-use Rattle.ele_time_path.specs.Path.{SpellsPath}
-use Rattle.ele_time_path.specs.Tagged.{SpellsTaggedPath}
-use Rattle.ele_time_path.specs.PathAt.{SpellsPathAt}
+use Rattle.ele_path.specs.Path.{SpellsPath}
+use Rattle.ele_path.specs.Tagged.{SpellsTaggedPath}
+use Rattle.ele_path.specs.PathAt.{SpellsPathAt}
 pub use Rattle.ele_printer.specs.Value.{Value, Number, Moment, Name, Path, Tagged, Timed, Source, Bytes, Policy}
 pub use Rattle.ele_script.specs.declared.kind.WordKind.{WordKind}
 pub use Rattle.ele_script.specs.declared.kind.WordKind.TheVariants.{Number as NumberWord, Moment as MomentWord, Name as NameWord, Path as PathWord, Tagged as TaggedWord, Timed as TimedWord, Source as SourceWord, Bytes as BytesWord, Policy as PolicyWord}

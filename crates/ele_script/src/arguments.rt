@@ -8,9 +8,9 @@ ghost use Rattle.ele_script.specs.Reads.{Reads};
 use crate::word;
 use ele_model::{ByteList, Source};
 use ele_moment::{Moment, Name};
+use ele_path::{Path, PathAt, TaggedPath};
 use ele_policy::Policy;
 use ele_printer::LineFault;
-use ele_time_path::{Path, PathAt, TaggedPath};
 use std::alloc::Global;
 
 // The only word.

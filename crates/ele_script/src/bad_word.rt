@@ -16,8 +16,8 @@ use crate::reading::LONGEST_LINE;
 use crate::reasons::{Detail, Reason};
 use crate::word::{self, begins_path};
 use ele_moment::NoMemory;
+use ele_path::one_meaning;
 use ele_printer::{Command, LineFault};
-use ele_time_path::one_meaning;
 use std::alloc::Global;
 
 /// Why a line is no command, without its line feed, and which of its words is at fault; none where it

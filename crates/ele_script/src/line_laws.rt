@@ -3,7 +3,7 @@ ghost use Rattle.ele_script.specs.EventBack.{EventBack};
 ghost use Rattle.ele_script.specs.EveryLine.{EveryLineMeaning};
 ghost use Rattle.ele_script.specs.LineMeaning.{OneLineMeaning};
 
-use ele_time_path::one_meaning;
+use ele_path::one_meaning;
 
 /// No line asks for two things or has two first faults, and none that asks for something has one.
 #[tactic(auto, using(crate::proofs::LineLaws::one_line_meaning))]

@@ -9,8 +9,8 @@ use crate::kind::WordKind;
 use crate::reading::words_in;
 use crate::word;
 use ele_model::Moment;
+use ele_path::TaggedPath;
 use ele_printer::LineFault;
-use ele_time_path::TaggedPath;
 use std::alloc::Global;
 
 /// What a line asks to be explained, where a run explains.

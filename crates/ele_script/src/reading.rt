@@ -16,8 +16,8 @@ use crate::arguments::{
 use crate::command::read_command;
 use arrayvec::ArrayVec;
 use ele_model::{Event, Handle, VersionNo};
+use ele_path::one_meaning;
 use ele_printer::{Command, LineFault};
-use ele_time_path::one_meaning;
 use std::alloc::Global;
 
 /// What a line of a script asks for.

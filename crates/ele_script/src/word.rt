@@ -2,9 +2,9 @@
 ghost use Rattle.std.specs.Prelude.{◌≡◌, ◌⊎◌, ℕ, true, Err, IfOk, IfErr, OnOk, IfSome, IfNone};
 ghost use Rattle.ele_moment.specs.Number.{SpellsNumber};
 ghost use Rattle.ele_moment.specs.Spelled.{SpellsMoment};
-ghost use Rattle.ele_time_path.specs.Path.{SpellsPath};
-ghost use Rattle.ele_time_path.specs.Tagged.{SpellsTaggedPath};
-ghost use Rattle.ele_time_path.specs.PathAt.{SpellsPathAt};
+ghost use Rattle.ele_path.specs.Path.{SpellsPath};
+ghost use Rattle.ele_path.specs.Tagged.{SpellsTaggedPath};
+ghost use Rattle.ele_path.specs.PathAt.{SpellsPathAt};
 ghost use Rattle.ele_script.specs.Value.{NumberWord, MomentWord, NameWord, PathWord, TaggedWord, TimedWord, SourceWord, BytesWord, SpellsName, SpellsBytes, SpellsSource};
 ghost use Rattle.ele_script.specs.PolicyWord.{ReadsPolicy, IsSafeWord, SpellsSafe};
 ghost use Rattle.ele_script.specs.PathWord.{begins_path};
@@ -13,9 +13,9 @@ ghost use Rattle.ele_script.specs.FirstFault.{IsOfKind, IsWordFault};
 use crate::pairs::{ladder_pairs, read_pair};
 use ele_model::{ByteList, Handle, Source};
 use ele_moment::{Moment, Name, read_number};
+use ele_path::{Path, PathAt, TaggedPath};
 use ele_policy::{Floor, Interval, Ladder, Policy};
 use ele_printer::LineFault;
-use ele_time_path::{Path, PathAt, TaggedPath};
 use std::alloc::Global;
 
 /// A number.

@@ -17,10 +17,10 @@ use std::alloc::Global;
 use std::io::{Read, Write};
 
 /// A core's history for many threads, each of which calls it through a seat of its own.
-pub type Elephant = ele_shared::Shared<Core>;
+pub type Elephant = ele_shared_history::Shared<Core>;
 
 /// A seat of such a history.
-pub type Seat = ele_shared::Seat<Core>;
+pub type Seat = ele_shared_history::Seat<Core>;
 
 /// Runs the script that the reader gives: answers each whole line at the writer, and answers how
 /// many lines there were, a last one without its line feed counted. An empty line gets no reply, a

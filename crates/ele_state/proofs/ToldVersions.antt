@@ -1,8 +1,8 @@
 -- Where a path leads by the names of any moment, and what is told of the version that its tag means.
 use Rattle.ele_state.proofs.Words.{Names, HasParts, is_held, meant_held, true, arith, nat_tests, ◌≡◌, ℕ, List, ◌∷◌, Option, Result, Ok, Err, refl, ap, subst, AllByRecursion, option_map_or, result_map_both, all-found, target_at, version_at, version_found, version_meant, walk_meant, stamps_of, file_at, walk_now, IsNameRow, IsThere, World, Refusal, Stamps, Target, File, Directory, VersionRow, is_at, is_meant, file_there, [], AllLater, ArePlaced, IfOk, Some, all_found, find, is_version, version_cells, sym, ◌∙◌}
 use Rattle.ele_state.specs.Told.{found_of}
-use Rattle.ele_time_path.specs.declared.tagged.Tag.{Tag}
-use Rattle.ele_time_path.specs.declared.tagged.TaggedPath.{TaggedPath}
+use Rattle.ele_path.specs.declared.tagged.Tag.{Tag}
+use Rattle.ele_path.specs.declared.tagged.TaggedPath.{TaggedPath}
 use Rattle.ele_model.proofs.Versions.{IsFound}
 use Rattle.ele_model.specs.WalkAt.{walk_covering}
 use Rattle.ele_model.specs.declared.refusal.Refusal.TheVariants.{NoEntry}

@@ -1,9 +1,9 @@
 -- The calls of two seats that were joined, added up.
 use Rattle.std.proofs.Common.{◌≡◌, ℕ, ◌+◌, Bool, true, false, ◌==◌, ◌||◌, cond, List, [], ◌∷◌, ◌++◌, length, refl, sym, ap, ◌∙◌, arith}
-use Rattle.ele_shared.specs.declared.board.Call.{Call}
-use Rattle.ele_shared.specs.Knowledge.{Knowledge}
-use Rattle.ele_shared.specs.Running.{has, own_of}
-use Rattle.ele_shared.specs.Seats.{Joined}
+use Rattle.ele_shared_history.specs.declared.board.Call.{Call}
+use Rattle.ele_shared_history.specs.Knowledge.{Knowledge}
+use Rattle.ele_shared_history.specs.Running.{has, own_of}
+use Rattle.ele_shared_history.specs.Seats.{Joined}
 
 or_assoc : (a b c : Bool) → (a || (b || c)) ≡ ((a || b) || c)
 or_assoc true b c = refl

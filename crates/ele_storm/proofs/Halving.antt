@@ -1,11 +1,11 @@
 -- What the workers of a storm leave their seat, from one of them to all.
 use Rattle.std.proofs.Common.{◌≡◌, ℕ, ◌+◌, ◌*◌, ◌<◌, List, [], ◌∷◌, length, refl, sym, ap, subst, ◌∙◌, arith, length-append, Result, Ok, Err}
 use Rattle.std.specs.Result.{result_and}
-use Rattle.ele_shared.specs.declared.board.Call.{Call}
-use Rattle.ele_shared.specs.Knowledge.{Knowledge}
-use Rattle.ele_shared.specs.Running.{entries_of, entry}
+use Rattle.ele_shared_history.specs.declared.board.Call.{Call}
+use Rattle.ele_shared_history.specs.Knowledge.{Knowledge}
+use Rattle.ele_shared_history.specs.Running.{entries_of, entry}
 use Rattle.ele_model.specs.declared.event.Event.{Event}
-use Rattle.ele_shared.specs.Seats.{Joined}
+use Rattle.ele_shared_history.specs.Seats.{Joined}
 use Rattle.ele_model.specs.declared.entry.Entry.{Entry}
 use Rattle.ele_storm.specs.declared.fault.StormFault.{StormFault}
 use Rattle.ele_storm.specs.declared.plan.StormPlan.{StormPlan}

@@ -8,9 +8,9 @@ use Rattle.std.proofs.lemmas.Fmt.{decimal_by_steps, decimal_digit, length-decima
 use Rattle.std.proofs.lemmas.List.Folds.{list_all-append}
 use mathlib.Core.List.{append-nil}
 use Rattle.ele_moment.specs.Name.{IsName, is_name_byte}
-use Rattle.ele_time_path.specs.Path.{SpellsPath}
-use Rattle.ele_time_path.specs.Tagged.{SpellsTaggedPath}
-use Rattle.ele_time_path.specs.declared.tagged.Tag.TheVariants.{Now, Number}
+use Rattle.ele_path.specs.Path.{SpellsPath}
+use Rattle.ele_path.specs.Tagged.{SpellsTaggedPath}
+use Rattle.ele_path.specs.declared.tagged.Tag.TheVariants.{Now, Number}
 use Rattle.ele_storm.specs.Plan.{file_of, tagged}
 
 digit_is_plain : (n : ℕ) → n < 10 → is_name_byte (48 + n) ≡ true

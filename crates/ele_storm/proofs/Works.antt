@@ -1,17 +1,17 @@
 -- What calls in a row leave a seat.
 use Rattle.std.proofs.Common.{◌≡◌, ℕ, List, [], ◌∷◌, ◌++◌, refl, sym, ap, ◌∙◌, append_assoc, Result, Ok, Err}
 use mathlib.Core.List.{append-nil}
-use Rattle.ele_shared.specs.declared.board.Call.{Call}
-use Rattle.ele_shared.specs.Calling.{Called}
-use Rattle.ele_shared.specs.Knowledge.{Knowledge, Looked}
-use Rattle.ele_shared.specs.Running.{call, entries_of, entry, StartsWith}
+use Rattle.ele_shared_history.specs.declared.board.Call.{Call}
+use Rattle.ele_shared_history.specs.Calling.{Called}
+use Rattle.ele_shared_history.specs.Knowledge.{Knowledge, Looked}
+use Rattle.ele_shared_history.specs.Running.{call, entries_of, entry, StartsWith}
 use Rattle.ele_model.specs.declared.entry.Entry.{Entry}
 use Rattle.ele_model.specs.declared.event.Event.{Event}
 use Rattle.ele_model.specs.declared.reply.Reply.{Reply}
 use Rattle.std.proofs.Common.{◌+◌, add-one}
 use Rattle.std.specs.Int.{to_be_bytes, w64}
-use Rattle.ele_time_path.specs.declared.tagged.Tag.TheVariants.{Now, Number}
-use Rattle.ele_time_path.specs.declared.tagged.TaggedPath.{TaggedPath}
+use Rattle.ele_path.specs.declared.tagged.Tag.TheVariants.{Now, Number}
+use Rattle.ele_path.specs.declared.tagged.TaggedPath.{TaggedPath}
 use Rattle.ele_model.specs.declared.event.Event.TheVariants.{Tick, OpenWrite, Write, Close, Stat, Read, CleanOne}
 use Rattle.ele_model.specs.declared.event.Source.TheVariants.{Tagged}
 use Rattle.std.specs.Prelude.{OnOk}

@@ -2,7 +2,7 @@
 use Rattle.std.specs.Prelude.{◌≡◌, ℕ, ◌≤◌, Bool, List, [], length, IsTrue}
 use Rattle.ele_history.specs.Legal.{IsLegal}
 use Rattle.ele_history.specs.Past.{Past, fresh, world_of}
-use Rattle.ele_shared.specs.Knowledge.{Knowledge, Object}
+use Rattle.ele_shared_history.specs.Knowledge.{Knowledge, Object}
 use Rattle.ele_model.specs.Bounds.{Bounds}
 use Rattle.ele_model.specs.declared.entry.Entry.{Entry}
 use Rattle.ele_model.specs.World.{fresh_world}

@@ -1,7 +1,7 @@
 -- What the workers of a storm leave their seat. No public clause cites this module.
 use Rattle.std.specs.Prelude.{◌≡◌, ℕ, ◌+◌, ◌-◌, ◌*◌, min, length, Result, OnOk}
-use Rattle.ele_shared.specs.Knowledge.{Knowledge}
-use Rattle.ele_shared.specs.Running.{StartsWith}
+use Rattle.ele_shared_history.specs.Knowledge.{Knowledge}
+use Rattle.ele_shared_history.specs.Running.{StartsWith}
 use Rattle.ele_storm.specs.declared.fault.StormFault.{StormFault}
 use Rattle.ele_storm.specs.declared.plan.StormPlan.{StormPlan}
 

@@ -1,8 +1,8 @@
 -- What a worker leaves its seat.
 use Rattle.std.specs.Prelude.{◌≡◌, ℕ, List, [], ◌∷◌, ◌++◌, length}
-use Rattle.ele_shared.specs.declared.board.Call.{Call}
-use Rattle.ele_shared.specs.Knowledge.{Knowledge}
-use Rattle.ele_shared.specs.Running.{entries_of, entry, StartsWith}
+use Rattle.ele_shared_history.specs.declared.board.Call.{Call}
+use Rattle.ele_shared_history.specs.Knowledge.{Knowledge}
+use Rattle.ele_shared_history.specs.Running.{entries_of, entry, StartsWith}
 use Rattle.ele_model.specs.declared.entry.Entry.{Entry}
 use Rattle.ele_storm.specs.declared.plan.StormPlan.{StormPlan}
 use Rattle.ele_model.specs.declared.event.Event.{Event}

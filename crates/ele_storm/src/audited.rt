@@ -9,7 +9,7 @@ use crate::storms::storm;
 use ele_history::History;
 use ele_model::laws::usage_fits;
 use ele_model::{Auditable, Limits, NoMemory, Stepping, audit};
-use ele_shared::{Seat, Shared};
+use ele_shared_history::{Seat, Shared};
 use std::alloc::Global;
 use std::sync::Wait;
 use std::thread::Threads;

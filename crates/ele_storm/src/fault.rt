@@ -6,7 +6,7 @@ ghost use Rattle.ele_storm.specs.declared.fault.AuditFault.TheVariants as audite
 ghost use Rattle.ele_storm.specs.declared.fault.StormFault.TheVariants as storm;
 
 use ele_model::{NoMemory, Stop};
-use ele_shared::TurnHeld;
+use ele_shared_history::TurnHeld;
 use thiserror::Error;
 
 /// Why a storm, or a worker of it, ended early. Events that were run stay in the history.

@@ -9,7 +9,7 @@ use crate::meet::Meet;
 use crate::plan::StormPlan;
 use crate::worker::work;
 use ele_model::Stepping;
-use ele_shared::{Seat, Shared};
+use ele_shared_history::{Seat, Shared};
 use std::alloc::Global;
 use std::snapshot::Snapshot;
 use std::sync::Wait;

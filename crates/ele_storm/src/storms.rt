@@ -1,6 +1,6 @@
 //! A storm of workers.
 ghost use Rattle.std.specs.Prelude.{◌≡◌, ◌+◌, IfOk, OnOk, length};
-ghost use Rattle.ele_shared.specs.Running.{StartsWith};
+ghost use Rattle.ele_shared_history.specs.Running.{StartsWith};
 ghost use Rattle.ele_storm.specs.Plan.{storm_events};
 ghost use Rattle.ele_storm.specs.Work.{GoesOn};
 
@@ -11,7 +11,7 @@ use crate::meet::Meet;
 use crate::plan::StormPlan;
 use crate::worker::make;
 use ele_model::{Event, Ladder, NoMemory, Path, Policy, Stepping};
-use ele_shared::{Seat, Shared};
+use ele_shared_history::{Seat, Shared};
 use std::alloc::Global;
 use std::sync::Wait;
 use std::thread::Threads;

@@ -1,6 +1,6 @@
 //! One worker of a storm.
 ghost use Rattle.std.specs.Prelude.{◌≡◌, ◌*◌, ◌<◌, IfOk, [], ◌∷◌, OnOk};
-ghost use Rattle.ele_shared.specs.Running.{entry};
+ghost use Rattle.ele_shared_history.specs.Running.{entry};
 ghost use Rattle.ele_storm.specs.Plan.{looks, round_size, task_of, workers_of, writes};
 ghost use Rattle.ele_storm.specs.Work.{Adds, GoesOn, Makes, MakesOne, RunsRound, RunsRounds, Works};
 
@@ -9,7 +9,7 @@ use crate::fault::StormFault;
 use crate::meet::{Meet, MeetEnd};
 use crate::plan::{StormPlan, Task};
 use ele_model::{Event, Reply, Source, Stepping};
-use ele_shared::{Seat, Shared};
+use ele_shared_history::{Seat, Shared};
 use std::alloc::Global;
 use std::sync::Wait;
 

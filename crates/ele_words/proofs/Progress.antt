@@ -4,7 +4,7 @@ use Rattle.std.specs.Prelude.{OnOk, OnErr}
 use Rattle.std.specs.Io.KnownBytes.{Appends, Keeps}
 use Rattle.std.proofs.KnownBytes.{Appends-nil, Appends-trans, Appends-kept}
 use Rattle.ele_printer.specs.Front.{AppendsFront}
-use Rattle.ele_shared.specs.Knowledge.{Knowledge, Looked, count_seen}
+use Rattle.ele_shared_history.specs.Knowledge.{Knowledge, Looked, count_seen}
 use Rattle.ele_words.specs.Progress.{Rise, ShowsProgress, progress_line, progress_text}
 
 -- nothing new was seen

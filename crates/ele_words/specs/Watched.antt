@@ -1,6 +1,6 @@
 -- What a watched storm leaves its seats, and what it came to. No public clause cites this module.
 use Rattle.std.specs.Prelude.{◌≡◌, ℕ, ◌+◌, Bool, List, length, Option, Result, IfOk}
-use Rattle.ele_shared.specs.Knowledge.{Knowledge}
+use Rattle.ele_shared_history.specs.Knowledge.{Knowledge}
 use Rattle.ele_storm.specs.Plan.{storm_events}
 use Rattle.ele_storm.specs.declared.fault.AuditFault.{AuditFault}
 use Rattle.ele_storm.specs.declared.fault.StormFault.{StormFault}

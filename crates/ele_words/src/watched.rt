@@ -5,13 +5,13 @@ ghost use Rattle.std.specs.Prelude.{◌≡◌, OnOk, OnErr};
 ghost use Rattle.std.specs.Io.KnownBytes.{Appends};
 ghost use Rattle.std.specs.Thread.{IsSync};
 ghost use Rattle.ele_printer.specs.Front.{AppendsFront};
-ghost use Rattle.ele_shared.specs.Knowledge.{Looked, count_seen};
+ghost use Rattle.ele_shared_history.specs.Knowledge.{Looked, count_seen};
 ghost use Rattle.ele_words.specs.Progress.{ShowsProgress, progress_line};
 ghost use Rattle.ele_words.specs.Watched.{Stormed, Watched};
 
 use ele_model::{Auditable, Limits, Stepping};
 use ele_script::{WriteFault, write_placed};
-use ele_shared::{Seat, Shared};
+use ele_shared_history::{Seat, Shared};
 use ele_storm::{AuditFault, Flags, StormFault, StormPlan, close_and_audit, share_fresh, storm};
 use std::alloc::Global;
 use std::io::Write;

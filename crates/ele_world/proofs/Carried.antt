@@ -3,7 +3,7 @@ use Rattle.ele_model.proofs.Basics.{rules, nat_tests, arith, ◌≡◌, ℕ, ◌
 use Rattle.ele_model.proofs.Words.{World, Cell, HasParts, Drafts, Versions, DropIdle, EndDraft, ShutHandle, Take, after_change, is_draft_after, is_live, is_version_after, version_meant, with_end, with_version, without_name, current_cells, ended_at, is_draft, is_version, new_draft, next_of, plan, step}
 use Rattle.ele_world.proofs.Words.{Event, Close, CleanOne, Read, Create, Undelete, Unlink, OpenWrite, Revert, Write, Truncate, DraftRow, VersionRow, Reads, Draft, Version}
 use Rattle.ele_world.specs.OneContent.{file_read}
-use Rattle.ele_time_path.specs.declared.tagged.Tag.TheVariants as tag
+use Rattle.ele_path.specs.declared.tagged.Tag.TheVariants as tag
 use Rattle.ele_model.specs.Change.{ended_if_nameless, next_version}
 use Rattle.ele_model.specs.Step.{cells_read}
 use Rattle.ele_model.proofs.Dropped.{dropped}

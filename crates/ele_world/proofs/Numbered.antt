@@ -2,7 +2,7 @@
 use Rattle.ele_model.proofs.Basics.{nat_tests, arith, ◌≡◌, ℕ, ◌<◌, ◌≤◌, true, List, [], ◌∷◌, Option, Some, None, Ok, Err, Result, refl, find, AllByRecursion, AllLater, all-found, all-weaker, any-found, found_passes, last_has, last_passing, option_map}
 use Rattle.ele_model.proofs.Words.{World, TaggedPath, HasParts, ArePlaced, IsVersion, Versions, file_now, is_version, last_number, version_at, version_meant, walk_now, is_held}
 use Rattle.ele_world.proofs.Words.{VersionRow, File, Forgotten, Refusal}
-use Rattle.ele_time_path.specs.declared.tagged.Tag.TheVariants as tag
+use Rattle.ele_path.specs.declared.tagged.Tag.TheVariants as tag
 use Rattle.ele_model.specs.declared.refusal.Refusal.TheVariants.{NoVersion}
 use Rattle.ele_lists.proofs.Cuts.{any-found as first_passing}
 use Rattle.ele_world.specs.Answered.{AnswersVersion, Refuses}

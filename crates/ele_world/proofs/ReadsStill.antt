@@ -8,7 +8,7 @@ use Rattle.ele_world.specs.PastStays.{StoodAsBefore}
 use Rattle.ele_world.specs.ReadsPast.{read_at}
 use Rattle.ele_model.specs.WalkAt.{walk_covering}
 use Rattle.ele_lists.proofs.Cuts.{any-found as first_passing}
-use Rattle.ele_time_path.specs.declared.tagged.Tag.TheVariants as tag
+use Rattle.ele_path.specs.declared.tagged.Tag.TheVariants as tag
 use Rattle.ele_model.specs.HeldStays.{StaysSame}
 use Rattle.ele_world.specs.LifeStays.{LivesAsBefore}
 use Rattle.ele_model.specs.Plan.{found_outcome}

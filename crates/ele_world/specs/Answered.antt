@@ -1,7 +1,7 @@
 -- What a tagged path reads, tells and opens.
 use Rattle.std.specs.Prelude.{◌≡◌, ℕ, Ok}
 use Rattle.ele_content.specs.Content.{content_of}
-use Rattle.ele_time_path.specs.declared.tagged.TaggedPath.{TaggedPath}
+use Rattle.ele_path.specs.declared.tagged.TaggedPath.{TaggedPath}
 use Rattle.ele_model.specs.declared.event.Event.TheVariants.{OpenRead, Read, Stat}
 use Rattle.ele_model.specs.declared.event.Source.TheVariants.{Tagged}
 use Rattle.ele_model.specs.declared.refusal.Refusal.{Refusal}

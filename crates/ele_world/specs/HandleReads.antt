@@ -1,6 +1,6 @@
 -- A handle that is opened for reading reads the version that was meant.
 use Rattle.std.specs.Prelude.{◌≡◌, ℕ, Ok}
-use Rattle.ele_time_path.specs.declared.tagged.TaggedPath.{TaggedPath}
+use Rattle.ele_path.specs.declared.tagged.TaggedPath.{TaggedPath}
 use Rattle.ele_model.specs.declared.event.Event.TheVariants.{OpenRead}
 use Rattle.ele_model.specs.declared.reply.Reply.TheVariants.{Handle}
 use Rattle.ele_model.specs.declared.rows.Reads.TheVariants.{Version}

@@ -1,8 +1,8 @@
 -- A number means one version: it reads, tells and opens the one of that number and no other; where that was removed the answer is
 -- `Forgotten` with the greatest number held below, and where it never was `NoVersion`.
 use Rattle.std.specs.Prelude.{◌≡◌, ◌⊎◌, ℕ, ◌<◌, ◌≤◌, true, List, Option, Some, None, Ok, find}
-use Rattle.ele_time_path.specs.declared.tagged.Tag.TheVariants.{Number}
-use Rattle.ele_time_path.specs.declared.tagged.TaggedPath.{TaggedPath}
+use Rattle.ele_path.specs.declared.tagged.Tag.TheVariants.{Number}
+use Rattle.ele_path.specs.declared.tagged.TaggedPath.{TaggedPath}
 use Rattle.ele_model.specs.declared.refusal.Refusal.TheVariants.{Forgotten, NoVersion}
 use Rattle.ele_model.specs.declared.rows.VersionRow.{VersionRow}
 use Rattle.ele_world.specs.Answered.{AnswersVersion, Refuses}

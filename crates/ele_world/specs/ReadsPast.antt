@@ -1,7 +1,7 @@
 -- What a path reads at a moment before now never turns into something else: after any event it reads the same bytes, or is refused,
 -- as `Forgotten` once the version was removed, or as `NoEntry` once the file has gone.
 use Rattle.std.specs.Prelude.{◌≡◌, ◌⊎◌, ℕ, ◌<◌, List, Option}
-use Rattle.ele_time_path.specs.declared.tagged.Tag.TheVariants.{At}
+use Rattle.ele_path.specs.declared.tagged.Tag.TheVariants.{At}
 use Rattle.ele_model.specs.declared.event.Event.{Event}
 use Rattle.ele_model.specs.declared.event.Event.TheVariants.{Read}
 use Rattle.ele_model.specs.declared.event.Source.TheVariants.{Tagged}

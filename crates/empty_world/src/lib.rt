@@ -15,8 +15,8 @@ use ele_model::{
     Limits, ListOf, NoMemory, Refusal, Reply, Stepping,
 };
 use ele_moment::Moment;
+use ele_path::{Path, Tag, TaggedPath};
 use ele_policy::{Floor, Interval, Policy};
-use ele_time_path::{Path, Tag, TaggedPath};
 use ele_usage::Usage;
 use std::alloc::Global;
 use std::marker::Model;

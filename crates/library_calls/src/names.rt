@@ -3,7 +3,7 @@ use crate::rooms::moment;
 use ele_model::{DirId, Target};
 use ele_moment::{FileId, Moment, Name, VersionNo};
 use ele_names::Names;
-use ele_time_path::{Path, PathFault, Tag, TaggedPath};
+use ele_path::{Path, PathFault, Tag, TaggedPath};
 use std::test::Fail;
 
 #[test]

@@ -1,7 +1,7 @@
 use Rattle.ele_printer.proofs.Basics.{List, ℕ, ◌∷◌, drop, flat_map}
 use Rattle.ele_printer.proofs.Prelude.{outlet}
 use Rattle.ele_printer.proofs.Known.{HasSent}
-use Rattle.ele_time_path.specs.PathText.{path_word}
+use Rattle.ele_path.specs.PathText.{path_word}
 use Rattle.ele_printer.proofs.path_words.put_path.Given as goal
 
 -- the names so far are put, and the others are left

@@ -1,5 +1,5 @@
 use Rattle.ele_state.proofs.Walked.{targets_there}
-use Rattle.ele_time_path.specs.declared.tagged.Tag.TheVariants as tag
+use Rattle.ele_path.specs.declared.tagged.Tag.TheVariants as tag
 use Rattle.ele_state.proofs.State.walk_meant.Goals as goal
 
 pub returns-in-At-clause-there : goal.returns-in-At-clause-there

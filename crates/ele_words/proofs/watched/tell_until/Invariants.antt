@@ -1,4 +1,4 @@
-use Rattle.ele_shared.specs.Knowledge.{Looked, count_seen}
+use Rattle.ele_shared_history.specs.Knowledge.{Looked, count_seen}
 use Rattle.ele_words.proofs.Progress.{Telling}
 use Rattle.ele_words.proofs.watched.tell_until.Given as goal
 

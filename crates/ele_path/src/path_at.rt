@@ -1,0 +1,58 @@
+//! Paths at a moment. A contract sees one as the record of its path, a list of names, and its
+//! moment.
+ghost use Rattle.std.specs.Prelude.{◌≡◌, ◌⊎◌, ℕ, IsTrue, Option, Ok, Err, IfOk, IfErr};
+ghost use Rattle.ele_path.specs.Begins.{is_tag_text};
+ghost use Rattle.ele_path.specs.Tagged.{SpellsTag};
+ghost use Rattle.ele_path.specs.PathAt.{tag_at, SpellsPathAt, IsMomentFault, IsPathAtFault};
+ghost use Rattle.ele_path.specs.declared.path_at.PathAt.{PathAt};
+
+use crate::fault::{PathAtFault, PathFault};
+use crate::path::Path;
+use crate::tagged::path_length;
+use ele_moment::{BadMoment, Moment};
+use std::alloc::Global;
+
+/// A path, and the moment at which it is meant, if that isn't now.
+#[derive(Debug, Drop, PartialEq, Eq)]
+pub struct PathAt {
+    pub path: Path,
+    pub moment: Option<Moment>,
+}
+
+impl PathAt {
+    /// The path and the moment that a word spells: a path, then nothing for now, or `@` and a
+    /// moment.
+    ///
+    /// The word is cut at its first `@` or `#`. A fault of the path is told first, as `Path::read`
+    /// tells it. Behind a path it is `BadMoment` where no moment stands behind `@`, and `Numbered`
+    /// where `#` stands, whatever is behind that. `NoMemory` may come in place of any other answer.
+    pub fn read(alloc: Global, word: &[u8]) -> Result<PathAt, PathAtFault>
+        ensures found { IfOk result (SpellsPathAt word.now) }
+        ensures only { (value : PathAt) → SpellsPathAt word.now value
+            → (result ≡ Ok value) ⊎ (result ≡ Err (PathAtFault.Path PathFault.NoMemory)) }
+        ensures fault { IfErr result (λ fault. (fault ≡ PathAtFault.Path PathFault.NoMemory)
+            ⊎ IsPathAtFault word.now fault) }
+    {
+        let (path, tag) = word.split_at(path_length(word));
+        let path = Path::read(alloc, path)?;
+        let moment = read_moment(tag)?;
+        Ok(PathAt { path, moment })
+    }
+}
+
+// The moment that a text spells, which is empty or begins with a mark.
+fn read_moment(text: &[u8]) -> Result<Option<Moment>, PathAtFault>
+    requires { IsTrue (is_tag_text text.now) }
+    ensures found { IfOk result (λ moment. SpellsTag text.now (tag_at moment)) }
+    ensures only { (moment : Option ℕ) → SpellsTag text.now (tag_at moment) → result ≡ Ok moment }
+    ensures fault { IfErr result (IsMomentFault text.now) }
+{
+    match text.split_first() {
+        None => Ok(None),
+        Some((b'@', moment)) => match Moment::read(moment) {
+            Ok(moment) => Ok(Some(moment)),
+            Err(BadMoment) => Err(PathAtFault::Path(PathFault::BadMoment)),
+        },
+        Some(_) => Err(PathAtFault::Numbered),
+    }
+}

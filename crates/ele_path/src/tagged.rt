@@ -1,0 +1,134 @@
+//! Paths with tags. A contract sees one as the record of its path, a list of names, and its tag.
+ghost use Rattle.std.specs.Prelude.{◌≡◌, ◌⊎◌, IsTrue, Some, Ok, Err, IfOk, IfErr};
+ghost use Rattle.std.specs.List.{position, position_or_len};
+ghost use Rattle.ele_path.specs.Begins.{is_tag_text};
+ghost use Rattle.ele_path.specs.PathText.{tag_text, tagged_word};
+ghost use Rattle.ele_path.specs.Tagged.{is_mark, SpellsTag, SpellsTaggedPath};
+ghost use Rattle.ele_path.specs.TaggedFault.{IsTagFault, IsTaggedFault};
+ghost use Rattle.ele_path.specs.declared.tagged.Tag.{Tag};
+ghost use Rattle.ele_path.specs.declared.tagged.TaggedPath.{TaggedPath};
+
+use crate::fault::PathFault;
+use crate::path::Path;
+use ele_moment::{BadMoment, Moment, VersionNo, read_number};
+use std::alloc::Global;
+use std::fmt;
+
+/// Which version is meant. It is displayed as it stands behind a path: not at all, `@12` or `#3`.
+#[derive(Clone, Copy, Debug, PartialEq, Eq)]
+pub enum Tag {
+    /// What stands there now.
+    Now,
+    /// What stood there at the moment.
+    At(Moment),
+    /// The version with that number.
+    Number(VersionNo),
+}
+
+/// A path, and which version of what it names is meant. It is displayed as both, `/f@12`.
+#[derive(Debug, Drop, PartialEq, Eq)]
+pub struct TaggedPath {
+    path: Path,
+    tag: Tag,
+}
+
+impl TaggedPath {
+    /// The path with the tag.
+    pub fn new(path: Path, tag: Tag) -> TaggedPath
+        ensures path { result.path ≡ path }
+        ensures tag { result.tag ≡ tag }
+    {
+        TaggedPath { path, tag }
+    }
+
+    /// The path and the tag that a word spells: a path, then nothing for now, `@` and a moment, or
+    /// `#` and the number of a version.
+    ///
+    /// The word is cut at its first `@` or `#`. A fault of the path is told first, as `Path::read`
+    /// tells it. It is `BadMoment` where no moment stands behind `@`, and `BadPath` where no number
+    /// stands behind `#`. `NoMemory` may come in place of any other answer.
+    pub fn read(alloc: Global, word: &[u8]) -> Result<TaggedPath, PathFault>
+        ensures found { IfOk result (SpellsTaggedPath word.now) }
+        ensures only { (value : TaggedPath) → SpellsTaggedPath word.now value
+            → (result ≡ Ok value) ⊎ (result ≡ Err PathFault.NoMemory) }
+        ensures fault { IfErr result
+            (λ fault. (fault ≡ PathFault.NoMemory) ⊎ IsTaggedFault word.now fault) }
+    {
+        let (path, tag) = word.split_at(path_length(word));
+        let path = Path::read(alloc, path)?;
+        let tag = read_tag(tag)?;
+        Ok(TaggedPath { path, tag })
+    }
+
+    /// The path.
+    pub fn path(&self) -> &Path
+        ensures { result.now ≡ self.now.path }
+    {
+        &self.path
+    }
+
+    /// The tag.
+    pub fn tag(&self) -> Tag
+        ensures { result ≡ self.now.tag }
+    {
+        self.tag
+    }
+}
+
+impl fmt::Display for Tag {
+    ghost output = { λ tag. Some (tag_text tag) };
+
+    fn fmt<W: fmt::Write>(&self, f: &mut fmt::Formatter<W>) -> fmt::Result {
+        match self {
+            Tag::Now => Ok(()),
+            Tag::At(moment) => write!(f, "@{moment}"),
+            Tag::Number(VersionNo(number)) => write!(f, "#{number}"),
+        }
+    }
+}
+
+impl fmt::Display for TaggedPath {
+    ghost output = { λ tagged. Some (tagged_word tagged.path tagged.tag) };
+
+    fn fmt<W: fmt::Write>(&self, f: &mut fmt::Formatter<W>) -> fmt::Result {
+        let (path, tag) = (&self.path, &self.tag);
+        write!(f, "{path}{tag}")
+    }
+}
+
+// How many bytes stand before the first mark of a tag, or in all.
+pub(crate) fn path_length(word: &[u8]) -> usize
+    ensures { result ≡ position_or_len is_mark word.now }
+{
+    match mark_in(word) {
+        Some(place) => place,
+        None => word.len(),
+    }
+}
+
+// Where the first mark of a tag stands.
+fn mark_in(word: &[u8]) -> Option<usize>
+    ensures { result ≡ position is_mark word.now }
+{
+    word.iter().position(|byte| *byte == b'@' || *byte == b'#')
+}
+
+// The tag that a text spells, which is empty or begins with a mark.
+fn read_tag(text: &[u8]) -> Result<Tag, PathFault>
+    requires { IsTrue (is_tag_text text.now) }
+    ensures found { IfOk result (SpellsTag text.now) }
+    ensures only { (tag : Tag) → SpellsTag text.now tag → result ≡ Ok tag }
+    ensures fault { IfErr result (IsTagFault text.now) }
+{
+    match text.split_first() {
+        None => Ok(Tag::Now),
+        Some((b'@', moment)) => match Moment::read(moment) {
+            Ok(moment) => Ok(Tag::At(moment)),
+            Err(BadMoment) => Err(PathFault::BadMoment),
+        },
+        Some((_, number)) => match read_number(number) {
+            Some(number) => Ok(Tag::Number(VersionNo(number))),
+            None => Err(PathFault::BadPath),
+        },
+    }
+}

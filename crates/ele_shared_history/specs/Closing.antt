@@ -1,0 +1,16 @@
+-- What the last seat is handed at the end.
+use Rattle.std.specs.Prelude.{◌≡◌, List}
+use Rattle.ele_history.specs.Legal.{IsLegal}
+use Rattle.ele_history.specs.Past.{Past, world_of}
+use Rattle.ele_shared_history.specs.declared.board.Call.{Call}
+use Rattle.ele_shared_history.specs.Knowledge.{Knowledge}
+use Rattle.ele_shared_history.specs.Running.{continued, entries_of, own_of, StartsWith}
+
+-- the opening history, and behind it a running history that the seat has seen a beginning of, with the seat's own calls and
+-- no others under its numbers
+pub record Closes (opening : Past) (k : Knowledge) (history : Past) : Type 0 where
+  pub log : List Call
+  pub after : history ≡ continued opening (entries_of log)
+  pub legal : IsLegal (world_of opening) (entries_of log)
+  pub view : StartsWith log k.view
+  pub own : own_of k.numbers log ≡ k.own

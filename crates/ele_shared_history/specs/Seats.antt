@@ -1,0 +1,70 @@
+-- Seats as they are made, split off and joined.
+use Rattle.std.specs.Prelude.{◌≡◌, ℕ, List, [], ◌∷◌, ◌++◌, true, false}
+use Rattle.ele_shared_history.specs.Knowledge.{Knowledge, Object}
+use Rattle.ele_shared_history.specs.Running.{has, own_of, StartsWith}
+
+-- the first seat: number 0, an empty view, no calls
+pub record IsFirst (object : Object) (k : Knowledge) : Type 0 where
+  pub of : k.object ≡ object
+  pub numbers : k.numbers ≡ 0 ∷ []
+  pub view : k.view ≡ []
+  pub own : k.own ≡ []
+  pub known : k.known ≡ 0 ∷ []
+
+-- a seat as it is made, with this number
+pub record IsNew (object : Object) (number : ℕ) (k : Knowledge) : Type 0 where
+  pub of : k.object ≡ object
+  pub numbers : k.numbers ≡ number ∷ []
+  pub view : k.view ≡ []
+  pub own : k.own ≡ []
+
+-- seats as they are made, with these numbers
+abbrev pub AreNew : Object → List ℕ → List Knowledge → Type 0
+AreNew object [] [] = Unit {0}
+AreNew object (n ∷ ns) (k ∷ ks) = IsNew object n k × AreNew object ns ks
+AreNew object [] (k ∷ ks) = ⊥
+AreNew object (n ∷ ns) [] = ⊥
+
+-- no number stands twice
+abbrev pub AreApart : List ℕ → Type 0
+AreApart [] = Unit {0}
+AreApart (n ∷ ns) = (has ns n ≡ false) × AreApart ns
+
+-- seats as they are made, each with a number of its own
+abbrev pub AreAllNew : Object → List Knowledge → Type 0
+AreAllNew object ks = (ns : List ℕ) × AreNew object ns ks × AreApart ns
+
+-- one seat more as it is made, with a number apart from these, which knows all of them
+pub record IsNext (object : Object) (ns : List ℕ) (k : Knowledge) : Type 0 where
+  pub number : ℕ
+  pub new : IsNew object number k
+  pub other : has ns number ≡ false
+  pub itself : has k.known number ≡ true
+  pub others : (n : ℕ) → has ns n ≡ true → has k.known n ≡ true
+
+-- seats as they are made, and behind them one more
+abbrev pub AreDealt : Object → List Knowledge → Knowledge → Type 0
+AreDealt object ks last = (ns : List ℕ) × AreNew object ns ks × AreApart ns × IsNext object ns last
+
+-- a seat with a number of its own and no calls, which has seen what the old one has
+pub record SplitOff (old new : Knowledge) : Type 0 where
+  pub number : ℕ
+  pub numbers : new.numbers ≡ number ∷ []
+  pub other : has old.known number ≡ false
+  pub known : new.known ≡ number ∷ old.known
+  pub object : new.object ≡ old.object
+  pub view : new.view ≡ old.view
+  pub own : new.own ≡ []
+
+-- a seat has seen what both have, and has the numbers of both, which are apart; under each number stand the calls that stood
+-- there
+pub record Joined (first second both : Knowledge) : Type 0 where
+  pub object : both.object ≡ first.object
+  pub numbers : both.numbers ≡ first.numbers ++ second.numbers
+  pub known : both.known ≡ first.known ++ second.known
+  pub view_first : StartsWith both.view first.view
+  pub view_second : StartsWith both.view second.view
+  pub own_first : own_of first.numbers both.view ≡ first.own
+  pub own_second : own_of second.numbers both.view ≡ second.own
+  pub apart : (n : ℕ) → has first.numbers n ≡ true → has second.numbers n ≡ false
+  pub own : own_of both.numbers both.view ≡ both.own

@@ -1,0 +1,13 @@
+-- What is told of a seat. No public clause cites this module.
+use Rattle.atomic_table.specs.Seated.{TableId}
+use Rattle.ele_shared_history.specs.declared.board.View.{View}
+use Rattle.ele_shared_history.specs.Knowledge.{Knowledge}
+
+abbrev pub knowledge : TableId → View → Knowledge
+knowledge name v = record {
+  object = record { name = name; opening = v.opening };
+  numbers = v.numbers;
+  view = v.seen;
+  own = v.own;
+  known = v.known;
+}

@@ -1,0 +1,220 @@
+//! One history for many threads, over one word and one slot. A contract sees of a seat its numbers,
+//! the beginning of the running history that it has seen, and its own calls.
+#![tactic(auto)]
+
+ghost use Rattle.std.specs.Prelude.{◌≡◌, ◌+◌, ◌%◌, ◌<◌, ◌≤◌, vec_len, vec_capacity, IfOk, IfErr, IsOk, IsSome, OnErr, [], Some};
+ghost use Rattle.ele_shared_history.specs.Calling.{Called, StoppedBy, TriedBy};
+ghost use Rattle.ele_shared_history.specs.Closing.{Closes};
+ghost use Rattle.ele_shared_history.specs.Knowledge.{IsTrue, Looked, count_seen};
+ghost use Rattle.ele_shared_history.specs.Seats.{AreAllNew, AreDealt, IsFirst, Joined, SplitOff};
+
+mod board;
+mod plays;
+mod seat;
+mod steps;
+mod stop;
+
+use board::Table;
+use ele_history::History;
+use ele_model::{Event, NoMemory, Reply, Stepping, Stop};
+pub use seat::Seat;
+use std::alloc::Global;
+use std::marker::Model;
+use std::mem;
+use std::snapshot::Snapshot;
+use std::sync::Wait;
+use steps::{attempt, fork, insist, look, unite};
+pub use stop::{TryStop, TurnHeld};
+
+/// A history that many threads call, each through a seat of its own.
+#[derive(Drop)]
+pub struct Shared<C: Stepping> {
+    table: Table<C>,
+}
+
+impl<C: Stepping> Model for Shared<C> {
+    ghost use Rattle.std.specs.Prelude.{◌≡◌};
+    ghost use Rattle.ele_shared_history.specs.Knowledge.{Object};
+
+    ghost Value = { Object };
+
+    ghost view = { λ s. record {
+      name = s.table.shared.table_id;
+      opening = s.table.shared.key.value;
+    } };
+
+    ghost invariant = { λ s. (s.table.shared.table_id.words ≡ 1)
+        × (s.table.shared.table_id.slots ≡ 1) };
+}
+
+impl<C: Stepping> Shared<C> {
+    /// Shares the history among so many seats, from 1 to 64. Each has a number of its own, has seen
+    /// no event and made no call.
+    ///
+    /// `NoMemory` where memory is refused, and then the history comes back as it was.
+    pub fn new(
+        alloc: Global,
+        history: History<C>,
+        seats: u32,
+    ) -> Result<(Shared<C>, Vec<Seat<C>>), (History<C>, NoMemory)>
+        requires { (0 < seats) × (seats ≤ 64) }
+        ensures ok { IfOk result (λ made. (made.0.opening ≡ history)
+            × (vec_len made.1 ≡ seats) × AreAllNew made.0 made.1.items) }
+        ensures err { IfErr result (λ refused. refused.0 ≡ history) }
+    {
+        let mut all = Vec::new(alloc);
+        if all.reserve(seats as usize).is_err() {
+            return Err((history, NoMemory));
+        }
+        let (shared, mut last) = Shared::alone(alloc, history)?;
+        shared.deal(&mut last, &mut all, seats);
+        all.push_reserved(last);
+        Ok((shared, all))
+    }
+
+    // The object and its first seat.
+    fn alone(
+        alloc: Global,
+        history: History<C>,
+    ) -> Result<(Shared<C>, Seat<C>), (History<C>, NoMemory)>
+        ensures ok { IfOk result
+            (λ made. (made.0.opening ≡ history) × IsFirst made.0 made.1) }
+        ensures err { IfErr result (λ refused. refused.0 ≡ history) }
+    {
+        let opening = Snapshot::of(&history);
+        let count = history.count();
+        history.base().limits.are_within();
+        let mut slots = Vec::new(alloc);
+        if let Err(refused) = slots.push(Some(history)) {
+            let Some(history) = refused.value else {
+                unreachable!()
+            };
+            return Err((history, NoMemory));
+        }
+        match Table::new(alloc, &[2 * count], slots, &opening) {
+            Ok((table, place)) => Ok((Shared { table }, Seat { place })),
+            Err(refused) => {
+                let mut slots = refused.slots;
+                let Some(Some(history)) = slots.pop() else {
+                    unreachable!()
+                };
+                Err((history, NoMemory))
+            }
+        }
+    }
+
+    // Puts all seats but the last one made into the row.
+    fn deal(&self, last: &mut Seat<C>, all: &mut Vec<Seat<C>>, seats: u32)
+        requires first { IsFirst self.now last.old }
+        requires room { (all.old.items ≡ []) × (0 < seats) × (seats ≤ vec_capacity all.old) }
+        ensures row { AreDealt self.now all.new.items last.new }
+        ensures many { (vec_len all.new + 1 ≡ seats) × (seats ≤ vec_capacity all.new) }
+    {
+        for _ in 1..seats {
+            let next = self.divide(last);
+            let done = mem::replace(last, next);
+            all.push_reserved(done);
+        }
+    }
+
+    /// Takes the event, as the history takes it after all events that were published before: the
+    /// seat has seen them then, and this one behind them. Waits for the turn, and nothing promises
+    /// that it comes.
+    ///
+    /// `HistoryFull` where as many events were published as the limits allow, and `NoMemory` where
+    /// memory is refused. Each leaves the history, and the turn is given back.
+    pub fn call<R: Wait>(&self, rt: &R, seat: &mut Seat<C>, event: Event) -> Result<Reply, Stop>
+        requires { seat.old.object ≡ self.now }
+        ensures ok { IfOk result (λ reply. Called seat.old event reply seat.new) }
+        ensures err { IfErr result
+            (λ stop. Looked seat.old seat.new × StoppedBy stop seat.new) }
+        ensures object { seat.new.object ≡ seat.old.object }
+        ensures seat { IsTrue seat.new }
+    {
+        insist(rt, &self.table.shared, &mut seat.place, event)
+    }
+
+    /// As `call`, with one attempt at the turn in place of a wait.
+    ///
+    /// `Busy` where another call had the turn, or took it first, which leaves the history too.
+    pub fn try_call(&self, seat: &mut Seat<C>, event: Event) -> Result<Reply, TryStop>
+        requires { seat.old.object ≡ self.now }
+        ensures ok { IfOk result (λ reply. Called seat.old event reply seat.new) }
+        ensures err { IfErr result
+            (λ stop. Looked seat.old seat.new × TriedBy stop seat.new) }
+        ensures object { seat.new.object ≡ seat.old.object }
+        ensures seat { IsTrue seat.new }
+    {
+        attempt(&self.table.shared, &mut seat.place, event)
+    }
+
+    /// How many events were ever published, those of the opening history among them. The seat has
+    /// seen them all then. It neither waits nor takes the turn.
+    pub fn published(&self, seat: &mut Seat<C>) -> u64
+        requires { seat.old.object ≡ self.now }
+        ensures count { result ≡ count_seen seat.new }
+        ensures seen { Looked seat.old seat.new }
+        ensures object { seat.new.object ≡ seat.old.object }
+        ensures seat { IsTrue seat.new }
+    {
+        look(&self.table.shared, &mut seat.place) / 2
+    }
+
+    /// A new seat, with a number of its own and no calls, which has seen what this one has.
+    ///
+    /// A seat takes no memory, so it is always answered.
+    pub fn split(&self, seat: &mut Seat<C>) -> Result<Seat<C>, NoMemory>
+        requires { seat.old.object ≡ self.now }
+        ensures ok { IfOk result (λ other. SplitOff seat.old other × IsTrue other) }
+        ensures always { IsOk result }
+        ensures unchanged { seat.new ≡ seat.old }
+    {
+        Ok(self.divide(seat))
+    }
+
+    // A new seat, which has seen what this one has.
+    fn divide(&self, seat: &mut Seat<C>) -> Seat<C>
+        requires { seat.old.object ≡ self.now }
+        ensures unchanged { seat.new ≡ seat.old }
+        ensures other { SplitOff seat.old result × IsTrue result }
+    {
+        let place = fork(&self.table.shared, &mut seat.place);
+        Seat { place }
+    }
+
+    /// Makes one seat of two: it has seen what both have, and has the numbers and calls of both.
+    pub fn join(&self, seat: &mut Seat<C>, other: Seat<C>)
+        requires first { seat.old.object ≡ self.now }
+        requires second { other.object ≡ self.now }
+        ensures { Joined seat.old other seat.new × IsTrue seat.new }
+    {
+        unite(&self.table.shared, &mut seat.place, other.place);
+    }
+
+    /// The history after all calls: the opening one, with each published event behind it.
+    ///
+    /// `TurnHeld` where a call took the turn and never gave it back; the history is gone then.
+    pub fn close(self, seat: Seat<C>) -> Result<History<C>, TurnHeld>
+        requires { seat.object ≡ self }
+        ensures { IfOk result (λ history. Closes self.opening seat history) }
+    {
+        let mut closed = self.table.close_with(seat.place);
+        let word = closed.word(0);
+        let slot = closed.take(0);
+        closed.free();
+        handed_over(word, slot)
+    }
+}
+
+// What a closed table had: while the word is even, the history is at home.
+fn handed_over<C: Stepping>(word: u64, slot: Option<History<C>>) -> Result<History<C>, TurnHeld>
+    requires { word % 2 ≡ 0 → IsSome slot }
+    ensures ok { IfOk result (λ history. (word % 2 ≡ 0) × (slot ≡ Some history)) }
+    ensures err { OnErr result (word % 2 ≡ 1) }
+{
+    if word % 2 == 1 {
+        return Err(TurnHeld);
+    }
+    let Some(history) = slot else { unreachable!() };
+    Ok(history)
+}
