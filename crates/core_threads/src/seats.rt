@@ -3,7 +3,7 @@ ghost use Rattle.std.specs.Prelude.{◌≡◌, IfOk};
 
 use ele_core::Core;
 use ele_history::History;
-use ele_model::{ByteList, Event, FileId, Handle, Limits, NoMemory, Reply, Stepping, Stop};
+use ele_model::{ByteList, Event, FileId, Handle, Limits, NoMemory, Reply, Step, Stop};
 use ele_script::read_event;
 use ele_shared_history::{Seat, Shared};
 use std::alloc::Global;
@@ -22,7 +22,7 @@ type Filled = ([Answer; 4], [u64; 2]);
 type Attempts = ([u64; 3], [bool; 4], u64);
 
 /// A fresh history that takes so many events.
-fn fresh<C: Stepping>(alloc: Global, events: u64) -> Result<History<C>, NoMemory> {
+fn fresh<C: Step>(alloc: Global, events: u64) -> Result<History<C>, NoMemory> {
     match Limits::with_events(events) {
         Some(limits) => History::new(alloc, limits),
         None => Err(NoMemory),
@@ -30,7 +30,7 @@ fn fresh<C: Stepping>(alloc: Global, events: u64) -> Result<History<C>, NoMemory
 }
 
 /// The history, shared among two seats, and the last of them.
-fn share<C: Stepping>(alloc: Global, history: History<C>) -> Result<(Shared<C>, Seat<C>), NoMemory>
+fn share<C: Step>(alloc: Global, history: History<C>) -> Result<(Shared<C>, Seat<C>), NoMemory>
     ensures { IfOk result (λ made. made.1.object ≡ made.0) }
 {
     let Ok((shared, mut seats)) = Shared::new(alloc, history, 2) else {
@@ -43,10 +43,7 @@ fn share<C: Stepping>(alloc: Global, history: History<C>) -> Result<(Shared<C>, 
 }
 
 /// A fresh history that takes so many events, shared, a seat of it, and one that is split off.
-pub fn opened<C: Stepping>(
-    alloc: Global,
-    events: u64,
-) -> Result<(Shared<C>, Seat<C>, Seat<C>), Fail>
+pub fn opened<C: Step>(alloc: Global, events: u64) -> Result<(Shared<C>, Seat<C>, Seat<C>), Fail>
     ensures { IfOk result (λ made. (made.1.object ≡ made.0) × (made.2.object ≡ made.0)) }
 {
     let (shared, mut one) = share(alloc, fresh(alloc, events)?)?;
@@ -55,7 +52,7 @@ pub fn opened<C: Stepping>(
 }
 
 /// What the line's event is answered.
-pub fn ask<C: Stepping, R: Wait>(
+pub fn ask<C: Step, R: Wait>(
     rt: &R,
     alloc: Global,
     shared: &Shared<C>,
@@ -71,7 +68,7 @@ pub fn ask<C: Stepping, R: Wait>(
 
 /// What a history of three events answers three calls of one seat and one of another; how many
 /// events this one is told, and how many the closed history has.
-fn fill<C: Stepping, R: Wait>(rt: &R, alloc: Global, joins: bool) -> Result<Filled, Fail> {
+fn fill<C: Step, R: Wait>(rt: &R, alloc: Global, joins: bool) -> Result<Filled, Fail> {
     let (shared, mut one, mut other) = opened::<C>(alloc, 3)?;
     let answers = [
         ask(rt, alloc, &shared, &mut one, "create /f")?,
@@ -89,7 +86,7 @@ fn fill<C: Stepping, R: Wait>(rt: &R, alloc: Global, joins: bool) -> Result<Fill
 /// How many events the seats of a fresh history are told, and one that is split off; which of four
 /// attempts of the first one are answered; and how many events the second one is told then, which
 /// never called.
-fn attempt_four<C: Stepping>(alloc: Global) -> Result<Attempts, Fail> {
+fn attempt_four<C: Step>(alloc: Global) -> Result<Attempts, Fail> {
     let (shared, mut one, mut other) = opened::<C>(alloc, 1_000)?;
     let mut third = shared.split(&mut one)?;
     let fresh = [
@@ -107,7 +104,7 @@ fn attempt_four<C: Stepping>(alloc: Global) -> Result<Attempts, Fail> {
 }
 
 /// What a seat that is split off reads of a file that the other one wrote.
-fn read_by_another<C: Stepping, R: Wait>(rt: &R, alloc: Global) -> Result<Answer, Fail> {
+fn read_by_another<C: Step, R: Wait>(rt: &R, alloc: Global) -> Result<Answer, Fail> {
     let (shared, mut one, _other) = opened::<C>(alloc, 1_000)?;
     ask(rt, alloc, &shared, &mut one, "create /f")??;
     ask(rt, alloc, &shared, &mut one, "open write /f")??;
@@ -119,7 +116,7 @@ fn read_by_another<C: Stepping, R: Wait>(rt: &R, alloc: Global) -> Result<Answer
 
 /// What seats are told that one thread calls in turn: those of a full history, without a join and
 /// with one, those that make attempts, and one that reads.
-fn call_in_turn<C: Stepping, R: Wait>(
+fn call_in_turn<C: Step, R: Wait>(
     rt: &R,
     alloc: Global,
 ) -> Result<(Filled, Filled, Attempts, Answer), Fail> {

@@ -5,8 +5,7 @@ use crate::meets::{AllBut, Counting, Holding, LOOKS};
 use crate::seats::opened;
 use crate::tally::{are_prepared, are_ten_rounds};
 use ele_core::Core;
-use ele_model::laws::usage_fits;
-use ele_model::{Auditable, NoMemory, Stepping, audit};
+use ele_model::{Audit, NoMemory, Step, audit, laws};
 use ele_shared_history::{Seat, Shared};
 use ele_storm::{Flags, Meet, StormFault, StormPlan, storm, work};
 use std::alloc::Global;
@@ -27,19 +26,19 @@ fn plan() -> Result<StormPlan, Fail> {
 }
 
 // Whether what the core tells is what the scans of its rows give.
-fn is_equal<C: Auditable>(core: &C) -> Result<bool, NoMemory> {
+fn is_equal<C: Audit>(core: &C) -> Result<bool, NoMemory> {
     let due = core.due()?;
     let names = core.restorable()?;
     let usage = core.usage();
     let flat = core.flat()?;
     // Told for the proof: the world is well formed, so the sums of its usage are within 64 bits.
     let _now = core.now();
-    usage_fits();
+    laws::usage_fits();
     audit(due.as_slice(), names.as_slice(), &usage, &flat)
 }
 
 /// How a storm ends over a history that takes so many events.
-fn storm_by<C: Auditable + Send, R: Threads + Wait + Sync, M: Meet + Sync>(
+fn storm_by<C: Audit + Send, R: Threads + Wait + Sync, M: Meet + Sync>(
     rt: &R,
     alloc: Global,
     events: u64,
@@ -57,7 +56,7 @@ fn storm_by<C: Auditable + Send, R: Threads + Wait + Sync, M: Meet + Sync>(
 }
 
 /// How storms end that leave one worker alone, by its number.
-fn storms_alone<C: Auditable + Send, R: Threads + Wait + Sync>(
+fn storms_alone<C: Audit + Send, R: Threads + Wait + Sync>(
     rt: &R,
     alloc: Global,
 ) -> Result<[Ended; 4], Fail> {
@@ -70,7 +69,7 @@ fn storms_alone<C: Auditable + Send, R: Threads + Wait + Sync>(
 }
 
 /// How a storm ends whose workers are counted, and how often each was.
-fn storm_counted<C: Auditable + Send, R: Threads + Wait + Sync>(
+fn storm_counted<C: Audit + Send, R: Threads + Wait + Sync>(
     rt: &R,
     alloc: Global,
 ) -> Result<(Stormed, [u32; 4]), Fail> {
@@ -80,7 +79,7 @@ fn storm_counted<C: Auditable + Send, R: Threads + Wait + Sync>(
 }
 
 // Lets the worker go as soon as the seat is told of more than three events.
-fn watch<C: Stepping>(shared: &Shared<C>, mut seat: Seat<C>, holding: &Holding)
+fn watch<C: Step>(shared: &Shared<C>, mut seat: Seat<C>, holding: &Holding)
     requires { seat.object ≡ shared.now }
 {
     for _ in 0..LOOKS {
@@ -93,7 +92,7 @@ fn watch<C: Stepping>(shared: &Shared<C>, mut seat: Seat<C>, holding: &Holding)
 }
 
 /// How a storm ends whose first worker is held until another thread sees that the others work.
-fn storm_held<C: Stepping + Send, R: Threads + Wait + Sync>(
+fn storm_held<C: Step + Send, R: Threads + Wait + Sync>(
     rt: &R,
     alloc: Global,
 ) -> Result<Ended, Fail> {
@@ -115,7 +114,7 @@ fn storm_held<C: Stepping + Send, R: Threads + Wait + Sync>(
 }
 
 /// What one worker of a small plan is answered on a fresh history.
-fn work_one<C: Stepping, R: Wait>(rt: &R, alloc: Global, worker: u32) -> Result<Ended, Fail> {
+fn work_one<C: Step, R: Wait>(rt: &R, alloc: Global, worker: u32) -> Result<Ended, Fail> {
     let (shared, mut seat, _other) = opened::<C>(alloc, 1_000)?;
     let plan = StormPlan::new(1, 1, 2).ok_or("there is such a plan")?;
     if worker >= plan.workers() {
@@ -134,7 +133,7 @@ fn work_one<C: Stepping, R: Wait>(rt: &R, alloc: Global, worker: u32) -> Result<
 
 /// How storms end: by flags, with room for all events and for 20; counted; with one worker alone;
 /// with one that is held; and what a writer and a cleaner are answered by themselves.
-fn storms<C: Auditable + Send, R: Threads + Wait + Sync>(
+fn storms<C: Audit + Send, R: Threads + Wait + Sync>(
     rt: &R,
     alloc: Global,
 ) -> Result<([Stormed; 2], (Stormed, [u32; 4]), [Ended; 4], [Ended; 3]), Fail> {

@@ -3,7 +3,7 @@ ghost use Rattle.std.specs.Prelude.{◌≡◌};
 
 use crate::seats::{Answer, opened};
 use ele_core::Core;
-use ele_model::{Entry, Event, Stepping, Stop};
+use ele_model::{Entry, Event, Step, Stop};
 use ele_shared_history::{Seat, Shared};
 use std::alloc::Global;
 use std::sync::Wait;
@@ -17,7 +17,7 @@ type Ticked = ([bool; 2], u64);
 type Filled = ([Counts; 2], u64);
 
 /// What five ticks by so many seconds are answered.
-fn tick_five<C: Stepping, R: Wait>(
+fn tick_five<C: Step, R: Wait>(
     rt: &R,
     shared: &Shared<C>,
     mut seat: Seat<C>,
@@ -56,7 +56,7 @@ fn stand_in_order(entries: &[Entry], seconds: u64, told: &[Answer]) -> bool {
 
 /// Whether what two threads with five calls each were answered stands in the entries, each one's in
 /// its order, and how many events there are.
-fn tick_by_two<C: Stepping + Send, R: Threads + Wait + Sync>(
+fn tick_by_two<C: Step + Send, R: Threads + Wait + Sync>(
     rt: &R,
     alloc: Global,
 ) -> Result<Ticked, Fail> {
@@ -92,7 +92,7 @@ struct Counts {
 }
 
 /// Calls three times.
-fn ask_three_times<C: Stepping, R: Wait>(
+fn ask_three_times<C: Step, R: Wait>(
     rt: &R,
     shared: &Shared<C>,
     mut seat: Seat<C>,
@@ -112,7 +112,7 @@ fn ask_three_times<C: Stepping, R: Wait>(
 }
 
 /// Calls three times by each of two threads, and joins their seats.
-fn ask_by_two<C: Stepping + Send, R: Threads + Wait + Sync>(
+fn ask_by_two<C: Step + Send, R: Threads + Wait + Sync>(
     rt: &R,
     shared: &Shared<C>,
     one: Seat<C>,
@@ -142,7 +142,7 @@ fn ask_by_two<C: Stepping + Send, R: Threads + Wait + Sync>(
 
 /// What nine calls of three threads come to where the history takes five events, and how many events
 /// there are.
-fn ask_by_three<C: Stepping + Send, R: Threads + Wait + Sync>(
+fn ask_by_three<C: Step + Send, R: Threads + Wait + Sync>(
     rt: &R,
     alloc: Global,
 ) -> Result<Filled, Fail> {
@@ -165,7 +165,7 @@ fn ask_by_three<C: Stepping + Send, R: Threads + Wait + Sync>(
 }
 
 /// What threads are told: two that make ten calls, and three that fill a history.
-fn call_by_threads<C: Stepping + Send, R: Threads + Wait + Sync>(
+fn call_by_threads<C: Step + Send, R: Threads + Wait + Sync>(
     rt: &R,
     alloc: Global,
 ) -> Result<(Ticked, Filled), Fail> {

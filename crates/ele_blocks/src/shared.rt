@@ -132,7 +132,7 @@ impl<T: Drop> Shared<T> {
     }
 
     /// Each value that stands has an owner; this says so and does nothing.
-    pub fn are_owned(&self)
+    pub fn lemma_owned(&self)
         ensures { Owned self.now.slots }
     {
         let _ = &self.values;

@@ -122,7 +122,7 @@ impl BlockStore {
         ensures named { (maps : List Layout) → Owes self.now maps
             → result ≡ different nat_eq (blocks_of self.now maps) }
     {
-        self.leaves.are_owned();
+        self.leaves.lemma_owned();
         self.blocks.len() as u64
     }
 

@@ -8,7 +8,7 @@ ghost use Rattle.ele_model.specs.Step.{clean_step};
 
 use crate::Core;
 use ele_model::{Key, PassEnd};
-use ele_policy::laws::policies_are_lawful;
+use ele_policy::laws;
 use ele_state::Meter;
 
 impl Core {
@@ -31,8 +31,8 @@ impl Core {
         ensures end { EndsPass self.old.world budget result self.new.world }
         ensures unstopped { is_stopped result ≡ false }
     {
-        policies_are_lawful();
-        self.formed();
+        laws::policies_are_lawful();
+        self.lemma_well_formed();
         for removed in 0..budget {
             if self.clean_one().is_none() {
                 return PassEnd::Finished(removed);

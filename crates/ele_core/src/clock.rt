@@ -6,7 +6,7 @@ ghost use Rattle.ele_model.specs.declared.event.Event.TheVariants as event;
 ghost use Rattle.ele_model.specs.declared.reply.Reply.TheVariants.{Now};
 
 use crate::Core;
-use crate::halt::{passed, unless};
+use crate::halt::{check, refuse_if};
 use ele_model::{Moment, Refusal};
 
 impl Core {
@@ -16,7 +16,7 @@ impl Core {
         ensures valid { to ≤ last_moment }
     {
         let is_back = to.seconds() < self.state.now().seconds();
-        passed!(unless(is_back, Refusal::ClockBack));
+        check!(refuse_if(is_back, Refusal::ClockBack));
         self.state.set_time(to);
         Ok(to)
     }

@@ -5,7 +5,7 @@ ghost use Rattle.ele_model.specs.declared.event.Event.TheVariants as event;
 ghost use Rattle.ele_model.specs.declared.reply.Reply.TheVariants.{Directory};
 
 use crate::Core;
-use crate::halt::{Halt, passed, unless};
+use crate::halt::{Halt, check, refuse_if};
 use ele_model::{DirId, Path, Policy, Refusal, Target, Which};
 
 impl Core {
@@ -15,9 +15,9 @@ impl Core {
     pub fn make_dir(&mut self, path: &Path) -> Result<DirId, Halt>
         ensures { Does Directory self.old.world (event.MakeDir path.now) result self.new.world }
     {
-        let (directory, name) = passed!(self.free_place(path));
-        passed!(self.room_for(Which::Directories));
-        passed!(self.room_for(Which::Names));
+        let (directory, name) = check!(self.free_place(path));
+        check!(self.room_for(Which::Directories));
+        check!(self.room_for(Which::Names));
         Ok(self.state.make_directory(directory, name)?)
     }
 
@@ -26,11 +26,11 @@ impl Core {
     pub fn remove_dir(&mut self, path: &Path) -> Result<(), Refusal>
         ensures { DoesAtOnce done self.old.world (event.RemoveDir path.now) result self.new.world }
     {
-        let (home, name, found) = passed!(self.state.placed_now(path));
+        let (home, name, found) = check!(self.state.placed_now(path));
         let Target::Directory(directory) = found.target() else {
             return Err(Refusal::NotDirectory);
         };
-        passed!(unless(!self.state.is_empty(directory), Refusal::NotEmpty));
+        check!(refuse_if(!self.state.is_empty(directory), Refusal::NotEmpty));
         self.state.end_name(home, &name, &found);
         Ok(())
     }
@@ -42,8 +42,8 @@ impl Core {
             self.old.world (event.SetDefault path.now policy) result self.new.world }
         ensures valid { IsPolicy policy }
     {
-        policy.is_given();
-        let directory = passed!(self.state.directory_now(path));
+        policy.lemma_valid();
+        let directory = check!(self.state.directory_now(path));
         self.state.govern(directory, policy);
         Ok(())
     }

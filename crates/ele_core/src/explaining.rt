@@ -2,8 +2,8 @@
 ghost use Rattle.ele_model.specs.Why.{IsWhy};
 
 use crate::Core;
-use crate::halt::passed;
-use ele_model::{Explaining, Fate, KeyList, Moment, NoMemory, Refusal, TaggedPath};
+use crate::halt::check;
+use ele_model::{Explain, Fate, KeyList, Moment, NoMemory, Refusal, TaggedPath};
 use ele_state::Meter;
 
 impl Core {
@@ -13,7 +13,7 @@ impl Core {
     pub fn fate_at(&self, tagged: &TaggedPath) -> Result<Fate, Refusal>
         ensures { IsWhy self.now.world tagged.now result }
     {
-        let (file, stamps) = passed!(self.state.version_at(tagged, &mut Meter::new()));
+        let (file, stamps) = check!(self.state.version_at(tagged, &mut Meter::new()));
         match self.state.fate(file, stamps.number) {
             Some(fate) => Ok(fate),
             None => unreachable!(),
@@ -21,7 +21,7 @@ impl Core {
     }
 }
 
-impl Explaining for Core {
+impl Explain for Core {
     fn fate_at(&self, tagged: &TaggedPath) -> Result<Fate, Refusal> {
         Core::fate_at(self, tagged)
     }

@@ -5,7 +5,7 @@ ghost use Rattle.ele_core.specs.Does.{Does, done};
 ghost use Rattle.ele_model.specs.declared.event.Event.TheVariants as event;
 
 use crate::Core;
-use crate::halt::{Halt, passed, unless};
+use crate::halt::{Halt, check, refuse_if};
 use ele_model::{MarkRow, Moment, Name, Path, Refusal, Which};
 
 // Whether the end, if there is one, has come by then.
@@ -24,8 +24,8 @@ impl Core {
     pub fn make_group(&mut self, name: &Name) -> Result<(), Halt>
         ensures { Does done self.old.world (event.GroupMake name.now) result self.new.world }
     {
-        passed!(unless(self.state.has_group(name), Refusal::GroupExists));
-        passed!(self.room_for(Which::Groups));
+        check!(refuse_if(self.state.has_group(name), Refusal::GroupExists));
+        check!(self.room_for(Which::Groups));
         Ok(self.state.make_group(name)?)
     }
 
@@ -34,7 +34,7 @@ impl Core {
     pub fn drop_group(&mut self, name: &Name) -> Result<(), Halt>
         ensures { Does done self.old.world (event.GroupDrop name.now) result self.new.world }
     {
-        passed!(unless(!self.state.has_group(name), Refusal::NoGroup));
+        check!(refuse_if(!self.state.has_group(name), Refusal::NoGroup));
         Ok(self.state.drop_group(name)?)
     }
 
@@ -44,10 +44,10 @@ impl Core {
         ensures { Does done
             self.old.world (event.GroupAdd name.now path.now) result self.new.world }
     {
-        passed!(unless(!self.state.has_group(name), Refusal::NoGroup));
-        let file = passed!(self.state.file_now(path));
-        passed!(unless(self.state.is_member(name, file), Refusal::AlreadyMember));
-        passed!(self.room_for(Which::Members));
+        check!(refuse_if(!self.state.has_group(name), Refusal::NoGroup));
+        let file = check!(self.state.file_now(path));
+        check!(refuse_if(self.state.is_member(name, file), Refusal::AlreadyMember));
+        check!(self.room_for(Which::Members));
         Ok(self.state.add_member(name, file)?)
     }
 
@@ -57,9 +57,9 @@ impl Core {
         ensures { Does done
             self.old.world (event.GroupRemove name.now path.now) result self.new.world }
     {
-        passed!(unless(!self.state.has_group(name), Refusal::NoGroup));
-        let file = passed!(self.state.file_now(path));
-        passed!(unless(!self.state.is_member(name, file), Refusal::NotMember));
+        check!(refuse_if(!self.state.has_group(name), Refusal::NoGroup));
+        let file = check!(self.state.file_now(path));
+        check!(refuse_if(!self.state.is_member(name, file), Refusal::NotMember));
         Ok(self.state.remove_member(name, file)?)
     }
 
@@ -70,12 +70,12 @@ impl Core {
         ensures { Does done
             self.old.world (event.Mark name.now moment until.now) result self.new.world }
     {
-        passed!(unless(!self.state.has_group(name), Refusal::NoGroup));
+        check!(refuse_if(!self.state.has_group(name), Refusal::NoGroup));
         let is_past = moment.seconds() < self.state.now().seconds();
-        passed!(unless(!is_past, Refusal::NotPast));
-        passed!(unless(has_ended(until, self.state.now()), Refusal::NotAhead));
-        passed!(unless(self.state.has_mark(name, moment), Refusal::MarkExists));
-        passed!(self.room_for(Which::Marks));
+        check!(refuse_if(!is_past, Refusal::NotPast));
+        check!(refuse_if(has_ended(until, self.state.now()), Refusal::NotAhead));
+        check!(refuse_if(self.state.has_mark(name, moment), Refusal::MarkExists));
+        check!(self.room_for(Which::Marks));
         let mark = MarkRow {
             at: moment,
             until: *until,
@@ -88,8 +88,8 @@ impl Core {
     pub fn unmark(&mut self, name: &Name, moment: Moment) -> Result<(), Halt>
         ensures { Does done self.old.world (event.Unmark name.now moment) result self.new.world }
     {
-        passed!(unless(!self.state.has_group(name), Refusal::NoGroup));
-        passed!(unless(!self.state.has_mark(name, moment), Refusal::NoMark));
+        check!(refuse_if(!self.state.has_group(name), Refusal::NoGroup));
+        check!(refuse_if(!self.state.has_mark(name, moment), Refusal::NoMark));
         Ok(self.state.remove_mark(name, moment)?)
     }
 }

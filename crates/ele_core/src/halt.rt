@@ -56,7 +56,7 @@ impl fmt::Display for Halt {
 impl Error for Halt {}
 
 // Refused where the test holds.
-pub fn unless(test: bool, refusal: Refusal) -> Result<(), Refusal>
+pub fn refuse_if(test: bool, refusal: Refusal) -> Result<(), Refusal>
     ensures passes { OnOk result (test ≡ false) }
     ensures refused { IfErr result (λ why. why ≡ refusal) }
     ensures holds { OnErr result (test ≡ true) }
@@ -65,13 +65,13 @@ pub fn unless(test: bool, refusal: Refusal) -> Result<(), Refusal>
 }
 
 /// What was found, or the refusal is handed on: what `?` is, which isn't proved of an error that may hold a number.
-macro_rules! passed {
-    ($check:expr) => {
-        match $check {
+macro_rules! check {
+    ($found:expr) => {
+        match $found {
             Ok(found) => found,
             Err(refusal) => return Err(refusal.into()),
         }
     };
 }
 
-pub(crate) use passed;
+pub(crate) use check;

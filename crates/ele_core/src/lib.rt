@@ -24,7 +24,7 @@ mod name;
 mod place;
 mod question;
 mod session;
-mod stepping;
+mod step;
 mod version;
 
 pub use crate::halt::Halt;

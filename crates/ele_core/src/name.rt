@@ -4,7 +4,7 @@ ghost use Rattle.ele_model.specs.declared.event.Event.TheVariants as event;
 ghost use Rattle.ele_model.specs.declared.reply.Reply.TheVariants.{File};
 
 use crate::Core;
-use crate::halt::{Halt, passed, unless};
+use crate::halt::{Halt, check, refuse_if};
 use ele_model::{FileId, Path, Refusal, Target, VersionNo, Which};
 use ele_state::Meter;
 
@@ -14,10 +14,10 @@ impl Core {
     pub fn create(&mut self, path: &Path) -> Result<FileId, Halt>
         ensures { Does File self.old.world (event.Create path.now) result self.new.world }
     {
-        let (directory, name) = passed!(self.free_place(path));
-        passed!(self.room_for(Which::Files));
-        passed!(self.room_for(Which::Names));
-        passed!(self.room_for(Which::Versions));
+        let (directory, name) = check!(self.free_place(path));
+        check!(self.room_for(Which::Files));
+        check!(self.room_for(Which::Names));
+        check!(self.room_for(Which::Versions));
         Ok(self.state.make_file(directory, name)?)
     }
 
@@ -26,9 +26,9 @@ impl Core {
     pub fn link(&mut self, from: &Path, to: &Path) -> Result<(), Halt>
         ensures { Does done self.old.world (event.Link from.now to.now) result self.new.world }
     {
-        let file = passed!(self.state.file_now(from));
-        let (directory, name) = passed!(self.free_place(to));
-        passed!(self.room_for(Which::Names));
+        let file = check!(self.state.file_now(from));
+        let (directory, name) = check!(self.free_place(to));
+        check!(self.room_for(Which::Names));
         Ok(self.state.add_name(directory, name, Target::File(file))?)
     }
 
@@ -38,7 +38,7 @@ impl Core {
     pub fn unlink(&mut self, path: &Path) -> Result<(), Halt>
         ensures { Does done self.old.world (event.Unlink path.now) result self.new.world }
     {
-        let (directory, name, found) = passed!(self.state.placed_now(path));
+        let (directory, name, found) = check!(self.state.placed_now(path));
         let Target::File(file) = found.target() else {
             return Err(Halt::Refused(Refusal::IsDirectory));
         };
@@ -52,12 +52,12 @@ impl Core {
     pub fn rename(&mut self, from: &Path, to: &Path) -> Result<(), Halt>
         ensures { Does done self.old.world (event.Rename from.now to.now) result self.new.world }
     {
-        let (directory, name, found) = passed!(self.state.placed_now(from));
+        let (directory, name, found) = check!(self.state.placed_now(from));
         let (old, moved) = ((directory, name), found.target());
-        let new = passed!(self.state.parent_beside(to, from, &old));
-        passed!(unless(self.state.stands_in(moved, to), Refusal::IntoItself));
-        passed!(unless(self.state.is_taken(new.0, &new.1), Refusal::Exists));
-        passed!(self.room_for(Which::Names));
+        let new = check!(self.state.parent_beside(to, from, &old));
+        check!(refuse_if(self.state.stands_in(moved, to), Refusal::IntoItself));
+        check!(refuse_if(self.state.is_taken(new.0, &new.1), Refusal::Exists));
+        check!(self.room_for(Which::Names));
         Ok(self.state.move_name(&old, &new, &found)?)
     }
 
@@ -67,20 +67,20 @@ impl Core {
     pub fn undelete(&mut self, path: &Path) -> Result<Option<VersionNo>, Halt>
         ensures { Does revived self.old.world (event.Undelete path.now) result self.new.world }
     {
-        let (directory, name) = passed!(self.state.parent_now(path));
+        let (directory, name) = check!(self.state.parent_now(path));
         let Some(lost) = self.state.last_dead(directory, &name) else {
-            passed!(unless(self.state.is_taken(directory, &name), Refusal::Exists));
+            check!(refuse_if(self.state.is_taken(directory, &name), Refusal::Exists));
             return Err(Halt::Refused(Refusal::NoEntry));
         };
-        passed!(unless(!self.state.may_return(&lost), Refusal::NotRestorable));
+        check!(refuse_if(!self.state.may_return(&lost), Refusal::NotRestorable));
         let Some(file) = self.state.nameless(&lost) else {
-            passed!(self.room_for(Which::Names));
+            check!(self.room_for(Which::Names));
             self.state.add_name(directory, name, lost)?;
             return Ok(None);
         };
-        passed!(unless(self.state.has_draft(file), Refusal::Drafting));
-        passed!(self.room_for(Which::Names));
-        passed!(self.room_for(Which::Versions));
+        check!(refuse_if(self.state.has_draft(file), Refusal::Drafting));
+        check!(self.room_for(Which::Names));
+        check!(self.room_for(Which::Versions));
         self.state.count_from(Meter::new());
         Ok(Some(self.state.revive(directory, name, file)?))
     }

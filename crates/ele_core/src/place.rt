@@ -8,12 +8,12 @@ ghost use Rattle.ele_model.specs.Walk.{live_target, parent_now};
 ghost use Rattle.ele_model.specs.WellFormed.{IsWellFormed};
 
 use crate::Core;
-use crate::halt::unless;
+use crate::halt::refuse_if;
 use ele_model::{DirId, Name, Path, Refusal, Which};
 
 impl Core {
     // Says that the world is well formed, and does nothing.
-    pub(crate) fn formed(&self)
+    pub(crate) fn lemma_well_formed(&self)
         ensures { IsWellFormed self.now.world }
     {
         let _now = self.state.now();
@@ -44,6 +44,6 @@ impl Core {
         ensures refused { IfErr result (λ why. why ≡ Full which) }
         ensures full { OnErr result (is_full self.now.world which ≡ true) }
     {
-        unless(self.state.is_full(which), Refusal::Full(which))
+        refuse_if(self.state.is_full(which), Refusal::Full(which))
     }
 }

@@ -13,7 +13,7 @@ ghost use Rattle.ele_model.specs.Told.{stat_of};
 ghost use Rattle.ele_model.specs.World.{next_of};
 
 use crate::Core;
-use crate::halt::{Halt, passed};
+use crate::halt::{Halt, check};
 use ele_model::{
     ByteList, DeadNameList, DirId, DirectoryRow, FileId, FileStat, GroupList, Handle, Key, KeyList,
     NameList, NoMemory, PathAt, Reads, Refusal, Source, StampsList, Tag, TaggedPath, Target, Usage,
@@ -36,7 +36,7 @@ impl Core {
         ensures { Does Bytes
             self.now.world (event.Read (source.Of handle)) result self.now.world }
     {
-        let reads = passed!(self.state.reads_by(handle));
+        let reads = check!(self.state.reads_by(handle));
         Ok(self.state.bytes_of(reads, &mut Meter::new())?)
     }
 
@@ -45,7 +45,7 @@ impl Core {
         ensures { Does Bytes
             self.now.world (event.Read (source.Tagged tagged.now)) result self.now.world }
     {
-        let (file, stamps) = passed!(self.state.version_at(tagged, &mut Meter::new()));
+        let (file, stamps) = check!(self.state.version_at(tagged, &mut Meter::new()));
         let reads = Reads::Version(file, stamps.number);
         Ok(self.state.bytes_of(reads, &mut Meter::new())?)
     }
@@ -70,7 +70,7 @@ impl Core {
         ensures refused { IfErr result
             (λ refusal. stat_of self.now.world (File file) tag ≡ Err refusal) }
     {
-        let stamps = passed!(self.state.version_meant(file, tag, &mut Meter::new()));
+        let stamps = check!(self.state.version_meant(file, tag, &mut Meter::new()));
         let policy = self.state.policy_for(file);
         Ok(Stat::File(FileStat {
             file,
@@ -99,7 +99,7 @@ impl Core {
     pub fn stat(&self, tagged: &TaggedPath) -> Result<Stat, Refusal>
         ensures { DoesAtOnce stat_told self.now.world (event.Stat tagged.now) result self.now.world }
     {
-        match passed!(self.state.walk_meant(tagged.path(), tagged.tag())) {
+        match check!(self.state.walk_meant(tagged.path(), tagged.tag())) {
             Target::File(file) => self.stat_file(file, tagged.tag()),
             Target::Directory(id) => self.stat_directory(id, tagged.tag()),
         }
@@ -111,8 +111,8 @@ impl Core {
     pub fn versions(&self, at: &PathAt) -> Result<StampsList, Halt>
         ensures { Does Rows self.now.world (event.Versions at.now) result self.now.world }
     {
-        let target = passed!(self.state.walk_then(at));
-        let file = passed!(file_in(target));
+        let target = check!(self.state.walk_then(at));
+        let file = check!(file_in(target));
         Ok(self.state.versions(file)?)
     }
 
@@ -122,8 +122,8 @@ impl Core {
     pub fn list(&self, at: &PathAt) -> Result<NameList, Halt>
         ensures { Does NameList self.now.world (event.List at.now) result self.now.world }
     {
-        let target = passed!(self.state.walk_then(at));
-        let directory = passed!(directory_in(target));
+        let target = check!(self.state.walk_then(at));
+        let directory = check!(directory_in(target));
         let moment = at.moment.unwrap_or(self.state.now());
         Ok(self.state.names_in(directory, moment)?)
     }

@@ -6,7 +6,7 @@ ghost use Rattle.ele_model.specs.declared.event.Event.TheVariants as event;
 ghost use Rattle.ele_model.specs.declared.reply.Reply.TheVariants as reply;
 
 use crate::Core;
-use crate::halt::{Halt, passed, unless};
+use crate::halt::{Halt, check, refuse_if};
 use ele_model::{ByteList, Handle, Path, Refusal, TaggedPath, VersionNo, Which};
 use ele_state::Meter;
 
@@ -26,13 +26,13 @@ impl Core {
     pub fn open_write(&mut self, path: &Path) -> Result<Handle, Halt>
         ensures { Does reply.Handle self.old.world (event.OpenWrite path.now) result self.new.world }
     {
-        let file = passed!(self.state.file_now(path));
-        passed!(self.room_for(Which::Handles));
+        let file = check!(self.state.file_now(path));
+        check!(self.room_for(Which::Handles));
         self.state.count_from(Meter::new());
         if self.state.has_draft(file) {
             return Ok(self.state.open_write(file)?);
         }
-        passed!(self.room_for(Which::Versions));
+        check!(self.room_for(Which::Versions));
         Ok(self.state.open_write(file)?)
     }
 
@@ -42,8 +42,8 @@ impl Core {
         ensures { Does reply.Handle self.old.world (event.OpenRead tagged.now) result self.new.world }
     {
         let mut meter = Meter::new();
-        let (file, stamps) = passed!(self.state.version_at(tagged, &mut meter));
-        passed!(self.room_for(Which::Handles));
+        let (file, stamps) = check!(self.state.version_at(tagged, &mut meter));
+        check!(self.room_for(Which::Handles));
         self.state.count_from(meter);
         Ok(self.state.open_read(file, stamps.number)?)
     }
@@ -54,12 +54,12 @@ impl Core {
         ensures { Does done
             self.old.world (event.Write handle offset bytes.now) result self.new.world }
     {
-        let file = passed!(self.state.file_by(handle));
+        let file = check!(self.state.file_by(handle));
         let bytes = bytes.as_slice();
         if bytes.is_empty() {
             return Ok(());
         }
-        passed!(unless(is_too_long(offset, bytes.len() as u64), Refusal::TooBig));
+        check!(refuse_if(is_too_long(offset, bytes.len() as u64), Refusal::TooBig));
         Ok(self.state.write(handle, file, offset, bytes)?)
     }
 
@@ -68,8 +68,8 @@ impl Core {
     pub fn truncate(&mut self, handle: Handle, size: u64) -> Result<(), Halt>
         ensures { Does done self.old.world (event.Truncate handle size) result self.new.world }
     {
-        let file = passed!(self.state.file_by(handle));
-        passed!(unless(is_too_long(0, size), Refusal::TooBig));
+        let file = check!(self.state.file_by(handle));
+        check!(refuse_if(is_too_long(0, size), Refusal::TooBig));
         Ok(self.state.truncate(handle, file, size)?)
     }
 
@@ -79,7 +79,7 @@ impl Core {
     pub fn close(&mut self, handle: Handle) -> Result<Option<VersionNo>, Halt>
         ensures { Does reply.Closed self.old.world (event.Close handle) result self.new.world }
     {
-        let reads = passed!(self.state.reads_by(handle));
+        let reads = check!(self.state.reads_by(handle));
         self.state.count_from(Meter::new());
         Ok(self.state.close(handle, reads)?)
     }

@@ -5,7 +5,7 @@ ghost use Rattle.ele_model.specs.declared.event.Event.TheVariants as event;
 ghost use Rattle.ele_model.specs.declared.reply.Reply.TheVariants.{Version};
 
 use crate::Core;
-use crate::halt::{Halt, passed, unless};
+use crate::halt::{Halt, check, refuse_if};
 use ele_model::{Path, Policy, Refusal, Tag, VersionNo, Which};
 use ele_state::Meter;
 
@@ -16,16 +16,16 @@ impl Core {
     pub fn revert(&mut self, path: &Path, number: VersionNo) -> Result<VersionNo, Halt>
         ensures { Does Version self.old.world (event.Revert path.now number) result self.new.world }
     {
-        let file = passed!(self.state.file_now(path));
+        let file = check!(self.state.file_now(path));
         let mut meter = Meter::new();
-        passed!(
+        check!(
             self.state
                 .version_meant(file, Tag::Number(number), &mut meter)
         );
-        passed!(unless(self.state.has_draft(file), Refusal::Drafting));
-        passed!(self.room_for(Which::Versions));
+        check!(refuse_if(self.state.has_draft(file), Refusal::Drafting));
+        check!(self.room_for(Which::Versions));
         self.state.count_from(meter);
-        Ok(self.state.bring_back(file, number)?)
+        Ok(self.state.revert_to(file, number)?)
     }
 
     /// The file at the path has the policy from now on, with all its versions. Refused: `NoEntry`, `NotDirectory`, `IsDirectory`.
@@ -35,8 +35,8 @@ impl Core {
             self.old.world (event.SetPolicy path.now policy) result self.new.world }
         ensures valid { IsPolicy policy }
     {
-        policy.is_given();
-        let file = passed!(self.state.file_now(path));
+        policy.lemma_valid();
+        let file = check!(self.state.file_now(path));
         Ok(self.state.put_under(file, policy)?)
     }
 }

@@ -4,4 +4,4 @@ pub mod Inside
 pub mod Appending
 pub mod Meant
 pub mod Met
-pub mod Standing
+pub mod FileHead

@@ -28,8 +28,7 @@ mod writing;
 
 use crate::boxed::BoxedFile;
 use crate::file::File;
-use ele_blocks::laws::stocks;
-use ele_blocks::{BlockMap, BlockStore};
+use ele_blocks::{BlockMap, BlockStore, laws};
 use ele_inode_log::{InodeLog, Meter};
 use ele_moment::{FileId, Handle, Moment, NoMemory, VersionNo};
 use ele_policy::Policy;
@@ -100,7 +99,7 @@ impl Files {
             ≡ record { files = []; versions = []; drafts = []; handles = []; opened = 0 } }
     {
         // The laws hold by themselves; from here on they stand in the invariant.
-        stocks();
+        laws::stocks();
         Files {
             files: Vec::new(alloc),
             sessions: Sessions::new(alloc),

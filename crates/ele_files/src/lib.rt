@@ -11,4 +11,4 @@ pub use ele_inode_log::Meter;
 pub use ele_sessions::SessionFault;
 pub use file::NewVersion;
 pub use files::Files;
-pub use files::neighbours::Standing;
+pub use files::neighbours::FileHead;

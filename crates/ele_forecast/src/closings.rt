@@ -19,7 +19,7 @@ use thiserror::Error;
 pub enum NotClosed {
     /// It comes before the last one.
     #[error("before the closing ahead of it")]
-    Falls,
+    OutOfOrder,
     /// There was no memory for it.
     #[error("out of memory")]
     NoMemory,
@@ -54,17 +54,17 @@ impl Closings {
     }
 
     /// Adds a closing. At an error there are those of before:
-    /// - Falls: it comes before the last one.
+    /// - OutOfOrder: it comes before the last one.
     /// - NoMemory: there was no memory for it.
     pub fn push(&mut self, closed: Moment) -> Result<(), NotClosed>
         ensures ok { OnOk result (self.new ≡ self.old ++ closed ∷ []) }
         ensures rises { OnOk result (AllByRecursion (λ other. other ≤ closed) self.old) }
         ensures err { OnErr result (self.new ≡ self.old) }
-        ensures falls { IfErr result (λ why. why ≡ NotClosed.Falls
+        ensures falls { IfErr result (λ why. why ≡ NotClosed.OutOfOrder
             → IfSome (slice_get self.old (length self.old - 1)) (λ last. closed < last)) }
     {
         if self.is_before_last(closed) {
-            return Err(NotClosed::Falls);
+            return Err(NotClosed::OutOfOrder);
         }
         match self.moments.push(closed) {
             Ok(()) => Ok(()),
@@ -99,7 +99,7 @@ impl Closings {
         ensures ended { result.ended ≡ slice_get self.now (place + 1) }
         ensures tells { (v : FileView) → IsFileOf policy.now self.now v → Tells v result }
     {
-        self.rise();
+        self.lemma_sorted();
         let number = VersionNo(place as u64 + 1);
         let closed = self.at(place);
         match self.next(place) {
@@ -124,7 +124,7 @@ impl Closings {
 
     /// Says that no closing comes before the one ahead of it, and that there are not too many to be
     /// numbered, and one more.
-    pub fn rise(&self)
+    pub fn lemma_sorted(&self)
         ensures rises { AllLater ◌≤◌ self.now }
         ensures few { length self.now + 1 < 2 ^ 64 }
     {
@@ -151,7 +151,7 @@ impl Closings {
         ensures come { result.now ≡ come_by at self.now }
         ensures rise { AllLater ◌≤◌ result.now }
     {
-        self.rise();
+        self.lemma_sorted();
         &self.moments[..self.count_by(at)]
     }
 

@@ -47,7 +47,7 @@ fn reason(policy: &Policy, closed: Moment, ended: Moment, ripe: Moment, by: Vers
         → IsFollowed policy.now v row next newer → row.closed ≡ closed → next.closed ≡ ended → next.number ≡ by
         → ripe_in v row ≡ Some ripe → IsWhy v row result }
 {
-    policy.is_given();
+    policy.lemma_valid();
     match policy {
         Policy::One => Why::AtOnce,
         Policy::All => Why::Never,

@@ -15,15 +15,14 @@ ghost use Rattle.ele_history.specs.Reply.{MayRecord, MayReply};
 pub mod laws;
 mod pass;
 
-use ele_model::laws::{always_well_formed, numbers_rise, readers_stay, step_keeps_well_formed};
-use ele_model::{Event, Flat, Limits, NoMemory, Reply, Stepping};
+use ele_model::{Event, Flat, Limits, NoMemory, Reply, Step};
 pub use ele_model::{Entry, PassEnd, Stop};
 use std::alloc::Global;
 use std::marker::Model;
 
 /// A core and its history: each event that it answered, with the reply, from a base world on.
 #[derive(Drop)]
-pub struct History<C: Stepping> {
+pub struct History<C: Step> {
     core: C,
     base: Flat,
     folded: u64,
@@ -31,7 +30,7 @@ pub struct History<C: Stepping> {
     alloc: Global,
 }
 
-impl<C: Stepping> Model for History<C> {
+impl<C: Step> Model for History<C> {
     ghost use Rattle.ele_history.specs.Past.{Past};
     ghost use Rattle.ele_history.specs.Sound.{IsSound};
 
@@ -44,7 +43,7 @@ impl<C: Stepping> Model for History<C> {
         (C.world h.core) };
 }
 
-impl<C: Stepping> History<C> {
+impl<C: Step> History<C> {
     /// The history of the fresh world of these limits, without an entry.
     ///
     /// `NoMemory` where memory is refused.
@@ -76,7 +75,7 @@ impl<C: Stepping> History<C> {
             return Err(Stop::NoMemory);
         };
         // Told for the proof: an event whose reply takes memory to copy changed nothing.
-        readers_stay();
+        ele_model::laws::readers_stay();
         let Ok(told) = reply.copy(self.alloc) else {
             return Err(Stop::NoMemory);
         };
@@ -120,12 +119,12 @@ impl<C: Stepping> History<C> {
     {
         let base = self.core.flat()?;
         let count = self.entries.len() as u64;
-        self.base.limits.are_within();
+        self.base.limits.lemma_within();
         self.folded += count;
         // Told for the proof: events led to the new base too, and its limits are the old ones.
-        always_well_formed();
-        step_keeps_well_formed();
-        numbers_rise();
+        ele_model::laws::always_well_formed();
+        ele_model::laws::step_keeps_well_formed();
+        ele_model::laws::numbers_rise();
         self.base = base;
         self.entries = Vec::new(self.alloc);
         Ok(count)
@@ -169,7 +168,7 @@ impl<C: Stepping> History<C> {
         ensures value { result ≡ count_of self.now }
         ensures limit { result ≤ self.now.base.limits.events }
     {
-        self.base.limits.are_within();
+        self.base.limits.lemma_within();
         self.folded + self.entries.len() as u64
     }
 
@@ -198,11 +197,7 @@ fn stopped(_event: Event, stop: Stop) -> Stop
 }
 
 // The core's answer, with room for its entry. Where memory is refused, the world is as it was.
-fn ask<C: Stepping>(
-    core: &mut C,
-    entries: &mut Vec<Entry>,
-    event: &Event,
-) -> Result<Reply, NoMemory>
+fn ask<C: Step>(core: &mut C, entries: &mut Vec<Entry>, event: &Event) -> Result<Reply, NoMemory>
     ensures event { OnOk result (IsEvent event.now) }
     ensures step { IfOk result
         (λ reply. (reply, C.world core.new) ≡ step (C.world core.old) event.now) }

@@ -5,9 +5,9 @@ ghost use Rattle.ele_history.specs.Clean.{MayClean, has_removed};
 ghost use Rattle.ele_history.specs.Pass.{MayPass};
 
 use crate::History;
-use ele_model::{Entry, Event, PassEnd, Reply, Stepping, Stop};
+use ele_model::{Entry, Event, PassEnd, Reply, Step, Stop};
 
-impl<C: Stepping> History<C> {
+impl<C: Step> History<C> {
     /// Takes clean events until nothing is due, or so many versions are removed. Each is an entry,
     /// also the one that nothing was due. A stop ends it, and what was removed stays removed.
     pub fn pass(&mut self, budget: u64) -> PassEnd

@@ -6,7 +6,7 @@ use Rattle.ele_policy.specs.Ripe.{ripe_by}
 use Rattle.ele_model.specs.Due.{ripe_of}
 use Rattle.ele_model.specs.Scan.{due_key}
 use Rattle.ele_model.proofs.Readers.{numbers_are}
-use Rattle.ele_model.specs.LooksAway.{looks_away}
+use Rattle.ele_model.specs.IgnoresNewer.{ignores_newer}
 use Rattle.ele_model.proofs.RipeMoments.{due_from_ripe_of, earliest_same, ripe_told}
 
 -- ---- a row's ripe moment, and that it is due from then on
@@ -42,7 +42,7 @@ module _ (w : World) (row : VersionRow) where
     ripe-told ended ripe end is = grind (arith, nat_tests, is, filter-both (is_newer row) (is_version_of row.file) w.versions, ripe_told v row, numbers_are w.handles row.file row.number, due_from_ripe_of w row)
 
 -- what looks away is told the same beside anything
-pub looks_away_tells : (policy : Policy) (live : Bool) (closed ended : ℕ) (newer : List ℕ) → looks_away policy live ≡ true
+pub looks_away_tells : (policy : Policy) (live : Bool) (closed ended : ℕ) (newer : List ℕ) → ignores_newer policy live ≡ true
     → ripe_by policy closed (record { newer = []; live = live }) ended ≡ ripe_by policy closed (record { newer = newer; live = live }) ended
 unfolding ripe_by
 looks_away_tells policy live closed ended newer away = earliest_same _ _ (λ at fits. grind (arith, nat_tests, away)) (candidates policy ended)

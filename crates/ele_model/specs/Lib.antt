@@ -12,7 +12,7 @@ pub mod GroupsAsked
 pub mod WalkAt
 pub mod FileView
 pub mod Neighbours
-pub mod LooksAway
+pub mod IgnoresNewer
 pub mod Tagged
 pub mod Told
 pub mod Due

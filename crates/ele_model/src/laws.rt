@@ -4,7 +4,7 @@ ghost use Rattle.ele_model.specs.NumbersRise.{NumbersRise};
 ghost use Rattle.ele_model.specs.ReadersStay.{ReadersStay};
 ghost use Rattle.ele_model.specs.UsageFits.{UsageFits};
 
-use ele_policy::laws::policies_are_lawful;
+use ele_policy::laws;
 
 /// The fresh world is well formed.
 #[tactic(auto, using(crate::proofs::StepKeeps::fresh_is))]
@@ -17,7 +17,7 @@ pub fn fresh_is_well_formed()
 pub fn step_keeps_well_formed()
     ensures { StepKeepsWellFormed }
 {
-    policies_are_lawful();
+    laws::policies_are_lawful();
 }
 
 /// After any list of events the world is well formed.
@@ -25,7 +25,7 @@ pub fn step_keeps_well_formed()
 pub fn always_well_formed()
     ensures { AlwaysWellFormed }
 {
-    policies_are_lawful();
+    laws::policies_are_lawful();
 }
 
 /// An event whose reply takes memory to copy changes nothing.
@@ -38,12 +38,12 @@ pub fn readers_stay()
 pub fn numbers_rise()
     ensures { NumbersRise }
 {
-    policies_are_lawful();
+    laws::policies_are_lawful();
 }
 
 /// What the files of each kind of policy use in a well-formed world fits in 64 bits.
 pub fn usage_fits()
     ensures { UsageFits }
 {
-    policies_are_lawful();
+    laws::policies_are_lawful();
 }

@@ -2,13 +2,13 @@
 //! a contract sees the world as the flat rows of `Flat`.
 #![tactic(auto)]
 
-mod auditable;
+mod audit;
 mod audits;
 mod copy;
 mod cover;
 mod entry;
 mod event;
-mod explaining;
+mod explain;
 mod fate;
 mod flat;
 pub mod laws;
@@ -20,10 +20,10 @@ mod reply;
 mod returning;
 mod rows;
 mod scan;
-mod stepping;
+mod step;
 mod sums;
 
-pub use auditable::Auditable;
+pub use audit::Audit;
 pub use audits::audit;
 pub use cover::Cover;
 pub use ele_content::Cell;
@@ -35,7 +35,7 @@ pub use ele_policy::{Floor, Interval, Kind, Ladder, Policy};
 pub use ele_usage::Usage;
 pub use entry::Entry;
 pub use event::{Event, Source};
-pub use explaining::Explaining;
+pub use explain::Explain;
 pub use fate::{Cause, Fate};
 pub use flat::Flat;
 pub use limits::{Counts, LimitNumbers, Limits};
@@ -47,4 +47,4 @@ pub use rows::{
     DeadName, DirectoryRow, DraftRow, FileRow, FileStat, GroupRow, HandleRow, MarkRow, NameRow,
     Reads, Stamps, Target, VersionRow,
 };
-pub use stepping::Stepping;
+pub use step::Step;

@@ -202,7 +202,7 @@ impl Limits {
     }
 
     /// Says that no limit is above its largest, and changes nothing.
-    pub fn are_within(&self)
+    pub fn lemma_within(&self)
         ensures { AreBounds self.now }
     {
         let _events = self.events();

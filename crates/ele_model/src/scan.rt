@@ -4,7 +4,7 @@ ghost use Rattle.std.specs.List.{cons_option, list_any};
 ghost use Rattle.std.specs.BTreeSet.{insert_key};
 ghost use Rattle.ele_policy.specs.Ripe.{ripe_by};
 ghost use Rattle.ele_model.specs.Due.{ripe_of};
-ghost use Rattle.ele_model.specs.LooksAway.{looks_away};
+ghost use Rattle.ele_model.specs.IgnoresNewer.{ignores_newer};
 ghost use Rattle.ele_model.specs.FileView.{closings};
 ghost use Rattle.ele_model.specs.declared.cover.Cover.TheVariants.{Free};
 ghost use Rattle.ele_model.specs.Cover.{cover_by, cover_of};
@@ -145,8 +145,8 @@ fn is_live(names: &[NameRow], file: FileId) -> bool
 }
 
 /// Whether the policy looks at nothing beside a version of a file that is live or not.
-fn looks_away(policy: &Policy, is_live: bool) -> bool
-    ensures { result ≡ looks_away policy.now is_live }
+fn ignores_newer(policy: &Policy, is_live: bool) -> bool
+    ensures { result ≡ ignores_newer policy.now is_live }
 {
     match policy {
         Policy::One | Policy::All => true,
@@ -171,7 +171,7 @@ fn ripe_by(
       live = is_live;
     }) ended) }
 {
-    if looks_away(policy, is_live) {
+    if ignores_newer(policy, is_live) {
         return Ok(ripe_beside(policy, row.closed, ended, &[], is_live));
     }
     let newer = newer_closings(versions, row, alloc)?;
@@ -186,7 +186,7 @@ fn ripe_of(world: &Flat, row: &VersionRow, alloc: Global) -> Result<Option<Momen
     let Some(policy) = policy_of(world.files.as_slice(), row.file) else {
         return Ok(None);
     };
-    policy.is_given();
+    policy.lemma_valid();
     if is_open(world.handles.as_slice(), row.file, row.number) {
         return Ok(None);
     }

@@ -1,5 +1,5 @@
 -- A row at the end of the others.
-use Rattle.ele_names.proofs.Words.{◌≡◌, ℕ, false, ◌+◌, ◌≤◌, ◌<◌, ◌^◌, cond, List, [], ◌∷◌, ◌++◌, length, Some, None, Option, refl, sym, ap, ◌∙◌, arith, AllByRecursion, IsStrictlySortedBy, option_map_or, nat_cmp, is_at, insert_entry, keys_of, values_of, nat_tests, map-append, value_at, is_placed, nat_cmp_total, lookup-insert_entry, sorted-insert_entry, all-push, all-weaker, later-push, pushed, not_yet, Directory, File, last_moment, Target, NameRow, Lives, Places, Table, AreCounted, AreNumbered, IsKept, IsTable, rows_of, AreIndexed, AreListed, KeepsPlaces, names_of, number_in, is_of, live_of, Follows, is_none, append-nil, Leaves, target_eq, true}
+use Rattle.ele_names.proofs.Words.{◌≡◌, ℕ, false, ◌+◌, ◌≤◌, ◌<◌, ◌^◌, cond, List, [], ◌∷◌, ◌++◌, length, Some, None, Option, refl, sym, ap, ◌∙◌, arith, AllByRecursion, IsStrictlySortedBy, option_map_or, nat_cmp, is_at, insert_entry, keys_of, values_of, nat_tests, map-append, value_at, is_placed, nat_cmp_total, lookup-insert_entry, sorted-insert_entry, all-push, all-weaker, later-push, pushed, not_yet, Directory, File, last_moment, Target, NameRow, LiveNames, Places, Table, AreCounted, AreNumbered, IsKept, IsTable, rows_of, AreIndexed, AreListed, KeepsPlaces, names_of, number_in, is_of, live_of, Follows, is_none, append-nil, Leaves, target_eq, true}
 use Rattle.ele_names.proofs.Indexed.{births_same}
 use Rattle.ele_names.proofs.Chained.{chained_same}
 use Rattle.ele_names.proofs.Live.{leaves_without, target_with, numbered_same}
@@ -86,12 +86,12 @@ module _ (names : List (ℕ × List ℕ)) (table : Table) (kept : IsTable names 
       all_below = rw (ap keys_of is ∙ ap keys_of (pushed made row es below) ∙ map-append (λ (e : ℕ × NameRow). e.0) es ((made, row) ∷ []))
           (all-push (λ k. k < made + 1) (keys_of es) made (all-weaker (λ k. k < made) (λ k. k < made + 1) (keys_of es) (λ k h. omega arith) below) (omega arith))
 
-module _ (table : Table) (lives : Lives) (kept : IsKept table lives) where
+module _ (table : Table) (live_names : LiveNames) (kept : IsKept table live_names) where
   -- over lives that say the same of more names
-  pub kept_over : (new : Lives) → KeepsPlaces (names_of lives) (names_of new) → (AreListed lives → AreListed new)
-      → ((rows : List NameRow) → AreCounted rows lives → AreCounted rows new) → ((at : ℕ → Option NameRow) → AreNumbered at lives → AreNumbered at new) → IsKept table new
+  pub kept_over : (new : LiveNames) → KeepsPlaces (names_of live_names) (names_of new) → (AreListed live_names → AreListed new)
+      → ((rows : List NameRow) → AreCounted rows live_names → AreCounted rows new) → ((at : ℕ → Option NameRow) → AreNumbered at live_names → AreNumbered at new) → IsKept table new
   kept_over new keeps listed counts numbered = record {
-    is_table = table_over (names_of lives) (names_of new) keeps table kept.is_table;
+    is_table = table_over (names_of live_names) (names_of new) keeps table kept.is_table;
     listed = listed kept.listed;
     counts = counts (rows_of table) kept.counts;
     numbered = numbered (value_at table.rows.entries) kept.numbered;
@@ -100,29 +100,29 @@ module _ (table : Table) (lives : Lives) (kept : IsKept table lives) where
 
   module _ (made : ℕ) (below : AllByRecursion (λ k. k < made) (keys_of table.rows.entries)) where
     not_there : (s : ℕ) → made ≤ s → value_at table.rows.entries s ≡ None
-    not_there = fresh (names_of lives) table kept.is_table made below
+    not_there = fresh (names_of live_names) table kept.is_table made below
 
     -- with places that say the same
     pub kept_placed : (t : Table) → t.rows.entries ≡ table.rows.entries
-        → (((s : ℕ) → made ≤ s → value_at table.rows.entries s ≡ None) → AreIndexed (names_of lives) (value_at table.rows.entries) table.places → AreIndexed (names_of lives) (value_at table.rows.entries) t.places)
-        → ((target : Target) → live_of t.places target ≡ live_of table.places target) → IsKept t lives
+        → (((s : ℕ) → made ≤ s → value_at table.rows.entries s ≡ None) → AreIndexed (names_of live_names) (value_at table.rows.entries) table.places → AreIndexed (names_of live_names) (value_at table.rows.entries) t.places)
+        → ((target : Target) → live_of t.places target ≡ live_of table.places target) → IsKept t live_names
     kept_placed t is placed live = let now = placed not_there kept.is_table.placed in grind (arith, nat_tests, table_same, names_of)
 
     module _ (row : NameRow) where
       abbrev pushed_at : ℕ → Option NameRow
       pushed_at s = cond (is_at (nat_cmp made) s) (Some row) (value_at table.rows.entries s)
 
-      pub kept_pushed : (t : Table) (new : Lives) → names_of new ≡ names_of lives → AreListed new → t.rows.entries ≡ insert_entry nat_cmp table.rows.entries made row
-          → made + 1 < 2 ^ 64 → row.birth ≤ last_moment → number_in (names_of lives) row < length (names_of lives) → AllByRecursion (λ earlier. Follows earlier row) (rows_of table) → is_none row.death ≡ true
-          → (((s : ℕ) → made ≤ s → value_at table.rows.entries s ≡ None) → AreIndexed (names_of lives) (value_at table.rows.entries) table.places → AreIndexed (names_of lives) pushed_at t.places)
-          → ((was now : List NameRow) → Leaves row now was → AreCounted was lives → AreCounted now new)
-          → ((at : ℕ → Option NameRow) → at made ≡ None → AreNumbered at lives → AreNumbered (λ s. cond (is_at (nat_cmp made) s) (Some row) (at s)) new)
+      pub kept_pushed : (t : Table) (new : LiveNames) → names_of new ≡ names_of live_names → AreListed new → t.rows.entries ≡ insert_entry nat_cmp table.rows.entries made row
+          → made + 1 < 2 ^ 64 → row.birth ≤ last_moment → number_in (names_of live_names) row < length (names_of live_names) → AllByRecursion (λ earlier. Follows earlier row) (rows_of table) → is_none row.death ≡ true
+          → (((s : ℕ) → made ≤ s → value_at table.rows.entries s ≡ None) → AreIndexed (names_of live_names) (value_at table.rows.entries) table.places → AreIndexed (names_of live_names) pushed_at t.places)
+          → ((was now : List NameRow) → Leaves row now was → AreCounted was live_names → AreCounted now new)
+          → ((at : ℕ → Option NameRow) → at made ≡ None → AreNumbered at live_names → AreNumbered (λ s. cond (is_at (nat_cmp made) s) (Some row) (at s)) new)
           → ((target : Target) → live_of t.places target ≡ live_of table.places target + cond (target_eq row.target target) 1 0)
           → IsKept t new
       kept_pushed t new same listed is fits born known follows lives_on placed counts numbered counted =
-          let rows_are = ap values_of is ∙ rows_pushed (names_of lives) table kept.is_table made below row in
+          let rows_are = ap values_of is ∙ rows_pushed (names_of live_names) table kept.is_table made below row in
           let leaves : Leaves row (rows_of table ++ row ∷ []) (rows_of table) = rw append-nil at (leaves_without row (rows_of table) [] (later-push Follows (rows_of table) row kept.is_table.apart follows)) in record {
-            is_table = rw same (table_pushed (names_of lives) table kept.is_table made below row t is fits born known follows (placed not_there kept.is_table.placed));
+            is_table = rw same (table_pushed (names_of live_names) table kept.is_table made below row t is fits born known follows (placed not_there kept.is_table.placed));
             listed = listed;
             counts = rw rows_are (counts (rows_of table) (rows_of table ++ row ∷ []) leaves kept.counts);
             numbered = numbered_same pushed_at (value_at t.rows.entries) new new

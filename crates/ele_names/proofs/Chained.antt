@@ -1,5 +1,5 @@
 -- The members of each group, where a newer one comes or the newest goes.
-use Rattle.ele_names.proofs.Words.{◌≡◌, ℕ, zero, suc, ◌≤◌, ◌<◌, ◌^◌, Bool, true, false, cond, List, [], ◌∷◌, ◌++◌, length, take, slice_get, slice_set, IsSome, Option, Some, None, refl, sym, ◌∙◌, arith, is_at, nat_eq, option_map_or, nat_cmp, false≢true, nat_tests, Chains, AreChained, HasOlder, IsLastBelow, Gains, Keeps, Loses, is_member, newest_in, at_itself, ◌-◌}
+use Rattle.ele_names.proofs.Words.{◌≡◌, ℕ, zero, suc, ◌≤◌, ◌<◌, ◌^◌, Bool, true, false, cond, List, [], ◌∷◌, ◌++◌, length, take, slice_get, slice_set, IsSome, Option, Some, None, refl, sym, ◌∙◌, arith, is_at, nat_eq, option_map_or, nat_cmp, false≢true, nat_tests, RowLists, AreChained, HasOlder, IsLastBelow, Gains, Keeps, Loses, is_member, newest_in, at_itself, ◌-◌}
 use Rattle.ele_names.proofs.Live.{same_serial}
 
 apart : (n s : ℕ) → s < n → is_at (nat_cmp n) s ≡ false
@@ -43,18 +43,18 @@ module _ (p : ℕ → Bool) (low high : ℕ) (le : low ≤ high) (none : (s : �
 
 module _ {X : Type 0} (belongs : ℕ → X → Bool) where
   -- members of the same groups are chained alike
-  pub chained_same : (at to : ℕ → Option X) (chains : Chains) → ((g s : ℕ) → is_member belongs to g s ≡ is_member belongs at g s) → AreChained belongs at chains → AreChained belongs to chains
-  chained_same at to chains same was = record {
-    newest = λ g. last_same (is_member belongs at g) (is_member belongs to g) (2 ^ 64) (newest_in chains g) (λ s lt. same g s) (was.newest g);
+  pub chained_same : (at to : ℕ → Option X) (row_lists : RowLists) → ((g s : ℕ) → is_member belongs to g s ≡ is_member belongs at g s) → AreChained belongs at row_lists → AreChained belongs to row_lists
+  chained_same at to row_lists same was = record {
+    newest = λ g. last_same (is_member belongs at g) (is_member belongs to g) (2 ^ 64) (newest_in row_lists g) (λ s lt. same g s) (was.newest g);
     older = λ g s is. let prior = was.older g s (sym (same g s) ∙ is) in record { number = prior.number; there = prior.there; last = last_same (is_member belongs at g) (is_member belongs to g) s prior.number (λ k lt. same g k) prior.last };
   }
 
   -- and so are chains that tell the same
-  pub chained_told : (at : ℕ → Option X) (old new : Chains) → ((g : ℕ) → newest_in new g ≡ newest_in old g) → new.older ≡ old.older → AreChained belongs at old → AreChained belongs at new
+  pub chained_told : (at : ℕ → Option X) (old new : RowLists) → ((g : ℕ) → newest_in new g ≡ newest_in old g) → new.older ≡ old.older → AreChained belongs at old → AreChained belongs at new
   chained_told at old new newest older was = grind (arith, nat_tests, newest, was.newest, was.older)
 
-  pub chained_none : (chains : Chains) → ((g : ℕ) → newest_in chains g ≡ None) → AreChained belongs (λ _. None) chains
-  chained_none chains empty = record { newest = λ g. rw (empty g) (λ s lt. refl); older = λ g s is. absurd (false≢true is) }
+  pub chained_none : (row_lists : RowLists) → ((g : ℕ) → newest_in row_lists g ≡ None) → AreChained belongs (λ _. None) row_lists
+  chained_none row_lists empty = record { newest = λ g. rw (empty g) (λ s lt. refl); older = λ g s is. absurd (false≢true is) }
 
   module _ (at : ℕ → Option X) (number : ℕ) (fresh : (s : ℕ) → number ≤ s → at s ≡ None) where
     none_stands : (g s : ℕ) → number ≤ s → is_member belongs at g s ≡ false
@@ -63,7 +63,7 @@ module _ {X : Type 0} (belongs : ℕ → X → Bool) where
     first : (g s : ℕ) → is_member belongs at g s ≡ true → s < number
     first g s is = grind (arith, nat_tests, none_stands g s)
 
-    pub chained_kept : (old new : Chains) → Keeps number old new → AreChained belongs at old → AreChained belongs at new
+    pub chained_kept : (old new : RowLists) → Keeps number old new → AreChained belongs at old → AreChained belongs at new
     chained_kept old new keeps was = grind (arith, nat_tests, first)
 
     module _ (x : X) where
@@ -80,7 +80,7 @@ module _ {X : Type 0} (belongs : ℕ → X → Bool) where
       others : (g : ℕ) → belongs g x ≡ false → (s : ℕ) → is_member belongs entered g s ≡ is_member belongs at g s
       others g not s = grind (arith, nat_tests, is_at, nat_cmp, option_map_or, is_member, same_serial, none_stands)
 
-      pub chained_entered : (group : ℕ) → ((g : ℕ) → belongs g x ≡ nat_eq group g) → (old new : Chains) → number < 2 ^ 64 → Gains group number old new → AreChained belongs at old → AreChained belongs entered new
+      pub chained_entered : (group : ℕ) → ((g : ℕ) → belongs g x ≡ nat_eq group g) → (old new : RowLists) → number < 2 ^ 64 → Gains group number old new → AreChained belongs at old → AreChained belongs entered new
       chained_entered group its old new short gains was = record { newest = newest; older = older } where
         newest : (g : ℕ) → IsLastBelow (is_member belongs entered g) (2 ^ 64) (newest_in new g)
         newest g = rw (gains.newest g) (by (nat_eq group g) refl) where
@@ -115,7 +115,7 @@ module _ {X : Type 0} (belongs : ℕ → X → Bool) where
     unlike g not s = grind (arith, nat_tests, is_at, nat_cmp, option_map_or, is_member, same_serial)
 
     -- the group of a member has a newest one
-    pub newest_known : (g : ℕ) → belongs g x ≡ true → (old : Chains) → number < 2 ^ 64 → AreChained belongs at old → IsSome (newest_in old g)
+    pub newest_known : (g : ℕ) → belongs g x ≡ true → (old : RowLists) → number < 2 ^ 64 → AreChained belongs at old → IsSome (newest_in old g)
     newest_known g its old short was = grind (arith, nat_tests, was.newest g)
 
     module _ (group : ℕ) (its : (g : ℕ) → belongs g x ≡ nat_eq group g) (newest_of : (s : ℕ) → number < s → is_member belongs at group s ≡ false) where
@@ -126,7 +126,7 @@ module _ {X : Type 0} (belongs : ℕ → X → Bool) where
       gone : (s : ℕ) → number ≤ s → is_member belongs left group s ≡ false
       gone s le = grind (arith, nat_tests, is_at, nat_cmp, option_map_or, after)
 
-      pub chained_left : (old new : Chains) → number < 2 ^ 64 → Loses group number old new → AreChained belongs at old → AreChained belongs left new
+      pub chained_left : (old new : RowLists) → number < 2 ^ 64 → Loses group number old new → AreChained belongs at old → AreChained belongs left new
       chained_left old new short loses was = record { newest = newest; older = older } where
         prior : HasOlder (is_member belongs at group) old.older.items number
         prior = was.older group number (rw there (its group ∙ grind (arith, nat_tests)))

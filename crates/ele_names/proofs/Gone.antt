@@ -1,5 +1,5 @@
 -- A row between others that dies, or leaves.
-use Rattle.ele_names.proofs.Words.{◌≡◌, ℕ, ◌-◌, ◌≤◌, ◌<◌, ◌^◌, true, false, cond, not, List, [], ◌∷◌, ◌++◌, length, filter, Some, None, Option, is_none, refl, sym, subst, ap, ◌∙◌, arith, length_append, nat_cmp, is_at, insert_entry, keys_of, values_of, remove_entry, option_map_or, nat_tests, true≢false, nat_cmp_total, map-append, update_first, value_at, all-append, all-around, all-mid, all-exchange, later-around, later-without, later-exchange, update_first-at, all-weaker, lookup-insert_entry, filter-all, IsSplitAt, split_at, all_keys_without, all_from_each, found_key, last_moment, NameRow, Target, is_named, is_live_name, is_target_file, live_target, live_at, Live, Lives, place_in, Inside, Table, AreCounted, AreNumbered, Leaves, IsKept, rows_of, AreIndexed, AreListed, names_of, number_in, Follows, dies, IsLast, IsLastBelow, is_member, is_of, is_live_of, live_of, newest_in, target_eq, AreChained, same_from_push, filter-append}
+use Rattle.ele_names.proofs.Words.{◌≡◌, ℕ, ◌-◌, ◌≤◌, ◌<◌, ◌^◌, true, false, cond, not, List, [], ◌∷◌, ◌++◌, length, filter, Some, None, Option, is_none, refl, sym, subst, ap, ◌∙◌, arith, length_append, nat_cmp, is_at, insert_entry, keys_of, values_of, remove_entry, option_map_or, nat_tests, true≢false, nat_cmp_total, map-append, update_first, value_at, all-append, all-around, all-mid, all-exchange, later-around, later-without, later-exchange, update_first-at, all-weaker, lookup-insert_entry, filter-all, IsSplitAt, split_at, all_keys_without, all_from_each, found_key, last_moment, NameRow, Target, is_named, is_live_name, is_target_file, live_target, live_at, Live, LiveNames, place_in, Inside, Table, AreCounted, AreNumbered, Leaves, IsKept, rows_of, AreIndexed, AreListed, names_of, number_in, Follows, dies, IsLast, IsLastBelow, is_member, is_of, is_live_of, live_of, newest_in, target_eq, AreChained, same_from_push, filter-append}
 use Rattle.ele_names.proofs.Added.{placed_same}
 use Rattle.ele_names.proofs.Apart.{named_and_live, named_dead, named_live, same_name, row_known}
 use Rattle.ele_names.proofs.Chained.{chained_same}
@@ -12,12 +12,12 @@ use Rattle.ele_names.proofs.Numbering.{rises_without, gone_at}
 pub last_gone : {X : Type 0} (rows : List X) (row : X) (es fs : List (ℕ × X)) (n : ℕ) (x : X) → es ≡ fs ++ (n, x) ∷ [] → values_of es ≡ rows ++ row ∷ [] → values_of fs ≡ rows
 last_gone rows row es fs n x is are = (same_from_push (values_of fs) rows x row (sym (map-append (λ (e : ℕ × _). e.1) fs ((n, x) ∷ [])) ∙ sym (ap values_of is) ∙ are)).0
 
-module _ (a : Inside) (kept : IsKept a.table a.lives) where
+module _ (a : Inside) (kept : IsKept a.table a.live_names) where
   abbrev es : List (ℕ × NameRow)
   es = a.table.rows.entries
 
   abbrev names : List (ℕ × List ℕ)
-  names = names_of a.lives
+  names = names_of a.live_names
 
   module _ (s : ℕ) (row : NameRow) (at : value_at es s ≡ Some row) where
     c : IsSplitAt es s row
@@ -28,13 +28,13 @@ module _ (a : Inside) (kept : IsKept a.table a.lives) where
     live_target_is d n live = rw c.values ((leaves_without row c.before c.behind (rw c.values at kept.is_table.apart)).its d n live)
 
     module _ (live : is_none row.death ≡ true) (moment : ℕ) where
-      pub kept_dead : (t : Table) (lives : Lives) → names_of lives ≡ names → AreListed lives → t.places.by_name ≡ a.table.places.by_name → (AreChained is_of (value_at es) a.table.places.of_file → AreChained is_of (value_at es) t.places.of_file)
+      pub kept_dead : (t : Table) (live_names : LiveNames) → names_of live_names ≡ names → AreListed live_names → t.places.by_name ≡ a.table.places.by_name → (AreChained is_of (value_at es) a.table.places.of_file → AreChained is_of (value_at es) t.places.of_file)
           → t.rows.entries ≡ insert_entry nat_cmp es s (dies moment row)
-          → ((was now : List NameRow) → Leaves row was now → AreCounted was a.lives → AreCounted now lives)
-          → ((at to : ℕ → Option NameRow) (serial : ℕ) → at serial ≡ Some row → ((s : ℕ) → is_at (nat_cmp serial) s ≡ false → to s ≡ at s) → AreNumbered at a.lives → AreNumbered to lives)
+          → ((was now : List NameRow) → Leaves row was now → AreCounted was a.live_names → AreCounted now live_names)
+          → ((at to : ℕ → Option NameRow) (serial : ℕ) → at serial ≡ Some row → ((s : ℕ) → is_at (nat_cmp serial) s ≡ false → to s ≡ at s) → AreNumbered at a.live_names → AreNumbered to live_names)
           → ((target : Target) → live_of t.places target ≡ live_of a.table.places target - cond (target_eq row.target target) 1 0)
-          → IsKept t lives
-      kept_dead t lives same listed by_name chained is counts numbered live_now = record {
+          → IsKept t live_names
+      kept_dead t live_names same listed by_name chained is counts numbered live_now = record {
         is_table = rw same (record {
           rising = rw keys_are kept.is_table.rising;
           short = rw keys_are kept.is_table.short;
@@ -76,13 +76,13 @@ module _ (a : Inside) (kept : IsKept a.table a.lives) where
           (later-around Follows c.before row c.behind (rw c.values at kept.is_table.apart)).0)
           (named_live d n row named live)))
 
-    pub kept_without : (t : Table) (lives : Lives) → names_of lives ≡ names → AreListed lives → t.rows.entries ≡ remove_entry (is_at (nat_cmp s)) es
+    pub kept_without : (t : Table) (live_names : LiveNames) → names_of live_names ≡ names → AreListed live_names → t.rows.entries ≡ remove_entry (is_at (nat_cmp s)) es
         → (AreIndexed names (value_at es) a.table.places → AreIndexed names (λ k. cond (is_at (nat_cmp s) k) None (value_at es k)) t.places)
-        → ((was now : List NameRow) → Leaves row was now → AreCounted was a.lives → AreCounted now lives)
-        → ((at to : ℕ → Option NameRow) (serial : ℕ) → at serial ≡ Some row → ((s : ℕ) → is_at (nat_cmp serial) s ≡ false → to s ≡ at s) → AreNumbered at a.lives → AreNumbered to lives)
+        → ((was now : List NameRow) → Leaves row was now → AreCounted was a.live_names → AreCounted now live_names)
+        → ((at to : ℕ → Option NameRow) (serial : ℕ) → at serial ≡ Some row → ((s : ℕ) → is_at (nat_cmp serial) s ≡ false → to s ≡ at s) → AreNumbered at a.live_names → AreNumbered to live_names)
         → ((target : Target) → live_of t.places target ≡ live_of a.table.places target - cond (is_live_of target row) 1 0)
-        → IsKept t lives
-    kept_without t lives same listed is placed counts numbered live_now = record {
+        → IsKept t live_names
+    kept_without t live_names same listed is placed counts numbered live_now = record {
       is_table = rw same (record {
         rising = rw is (rises_without (is_at (nat_cmp s)) es kept.is_table.rising);
         short = rw is (all_keys_without (λ k. k < 2 ^ 64) (is_at (nat_cmp s)) es kept.is_table.short);
@@ -112,9 +112,9 @@ module _ (a : Inside) (kept : IsKept a.table a.lives) where
     others_stay file its = rw (c.without, c.values) (rw (filter-append (λ row. not (is_of file row)) c.before c.behind, filter-append (λ row. not (is_of file row)) c.before (row ∷ c.behind), its) refl)
 
   -- the live row of a name
-  module _ (d : ℕ) (n : List ℕ) (live : Live Target) (is : live_at a.lives d n ≡ Some live) where
+  module _ (d : ℕ) (n : List ℕ) (live : Live Target) (is : live_at a.live_names d n ≡ Some live) where
     pub found : LiveRow (value_at es) d n live.serial
-    found = stands_live (value_at es) a.lives kept.numbered d n live is
+    found = stands_live (value_at es) a.live_names kept.numbered d n live is
 
     pub its_name : (is_named d n found.row ≡ true) × (is_none found.row.death ≡ true)
     its_name = named_and_live d n found.row found.live

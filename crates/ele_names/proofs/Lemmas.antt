@@ -1,5 +1,5 @@
 -- All that answers use, in one place.
-pub use Rattle.ele_names.proofs.Words.{place_in, insert_entry-new, Keeps, bytes_eq-Decides, slice_eq-Decides, ◌-◌, take, AllocError, Directory, Follows, Gains, IfSome, IsKept, Leaves, List, Lives, NameRow, None, Ok, Option, Some, YieldsList-from_filter_map, YieldsList-from_map, YieldsList-from_rest, YieldsList-from_slice, [], ap, append-nil, append_assoc, arith, at_itself, born_row, by_name, comes_through, cond, drop, exact_bytes, false, filter, is_at, is_member, is_none, is_of, is_target_file, items_from_collect, keys_of, last_dead, later-push, length, length_append, list_any, live_at, live_of, map, name_cmp, name_eq, names_of, nat_cmp, nat_eq, nat_list_cmp_total, nat_tests, not, nth_from_yields_List, option_and_then, option_map_id, option_map_or, refl, root, rows_of, rules, slice_cmp, slice_get, slice_got, subst, suc, sym, target_at, target_eq, tests, true, value_at, values_of, walk, walk_covering, walk_now, ℕ, ◌++◌, ◌<◌, ◌==◌, ◌∙◌, ◌∷◌, ◌≡◌, keys-with_value_at}
+pub use Rattle.ele_names.proofs.Words.{place_in, insert_entry-new, Keeps, bytes_eq-Decides, slice_eq-Decides, ◌-◌, take, AllocError, Directory, Follows, Gains, IfSome, IsKept, Leaves, List, LiveNames, NameRow, None, Ok, Option, Some, YieldsList-from_filter_map, YieldsList-from_map, YieldsList-from_rest, YieldsList-from_slice, [], ap, append-nil, append_assoc, arith, at_itself, born_row, by_name, comes_through, cond, drop, exact_bytes, false, filter, is_at, is_member, is_none, is_of, is_target_file, items_from_collect, keys_of, last_dead, later-push, length, length_append, list_any, live_at, live_of, map, name_cmp, name_eq, names_of, nat_cmp, nat_eq, nat_list_cmp_total, nat_tests, not, nth_from_yields_List, option_and_then, option_map_id, option_map_or, refl, root, rows_of, rules, slice_cmp, slice_get, slice_got, subst, suc, sym, target_at, target_eq, tests, true, value_at, values_of, walk, walk_covering, walk_now, ℕ, ◌++◌, ◌<◌, ◌==◌, ◌∙◌, ◌∷◌, ◌≡◌, keys-with_value_at}
 pub use Rattle.ele_names.proofs.Added.{kept_over, kept_placed, kept_pushed, live_same, placed_back, rows_pushed, table_new}
 pub use Rattle.ele_names.proofs.Apart.{named_and_live, named_dead, named_live, row_known, none_newest}
 pub use Rattle.ele_names.proofs.Chained.{chained_entered, chained_left, chained_told, cut_kept, newest_known, none_behind, own_pushed, same_seen, set_seen}

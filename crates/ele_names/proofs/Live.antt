@@ -1,5 +1,5 @@
 -- The live rows by directory and name, and counts of them, where one comes or goes.
-use Rattle.ele_names.proofs.Words.{◌≡◌, ℕ, Bool, true, false, cond, List, Some, None, Option, is_none, refl, sym, ◌∙◌, arith, option_map, nat_cmp, is_at, nat_tests, NameRow, Target, is_named, is_live_name, live_target, Live, Lives, AreCounted, AreNumbered, Leaves, live_at, live_in, ◌+◌, ◌-◌, ◌==◌, ◌&&◌, not, nat_lt, [], ◌∷◌, ◌++◌, count_by, list_any, AllByRecursion, AllLater, all-append, later-around, all-any, all-weaker, sum_by-around, sum_by-same, any_count, IsKept, Table, live_of, rows_of, Directory, File, is_live_name_of, is_target_file, is_live_in, is_target_directory, is_live_directory, is_live_of, Follows, target_eq}
+use Rattle.ele_names.proofs.Words.{◌≡◌, ℕ, Bool, true, false, cond, List, Some, None, Option, is_none, refl, sym, ◌∙◌, arith, option_map, nat_cmp, is_at, nat_tests, NameRow, Target, is_named, is_live_name, live_target, Live, LiveNames, AreCounted, AreNumbered, Leaves, live_at, live_in, ◌+◌, ◌-◌, ◌==◌, ◌&&◌, not, nat_lt, [], ◌∷◌, ◌++◌, count_by, list_any, AllByRecursion, AllLater, all-append, later-around, all-any, all-weaker, sum_by-around, sum_by-same, any_count, IsKept, Table, live_of, rows_of, Directory, File, is_live_name_of, is_target_file, is_live_in, is_target_directory, is_live_directory, is_live_of, Follows, target_eq}
 use Rattle.ele_names.proofs.Apart.{named_dead, named_live, named_and_live, same_name}
 use Rattle.ele_names.proofs.Numbers.{itself}
 
@@ -10,11 +10,11 @@ abbrev pub target_of : Option (Live Target) → Option Target
 target_of found = option_map (λ live. live.target) found
 
 -- what says the same of each name and directory is of the same rows
-pub counted_same : (rows : List NameRow) (old new : Lives) → ((d : ℕ) (n : List ℕ) → live_at new d n ≡ live_at old d n)
+pub counted_same : (rows : List NameRow) (old new : LiveNames) → ((d : ℕ) (n : List ℕ) → live_at new d n ≡ live_at old d n)
     → ((d : ℕ) → live_in new.in_directory d ≡ live_in old.in_directory d) → AreCounted rows old → AreCounted rows new
 counted_same rows old new named directories was = grind (arith, nat_tests)
 
-pub numbered_same : (at to : ℕ → Option NameRow) (old new : Lives) → ((s : ℕ) → to s ≡ at s) → ((d : ℕ) (n : List ℕ) → live_at new d n ≡ live_at old d n) → AreNumbered at old → AreNumbered to new
+pub numbered_same : (at to : ℕ → Option NameRow) (old new : LiveNames) → ((s : ℕ) → to s ≡ at s) → ((d : ℕ) (n : List ℕ) → live_at new d n ≡ live_at old d n) → AreNumbered at old → AreNumbered to new
 numbered_same at to old new same named was = grind (arith, nat_tests, same, named, was.each)
 
 pub own_name : (row : NameRow) → is_named row.directory row.name row ≡ true
@@ -27,12 +27,12 @@ module _ (row : NameRow) (d : ℕ) (n : List ℕ) where
   -- the row's name is live now
   pub entered : (was now : List NameRow) → Leaves row now was → is_none row.death ≡ true → (live : Live Target) (o p : Option (Live Target)) → p ≡ cond (is_named d n row) (Some live) o → live.target ≡ row.target
       → target_of o ≡ live_target was d n → target_of p ≡ live_target now d n
-  entered was now leaves lives live o p changed target before = grind (arith, nat_tests, changed, leaves.its d n, leaves.named d n, named_live d n row, unnamed)
+  entered was now leaves live_names live o p changed target before = grind (arith, nat_tests, changed, leaves.its d n, leaves.named d n, named_live d n row, unnamed)
 
   -- or is live no more
   pub left : (was now : List NameRow) → Leaves row was now → is_none row.death ≡ true → (o p : Option (Live Target)) → p ≡ cond (is_named d n row) None o
       → target_of o ≡ live_target was d n → target_of p ≡ live_target now d n
-  left was now leaves lives o p changed before = grind (arith, nat_tests, is_named, live_target, named_live, unnamed)
+  left was now leaves live_names o p changed before = grind (arith, nat_tests, is_named, live_target, named_live, unnamed)
 
   pub dead_left : (was now : List NameRow) → Leaves row was now → is_none row.death ≡ false → live_target was d n ≡ live_target now d n
   dead_left was now leaves dead = sym (leaves.named d n ∙ rw (named_dead d n row (λ _. dead)) refl)
@@ -41,12 +41,12 @@ module _ (row : NameRow) (d : ℕ) (n : List ℕ) where
   pub others_live : (o p : Option (Live Target)) (live : Live Target) → p ≡ cond (is_named d n row) None o → p ≡ Some live → (o ≡ Some live) × (is_live_name d n row ≡ false)
   others_live o p live changed is = grind (arith, nat_tests, is_named, is_live_name, unnamed)
 
-module _ (row : NameRow) (serial : ℕ) (at : ℕ → Option NameRow) (old new : Lives) (was : AreNumbered at old) where
+module _ (row : NameRow) (serial : ℕ) (at : ℕ → Option NameRow) (old new : LiveNames) (was : AreNumbered at old) where
   -- a live row of a new serial number
   pub numbered_with : at serial ≡ None → is_none row.death ≡ true → (entry : Live Target) → entry.serial ≡ serial
       → ((d : ℕ) (n : List ℕ) → live_at new d n ≡ cond (is_named d n row) (Some entry) (live_at old d n))
       → AreNumbered (λ s. cond (is_at (nat_cmp serial) s) (Some row) (at s)) new
-  numbered_with fresh lives entry own changed = record { each = λ d n live is. grind (arith, nat_tests, changed d n, was.each d n live, same_serial serial live.serial, named_live d n row) }
+  numbered_with fresh live_names entry own changed = record { each = λ d n live is. grind (arith, nat_tests, changed d n, was.each d n live, same_serial serial live.serial, named_live d n row) }
 
   -- the row dies or leaves
   pub numbered_without : (to : ℕ → Option NameRow) → at serial ≡ Some row → ((s : ℕ) → is_at (nat_cmp serial) s ≡ false → to s ≡ at s)
@@ -60,8 +60,8 @@ pub record LiveRow (at : ℕ → Option NameRow) (d : ℕ) (n : List ℕ) (s : �
   pub there : at s ≡ Some row
   pub live : is_live_name d n row ≡ true
 
-pub stands_live : (at : ℕ → Option NameRow) (lives : Lives) → AreNumbered at lives → (d : ℕ) (n : List ℕ) (live : Live Target) → live_at lives d n ≡ Some live → LiveRow at d n live.serial
-stands_live at lives numbered d n live found = grind (arith, nat_tests, numbered.each d n live found)
+pub stands_live : (at : ℕ → Option NameRow) (live_names : LiveNames) → AreNumbered at live_names → (d : ℕ) (n : List ℕ) (live : Live Target) → live_at live_names d n ≡ Some live → LiveRow at d n live.serial
+stands_live at live_names numbered d n live found = grind (arith, nat_tests, numbered.each d n live found)
 
 -- what a test counts of one row that is live, or dead
 pub live_one : (a b : Bool) → b ≡ true → ◌≡◌ {A = ℕ} (cond (a && b) 1 0) (cond a 1 0)
@@ -80,8 +80,8 @@ none_named d n [] none = refl
 none_named d n (row ∷ rows) none = rw none.0 (none_named d n rows none.1)
 
 -- a name that may be given is live nowhere
-pub free_known : (rows : List NameRow) (lives : Lives) (d : ℕ) (n : List ℕ) (born : NameRow) → is_named d n born ≡ true → AreCounted rows lives → AllByRecursion (λ row. Follows row born) rows → live_at lives d n ≡ None
-free_known rows lives d n born named counted follow =
+pub free_known : (rows : List NameRow) (live_names : LiveNames) (d : ℕ) (n : List ℕ) (born : NameRow) → is_named d n born ≡ true → AreCounted rows live_names → AllByRecursion (λ row. Follows row born) rows → live_at live_names d n ≡ None
+free_known rows live_names d n born named counted follow =
     let none = none_named d n rows (all-weaker (λ b. Follows b born) (λ b. is_live_name d n b ≡ false) rows (λ b follows. grind (arith, nat_tests, named, named_dead d n b, same_name d n b born, follows.apart)) follow) in
     grind (arith, nat_tests, none, counted.named d n)
 
@@ -115,17 +115,17 @@ pub none_counted : {X : Type 0} (p : X → Bool) (xs : List X) → not (list_any
 none_counted p xs = grind (arith, nat_tests, not, any_count, count_by, nat_lt)
 
 -- the names of a directory, found as those of the target
-pub directory_names : (table : Table) (lives : Lives) → IsKept table lives → (d : ℕ) → live_of table.places (Directory d) ≡ count_by (is_live_directory d) (rows_of table)
-directory_names table lives kept d = grind (arith, nat_tests, kept.targets (Directory d), sum_by-same, is_live_of, is_live_directory, all-any, is_none, target_eq, is_target_directory)
+pub directory_names : (table : Table) (live_names : LiveNames) → IsKept table live_names → (d : ℕ) → live_of table.places (Directory d) ≡ count_by (is_live_directory d) (rows_of table)
+directory_names table live_names kept d = grind (arith, nat_tests, kept.targets (Directory d), sum_by-same, is_live_of, is_live_directory, all-any, is_none, target_eq, is_target_directory)
 
 -- and of a file
-pub file_names : (table : Table) (lives : Lives) → IsKept table lives → (f : ℕ) → live_of table.places (File f) ≡ count_by (is_live_name_of f) (rows_of table)
-file_names table lives kept f = grind (arith, nat_tests, kept.targets (File f), sum_by-same, is_live_of, is_live_name_of, all-any, is_none, target_eq, is_target_file)
+pub file_names : (table : Table) (live_names : LiveNames) → IsKept table live_names → (f : ℕ) → live_of table.places (File f) ≡ count_by (is_live_name_of f) (rows_of table)
+file_names table live_names kept f = grind (arith, nat_tests, kept.targets (File f), sum_by-same, is_live_of, is_live_name_of, all-any, is_none, target_eq, is_target_file)
 
 -- the counts by target, where a live row comes
 pub target_with : (t : Target) (row : NameRow) (was now : List NameRow) → Leaves row now was → is_none row.death ≡ true → (old new : ℕ) → old ≡ count_by (is_live_of t) was → new ≡ old + cond (target_eq row.target t) 1 0
     → new ≡ count_by (is_live_of t) now
-target_with t row was now leaves lives old new counts changed = omega (arith, changed, counts, live_one (target_eq row.target t) (is_none row.death) lives, leaves.of_target t)
+target_with t row was now leaves live_names old new counts changed = omega (arith, changed, counts, live_one (target_eq row.target t) (is_none row.death) live_names, leaves.of_target t)
 
 -- or any row goes
 pub target_without : (t : Target) (row : NameRow) (was now : List NameRow) → Leaves row was now → (old new : ℕ) → old ≡ count_by (is_live_of t) was → new ≡ old - cond (is_live_of t row) 1 0

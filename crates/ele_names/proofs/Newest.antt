@@ -1,5 +1,5 @@
 -- The newest row of each name, and those before it, where one comes or goes.
-use Rattle.ele_names.proofs.Words.{◌≡◌, ℕ, ◌<◌, ◌^◌, ◌&&◌, ◌==◌, ◌≤◌, length, slice_get_past, true, false, cond, Some, None, arith, nat_tests, nat_eq, nat_cmp, unsigned_tied, has, is_entry, IsLastOf, AreBelow, Births, Born, is_up_to, newest_of, has_birth}
+use Rattle.ele_names.proofs.Words.{◌≡◌, ℕ, ◌<◌, ◌^◌, ◌&&◌, ◌==◌, ◌≤◌, length, slice_get_past, true, false, cond, Some, None, arith, nat_tests, nat_eq, nat_cmp, unsigned_tied, has, is_entry, IsLastOf, AreBelow, BirthIndex, Born, is_up_to, newest_of, has_birth}
 
 entry_is : (n b t q r s : ℕ) → is_entry nat_cmp n b t q r s ≡ (nat_eq n q && (b == r) && (t == s))
 entry_is n b t q r s = grind (arith, nat_tests, unsigned_tied)
@@ -8,7 +8,7 @@ entry_is n b t q r s = grind (arith, nat_tests, unsigned_tied)
 later_up : (b t r s : ℕ) (e : Born) → is_up_to b t e ≡ false → is_up_to r s e ≡ true → is_up_to r s (record { birth = b; serial = t }) ≡ true
 later_up b t r s e later up = grind (arith, nat_tests)
 
-module _ (old new : Births) where
+module _ (old new : BirthIndex) where
   pub below_same : ((q : ℕ) → newest_of new q ≡ newest_of old q) → ((q r s : ℕ) → has nat_cmp new.older q r s ≡ has nat_cmp old.older q r s) → AreBelow old → AreBelow new
   below_same newest same was = record { each = λ q r s small short h. grind (arith, nat_tests, newest q, same q r s, was.each q r s small short) }
 
@@ -53,5 +53,5 @@ module _ (old new : Births) where
     below_none changed none same was = record { each = λ q r s small short h. grind (arith, nat_tests, changed q, none r s, same q r s, was.each q r s small short) }
 
 -- a name with a row has a place
-pub has_place : (births : Births) (q : ℕ) (e : Born) → newest_of births q ≡ Some e → q < length births.newest.items
-has_place births q e is = grind (arith, nat_tests, is, slice_get_past births.newest.items q)
+pub has_place : (birth_index : BirthIndex) (q : ℕ) (e : Born) → newest_of birth_index q ≡ Some e → q < length birth_index.newest.items
+has_place birth_index q e is = grind (arith, nat_tests, is, slice_get_past birth_index.newest.items q)

@@ -24,9 +24,9 @@ is_left names d next n = option_map_or (λ r. nat_le (place_in names d n) r) nex
 not_above : (passes : ℕ → Bool) (bound p : ℕ) (next : Option ℕ) → IsLastBelow passes bound next → passes p ≡ true → p < bound → option_map_or (λ r. nat_le p r) next false ≡ true
 not_above passes bound p x0 last there lt = grind (arith, nat_tests, last, cases_lt, nat_le, false≢true)
 
-module _ (a : Inside) (kept : IsKept a.table a.lives) where
+module _ (a : Inside) (kept : IsKept a.table a.live_names) where
   abbrev names : List (ℕ × List ℕ)
-  names = names_of a.lives
+  names = names_of a.live_names
 
   -- a name that was never given stood for nothing
   never_at : (moment d : ℕ) (n : List ℕ) → place_in names d n ≡ length names → target_at (rows_of a.table) moment d n ≡ None
@@ -44,20 +44,20 @@ module _ (a : Inside) (kept : IsKept a.table a.lives) where
     listed : (n : List ℕ) → place_in names d n < length names → in_directory (place_in names d n) ≡ true
     listed n inside = grind (arith, nat_tests, at_place)
 
-    pub list_begun : (next : Option ℕ) → next ≡ newest_in a.lives.in_directory d → AreTold (slice_cmp nat_cmp) (target_at (rows_of a.table) moment d) (is_left names d next) []
+    pub list_begun : (next : Option ℕ) → next ≡ newest_in a.live_names.in_directory d → AreTold (slice_cmp nat_cmp) (target_at (rows_of a.table) moment d) (is_left names d next) []
     list_begun next is n = grind (arith, nat_tests, known names d n, not_above in_directory (2 ^ 64) (place_in names d n) next, is, kept.listed.each.newest d, listed n, kept.listed.few, never_at moment d n)
 
     some : (bound : ℕ) (o : Option ℕ) → IsLastBelow in_directory bound o → IfSome o (λ r. in_directory r ≡ true)
     some bound x0 last = grind (arith, nat_tests, last)
 
     -- the next to come is of the directory
-    pub list_first : (next : Option ℕ) → next ≡ newest_in a.lives.in_directory d → IfSome next (λ r. in_directory r ≡ true)
+    pub list_first : (next : Option ℕ) → next ≡ newest_in a.live_names.in_directory d → IfSome next (λ r. in_directory r ≡ true)
     list_first next is = grind (arith, nat_tests, is, some (2 ^ 64) next, kept.listed.each.newest d)
 
     pub list_stands : (r : ℕ) → in_directory r ≡ true → None ≡ slice_get names r → ⊥
     list_stands r there none = false≢true (rw (← none) at there)
 
-    module _ (r : ℕ) (name : ℕ × List ℕ) (is : Some name ≡ slice_get names r) (there : in_directory r ≡ true) (next : Option ℕ) (before : next ≡ option_and_then (λ o. o) (slice_get a.lives.in_directory.older.items r)) where
+    module _ (r : ℕ) (name : ℕ × List ℕ) (is : Some name ≡ slice_get names r) (there : in_directory r ≡ true) (next : Option ℕ) (before : next ≡ option_and_then (λ o. o) (slice_get a.live_names.in_directory.older.items r)) where
       its : name.0 ≡ d
       its = equal name.0 d (rw (← is) at there)
 

@@ -14,9 +14,9 @@ pub use Rattle.ele_lists.specs.Lists.{AllLater, update_first}
 pub use Rattle.ele_rows.specs.Serial.{is_placed, value_at}
 pub use Rattle.ele_rows.specs.Tally.{counted}
 pub use Rattle.ele_moment.specs.Last.{last_moment}
-pub use Rattle.ele_names.specs.Births.{AreBelow, AreBirthsOf, has_birth, is_born, is_up_to, newest_of}
-pub use Rattle.ele_names.specs.declared.births.Births.{Births}
-pub use Rattle.ele_names.specs.declared.births.Born.{Born}
+pub use Rattle.ele_names.specs.BirthIndex.{AreBelow, AreBirthsOf, has_birth, is_born, is_up_to, newest_of}
+pub use Rattle.ele_names.specs.declared.birth_index.BirthIndex.{BirthIndex}
+pub use Rattle.ele_names.specs.declared.birth_index.Born.{Born}
 pub use Rattle.ele_names.specs.Chained.{IsLast, IsLastBelow, is_member, newest_in, live_in, AreChained, Gains, HasOlder, Keeps, Loses}
 pub use Rattle.ele_names.specs.Counted.{AreCounted, AreNumbered, Leaves, live_at}
 pub use Rattle.ele_names.specs.Kept.{IsKept, IsTable, is_born_by, rows_of}
@@ -26,9 +26,9 @@ pub use Rattle.ele_names.specs.Placed.{AreListed, AreIndexed, KeepsPlaces, is_of
 pub use Rattle.ele_names.specs.Rows.{Follows, born_row, dies}
 pub use Rattle.ele_names.specs.Stops.{StopsAtPlace}
 pub use Rattle.ele_names.specs.Targets.{is_live_of, target_eq}
-pub use Rattle.ele_names.specs.declared.chains.Chains.{Chains}
-pub use Rattle.ele_names.specs.declared.lives.Live.{Live}
-pub use Rattle.ele_names.specs.declared.lives.Lives.{Lives}
+pub use Rattle.ele_names.specs.declared.row_lists.RowLists.{RowLists}
+pub use Rattle.ele_names.specs.declared.live_names.Live.{Live}
+pub use Rattle.ele_names.specs.declared.live_names.LiveNames.{LiveNames}
 pub use Rattle.ele_names.specs.declared.names.Names.TheInside.{Inside}
 pub use Rattle.ele_names.specs.declared.places.Places.{Places}
 pub use Rattle.ele_names.specs.declared.table.Table.{Table}

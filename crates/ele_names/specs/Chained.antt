@@ -2,7 +2,7 @@
 use Rattle.std.specs.Prelude.{◌≡◌, ℕ, ◌<◌, ◌^◌, Bool, true, false, cond, List, Option, Some, None, slice_get}
 use Rattle.std.specs.Bool.{nat_eq}
 use Rattle.std.specs.Option.{option_and_then, option_map_or}
-use Rattle.ele_names.specs.declared.chains.Chains.{Chains}
+use Rattle.ele_names.specs.declared.row_lists.RowLists.{RowLists}
 
 -- the number passes, and is the last below the bound that does
 pub record IsLast (passes : ℕ → Bool) (bound r : ℕ) : Type 0 where
@@ -22,12 +22,12 @@ pub record HasOlder (passes : ℕ → Bool) (older : List (Option ℕ)) (s : ℕ
   pub last : IsLastBelow passes s number
 
 -- the newest member of the group
-abbrev pub newest_in : Chains → ℕ → Option ℕ
-newest_in chains g = option_and_then (λ members. members.newest) (slice_get chains.groups.items g)
+abbrev pub newest_in : RowLists → ℕ → Option ℕ
+newest_in row_lists g = option_and_then (λ members. members.newest) (slice_get row_lists.groups.items g)
 
 -- its count
-abbrev pub live_in : Chains → ℕ → ℕ
-live_in chains g = option_map_or (λ members. members.live) (slice_get chains.groups.items g) 0
+abbrev pub live_in : RowLists → ℕ → ℕ
+live_in row_lists g = option_map_or (λ members. members.live) (slice_get row_lists.groups.items g) 0
 
 module _ {X : Type 0} (belongs : ℕ → X → Bool) (at : ℕ → Option X) where
   -- a member of the group has the number
@@ -35,30 +35,30 @@ module _ {X : Type 0} (belongs : ℕ → X → Bool) (at : ℕ → Option X) whe
   is_member g s = option_map_or (belongs g) (at s) false
 
   -- the newest member of each group is known, and the one before each member
-  pub record AreChained (chains : Chains) : Type 0 where
-    pub newest : (g : ℕ) → IsLastBelow (is_member g) (2 ^ 64) (newest_in chains g)
-    pub older : (g s : ℕ) → is_member g s ≡ true → HasOlder (is_member g) chains.older.items s
+  pub record AreChained (row_lists : RowLists) : Type 0 where
+    pub newest : (g : ℕ) → IsLastBelow (is_member g) (2 ^ 64) (newest_in row_lists g)
+    pub older : (g s : ℕ) → is_member g s ≡ true → HasOlder (is_member g) row_lists.older.items s
 
 -- both tell the same
-pub record Tells (old new : Chains) : Type 0 where
+pub record Tells (old new : RowLists) : Type 0 where
   pub newest : (g : ℕ) → newest_in new g ≡ newest_in old g
   pub live : (g : ℕ) → live_in new g ≡ live_in old g
   pub older : new.older ≡ old.older
 
 -- what stands at the places before the number stays, with the newest and the count of each group
-pub record Keeps (number : ℕ) (old new : Chains) : Type 0 where
+pub record Keeps (number : ℕ) (old new : RowLists) : Type 0 where
   pub newest : (g : ℕ) → newest_in new g ≡ newest_in old g
   pub live : (g : ℕ) → live_in new g ≡ live_in old g
   pub older : (s : ℕ) (o : Option ℕ) → s < number → slice_get old.older.items s ≡ Some o → slice_get new.older.items s ≡ Some o
 
 -- the number is the group's newest, with the one that was before it
-pub record Gains (group number : ℕ) (old new : Chains) : Type 0 where
+pub record Gains (group number : ℕ) (old new : RowLists) : Type 0 where
   pub newest : (g : ℕ) → newest_in new g ≡ cond (nat_eq group g) (Some number) (newest_in old g)
   pub live : (g : ℕ) → live_in new g ≡ live_in old g
   pub own : slice_get new.older.items number ≡ Some (newest_in old group)
   pub older : (s : ℕ) (o : Option ℕ) → s < number → slice_get old.older.items s ≡ Some o → slice_get new.older.items s ≡ Some o
 
 -- the one before the number is the group's newest
-pub record Loses (group number : ℕ) (old new : Chains) : Type 0 where
+pub record Loses (group number : ℕ) (old new : RowLists) : Type 0 where
   pub newest : (g : ℕ) → newest_in new g ≡ cond (nat_eq group g) (option_and_then (λ o. o) (slice_get old.older.items number)) (newest_in old g)
   pub older : new.older.items ≡ old.older.items

@@ -7,8 +7,8 @@ use Rattle.ele_model.specs.declared.rows.NameRow.{NameRow}
 use Rattle.ele_model.specs.declared.rows.Target.{Target}
 use Rattle.ele_model.specs.NameRows.{is_live_in}
 use Rattle.ele_model.specs.Walk.{is_live_name, live_target}
-use Rattle.ele_names.specs.declared.lives.Live.{Live}
-use Rattle.ele_names.specs.declared.lives.Lives.{Lives}
+use Rattle.ele_names.specs.declared.live_names.Live.{Live}
+use Rattle.ele_names.specs.declared.live_names.LiveNames.{LiveNames}
 use Rattle.ele_names.specs.Chained.{live_in}
 use Rattle.ele_names.specs.Placed.{name_eq}
 use Rattle.ele_names.specs.Targets.{is_live_of}
@@ -17,17 +17,17 @@ use Rattle.ele_names.specs.Targets.{is_live_of}
 abbrev pub live_row : {S : Type 0} → HashMap (ℕ × List ℕ) (Option (Live Target)) S → ℕ → List ℕ → Option (Live Target)
 live_row by_name d n = option_and_then (λ live. live) (get name_eq by_name (d, n))
 
-abbrev pub live_at : Lives → ℕ → List ℕ → Option (Live Target)
-live_at lives = live_row lives.by_name
+abbrev pub live_at : LiveNames → ℕ → List ℕ → Option (Live Target)
+live_at live_names = live_row live_names.by_name
 
 -- the live rows are those, and so is the count of each directory
-pub record AreCounted (rows : List NameRow) (lives : Lives) : Type 0 where
-  pub named : (d : ℕ) (n : List ℕ) → option_map (λ live. live.target) (live_at lives d n) ≡ live_target rows d n
-  pub in_directory : (d : ℕ) → live_in lives.in_directory d ≡ count_by (is_live_in d) rows
+pub record AreCounted (rows : List NameRow) (live_names : LiveNames) : Type 0 where
+  pub named : (d : ℕ) (n : List ℕ) → option_map (λ live. live.target) (live_at live_names d n) ≡ live_target rows d n
+  pub in_directory : (d : ℕ) → live_in live_names.in_directory d ≡ count_by (is_live_in d) rows
 
 -- the serial number of each live row is that of a live row of its name
-pub record AreNumbered (at : ℕ → Option NameRow) (lives : Lives) : Type 0 where
-  pub each : (d : ℕ) (n : List ℕ) (live : Live Target) → live_at lives d n ≡ Some live → option_map_or (is_live_name d n) (at live.serial) false ≡ true
+pub record AreNumbered (at : ℕ → Option NameRow) (live_names : LiveNames) : Type 0 where
+  pub each : (d : ℕ) (n : List ℕ) (live : Live Target) → live_at live_names d n ≡ Some live → option_map_or (is_live_name d n) (at live.serial) false ≡ true
 
 -- the second list has the live rows of the first but the row, if that is live
 pub record Leaves (row : NameRow) (was now : List NameRow) : Type 0 where

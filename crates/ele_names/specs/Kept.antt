@@ -10,7 +10,7 @@ use Rattle.ele_moment.specs.Last.{last_moment}
 use Rattle.ele_model.specs.declared.rows.NameRow.{NameRow}
 use Rattle.ele_model.specs.declared.rows.Target.{Target}
 use Rattle.ele_model.specs.NameRows.{is_named}
-use Rattle.ele_names.specs.declared.lives.Lives.{Lives}
+use Rattle.ele_names.specs.declared.live_names.LiveNames.{LiveNames}
 use Rattle.ele_names.specs.declared.table.Table.{Table}
 use Rattle.ele_names.specs.Rows.{Follows}
 use Rattle.ele_names.specs.Placed.{AreListed, AreIndexed, live_of, names_of, number_in}
@@ -35,9 +35,9 @@ pub record IsTable (names : List (ℕ × List ℕ)) (table : Table) : Type 0 whe
   pub placed : AreIndexed names (value_at table.rows.entries) table.places
 
 -- and the live rows are known and counted
-pub record IsKept (table : Table) (lives : Lives) : Type 0 where
-  pub is_table : IsTable (names_of lives) table
-  pub listed : AreListed lives
-  pub counts : AreCounted (rows_of table) lives
-  pub numbered : AreNumbered (value_at table.rows.entries) lives
+pub record IsKept (table : Table) (live_names : LiveNames) : Type 0 where
+  pub is_table : IsTable (names_of live_names) table
+  pub listed : AreListed live_names
+  pub counts : AreCounted (rows_of table) live_names
+  pub numbered : AreNumbered (value_at table.rows.entries) live_names
   pub targets : (t : Target) → live_of table.places t ≡ count_by (is_live_of t) (rows_of table)

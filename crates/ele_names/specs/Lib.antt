@@ -3,7 +3,7 @@ pub mod Listed
 pub mod Numbered
 pub mod Targets
 pub mod Chained
-pub mod Births
+pub mod BirthIndex
 pub mod Placed
 pub mod Counted
 pub mod Kept

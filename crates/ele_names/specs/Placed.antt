@@ -9,9 +9,9 @@ use Rattle.ele_model.specs.declared.rows.NameRow.{NameRow}
 use Rattle.ele_model.specs.declared.rows.Target.{Target}
 use Rattle.ele_model.specs.declared.rows.Target.TheVariants.{Directory, File}
 use Rattle.ele_model.specs.World.{is_target_file}
-use Rattle.ele_names.specs.declared.lives.Lives.{Lives}
+use Rattle.ele_names.specs.declared.live_names.LiveNames.{LiveNames}
 use Rattle.ele_names.specs.declared.places.Places.{Places}
-use Rattle.ele_names.specs.Births.{AreBirthsOf}
+use Rattle.ele_names.specs.BirthIndex.{AreBirthsOf}
 use Rattle.ele_names.specs.Chained.{AreChained, live_in}
 
 -- the two directories and names are one
@@ -19,8 +19,8 @@ abbrev pub name_eq : ℕ × List ℕ → ℕ × List ℕ → Bool
 name_eq a b = nat_eq a.0 b.0 && bytes_eq a.1 b.1
 
 -- the names ever given
-abbrev pub names_of : Lives → List (ℕ × List ℕ)
-names_of lives = keys lives.by_name
+abbrev pub names_of : LiveNames → List (ℕ × List ℕ)
+names_of live_names = keys live_names.by_name
 
 -- the number of the name, or how many names there are where it isn't one of them
 abbrev pub place_in : List (ℕ × List ℕ) → ℕ → List ℕ → ℕ
@@ -34,9 +34,9 @@ pub record KeepsPlaces (old new : List (ℕ × List ℕ)) : Type 0 where
   pub each : (d : ℕ) (n : List ℕ) → place_in old d n < length old → (place_in new d n ≡ place_in old d n) × (place_in new d n < length new)
 
 -- the names of each directory are a chain
-pub record AreListed (lives : Lives) : Type 0 where
-  pub few : length (names_of lives) < 2 ^ 64
-  pub each : AreChained (λ d name. nat_eq name.0 d) (slice_get (names_of lives)) lives.in_directory
+pub record AreListed (live_names : LiveNames) : Type 0 where
+  pub few : length (names_of live_names) < 2 ^ 64
+  pub each : AreChained (λ d name. nat_eq name.0 d) (slice_get (names_of live_names)) live_names.in_directory
 
 -- a row of the file
 abbrev pub is_of : ℕ → NameRow → Bool

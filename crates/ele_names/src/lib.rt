@@ -2,13 +2,13 @@
 //! led. A contract sees the rows as their list in order of making, and how many were ever made.
 #![tactic(auto)]
 
-mod births;
-mod chains;
+mod birth_index;
 mod found;
-mod lives;
+mod live_names;
 mod names;
 mod numbered;
 mod places;
+mod row_lists;
 mod table;
 mod walk;
 

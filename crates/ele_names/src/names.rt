@@ -20,7 +20,7 @@ ghost use Rattle.ele_names.specs.Placed.{is_of};
 ghost use Rattle.ele_names.specs.Rows.{born_row, dies, Follows};
 
 use crate::found::Found;
-use crate::lives::{Live, Lives};
+use crate::live_names::{Live, LiveNames};
 use crate::table::{Table, lives_past};
 use ele_model::{NameRow, Target};
 use ele_moment::{DirId, FileId, Moment, Name, NoMemory};
@@ -32,7 +32,7 @@ use std::marker::Model;
 #[derive(Drop)]
 pub struct Names {
     table: Table,
-    lives: Lives,
+    live_names: LiveNames,
     alloc: Global,
 }
 
@@ -45,7 +45,7 @@ impl Model for Names {
 
     ghost view = { λ names. rows_of names.table };
 
-    ghost invariant = { λ names. IsKept names.table names.lives };
+    ghost invariant = { λ names. IsKept names.table names.live_names };
 }
 
 impl Names {
@@ -55,7 +55,7 @@ impl Names {
     {
         Names {
             table: Table::new(alloc),
-            lives: Lives::new(alloc),
+            live_names: LiveNames::new(alloc),
             alloc,
         }
     }
@@ -82,14 +82,14 @@ impl Names {
             birth,
             death: None,
         };
-        let number = self.lives.number_or_next(directory, name)?;
+        let number = self.live_names.number_or_next(directory, name)?;
         let serial = self.table.rows.next_serial();
         self.table.places.enter(number, &row, serial)?;
         if let Err(refused) = self.table.rows.push(row) {
             self.table.places.leave(number, &row, serial);
             return Err(refused);
         }
-        self.lives.enter(number, &row, serial);
+        self.live_names.enter(number, &row, serial);
         Ok(())
     }
 
@@ -104,11 +104,11 @@ impl Names {
         let Some((serial, row)) = self.table.rows.pop() else {
             unreachable!()
         };
-        let Some(number) = self.lives.number(row.directory, &row.name) else {
+        let Some(number) = self.live_names.number(row.directory, &row.name) else {
             unreachable!()
         };
         self.table.places.leave(number, &row, serial);
-        self.lives.leave(number, &row);
+        self.live_names.leave(number, &row);
     }
 
     /// Ends the live name at the moment, which was found before. It takes no memory.
@@ -118,15 +118,15 @@ impl Names {
         ensures { self.new
             ≡ update_first (is_live_name directory name.now) (dies moment) self.old }
     {
-        let Some(number) = self.lives.number_by(found.number, directory, name) else {
+        let Some(number) = self.live_names.number_by(found.number, directory, name) else {
             unreachable!()
         };
-        let Some(live) = self.lives.live_of(number) else {
+        let Some(live) = self.live_names.live_of(number) else {
             unreachable!()
         };
         self.table.rows.end(live.serial, moment);
         self.table.places.end(live.target);
-        self.lives.end(number, directory);
+        self.live_names.end(number, directory);
     }
 
     /// Takes out all rows of the file, live ones too. It takes no memory.
@@ -151,11 +151,11 @@ impl Names {
         let Some(row) = self.table.rows.take(serial) else {
             unreachable!()
         };
-        let Some(number) = self.lives.number(row.directory, &row.name) else {
+        let Some(number) = self.live_names.number(row.directory, &row.name) else {
             unreachable!()
         };
         self.table.places.leave(number, &row, serial);
-        self.lives.leave(number, &row);
+        self.live_names.leave(number, &row);
         true
     }
 
@@ -163,14 +163,14 @@ impl Names {
     pub fn live(&self, directory: DirId, name: &Name) -> Option<Target>
         ensures { result ≡ live_target self.now directory name.now }
     {
-        target_of(self.lives.live(directory, name))
+        target_of(self.live_names.live(directory, name))
     }
 
     /// What the live name stands for, to be ended.
     pub fn find(&self, directory: DirId, name: &Name) -> Option<Found>
         ensures { result ≡ live_target self.now directory name.now }
     {
-        self.lives.find(directory, name)
+        self.live_names.find(directory, name)
     }
 
     /// What the newest row of the name stands for, if that row is dead. The name is not live then.
@@ -204,7 +204,7 @@ impl Names {
         ensures apart { AllLater Follows self.now }
         ensures born { AllByRecursion (λ row. row.birth ≤ last_moment) self.now }
     {
-        let number = self.lives.number(directory, name)?;
+        let number = self.live_names.number(directory, name)?;
         let (_, serial) = self.table.places.by_name.last(number, seconds)?;
         self.table.rows.get(serial).copied()
     }
@@ -231,14 +231,14 @@ impl Names {
             ≡ target_at self.now moment directory name) }
     {
         let mut found = BTreeMap::new(self.alloc);
-        let mut next = self.lives.in_directory.newest(directory.0);
+        let mut next = self.live_names.in_directory.newest(directory.0);
         while let Some(number) = next {
-            let Some(name) = self.lives.name(number) else {
+            let Some(name) = self.live_names.name(number) else {
                 unreachable!()
             };
             let target = self.at(directory, &name.1, moment);
             put_some(&mut found, name.1, target)?;
-            next = self.lives.in_directory.older(number);
+            next = self.live_names.in_directory.older(number);
         }
         Ok(found.into_iter().collect(self.alloc)?)
     }
@@ -252,7 +252,7 @@ impl Names {
             ≡ last_dead self.now directory name) }
     {
         let mut found = BTreeMap::new(self.alloc);
-        for (directory, name) in self.lives.by_name.keys() {
+        for (directory, name) in self.live_names.by_name.keys() {
             let target = self.last_dead(*directory, name);
             put_some(&mut found, (*directory, *name), target)?;
         }
@@ -267,7 +267,7 @@ impl Names {
     pub fn is_empty(&self, directory: DirId) -> bool
         ensures { result ≡ not (list_any (is_live_in directory) self.now) }
     {
-        self.lives.in_directory.live(directory.0) == 0
+        self.live_names.in_directory.live(directory.0) == 0
     }
 
     /// Whether the directory has a live name.

@@ -11,8 +11,8 @@ ghost use Rattle.ele_names.specs.Chained.{AreChained, is_member};
 ghost use Rattle.ele_names.specs.Placed.{AreIndexed, is_of, live_of, number_in};
 ghost use Rattle.ele_names.specs.Targets.{is_live_of, target_eq};
 
-use crate::births::Births;
-use crate::chains::Chains;
+use crate::birth_index::BirthIndex;
+use crate::row_lists::RowLists;
 use ele_model::{NameRow, Target};
 use ele_moment::{DirId, NoMemory};
 use ele_rows::Tally;
@@ -22,8 +22,8 @@ use std::alloc::Global;
 /// ones, and the count of those of one directory.
 #[derive(Drop)]
 pub struct Places {
-    pub by_name: Births,
-    pub of_file: Chains,
+    pub by_name: BirthIndex,
+    pub of_file: RowLists,
     pub of_directory: Tally<DirId>,
 }
 
@@ -35,8 +35,8 @@ impl Places {
         ensures live { (t : Target) → live_of result t ≡ 0 }
     {
         Places {
-            by_name: Births::new(alloc),
-            of_file: Chains::new(alloc),
+            by_name: BirthIndex::new(alloc),
+            of_file: RowLists::new(alloc),
             of_directory: Tally::new(alloc),
         }
     }

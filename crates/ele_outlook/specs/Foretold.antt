@@ -4,30 +4,30 @@ use Rattle.std.specs.Io.KnownBytes.{Appends, Consumes, IsAtEnd, Keeps}
 use Rattle.ele_printer.specs.Front.{AppendsFront}
 use Rattle.ele_outlook.specs.Input.{IsFirstBad, SpellClosings, lines_of}
 use Rattle.ele_outlook.specs.Told.{IsTold, are_too_many}
-use Rattle.ele_outlook.specs.declared.ask.Ask.{Ask}
+use Rattle.ele_outlook.specs.declared.options.ForecastOptions.{ForecastOptions}
 use Rattle.ele_outlook.specs.declared.fault.ForecastFault.{ForecastFault}
 use Rattle.ele_outlook.specs.declared.fault.ForecastFault.TheVariants.{ReadFault, BadInput, TooMany, WriteFault, NoMemory}
 
 -- the text tells of the closings that the input spells
-pub record IsToldOf (ask : Ask) (input text : List ℕ) : Type 0 where
+pub record IsToldOf (options : ForecastOptions) (input text : List ℕ) : Type 0 where
   pub closings : List ℕ
   pub spell : SpellClosings (lines_of input) closings
-  pub told : IsTold ask.form ask.policy closings ask.moments.items text
+  pub told : IsTold options.form options.policy closings options.moments.items text
 
 -- what is told was written, all or a front of it, or nothing was; memory is asked for only where bytes were given or a moment is
 -- asked about
-abbrev pub Tells : {A : Type 0} → Ask → List ℕ → Option (List ℕ) → Option (List ℕ) → Result A ForecastFault → Type 0
-Tells ask given old new (Ok _) = (text : List ℕ) × IsToldOf ask given text × Appends old new text
-Tells ask given old new (Err (BadInput number why)) = IsFirstBad given number why × Keeps old new
-Tells ask given old new (Err TooMany) =
-    (closings : List ℕ) × SpellClosings (lines_of given) closings × (are_too_many ask.form (length closings) ≡ true) × Keeps old new
-Tells ask given old new (Err WriteFault) = (text : List ℕ) × IsToldOf ask given text × AppendsFront old new text
-Tells ask given old new (Err ReadFault) = Keeps old new
-Tells ask given old new (Err NoMemory) = ((given ≢ []) ⊎ (ask.moments.items ≢ [])) × Keeps old new
+abbrev pub Tells : {A : Type 0} → ForecastOptions → List ℕ → Option (List ℕ) → Option (List ℕ) → Result A ForecastFault → Type 0
+Tells options given old new (Ok _) = (text : List ℕ) × IsToldOf options given text × Appends old new text
+Tells options given old new (Err (BadInput number why)) = IsFirstBad given number why × Keeps old new
+Tells options given old new (Err TooMany) =
+    (closings : List ℕ) × SpellClosings (lines_of given) closings × (are_too_many options.form (length closings) ≡ true) × Keeps old new
+Tells options given old new (Err WriteFault) = (text : List ℕ) × IsToldOf options given text × AppendsFront old new text
+Tells options given old new (Err ReadFault) = Keeps old new
+Tells options given old new (Err NoMemory) = ((given ≢ []) ⊎ (options.moments.items ≢ [])) × Keeps old new
 
 -- bytes were read, all that there were unless the reader failed or memory was wanting, and what they spell was told
-pub record Foretells {A : Type 0} (ask : Ask) (input rest old new : Option (List ℕ)) (result : Result A ForecastFault) : Type 0 where
+pub record Foretells {A : Type 0} (options : ForecastOptions) (input rest old new : Option (List ℕ)) (result : Result A ForecastFault) : Type 0 where
   pub given : List ℕ
   pub taken : Consumes input rest given
   pub at_end : result ≢ Err ReadFault → result ≢ Err NoMemory → IsAtEnd rest
-  pub told : Tells ask given old new result
+  pub told : Tells options given old new result

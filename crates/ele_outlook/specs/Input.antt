@@ -5,7 +5,7 @@ use Rattle.ele_lists.specs.Lists.{AllLater}
 use Rattle.ele_moment.specs.Spelled.{SpellsMoment}
 use Rattle.ele_printer.specs.Printed.{line_text}
 use Rattle.ele_outlook.specs.declared.fault.BadLine.{BadLine}
-use Rattle.ele_outlook.specs.declared.fault.BadLine.TheVariants.{NotMoment, Falls}
+use Rattle.ele_outlook.specs.declared.fault.BadLine.TheVariants.{NotMoment, OutOfOrder}
 
 -- these without the last, if it is empty
 abbrev pub without_empty_last : List (List ℕ) → List (List ℕ)
@@ -26,7 +26,7 @@ pub record SpellClosings (lines : List (List ℕ)) (closings : List ℕ) : Type 
 -- what is wrong with a line behind those that spell these closings
 abbrev pub IsBad : List ℕ → List ℕ → BadLine → Type 0
 IsBad closings line NotMoment = (moment : ℕ) → ¬ SpellsMoment line moment
-IsBad closings line Falls =
+IsBad closings line OutOfOrder =
     (moment : ℕ) × SpellsMoment line moment × IfSome (slice_get closings (length closings - 1)) (λ last. moment < last)
 
 -- the lines up to that one spell closings, and it is bad; the first line is 1
@@ -43,7 +43,7 @@ pub record IsFirstBad (input : List ℕ) (number : ℕ) (why : BadLine) : Type 0
 -- what is told of a bad line
 abbrev pub bad_word : BadLine → List ℕ
 bad_word NotMoment = codes "is not a moment"
-bad_word Falls = codes "comes before the line ahead of it"
+bad_word OutOfOrder = codes "comes before the line ahead of it"
 
 abbrev pub bad_text : ℕ → BadLine → List ℕ
 bad_text number why = line_text (codes "elephant: line" ∷ decimal number ∷ bad_word why ∷ [])

@@ -7,7 +7,7 @@ use Rattle.ele_moment.specs.Spelled.{SpellsMoment}
 use Rattle.ele_printer.specs.Front.{AppendsFront}
 use Rattle.ele_outlook.specs.Input.{IsBad, IsFirstBad, SpellClosings, lines_of}
 use Rattle.ele_outlook.specs.Told.{IsTold, are_too_many}
-use Rattle.ele_outlook.specs.declared.ask.Ask.{Ask}
+use Rattle.ele_outlook.specs.declared.options.ForecastOptions.{ForecastOptions}
 use Rattle.ele_outlook.specs.declared.fault.ForecastFault.{ForecastFault}
 use Rattle.ele_outlook.specs.declared.fault.ForecastFault.TheVariants.{ReadFault, BadInput, TooMany, WriteFault, NoMemory}
 
@@ -53,12 +53,12 @@ Writes text old new (Ok _) = Appends old new text
 Writes text old new (Err _) = AppendsFront old new text
 
 -- what becomes of the versions of these closings was told
-abbrev pub TellsClosings : {A : Type 0} → Ask → List ℕ → Option (List ℕ) → Option (List ℕ) → Result A ForecastFault → Type 0
-TellsClosings ask closings old new (Ok _) =
-    (text : List ℕ) × IsTold ask.form ask.policy closings ask.moments.items text × Appends old new text
-TellsClosings ask closings old new (Err WriteFault) =
-    (text : List ℕ) × IsTold ask.form ask.policy closings ask.moments.items text × AppendsFront old new text
-TellsClosings ask closings old new (Err TooMany) = (are_too_many ask.form (length closings) ≡ true) × Keeps old new
-TellsClosings ask closings old new (Err NoMemory) = ((closings ≢ []) ⊎ (ask.moments.items ≢ [])) × Keeps old new
-TellsClosings ask closings old new (Err (BadInput number why)) = ⊥
-TellsClosings ask closings old new (Err ReadFault) = ⊥
+abbrev pub TellsClosings : {A : Type 0} → ForecastOptions → List ℕ → Option (List ℕ) → Option (List ℕ) → Result A ForecastFault → Type 0
+TellsClosings options closings old new (Ok _) =
+    (text : List ℕ) × IsTold options.form options.policy closings options.moments.items text × Appends old new text
+TellsClosings options closings old new (Err WriteFault) =
+    (text : List ℕ) × IsTold options.form options.policy closings options.moments.items text × AppendsFront old new text
+TellsClosings options closings old new (Err TooMany) = (are_too_many options.form (length closings) ≡ true) × Keeps old new
+TellsClosings options closings old new (Err NoMemory) = ((closings ≢ []) ⊎ (options.moments.items ≢ [])) × Keeps old new
+TellsClosings options closings old new (Err (BadInput number why)) = ⊥
+TellsClosings options closings old new (Err ReadFault) = ⊥

@@ -5,8 +5,8 @@ use Rattle.ele_forecast.specs.Tells.{AreForecasts}
 use Rattle.ele_forecast.specs.declared.forecast.Forecast.{Forecast}
 use Rattle.ele_outlook.specs.Drawing.{drawing_text}
 use Rattle.ele_outlook.specs.Table.{AreStayings, table_text}
-use Rattle.ele_outlook.specs.declared.ask.Form.{Form}
-use Rattle.ele_outlook.specs.declared.ask.Form.TheVariants.{Table, Drawing}
+use Rattle.ele_outlook.specs.declared.options.Form.{Form}
+use Rattle.ele_outlook.specs.declared.options.Form.TheVariants.{Table, Drawing}
 use Rattle.ele_outlook.specs.declared.staying.Staying.{Staying}
 
 abbrev pub told_text : Form → Policy → List Forecast → List Staying → List ℕ

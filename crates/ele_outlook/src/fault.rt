@@ -18,7 +18,7 @@ pub enum BadLine {
     NotMoment,
     /// Its moment comes before that of the line ahead.
     #[error("before the closing ahead of it")]
-    Falls,
+    OutOfOrder,
 }
 
 /// Why a forecast ended early.
@@ -59,7 +59,7 @@ impl BadLine {
     {
         match self {
             BadLine::NotMoment => "is not a moment",
-            BadLine::Falls => "comes before the line ahead of it",
+            BadLine::OutOfOrder => "comes before the line ahead of it",
         }
     }
 }

@@ -64,11 +64,11 @@ fn add_last(rest: &[u8], mut closings: Closings) -> Result<Closings, ForecastFau
     ensures { (input : List ℕ) → ReadSoFar input rest.now closings → Reads input result }
 {
     if rest.is_empty() {
-        closings.rise();
+        closings.lemma_sorted();
         return Ok(closings);
     }
     add_line(rest, &mut closings)?;
-    closings.rise();
+    closings.lemma_sorted();
     Ok(closings)
 }
 
@@ -99,7 +99,7 @@ fn add_line(line: &[u8], closings: &mut Closings) -> Result<(), ForecastFault>
     };
     match closings.push(moment) {
         Ok(()) => Ok(()),
-        Err(NotClosed::Falls) => Err(ForecastFault::BadInput(number, BadLine::Falls)),
+        Err(NotClosed::OutOfOrder) => Err(ForecastFault::BadInput(number, BadLine::OutOfOrder)),
         Err(NotClosed::NoMemory) => Err(ForecastFault::NoMemory),
     }
 }
@@ -109,6 +109,6 @@ fn number_of_next(closings: &Closings) -> u64
     ensures number { result ≡ length closings.now + 1 }
     ensures rises { AllLater ◌≤◌ closings.now }
 {
-    closings.rise();
+    closings.lemma_sorted();
     closings.len() as u64 + 1
 }

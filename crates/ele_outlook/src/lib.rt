@@ -4,12 +4,12 @@
 //! known to hold.
 #![tactic(auto)]
 
-mod ask;
 mod drawing;
 mod fault;
 mod input;
 mod mark;
 mod marks;
+mod options;
 mod page;
 mod row;
 mod staying;
@@ -18,6 +18,6 @@ mod telling;
 mod unit;
 mod why;
 
-pub use ask::{Ask, Form};
 pub use fault::{BadLine, ForecastFault, write_bad_line};
-pub use telling::foretell;
+pub use options::{ForecastOptions, Form};
+pub use telling::write_forecast;

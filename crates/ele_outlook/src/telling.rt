@@ -7,10 +7,10 @@ ghost use Rattle.ele_outlook.specs.Foretold.{Foretells, Tells};
 ghost use Rattle.ele_outlook.specs.Reading.{TellsClosings, Writes};
 ghost use Rattle.ele_outlook.specs.Told.{are_too_many, told_text};
 
-use crate::ask::{Ask, Form};
 use crate::drawing::put_drawing;
 use crate::fault::ForecastFault;
 use crate::input::{read_closings, read_input};
+use crate::options::{ForecastOptions, Form};
 use crate::page::MOST;
 use crate::staying::{Staying, staying_at};
 use crate::table::put_table;
@@ -29,55 +29,55 @@ use std::io::{Read, Write};
 /// - TooMany: there are more than 2,000 versions to draw.
 /// - WriteFault: the writer failed, took no byte of some, or wasn't flushed; it took a front.
 /// - NoMemory: there was none for the closings, or for what is told of them.
-pub fn foretell<R: Read, W: Write>(
+pub fn write_forecast<R: Read, W: Write>(
     alloc: Global,
-    ask: &Ask,
+    options: &ForecastOptions,
     reader: &mut R,
     writer: &mut W,
 ) -> Result<(), ForecastFault>
-    ensures { Foretells ask.now (R.remaining reader.old) (R.remaining reader.new)
+    ensures { Foretells options.now (R.remaining reader.old) (R.remaining reader.new)
         (W.contents writer.old) (W.contents writer.new) result }
 {
     let input = read_input(alloc, reader)?;
-    tell(alloc, ask, input.as_slice(), writer)
+    tell(alloc, options, input.as_slice(), writer)
 }
 
 // Writes what becomes of the versions of the closings that the input spells.
 fn tell<W: Write>(
     alloc: Global,
-    ask: &Ask,
+    options: &ForecastOptions,
     input: &[u8],
     writer: &mut W,
 ) -> Result<(), ForecastFault>
-    ensures { Tells ask.now input.now (W.contents writer.old) (W.contents writer.new) result }
+    ensures { Tells options.now input.now (W.contents writer.old) (W.contents writer.new) result }
 {
     let closings = read_closings(alloc, input)?;
-    tell_closings(alloc, ask, &closings, writer)
+    tell_closings(alloc, options, &closings, writer)
 }
 
 // Writes what becomes of the versions of these closings.
 fn tell_closings<W: Write>(
     alloc: Global,
-    ask: &Ask,
+    options: &ForecastOptions,
     closings: &Closings,
     writer: &mut W,
 ) -> Result<(), ForecastFault>
-    ensures { TellsClosings ask.now closings.now (W.contents writer.old) (W.contents writer.new)
+    ensures { TellsClosings options.now closings.now (W.contents writer.old) (W.contents writer.new)
         result }
 {
-    if are_too_many(ask.form, closings.len()) {
+    if are_too_many(options.form, closings.len()) {
         return Err(ForecastFault::TooMany);
     }
-    let Ok(forecasts) = closings.forecasts(&ask.policy) else {
+    let Ok(forecasts) = closings.forecasts(&options.policy) else {
         return Err(ForecastFault::NoMemory);
     };
-    let moments = ask.moments.as_slice();
-    let Ok(stayings) = staying_at(alloc, &ask.policy, closings, moments) else {
+    let moments = options.moments.as_slice();
+    let Ok(stayings) = staying_at(alloc, &options.policy, closings, moments) else {
         return Err(ForecastFault::NoMemory);
     };
     write_told(
-        ask.form,
-        &ask.policy,
+        options.form,
+        &options.policy,
         forecasts.as_slice(),
         stayings.as_slice(),
         writer,

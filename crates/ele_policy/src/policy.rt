@@ -79,7 +79,7 @@ impl Policy {
 
     /// Says of the policy that its numbers are such as can be given, and that it is lawful.
     #[tactic(auto, using(crate::proofs::Waits::policies_are_lawful))]
-    pub fn is_given(&self)
+    pub fn lemma_valid(&self)
         ensures given { IsPolicy self.now }
         ensures lawful { IsLawful self.now }
     {

@@ -40,7 +40,7 @@ fn ripe_after(
         ≡ ripe_after policy.now closed ended (record { newer = newer.now; live = is_live }) }
     ensures given { IsPolicy policy.now }
 {
-    policy.is_given();
+    policy.lemma_valid();
     ended.plus(wait(policy, closed, newer, is_live)?)
 }
 
@@ -115,6 +115,6 @@ pub fn ripe(
         ((beside : Beside) → IsToldBy policy.now closed next_closed floor_met beside
         → (at : ℕ) → at ≤ last_moment → is_due_by policy.now closed beside ended at ≡ false) }
 {
-    policy.is_given();
+    policy.lemma_valid();
     ripe_near(policy, closed, ended, next_closed, floor_met)
 }

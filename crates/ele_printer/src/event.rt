@@ -103,7 +103,7 @@ fn put_one<A: Word, W: Write>(
     ensures { PutsParts W.contents printer.old printer.new (command, A.value value.now ∷ [])
         result }
 {
-    value.is_value();
+    value.lemma_value();
     put_alone(command, printer)?;
     value.put_value(printer)
 }
@@ -118,7 +118,7 @@ fn put_two<A: Word, B: Word, W: Write>(
     ensures { PutsParts W.contents printer.old printer.new
         (command, A.value first.now ∷ B.value second.now ∷ []) result }
 {
-    second.is_value();
+    second.lemma_value();
     put_one(command, first, printer)?;
     second.put_value(printer)
 }
@@ -133,7 +133,7 @@ fn put_write<W: Write>(
     ensures { PutsParts W.contents printer.old printer.new
         (Command.Write, Number handle.now ∷ Number offset.now ∷ Bytes bytes.now ∷ []) result }
 {
-    are_bytes(bytes);
+    lemma_bytes(bytes);
     put_two(Command::Write, handle, offset, printer)?;
     put_byte_word(bytes, printer)
 }
@@ -165,13 +165,13 @@ fn put_ended<W: Write>(
         (Command.Mark, value.Name name.now ∷ value.Moment moment.now ∷ value.Moment end.now ∷ [])
         result }
 {
-    end.is_value();
+    end.lemma_value();
     put_two(Command::Mark, name, moment, printer)?;
     end.put_value(printer)
 }
 
 // Says of bytes that each is one.
-fn are_bytes(bytes: &[u8])
+fn lemma_bytes(bytes: &[u8])
     ensures { All (λ byte. byte < 256) bytes.now }
 {}
 

@@ -61,7 +61,7 @@ pub(crate) fn tag_of(moment: Option<Moment>) -> Tag
 }
 
 /// Says what its type says of a tag.
-pub(crate) fn is_tag(tag: Tag)
+pub(crate) fn lemma_tag(tag: Tag)
     ensures { IsTag tag }
 {
     match tag {

@@ -7,7 +7,7 @@ ghost use Rattle.ele_printer.specs.Value as of;
 ghost use Rattle.ele_printer.specs.Value.{Value};
 
 use crate::fault::WriteFault;
-use crate::path_words::{is_tag, put_path, put_tag, tag_of};
+use crate::path_words::{lemma_tag, put_path, put_tag, tag_of};
 use crate::printer::{Printer, put_word};
 use crate::rows::{put_listed, put_policy};
 use ele_model::Source;
@@ -21,7 +21,7 @@ pub(crate) trait Word {
     ghost value: { Self → Value };
 
     /// Says what its type says of the value.
-    fn is_value(&self)
+    fn lemma_value(&self)
         ensures { IsValue (value self.now) };
 
     /// Puts a space and its word. At a fault the writer took a front of all that was put.
@@ -33,8 +33,8 @@ pub(crate) trait Word {
 impl Word for u64 {
     ghost value = { of.Number };
 
-    fn is_value(&self) {
-        is_number(*self);
+    fn lemma_value(&self) {
+        lemma_number(*self);
     }
 
     fn put_value<W: Write>(&self, printer: &mut Printer<'_, W>) -> Result<(), WriteFault> {
@@ -45,8 +45,8 @@ impl Word for u64 {
 impl Word for Handle {
     ghost value = { of.Number };
 
-    fn is_value(&self) {
-        is_number(self.0);
+    fn lemma_value(&self) {
+        lemma_number(self.0);
     }
 
     fn put_value<W: Write>(&self, printer: &mut Printer<'_, W>) -> Result<(), WriteFault> {
@@ -57,8 +57,8 @@ impl Word for Handle {
 impl Word for VersionNo {
     ghost value = { of.Number };
 
-    fn is_value(&self) {
-        is_number(self.0);
+    fn lemma_value(&self) {
+        lemma_number(self.0);
     }
 
     fn put_value<W: Write>(&self, printer: &mut Printer<'_, W>) -> Result<(), WriteFault> {
@@ -69,7 +69,7 @@ impl Word for VersionNo {
 impl Word for Moment {
     ghost value = { of.Moment };
 
-    fn is_value(&self) {
+    fn lemma_value(&self) {
         self.seconds();
     }
 
@@ -81,7 +81,7 @@ impl Word for Moment {
 impl Word for Name {
     ghost value = { of.Name };
 
-    fn is_value(&self) {
+    fn lemma_value(&self) {
         self.bytes();
     }
 
@@ -93,7 +93,7 @@ impl Word for Name {
 impl Word for Path {
     ghost value = { of.Path };
 
-    fn is_value(&self) {
+    fn lemma_value(&self) {
         self.names();
     }
 
@@ -105,9 +105,9 @@ impl Word for Path {
 impl Word for TaggedPath {
     ghost value = { of.Tagged };
 
-    fn is_value(&self) {
+    fn lemma_value(&self) {
         self.path().names();
-        is_tag(self.tag());
+        lemma_tag(self.tag());
     }
 
     fn put_value<W: Write>(&self, printer: &mut Printer<'_, W>) -> Result<(), WriteFault> {
@@ -119,9 +119,9 @@ impl Word for TaggedPath {
 impl Word for PathAt {
     ghost value = { of.Timed };
 
-    fn is_value(&self) {
+    fn lemma_value(&self) {
         self.path.names();
-        is_tag(tag_of(self.moment));
+        lemma_tag(tag_of(self.moment));
     }
 
     fn put_value<W: Write>(&self, printer: &mut Printer<'_, W>) -> Result<(), WriteFault> {
@@ -133,10 +133,10 @@ impl Word for PathAt {
 impl Word for Source {
     ghost value = { of.Source };
 
-    fn is_value(&self) {
+    fn lemma_value(&self) {
         match self {
-            Source::Tagged(tagged) => tagged.is_value(),
-            Source::Of(handle) => handle.is_value(),
+            Source::Tagged(tagged) => tagged.lemma_value(),
+            Source::Of(handle) => handle.lemma_value(),
         }
     }
 
@@ -151,8 +151,8 @@ impl Word for Source {
 impl Word for Policy {
     ghost value = { of.Policy };
 
-    fn is_value(&self) {
-        self.is_given();
+    fn lemma_value(&self) {
+        self.lemma_valid();
     }
 
     fn put_value<W: Write>(&self, printer: &mut Printer<'_, W>) -> Result<(), WriteFault> {
@@ -161,6 +161,6 @@ impl Word for Policy {
 }
 
 // Says of a number that it has 64 bits at most.
-fn is_number(number: u64)
+fn lemma_number(number: u64)
     ensures { number < 2 ^ 64 }
 {}

@@ -5,7 +5,7 @@ use Rattle.std.specs.Option.{option_and_then}
 use Rattle.ele_printer.specs.declared.fault.LineFault.{LineFault}
 use Rattle.ele_runs.specs.Explained.{asked_by}
 use Rattle.ele_runs.specs.Said.{AsksBy}
-use Rattle.ele_runs.specs.declared.manner.Manner.{Manner}
+use Rattle.ele_runs.specs.declared.options.RunOptions.{RunOptions}
 use Rattle.ele_script.specs.Question.{AsksQuestion, asked_in}
 use Rattle.ele_script.specs.declared.kind.WordKind.{WordKind}
 use Rattle.ele_script.specs.declared.question.Question.{Question}
@@ -14,14 +14,14 @@ use Rattle.ele_script.specs.declared.question.Question.{Question}
 abbrev pick : Bool → List ℕ → Option (WordKind × List ℕ)
 pick explains line = if explains then option_and_then asked_in (Some line) else None
 
-pub asks_by : (manner : Manner) (line : List ℕ) (read : Option (Result Question LineFault)) → manner.explain ≡ true → IfSome read (AsksQuestion line) → IfSome read (AsksBy manner line)
-asks_by manner line (Some read) explains asks =
+pub asks_by : (options : RunOptions) (line : List ℕ) (read : Option (Result Question LineFault)) → options.explain ≡ true → IfSome read (AsksQuestion line) → IfSome read (AsksBy options line)
+asks_by options line (Some read) explains asks =
     record { kind = asks.kind; word = asks.word; asks = ap (λ (b : Bool). pick b line) explains ∙ asks.asks; reads = asks.reads }
-asks_by manner line None explains asks = tt
+asks_by options line None explains asks = tt
 
-pub asks_none : (manner : Manner) (line : List ℕ) (read : Option (Result Question LineFault)) → manner.explain ≡ true → IfNone read (asked_in line ≡ None) → IfNone read (asked_by manner (Some line) ≡ None)
-asks_none manner line (Some read) explains none = tt
-asks_none manner line None explains none = ap (λ (b : Bool). pick b line) explains ∙ none
+pub asks_none : (options : RunOptions) (line : List ℕ) (read : Option (Result Question LineFault)) → options.explain ≡ true → IfNone read (asked_in line ≡ None) → IfNone read (asked_by options (Some line) ≡ None)
+asks_none options line (Some read) explains none = tt
+asks_none options line None explains none = ap (λ (b : Bool). pick b line) explains ∙ none
 
-pub never_asked : (manner : Manner) (line : List ℕ) → manner.explain ≡ false → asked_by manner (Some line) ≡ None
-never_asked manner line silent = ap (λ (b : Bool). pick b line) silent
+pub never_asked : (options : RunOptions) (line : List ℕ) → options.explain ≡ false → asked_by options (Some line) ≡ None
+never_asked options line silent = ap (λ (b : Bool). pick b line) silent

@@ -3,7 +3,7 @@ use Rattle.ele_runs.proofs.Basics.{◌≡◌, ◌≢◌, ℕ, ◌≤◌, ◌+◌
 use Rattle.std.specs.Prelude.{not, ◌&&◌, if◌then◌else◌}
 use Rattle.std.specs.Option.{option_and_then}
 use Rattle.ele_model.specs.World.{World}
-use Rattle.ele_runs.proofs.Words.{Reply, Stop, HistoryFull, AppendsFront, Course, Outlet, Takes, TakesFront, Puts, HasRoom, IsNoted, recorded, MayReply, MayAnswer, as_entry, as_read, as_trim, IsTold, cut_told, front_of, heard, is_well, noting, MayPass, Past, PutsBlock, reply_to, world_of}
+use Rattle.ele_runs.proofs.Words.{Reply, Stop, HistoryFull, AppendsFront, RunState, Outlet, Takes, TakesFront, Puts, HasRoom, IsNoted, recorded, MayReply, MayAnswer, as_entry, as_read, as_trim, IsTold, cut_told, front_of, heard, is_well, noting, MayPass, Past, PutsBlock, reply_to, world_of}
 use Rattle.ele_model.specs.declared.entry.Entry.{Entry}
 use Rattle.ele_model.specs.declared.event.Event.{Event}
 use Rattle.ele_model.specs.declared.refusal.Stop.TheVariants.{NoMemory}
@@ -27,9 +27,9 @@ use Rattle.ele_model.specs.declared.pass.PassEnd.TheVariants as ends
 use Rattle.ele_runs.specs.Block.{IsText}
 use Rattle.ele_runs.specs.Explained.{IsBlockOf, IsExplained, asked_by}
 use Rattle.ele_runs.specs.Explained as explained
-use Rattle.ele_runs.specs.Said.{AsksBy, Explains, Hears, HearsKept, HearsNext, HasText, IsSaidText, Means, Replies, Trims, is_silent, said_front}
+use Rattle.ele_runs.specs.Said.{AsksBy, Explains, Hears, HearsKept, HearsNext, HasText, IsSaidText, Means, Replies, Trims, has_no_reply, said_front}
 use Rattle.ele_runs.specs.declared.end.RunEnd.{RunEnd}
-use Rattle.ele_runs.specs.declared.manner.Manner.{Manner}
+use Rattle.ele_runs.specs.declared.options.RunOptions.{RunOptions}
 use Rattle.ele_runs.specs.declared.said.Said.{Said}
 use Rattle.ele_runs.specs.declared.said.Said.TheVariants.{Nothing, Bad, Stopped, Replied, Passed, History, Trimmed, Why, Ahead}
 use Rattle.ele_model.specs.declared.fate.Fate.{Fate}
@@ -135,28 +135,28 @@ has_text after (Trimmed c) a means text = (text.0, (a, means, text.1))
 has_text after (Why t) a means text = absurd means
 has_text after (Ahead t) a means text = absurd means
 
-front_run : (manner : Manner) (number byte : ℕ) (bytes : List ℕ) (after : Past) (said : Said) (a : Answer) → Means after said a
-    → said_front manner number said ≡ front_of manner number (Some (byte ∷ bytes))
-front_run manner number byte bytes after Nothing a means = absurd means
-front_run manner number byte bytes after (Why t) a means = absurd means
-front_run manner number byte bytes after (Ahead t) a means = absurd means
-front_run manner number byte bytes after said a means = refl
+front_run : (options : RunOptions) (number byte : ℕ) (bytes : List ℕ) (after : Past) (said : Said) (a : Answer) → Means after said a
+    → said_front options number said ≡ front_of options number (Some (byte ∷ bytes))
+front_run options number byte bytes after Nothing a means = absurd means
+front_run options number byte bytes after (Why t) a means = absurd means
+front_run options number byte bytes after (Ahead t) a means = absurd means
+front_run options number byte bytes after said a means = refl
 
 -- what is heard of a line is answered, by what is asked to be explained
-as_heard : (manner : Manner) (before after : Past) (line heard_of : Option (List ℕ)) (asked : Option (WordKind × List ℕ)) (text : List ℕ) → heard manner line ≡ heard_of → asked_by manner heard_of ≡ asked
-    → IsBlockOf asked before heard_of text after → IsBlockOf (asked_by manner (heard manner line)) before (heard manner line) text after
-as_heard manner before after line heard_of asked text same asks is =
-    subst (λ (l : Option (List ℕ)). IsBlockOf (asked_by manner l) before l text after) (sym same)
+as_heard : (options : RunOptions) (before after : Past) (line heard_of : Option (List ℕ)) (asked : Option (WordKind × List ℕ)) (text : List ℕ) → heard options line ≡ heard_of → asked_by options heard_of ≡ asked
+    → IsBlockOf asked before heard_of text after → IsBlockOf (asked_by options (heard options line)) before (heard options line) text after
+as_heard options before after line heard_of asked text same asks is =
+    subst (λ (l : Option (List ℕ)). IsBlockOf (asked_by options l) before l text after) (sym same)
     (subst (λ (a : Option (WordKind × List ℕ)). IsBlockOf a before heard_of text after) (sym asks) is)
 
 -- a line that is run
-kept_run : (manner : Manner) (before after : Past) (line : List ℕ) (said : Said) → 1 ≤ length line → heard manner (Some line) ≡ Some line
-    → asked_by manner (Some line) ≡ None → Hears before line said after → HearsKept manner before (Some line) said after
-kept_run manner before after [] said some same none hears = absurd (omega (arith, some))
-kept_run manner before after (byte ∷ bytes) said some same none hears = record {
+kept_run : (options : RunOptions) (before after : Past) (line : List ℕ) (said : Said) → 1 ≤ length line → heard options (Some line) ≡ Some line
+    → asked_by options (Some line) ≡ None → Hears before line said after → HearsKept options before (Some line) said after
+kept_run options before after [] said some same none hears = absurd (omega (arith, some))
+kept_run options before after (byte ∷ bytes) said some same none hears = record {
   has_text = has_text after said hears.answer hears.means (answer_text before after (byte ∷ bytes) hears.answer hears.may);
-  block = λ text is. as_heard manner before after (Some (byte ∷ bytes)) (Some (byte ∷ bytes)) None text same none (hears.answer, hears.may, said_text after said text hears.answer hears.means is);
-  front = λ number. front_run manner number byte bytes after said hears.answer hears.means ∙ ap (front_of manner number) (sym same);
+  block = λ text is. as_heard options before after (Some (byte ∷ bytes)) (Some (byte ∷ bytes)) None text same none (hears.answer, hears.may, said_text after said text hears.answer hears.means is);
+  front = λ number. front_run options number byte bytes after said hears.answer hears.means ∙ ap (front_of options number) (sym same);
 }
 
 -- what asks for no explanation asks for none in any manner
@@ -165,11 +165,11 @@ never_asks true line none = none
 never_asks false line none = refl
 
 -- one of which nothing is heard
-kept_none : (manner : Manner) (past : Past) (line : Option (List ℕ)) → heard manner line ≡ Some [] → HearsKept manner past line Nothing past
-kept_none manner past line same = record {
+kept_none : (options : RunOptions) (past : Past) (line : Option (List ℕ)) → heard options line ≡ Some [] → HearsKept options past line Nothing past
+kept_none options past line same = record {
   has_text = ([], refl);
-  block = λ text is. as_heard manner past past line (Some []) None text same (never_asks manner.explain (Some []) refl) (is, refl);
-  front = λ number. ap (front_of manner number) (sym same);
+  block = λ text is. as_heard options past past line (Some []) None text same (never_asks options.explain (Some []) refl) (is, refl);
+  front = λ number. ap (front_of options number) (sym same);
 }
 
 -- what is heard of a line, by whether it is passed over
@@ -180,28 +180,28 @@ never : (test : Bool) → (test && false) ≡ false
 never true = refl
 never false = refl
 
-long_heard : (manner : Manner) → heard manner None ≡ None
-long_heard manner = ap (λ (test : Bool). pick test None) (never manner.remarks)
+long_heard : (options : RunOptions) → heard options None ≡ None
+long_heard options = ap (λ (test : Bool). pick test None) (never options.remarks)
 
 -- a line that gets no answer, and one that gets one
-heard_none : (manner : Manner) (line : List ℕ) → is_silent manner line ≡ true → heard manner (Some line) ≡ Some []
-heard_none manner [] is = ap (λ (test : Bool). pick test (Some [])) (never manner.remarks)
-heard_none manner (byte ∷ bytes) is = ap (λ (test : Bool). pick test (Some (byte ∷ bytes))) is
+heard_none : (options : RunOptions) (line : List ℕ) → has_no_reply options line ≡ true → heard options (Some line) ≡ Some []
+heard_none options [] is = ap (λ (test : Bool). pick test (Some [])) (never options.remarks)
+heard_none options (byte ∷ bytes) is = ap (λ (test : Bool). pick test (Some (byte ∷ bytes))) is
 
-heard_all : (manner : Manner) (line : List ℕ) → is_silent manner line ≡ false → heard manner (Some line) ≡ Some line
-heard_all manner [] is = absurd cc
-heard_all manner (byte ∷ bytes) is = ap (λ (test : Bool). pick test (Some (byte ∷ bytes))) is
+heard_all : (options : RunOptions) (line : List ℕ) → has_no_reply options line ≡ false → heard options (Some line) ≡ Some line
+heard_all options [] is = absurd cc
+heard_all options (byte ∷ bytes) is = ap (λ (test : Bool). pick test (Some (byte ∷ bytes))) is
 
-some_line : (manner : Manner) (line : List ℕ) → is_silent manner line ≡ false → 1 ≤ length line
-some_line manner [] is = absurd cc
-some_line manner (byte ∷ bytes) is = omega arith
+some_line : (options : RunOptions) (line : List ℕ) → has_no_reply options line ≡ false → 1 ≤ length line
+some_line options [] is = absurd cc
+some_line options (byte ∷ bytes) is = omega arith
 
-pub kept_silent : (manner : Manner) (past : Past) (line : List ℕ) → is_silent manner line ≡ true → HearsKept manner past (Some line) Nothing past
-kept_silent manner past line is = kept_none manner past (Some line) (heard_none manner line is)
+pub kept_silent : (options : RunOptions) (past : Past) (line : List ℕ) → has_no_reply options line ≡ true → HearsKept options past (Some line) Nothing past
+kept_silent options past line is = kept_none options past (Some line) (heard_none options line is)
 
-pub kept_heard : (manner : Manner) (before after : Past) (line : List ℕ) (said : Said) → is_silent manner line ≡ false → asked_by manner (Some line) ≡ None → Hears before line said after
-    → HearsKept manner before (Some line) said after
-kept_heard manner before after line said is none hears = kept_run manner before after line said (some_line manner line is) (heard_all manner line is) none hears
+pub kept_heard : (options : RunOptions) (before after : Past) (line : List ℕ) (said : Said) → has_no_reply options line ≡ false → asked_by options (Some line) ≡ None → Hears before line said after
+    → HearsKept options before (Some line) said after
+kept_heard options before after line said is none hears = kept_run options before after line said (some_line options line is) (heard_all options line is) none hears
 
 -- a line that asks for an explanation
 explained_text : (past : Past) (kind : WordKind) (word : List ℕ) (said : Said) (text : List ℕ) → Explains (world_of past) said kind word → IsSaidText past said text → IsExplained (world_of past) kind word text
@@ -218,31 +218,31 @@ explained_has past kind word (Bad f) ex = (bad_text f, (answer.Bad f, refl, refl
 explained_has past kind word (Stopped s) ex = (stop_text s, (answer.Reply (Err s), refl, refl))
 explained_has past kind word said ex = absurd ex
 
-explained_front : (w : World) (kind : WordKind) (word : List ℕ) (said : Said) (manner : Manner) (number byte : ℕ) (bytes : List ℕ) → Explains w said kind word
-    → said_front manner number said ≡ front_of manner number (Some (byte ∷ bytes))
-explained_front w kind word Nothing manner number byte bytes ex = absurd ex
-explained_front w kind word said manner number byte bytes ex = refl
+explained_front : (w : World) (kind : WordKind) (word : List ℕ) (said : Said) (options : RunOptions) (number byte : ℕ) (bytes : List ℕ) → Explains w said kind word
+    → said_front options number said ≡ front_of options number (Some (byte ∷ bytes))
+explained_front w kind word Nothing options number byte bytes ex = absurd ex
+explained_front w kind word said options number byte bytes ex = refl
 
-kept_explained : (manner : Manner) (past : Past) (line : List ℕ) (kind : WordKind) (word : List ℕ) (said : Said) → 1 ≤ length line → heard manner (Some line) ≡ Some line
-    → asked_by manner (Some line) ≡ Some (kind, word) → Explains (world_of past) said kind word → HearsKept manner past (Some line) said past
-kept_explained manner past [] kind word said some same asks ex = absurd (omega (arith, some))
-kept_explained manner past (byte ∷ bytes) kind word said some same asks ex = record {
+kept_explained : (options : RunOptions) (past : Past) (line : List ℕ) (kind : WordKind) (word : List ℕ) (said : Said) → 1 ≤ length line → heard options (Some line) ≡ Some line
+    → asked_by options (Some line) ≡ Some (kind, word) → Explains (world_of past) said kind word → HearsKept options past (Some line) said past
+kept_explained options past [] kind word said some same asks ex = absurd (omega (arith, some))
+kept_explained options past (byte ∷ bytes) kind word said some same asks ex = record {
   has_text = explained_has past kind word said ex;
-  block = λ text is. as_heard manner past past (Some (byte ∷ bytes)) (Some (byte ∷ bytes)) (Some (kind, word)) text same asks (explained_text past kind word said text ex is, refl);
-  front = λ number. explained_front (world_of past) kind word said manner number byte bytes ex ∙ ap (front_of manner number) (sym same);
+  block = λ text is. as_heard options past past (Some (byte ∷ bytes)) (Some (byte ∷ bytes)) (Some (kind, word)) text same asks (explained_text past kind word said text ex is, refl);
+  front = λ number. explained_front (world_of past) kind word said options number byte bytes ex ∙ ap (front_of options number) (sym same);
 }
 
-pub kept_asked : (manner : Manner) (past : Past) (line : List ℕ) (read : Result Question LineFault) (said : Said) → is_silent manner line ≡ false → AsksBy manner line read
-    → ((kind : WordKind) (word : List ℕ) → ReadsQuestion read kind word → Explains (world_of past) said kind word) → HearsKept manner past (Some line) said past
-kept_asked manner past line read said is asks explains =
-    kept_explained manner past line asks.kind asks.word said (some_line manner line is) (heard_all manner line is) asks.asks (explains asks.kind asks.word asks.reads)
+pub kept_asked : (options : RunOptions) (past : Past) (line : List ℕ) (read : Result Question LineFault) (said : Said) → has_no_reply options line ≡ false → AsksBy options line read
+    → ((kind : WordKind) (word : List ℕ) → ReadsQuestion read kind word → Explains (world_of past) said kind word) → HearsKept options past (Some line) said past
+kept_asked options past line read said is asks explains =
+    kept_explained options past line asks.kind asks.word said (some_line options line is) (heard_all options line is) asks.asks (explains asks.kind asks.word asks.reads)
 
 -- and one that is too long
-pub kept_long : (manner : Manner) (past : Past) → HearsKept manner past None (Bad fault.LineTooLong) past
-kept_long manner past = record {
+pub kept_long : (options : RunOptions) (past : Past) → HearsKept options past None (Bad fault.LineTooLong) past
+kept_long options past = record {
   has_text = (bad_text fault.LineTooLong, (answer.Bad fault.LineTooLong, refl, refl));
-  block = λ text is. as_heard manner past past None None None text (long_heard manner) (never_asks manner.explain None refl) (said_text past (Bad fault.LineTooLong) text (answer.Bad fault.LineTooLong) refl is, refl);
-  front = λ number. ap (front_of manner number) (sym (long_heard manner));
+  block = λ text is. as_heard options past past None None None text (long_heard options) (never_asks options.explain None refl) (said_text past (Bad fault.LineTooLong) text (answer.Bad fault.LineTooLong) refl is, refl);
+  front = λ number. ap (front_of options number) (sym (long_heard options));
 }
 
 -- a reply is told by `ok` unless it is a refusal
@@ -299,32 +299,32 @@ pub well_last : (after : Past) (entry : Entry) (text : List ℕ) → Some entry 
 well_last after entry text last is = well_reply entry.reply text (said_text after Replied text (answer.Reply (Ok entry.reply)) (entry, last, refl) is)
 
 -- the next line was heard
-pub heard_next : (before after : Course) (line : Option (List ℕ)) (said : Said) (past : Past) (fine : Bool) → HearsKept before.manner before.past line said past
+pub heard_next : (before after : RunState) (line : Option (List ℕ)) (said : Said) (past : Past) (fine : Bool) → HearsKept before.options before.past line said past
     → ((text : List ℕ) → IsSaidText past said text → fine ≡ is_well text)
-    → after ≡ record before { past = past; number = before.number + 1; ended = before.manner.strict && not fine } → HearsNext before line said after
+    → after ≡ record before { past = past; number = before.number + 1; ended = before.options.strict && not fine } → HearsNext before line said after
 heard_next before after line said past fine kept well is = rw is (record {
   kept = kept;
-  manner = refl;
+  options = refl;
   number = refl;
-  after_is = λ text told. ap (λ (b : Bool). record before { past = past; number = before.number + 1; ended = before.manner.strict && not b }) (well text told);
+  after_is = λ text told. ap (λ (b : Bool). record before { past = past; number = before.number + 1; ended = before.options.strict && not b }) (well text told);
 })
 
 -- what is told beside the answer, whatever its text is
-abbrev Notes : Course → Option (List ℕ) → Said → Option (List ℕ) → Option (List ℕ) → Type 0
-Notes after line said old new = (text : List ℕ) → IsSaidText after.past said text → IsNoted after.manner after.number line text old new
+abbrev Notes : RunState → Option (List ℕ) → Said → Option (List ℕ) → Option (List ℕ) → Type 0
+Notes after line said old new = (text : List ℕ) → IsSaidText after.past said text → IsNoted after.options after.number line text old new
 
 -- and what is told for it is known
-told_next : (before after : Course) (line : Option (List ℕ)) (said : Said) (text : List ℕ) (old new : Option (List ℕ)) → before.ended ≡ false → HearsNext before line said after
-    → Notes after line said old new → IsSaidText after.past said text → IsTold (noting before old) line (said_front after.manner after.number said ++ text) (noting after new)
+told_next : (before after : RunState) (line : Option (List ℕ)) (said : Said) (text : List ℕ) (old new : Option (List ℕ)) → before.ended ≡ false → HearsNext before line said after
+    → Notes after line said old new → IsSaidText after.past said text → IsTold (noting before old) line (said_front after.options after.number said ++ text) (noting after new)
 told_next before after line said text old new on hears noted is = record {
   block = text;
   past = after.past;
   notes = new;
   goes_on = on;
   is = hears.kept.block text is;
-  told_is = ap (λ (w : List ℕ). w ++ text) (ap (λ (m : Manner). said_front m after.number said) hears.manner ∙ ap (λ (n : ℕ). said_front before.manner n said) hears.number ∙ hears.kept.front (before.number + 1));
-  noted = subst (λ (n : ℕ). IsNoted before.manner n line text old new) hears.number (subst (λ (m : Manner). IsNoted m after.number line text old new) hears.manner (noted text is));
-  after_is = ap (λ (course : Course). noting course new) (hears.after_is text is);
+  told_is = ap (λ (w : List ℕ). w ++ text) (ap (λ (m : RunOptions). said_front m after.number said) hears.options ∙ ap (λ (n : ℕ). said_front before.options n said) hears.number ∙ hears.kept.front (before.number + 1));
+  noted = subst (λ (n : ℕ). IsNoted before.options n line text old new) hears.number (subst (λ (m : RunOptions). IsNoted m after.number line text old new) hears.options (noted text is));
+  after_is = ap (λ (run_state : RunState). noting run_state new) (hears.after_is text is);
 }
 
 -- all of x was put, and then y or a front of it
@@ -343,40 +343,40 @@ puts_some a b x y (Err e) is p = record { same = p.same; front = front_more a b 
         record { front = q.front.front; back = q.front.back ++ y; parts = parts; written = q.front.written }
 
 -- the number in front and the text were put
-put_here : {A E : Type 0} (before after : Course) (line : Option (List ℕ)) (said : Said) (old new : Option (List ℕ)) (a b c : Outlet) (r : Result A E) → before.ended ≡ false → HearsNext before line said after
-    → Notes after line said old new → Takes a b (said_front after.manner after.number said) → (text : List ℕ) × IsSaidText after.past said text × Puts b c text r
+put_here : {A E : Type 0} (before after : RunState) (line : Option (List ℕ)) (said : Said) (old new : Option (List ℕ)) (a b c : Outlet) (r : Result A E) → before.ended ≡ false → HearsNext before line said after
+    → Notes after line said old new → Takes a b (said_front after.options after.number said) → (text : List ℕ) × IsSaidText after.past said text × Puts b c text r
     → PutsBlock (noting before old) line (noting after new) a c r
 put_here before after line said old new a b c r on hears noted front told = record {
-  block = said_front after.manner after.number said ++ told.0;
+  block = said_front after.options after.number said ++ told.0;
   is = told_next before after line said told.0 old new on hears noted told.1;
-  put = puts_both a b c (said_front after.manner after.number said) told.0 r front told.2;
+  put = puts_both a b c (said_front after.options after.number said) told.0 r front told.2;
 }
 
-pub block_put : {A E : Type 0} (before after view : Course) (line : Option (List ℕ)) (said : Said) (old new : Option (List ℕ)) (a b c : Outlet) (r : Result A E) → view ≡ after → before.ended ≡ false → HearsNext before line said after
-    → Notes after line said old new → Takes a b (said_front view.manner view.number said) → (text : List ℕ) × IsSaidText view.past said text × Puts b c text r
+pub block_put : {A E : Type 0} (before after view : RunState) (line : Option (List ℕ)) (said : Said) (old new : Option (List ℕ)) (a b c : Outlet) (r : Result A E) → view ≡ after → before.ended ≡ false → HearsNext before line said after
+    → Notes after line said old new → Takes a b (said_front view.options view.number said) → (text : List ℕ) × IsSaidText view.past said text × Puts b c text r
     → PutsBlock (noting before old) line (noting after new) a c r
 block_put {A} {E} before after view line said old new a b c r is on hears noted front told =
-    subst (λ (course : Course). PutsBlock (noting before old) line (noting course new) a c r) is
-    (put_here before view line said old new a b c r on (subst (λ (course : Course). HearsNext before line said course) (sym is) hears) (subst (λ (course : Course). Notes course line said old new) (sym is) noted) front told)
+    subst (λ (run_state : RunState). PutsBlock (noting before old) line (noting run_state new) a c r) is
+    (put_here before view line said old new a b c r on (subst (λ (run_state : RunState). HearsNext before line said run_state) (sym is) hears) (subst (λ (run_state : RunState). Notes run_state line said old new) (sym is) noted) front told)
 
 -- the writer failed in that number
-cut_here : {A E : Type 0} (before after : Course) (line : Option (List ℕ)) (said : Said) (old new : Option (List ℕ)) (a b : Outlet) (r : Result A E) → before.ended ≡ false → HearsNext before line said after
-    → Notes after line said old new → HasText after.past said → IsErr r → TakesFront a b (said_front after.manner after.number said) → PutsBlock (noting before old) line (noting after new) a b r
+cut_here : {A E : Type 0} (before after : RunState) (line : Option (List ℕ)) (said : Said) (old new : Option (List ℕ)) (a b : Outlet) (r : Result A E) → before.ended ≡ false → HearsNext before line said after
+    → Notes after line said old new → HasText after.past said → IsErr r → TakesFront a b (said_front after.options after.number said) → PutsBlock (noting before old) line (noting after new) a b r
 cut_here before after line said old new a b r on hears noted told is front = record {
-  block = said_front after.manner after.number said ++ told.0;
+  block = said_front after.options after.number said ++ told.0;
   is = told_next before after line said told.0 old new on hears noted told.1;
-  put = puts_some a b (said_front after.manner after.number said) told.0 r is front;
+  put = puts_some a b (said_front after.options after.number said) told.0 r is front;
 }
 
-pub block_cut : {A E : Type 0} (before after view : Course) (line : Option (List ℕ)) (said : Said) (old new : Option (List ℕ)) (a b : Outlet) (r : Result A E) → view ≡ after → before.ended ≡ false → HearsNext before line said after
-    → Notes after line said old new → IsErr r → TakesFront a b (said_front view.manner view.number said) → PutsBlock (noting before old) line (noting after new) a b r
+pub block_cut : {A E : Type 0} (before after view : RunState) (line : Option (List ℕ)) (said : Said) (old new : Option (List ℕ)) (a b : Outlet) (r : Result A E) → view ≡ after → before.ended ≡ false → HearsNext before line said after
+    → Notes after line said old new → IsErr r → TakesFront a b (said_front view.options view.number said) → PutsBlock (noting before old) line (noting after new) a b r
 block_cut {A} {E} before after view line said old new a b r same on hears noted is front =
     cut_here before after line said old new a b r on hears noted hears.kept.has_text is
-    (subst (λ (course : Course). TakesFront a b (said_front course.manner course.number said)) same front)
+    (subst (λ (run_state : RunState). TakesFront a b (said_front run_state.options run_state.number said)) same front)
 
 -- what is held fails to be handed over, with what is told for a last line behind it
-pub finishes_front : {E : Type 0} (course : Course) (buffer : Option (List ℕ)) (a b c : Outlet) (r : Result RunEnd E) → IsErr r
-    → Takes a b (cut_told course buffer) → (c.writer ≡ b.writer) × AppendsFront b.known c.known b.held → WritesLast course buffer a c r
-finishes_front course buffer a b c (Ok x) is p q = absurd cc
-finishes_front course buffer a b c (Err x) is p q =
+pub finishes_front : {E : Type 0} (run_state : RunState) (buffer : Option (List ℕ)) (a b c : Outlet) (r : Result RunEnd E) → IsErr r
+    → Takes a b (cut_told run_state buffer) → (c.writer ≡ b.writer) × AppendsFront b.known c.known b.held → WritesLast run_state buffer a c r
+finishes_front run_state buffer a b c (Ok x) is p q = absurd cc
+finishes_front run_state buffer a b c (Err x) is p q =
     (q.0 ∙ p.same, rw p.parts (front_behind a.known b.known c.known p.sent b.held p.written q.1))

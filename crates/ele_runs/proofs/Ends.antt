@@ -1,7 +1,7 @@
 -- How a run ends.
 use Rattle.ele_runs.proofs.Basics.{◌≡◌, ◌≢◌, true, length-append, ℕ, ◌+◌, ◌≤◌, List, [], ◌∷◌, ◌++◌, length, take, get_or, min, ◌-◌, Option, Some, None, Result, Ok, Err, refl, sym, ap, subst, ◌∙◌, arith, append_assoc, inl, inr, append-nil, length-take, nat_tests}
 use Rattle.ele_runs.proofs.Basics.{flat_map-append, cases_order, IfOk, AllByRecursion, Consumes, Keeps, Appends, IsAtEnd, Consumes-trans, Consumes-kept, Appends-trans}
-use Rattle.ele_runs.proofs.Words.{AppendsFront, Outlet, cut_note, Takes, TakesFront, longest_line, cut_count, cut_told, end_by, most_lines, line_unless_long, IsUnbroken, whole_line, whole_lines, line_count, AreTold, AnswersLast, AnswersSome, Course}
+use Rattle.ele_runs.proofs.Words.{AppendsFront, Outlet, cut_note, Takes, TakesFront, longest_line, cut_count, cut_told, end_by, most_lines, line_unless_long, IsUnbroken, whole_line, whole_lines, line_count, AreTold, AnswersLast, AnswersSome, RunState}
 use Rattle.ele_runs.specs.declared.fault.ShellFault.{ShellFault}
 use Rattle.ele_runs.specs.declared.fault.ShellFault.TheVariants.{ReadFault}
 use Rattle.ele_runs.specs.declared.end.EndLine.{EndLine}
@@ -14,7 +14,7 @@ use Rattle.ele_runs.proofs.Courses.{clash, manner_stays, strict_run}
 use Rattle.std.proofs.KnownBytes.{Keeps-refl}
 use Rattle.ele_runs.proofs.Notes.{strict_cut}
 use Rattle.ele_runs.proofs.Joins.{told_append, front_behind, front_then, all_both, takes_over, takes_then}
-use Rattle.ele_runs.specs.declared.manner.Manner.{Manner}
+use Rattle.ele_runs.specs.declared.options.RunOptions.{RunOptions}
 use Rattle.ele_runs.proofs.Ran.{RanSoFar, written_all, few_whole}
 
 -- what was read is all, where nothing is left
@@ -28,7 +28,7 @@ known_more input None given taken = ([], grind arith)
 known_more None rest given taken = ([], tt)
 
 -- the writer failed in the blocks of these lines, whatever comes behind them
-fails_in : (start state : Course) (given part text : List ℕ) (lines : List (List ℕ)) (input rest old new : Option (List ℕ))
+fails_in : (start state : RunState) (given part text : List ℕ) (lines : List (List ℕ)) (input rest old new : Option (List ℕ))
     → given ≡ whole_lines lines ++ part → AllByRecursion IsUnbroken lines → AreTold start lines text state → Consumes input rest given
     → AppendsFront old new text → ToldToAWriteFault start input old new state.notes
 fails_in start state given part text lines input rest old new e whole blocks taken front =
@@ -37,7 +37,7 @@ fails_in start state given part text lines input rest old new e whole blocks tak
       lines = lines;
       rest = part ++ more.0;
       text = text;
-      course = state;
+      run_state = state;
       input_is = subst (λ (xs : List ℕ). Keeps input (Some xs)) (ap (λ (w : List ℕ). w ++ more.0) e ∙ append_assoc (whole_lines lines) part more.0) more.1;
       whole = whole;
       told = blocks;
@@ -63,23 +63,23 @@ one_byte : (piece : List ℕ) (count : ℕ) → 1 ≤ length piece → count ≡
 one_byte piece count some one = grind arith
 
 -- what a last line ends, and by how much it counts
-never_ended : (course : Course) (last : Option (List ℕ)) → course.manner.strict ≡ false → end_by course last ≡ None
-never_ended course None e = rw e refl
-never_ended course (Some []) e = refl
-never_ended course (Some (byte ∷ bytes)) e = rw e refl
+never_ended : (run_state : RunState) (last : Option (List ℕ)) → run_state.options.strict ≡ false → end_by run_state last ≡ None
+never_ended run_state None e = rw e refl
+never_ended run_state (Some []) e = refl
+never_ended run_state (Some (byte ∷ bytes)) e = rw e refl
 
 -- a last line that ends a run
 abbrev cut_line : Option (List ℕ) → EndLine
 cut_line line = record { line = line; is_cut = true }
 
-ended_so : (test : Bool) (course : Course) (byte : ℕ) (bytes : List ℕ) → course.manner.strict ≡ true
-    → end_by course (if test then Some (byte ∷ bytes) else None) ≡ Some (cut_line (if test then Some (byte ∷ bytes) else None))
-ended_so true course byte bytes e = rw e refl
-ended_so false course byte bytes e = rw e refl
+ended_so : (test : Bool) (run_state : RunState) (byte : ℕ) (bytes : List ℕ) → run_state.options.strict ≡ true
+    → end_by run_state (if test then Some (byte ∷ bytes) else None) ≡ Some (cut_line (if test then Some (byte ∷ bytes) else None))
+ended_so true run_state byte bytes e = rw e refl
+ended_so false run_state byte bytes e = rw e refl
 
-ended_cut : (course : Course) (byte : ℕ) (bytes : List ℕ) → course.manner.strict ≡ true
-    → end_by course (line_unless_long (byte ∷ bytes)) ≡ Some (cut_line (line_unless_long (byte ∷ bytes)))
-ended_cut course byte bytes e = ended_so (nat_le (length (byte ∷ bytes)) longest_line) course byte bytes e
+ended_cut : (run_state : RunState) (byte : ℕ) (bytes : List ℕ) → run_state.options.strict ≡ true
+    → end_by run_state (line_unless_long (byte ∷ bytes)) ≡ Some (cut_line (line_unless_long (byte ∷ bytes)))
+ended_cut run_state byte bytes e = ended_so (nat_le (length (byte ∷ bytes)) longest_line) run_state byte bytes e
 
 one_so : (test : Bool) (byte : ℕ) (bytes : List ℕ) → cut_count (if test then Some (byte ∷ bytes) else None) ≡ 1
 one_so true byte bytes = refl
@@ -96,7 +96,7 @@ filled (x ∷ xs) byte bytes e h = absurd cc
 handed_front : (a b c : Outlet) (text : List ℕ) → Takes a b text → (c.writer ≡ b.writer) × AppendsFront b.known c.known b.held → TakesFront a c text
 handed_front a b c text p q = record { same = q.0 ∙ p.same; front = rw p.parts (front_behind a.known b.known c.known p.sent b.held p.written q.1) }
 
-module _ {start state : Course} {room : ℕ} {buffer input mid : Option (List ℕ)} {old so_far : Outlet} (ran : RanSoFar start state room buffer input mid old so_far) where
+module _ {start state : RunState} {room : ℕ} {buffer input mid : Option (List ℕ)} {old so_far : Outlet} (ran : RanSoFar start state room buffer input mid old so_far) where
   -- the writer failed as it was handed what is held
   pub ends_over : (new : Outlet) → AppendsFront so_far.known new.known so_far.held → ToldToAWriteFault start input old.known new.known state.notes
   ends_over new front =
@@ -112,7 +112,7 @@ module _ {start state : Course} {room : ℕ} {buffer input mid : Option (List �
     lines = ran.lines;
     part = ran.part;
     text = ran.text;
-    course = state;
+    run_state = state;
     taken = Consumes-kept input mid rest ran.given ran.taken keeps;
     are = ran.are;
     few_lines = few_whole ran.lines ran.part ran.few;
@@ -133,7 +133,7 @@ module _ {start state : Course} {room : ℕ} {buffer input mid : Option (List �
     lines = ran.lines;
     part = ran.part;
     text = ran.text;
-    course = state;
+    run_state = state;
     taken = Consumes-trans input mid rest ran.given (get_or piece 0 0 ∷ []) ran.taken (subst (Consumes mid rest) (one_byte piece count some one) took);
     are = ran.are;
     few_lines = few_whole ran.lines ran.part ran.few;
@@ -174,7 +174,7 @@ module _ {start state : Course} {room : ℕ} {buffer input mid : Option (List �
 
   -- the input ends, and no last line ends the run
   ends_all : (rest notes : Option (List ℕ)) (new : Outlet) (count : ℕ) → so_far.held ≡ [] → Consumes mid rest [] → IsAtEnd rest
-      → count ≡ state.number + cut_count buffer → (start.manner.strict ≡ true → ran.part ≡ [])
+      → count ≡ state.number + cut_count buffer → (start.options.strict ≡ true → ran.part ≡ [])
       → Appends so_far.known new.known (so_far.held ++ cut_told state buffer) → AppendsFront state.notes notes (cut_note state buffer) → ToldToTheEnd start count input rest old.known new.known notes
   ends_all rest notes new count none took at_end is uncut done noted =
       let counted = counted_cut count is in
@@ -183,7 +183,7 @@ module _ {start state : Course} {room : ℕ} {buffer input mid : Option (List �
         lines = ran.lines;
         last = ran.part;
         text = ran.text;
-        course = state;
+        run_state = state;
         taken = all_taken rest took;
         at_end = at_end;
         are = ran.are;
@@ -199,7 +199,7 @@ module _ {start state : Course} {room : ℕ} {buffer input mid : Option (List �
 
   -- it does
   ends_cut : (rest notes : Option (List ℕ)) (new : Outlet) (count : ℕ) (kept : Option (List ℕ)) → so_far.held ≡ [] → Consumes mid rest [] → IsAtEnd rest
-      → count ≡ state.number + 1 → kept ≡ buffer → start.manner.strict ≡ true → ran.part ≢ []
+      → count ≡ state.number + 1 → kept ≡ buffer → start.options.strict ≡ true → ran.part ≢ []
       → Appends so_far.known new.known (so_far.held ++ cut_told state buffer) → Keeps state.notes notes → ToldToAnEnd start count (cut_line kept) input rest old.known new.known notes
   ends_cut rest notes new count kept none took at_end is same strict some done noted =
       record {
@@ -213,23 +213,23 @@ module _ {start state : Course} {room : ℕ} {buffer input mid : Option (List �
         unbroken = ran.are.cut;
         count = omega (arith, is, ran.count);
         keeps = same ∙ ran.keeps;
-        by = record { text = ran.text; course = state; parts = ran.are.parts; at_end = at_end; some = some; are = ran.told; goes_on = ran.goes_on; told_is = refl; noted = noted };
+        by = record { text = ran.text; run_state = state; parts = ran.are.parts; at_end = at_end; some = some; are = ran.told; goes_on = ran.goes_on; told_is = refl; noted = noted };
         written = all_written new none done;
       }
 
   -- whether it does is told
   module _ (rest notes : Option (List ℕ)) (new : Outlet) (count : ℕ) (kept : Option EndLine) (none : so_far.held ≡ []) (took : Consumes mid rest []) (at_end : IsAtEnd rest)
       (is : count ≡ state.number + cut_count buffer) (by : kept ≡ end_by state buffer) (done : Appends so_far.known new.known (so_far.held ++ cut_told state buffer)) (noted : AppendsFront state.notes notes (cut_note state buffer)) where
-    strict_is : state.manner.strict ≡ start.manner.strict
-    strict_is = ap (λ (m : Manner). m.strict) (manner_stays start state ran.lines ran.text ran.told)
+    strict_is : state.options.strict ≡ start.options.strict
+    strict_is = ap (λ (m : RunOptions). m.strict) (manner_stays start state ran.lines ran.text ran.told)
 
     buffer_is : (part : List ℕ) → ran.part ≡ part → buffer ≡ line_unless_long part
     buffer_is part e = ran.keeps ∙ ap line_unless_long e
 
-    by_part : (part : List ℕ) → ran.part ≡ part → (strict : Bool) → start.manner.strict ≡ strict → HasTold start input rest old.known new.known notes count kept
+    by_part : (part : List ℕ) → ran.part ≡ part → (strict : Bool) → start.options.strict ≡ strict → HasTold start input rest old.known new.known notes count kept
     by_part part e false s =
         subst (HasTold start input rest old.known new.known notes count) (sym (by ∙ never_ended state buffer (strict_is ∙ s)))
-        (ends_all rest notes new count none took at_end is (λ t. clash start.manner.strict t s) done noted)
+        (ends_all rest notes new count none took at_end is (λ t. clash start.options.strict t s) done noted)
     by_part [] e true s =
         subst (HasTold start input rest old.known new.known notes count) (sym (by ∙ ap (end_by state) (buffer_is [] e))) (ends_all rest notes new count none took at_end is (λ t. e) done noted)
     by_part (byte ∷ bytes) e true s =
@@ -240,7 +240,7 @@ module _ {start state : Course} {room : ℕ} {buffer input mid : Option (List �
         (ends_cut rest notes new count buffer none took at_end (is ∙ ap (λ (b : Option (List ℕ)). state.number + cut_count b) buffered ∙ ap (λ (m : ℕ). state.number + m) (counts_one byte bytes)) refl s (λ h. filled ran.part byte bytes e h) done (strict_cut state buffer state.notes notes (strict_is ∙ s) noted))
 
     pub ends_by : HasTold start input rest old.known new.known notes count kept
-    ends_by = by_part ran.part refl start.manner.strict refl
+    ends_by = by_part ran.part refl start.options.strict refl
 
   -- the writer failed in the block of a last line without its line feed
   pub ends_in_cut : (rest notes : Option (List ℕ)) (new : Outlet) → so_far.held ≡ [] → Consumes mid rest [] → IsAtEnd rest
@@ -249,7 +249,7 @@ module _ {start state : Course} {room : ℕ} {buffer input mid : Option (List �
     lines = ran.lines;
     rest = ran.part;
     text = ran.text;
-    course = state;
+    run_state = state;
     input_is = subst (λ (xs : List ℕ). Keeps input (Some xs)) ran.are.parts
         (whole_input input rest ran.given (subst (Consumes input rest) (append-nil ran.given) (Consumes-trans input mid rest ran.given [] ran.taken took)) at_end);
     whole = ran.are.whole;
@@ -263,7 +263,7 @@ module _ {start state : Course} {room : ℕ} {buffer input mid : Option (List �
   }
 
   -- the writer failed in the blocks of the lines of a piece
-  pub ends_in_piece : (after : Course) (rest : Option (List ℕ)) (new : Outlet) (piece : List ℕ) → Consumes mid rest piece
+  pub ends_in_piece : (after : RunState) (rest : Option (List ℕ)) (new : Outlet) (piece : List ℕ) → Consumes mid rest piece
       → AnswersSome state after ran.part piece so_far new → ToldToAWriteFault start input old.known new.known after.notes
   ends_in_piece after rest new piece took did =
       fails_in start after (ran.given ++ piece) did.rest (ran.text ++ did.text) (ran.lines ++ did.lines) input rest old.known new.known
@@ -275,7 +275,7 @@ module _ {start state : Course} {room : ℕ} {buffer input mid : Option (List �
       (subst (λ (w : List ℕ). AppendsFront old.known new.known (w ++ (ran.text ++ did.text))) ran.none (front_then old so_far new ran.text did.text ran.put did.put))
 
   -- a line of a piece ended the run
-  pub ends_last : (after : Course) (rest : Option (List ℕ)) (new over : Outlet) (piece : List ℕ) (kept : Option (List ℕ)) → Consumes mid rest piece
+  pub ends_last : (after : RunState) (rest : Option (List ℕ)) (new over : Outlet) (piece : List ℕ) (kept : Option (List ℕ)) → Consumes mid rest piece
       → AnswersLast state after ran.part piece kept so_far new → (over.writer ≡ new.writer) × (over.held ≡ []) × Appends new.known over.known new.held
       → ToldToAnEnd start after.number (record { line = kept; is_cut = false }) input rest old.known over.known after.notes
   ends_last after rest new over piece kept took did handed =
@@ -287,7 +287,7 @@ module _ {start state : Course} {room : ℕ} {buffer input mid : Option (List �
         lines = ran.lines ++ did.lines;
         line = did.line;
         text = ran.text ++ did.text;
-        strict = ap (λ (m : Manner). m.strict) (sym (manner_stays start state ran.lines ran.text ran.told)) ∙ strict_run state after (did.lines ++ did.line ∷ []) did.text did.told ran.goes_on did.ended;
+        strict = ap (λ (m : RunOptions). m.strict) (sym (manner_stays start state ran.lines ran.text ran.told)) ∙ strict_run state after (did.lines ++ did.line ∷ []) did.text did.told ran.goes_on did.ended;
         taken = Consumes-trans input mid rest ran.given piece ran.taken took;
         whole = all_both IsUnbroken ran.lines did.lines ran.are.whole did.whole;
         unbroken = did.unbroken;
@@ -295,7 +295,7 @@ module _ {start state : Course} {room : ℕ} {buffer input mid : Option (List �
         keeps = did.keeps;
         by = record {
           behind = did.rest;
-          course = after;
+          run_state = after;
           parts = parts ∙ ap (λ (w : List ℕ). w ++ did.rest) (sym (flat_map-append whole_line ran.lines (did.lines ++ did.line ∷ [])) ∙ ap whole_lines lines);
           are = subst (λ (xs : List (List ℕ)). AreTold start xs (ran.text ++ did.text) after) lines
               (told_append start state after ran.lines (did.lines ++ did.line ∷ []) ran.text did.text ran.told did.told);
@@ -306,7 +306,7 @@ module _ {start state : Course} {room : ℕ} {buffer input mid : Option (List �
       }
 
   -- the writer failed as it was handed that
-  pub ends_in_last : (after : Course) (rest : Option (List ℕ)) (new over : Outlet) (piece : List ℕ) (kept : Option (List ℕ)) → Consumes mid rest piece
+  pub ends_in_last : (after : RunState) (rest : Option (List ℕ)) (new over : Outlet) (piece : List ℕ) (kept : Option (List ℕ)) → Consumes mid rest piece
       → AnswersLast state after ran.part piece kept so_far new → (over.writer ≡ new.writer) × AppendsFront new.known over.known new.held → ToldToAWriteFault start input old.known over.known after.notes
   ends_in_last after rest new over piece kept took did front =
       ends_in_piece after rest over piece took (record {
@@ -320,12 +320,12 @@ module _ {start state : Course} {room : ℕ} {buffer input mid : Option (List �
       })
 
 -- what a run has done at each end
-pub has_told : (start : Course) (input rest old new notes : Option (List ℕ)) (r : Result RunEnd ShellFault) → Tells start input rest old new notes r
+pub has_told : (start : RunState) (input rest old new notes : Option (List ℕ)) (r : Result RunEnd ShellFault) → Tells start input rest old new notes r
     → IfOk r (λ ran. HasTold start input rest old new notes ran.lines ran.ended_by)
 has_told start input rest old new notes (Ok ran) h = h
 has_told start input rest old new notes (Err fault) h = tt
 
 -- and what the writer holds is what the printer's writer holds
-pub told_at : (start : Course) (input rest : Option (List ℕ)) (a b : Outlet) (old new notes : Option (List ℕ)) (r : Result RunEnd ShellFault) → RunsAt start input rest a b notes r
+pub told_at : (start : RunState) (input rest : Option (List ℕ)) (a b : Outlet) (old new notes : Option (List ℕ)) (r : Result RunEnd ShellFault) → RunsAt start input rest a b notes r
     → a.known ≡ old → b.known ≡ new → Tells start input rest old new notes r
 told_at start input rest a b old new notes r h e f = rw (← e, ← f) h.1

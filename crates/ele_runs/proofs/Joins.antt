@@ -1,6 +1,6 @@
 -- Lines and their blocks, and then more of them.
 use Rattle.ele_runs.proofs.Basics.{Option, Appends, Appends-nil, Appends-trans, append-nil, ◌≡◌, ℕ, List, [], ◌∷◌, ◌++◌, refl, sym, ap, ◌∙◌, append_assoc, flat_map-append, AllByRecursion}
-use Rattle.ele_runs.proofs.Words.{Outlet, Takes, TakesFront, AppendsFront, IsUnbroken, AreLines, whole_line, whole_lines, AreBlocks, AreTold, Course, Past}
+use Rattle.ele_runs.proofs.Words.{Outlet, Takes, TakesFront, AppendsFront, IsUnbroken, AreLines, whole_line, whole_lines, AreBlocks, AreTold, RunState, Past}
 
 -- what was put at first, and then more
 pub takes_nil : (a : Outlet) → Takes a a []
@@ -49,7 +49,7 @@ blocks_append s t u (line ∷ a) b text more (own, rest, mid, is, after, e) g =
     (own, rest ++ more, mid, is, blocks_append mid t u a b rest more after g, ap (λ (x : List ℕ). x ++ more) e ∙ append_assoc own rest more)
 
 -- and what is told for lines, and then for more
-pub told_append : (s t u : Course) (a b : List (List ℕ)) (text more : List ℕ) → AreTold s a text t → AreTold t b more u → AreTold s (a ++ b) (text ++ more) u
+pub told_append : (s t u : RunState) (a b : List (List ℕ)) (text more : List ℕ) → AreTold s a text t → AreTold t b more u → AreTold s (a ++ b) (text ++ more) u
 told_append s t u [] b text more h g = rw (h.0, ← h.1) g
 told_append s t u (line ∷ a) b text more (own, rest, mid, is, after, e) g =
     (own, rest ++ more, mid, is, told_append mid t u a b rest more after g, ap (λ (x : List ℕ). x ++ more) e ∙ append_assoc own rest more)

@@ -2,14 +2,14 @@
 use Rattle.ele_runs.proofs.Basics.{◌≡◌, ℕ, List, [], ◌∷◌, ◌++◌, Option, Some, None, Result, Ok, Err, true, false, refl, sym, subst, ◌∙◌, Keeps, Appends, Appends-nil, append-nil}
 use Rattle.std.specs.Prelude.{Bool, IfSome, OnOk, OnErr, not, ◌&&◌, ◌+◌, if◌then◌else◌}
 use Rattle.std.proofs.KnownBytes.{Appends-kept, Keeps-refl}
-use Rattle.ele_runs.proofs.Words.{AppendsFront, Course, IsNoted, Past, cut_note, tells_reasons}
+use Rattle.ele_runs.proofs.Words.{AppendsFront, RunState, IsNoted, Past, cut_note, tells_reasons}
 use Rattle.ele_printer.specs.declared.fault.LineFault.{LineFault}
 use Rattle.ele_runs.specs.Answer.{Answer}
 use Rattle.ele_runs.specs.Block.{IsText}
 use Rattle.ele_runs.specs.Note as note
 use Rattle.ele_runs.specs.Said.{IsSaidText}
 use Rattle.ele_runs.specs.WhyBad.{IsToldReason, cut_reason, why_line}
-use Rattle.ele_runs.specs.declared.manner.Manner.{Manner}
+use Rattle.ele_runs.specs.declared.options.RunOptions.{RunOptions}
 use Rattle.ele_runs.specs.declared.said.Said.TheVariants.{Bad}
 use Rattle.ele_script.specs.declared.reasons.Reason.{Reason}
 
@@ -37,14 +37,14 @@ front_flushed old mid new text (Err e) all front same =
     record { front = front.front; back = front.back; parts = front.parts; written = Appends-kept old mid new front.front front.written same }
 
 -- the reason of a bad line was told
-pub noted_bad : (manner : Manner) (past : Past) (number : ℕ) (line : Option (List ℕ)) (fault : LineFault) (why : Option Reason) (old new : Option (List ℕ)) → tells_reasons manner ≡ true
-    → IfSome why (IsToldReason manner line) → AppendsFront old new (why_line number why) → (text : List ℕ) → IsSaidText past (Bad fault) text → IsNoted manner number line text old new
-noted_bad manner past number line fault None old new tells is told text said = note.nothing (front_of_none old new told)
-noted_bad manner past number line fault (Some why) old new tells is told text said = note.reason tells fault (subst (λ (a : Answer). IsText a text) said.1 said.2) why is told
+pub noted_bad : (options : RunOptions) (past : Past) (number : ℕ) (line : Option (List ℕ)) (fault : LineFault) (why : Option Reason) (old new : Option (List ℕ)) → tells_reasons options ≡ true
+    → IfSome why (IsToldReason options line) → AppendsFront old new (why_line number why) → (text : List ℕ) → IsSaidText past (Bad fault) text → IsNoted options number line text old new
+noted_bad options past number line fault None old new tells is told text said = note.nothing (front_of_none old new told)
+noted_bad options past number line fault (Some why) old new tells is told text said = note.reason tells fault (subst (λ (a : Answer). IsText a text) said.1 said.2) why is told
 
 -- or nothing
-pub noted_nothing : (manner : Manner) (number : ℕ) (line : Option (List ℕ)) (old : Option (List ℕ)) (text : List ℕ) → IsNoted manner number line text old old
-noted_nothing manner number line old text = note.nothing (Keeps-refl old)
+pub noted_nothing : (options : RunOptions) (number : ℕ) (line : Option (List ℕ)) (old : Option (List ℕ)) (text : List ℕ) → IsNoted options number line text old old
+noted_nothing options number line old text = note.nothing (Keeps-refl old)
 
 -- in a strict run nothing is told of a last line
 quiet : (numbers strict : Bool) (text : List ℕ) → strict ≡ true → (if numbers && not strict then text else []) ≡ []
@@ -52,6 +52,6 @@ quiet true true text is = refl
 quiet false true text is = refl
 quiet numbers false text is = absurd cc
 
-pub strict_cut : (course : Course) (last old new : Option (List ℕ)) → course.manner.strict ≡ true → AppendsFront old new (cut_note course last) → Keeps old new
-strict_cut course last old new strict told =
-    front_of_none old new (subst (AppendsFront old new) (quiet course.manner.numbers course.manner.strict (why_line (course.number + 1) (cut_reason last)) strict) told)
+pub strict_cut : (run_state : RunState) (last old new : Option (List ℕ)) → run_state.options.strict ≡ true → AppendsFront old new (cut_note run_state last) → Keeps old new
+strict_cut run_state last old new strict told =
+    front_of_none old new (subst (AppendsFront old new) (quiet run_state.options.numbers run_state.options.strict (why_line (run_state.number + 1) (cut_reason last)) strict) told)

@@ -1,7 +1,7 @@
 -- A piece that was answered so far.
 use Rattle.ele_runs.proofs.Basics.{◌≢◌, ◌≡◌, ℕ, ◌+◌, ◌<◌, ◌≤◌, ◌⊎◌, List, [], ◌∷◌, ◌++◌, length, take, drop, get_or, Option, Some, None, Result, Ok, Err, refl, sym, ap, subst, ◌∙◌, arith, append_assoc, length-append, inl, inr, true, false, ◌==◌, zero}
 use Rattle.ele_runs.proofs.Basics.{nat_tests, suc, IsErr, take-append-drop, drop_more, length-drop, eq-eqb, eqb-true, AllByRecursion}
-use Rattle.ele_runs.proofs.Words.{Outlet, Takes, TakesFront, IsTold, line_unless_long, IsUnbroken, whole_line, whole_lines, AreTold, Answers, AnswersAll, AnswersLast, AnswersSome, Course, PutsBlock}
+use Rattle.ele_runs.proofs.Words.{Outlet, Takes, TakesFront, IsTold, line_unless_long, IsUnbroken, whole_line, whole_lines, AreTold, Answers, AnswersAll, AnswersLast, AnswersSome, RunState, PutsBlock}
 use Rattle.std.specs.Prelude.{Bool}
 use Rattle.std.specs.Option.{option_and_then}
 use Rattle.ele_runs.specs.Piece.{AnswersBy}
@@ -11,7 +11,7 @@ use Rattle.ele_runs.proofs.Ran.{told_push, joined_push}
 use Rattle.ele_runs.proofs.Joins.{takes_nil, takes_then, front_then, all_both}
 
 -- these lines of a piece were answered, and so much of it is left; a line that began before is only the first
-pub record HasAnswered (before state : Course) (part piece left : List ℕ) (buffer : Option (List ℕ)) (old new : Outlet) : Type 0 where
+pub record HasAnswered (before state : RunState) (part piece left : List ℕ) (buffer : Option (List ℕ)) (old new : Outlet) : Type 0 where
   pub lines : List (List ℕ)
   pub begun : List ℕ
   pub text : List ℕ
@@ -27,22 +27,22 @@ pub record HasAnswered (before state : Course) (part piece left : List ℕ) (buf
   pub put : Takes old new text
 
 -- each line counts
-pub number_told : {before after : Course} {told : List ℕ} {line : Option (List ℕ)} → IsTold before line told after → after.number ≡ before.number + 1
-number_told is = ap (λ (c : Course). c.number) is.after_is
+pub number_told : {before after : RunState} {told : List ℕ} {line : Option (List ℕ)} → IsTold before line told after → after.number ≡ before.number + 1
+number_told is = ap (λ (c : RunState). c.number) is.after_is
 
 -- whether a line ended the run tells which lines were answered
-pub all_of : {before after : Course} {part piece : List ℕ} {buffer : Option (List ℕ)} {old new : Outlet} (ended : Bool) → ended ≡ false → AnswersBy ended before after part piece buffer old new
+pub all_of : {before after : RunState} {part piece : List ℕ} {buffer : Option (List ℕ)} {old new : Outlet} (ended : Bool) → ended ≡ false → AnswersBy ended before after part piece buffer old new
     → AnswersAll before after part piece buffer old new
 all_of false is answers = answers
 all_of true is answers = absurd cc
 
-pub last_of : {before after : Course} {part piece : List ℕ} {buffer : Option (List ℕ)} {old new : Outlet} (ended : Bool) → ended ≡ true → AnswersBy ended before after part piece buffer old new
+pub last_of : {before after : RunState} {part piece : List ℕ} {buffer : Option (List ℕ)} {old new : Outlet} (ended : Bool) → ended ≡ true → AnswersBy ended before after part piece buffer old new
     → AnswersLast before after part piece buffer old new
 last_of true is answers = answers
 last_of false is answers = absurd cc
 
 -- nothing was answered yet
-pub answered_none : (before : Course) (part piece : List ℕ) (buffer : Option (List ℕ)) (old : Outlet)
+pub answered_none : (before : RunState) (part piece : List ℕ) (buffer : Option (List ℕ)) (old : Outlet)
     → before.ended ≡ false → IsUnbroken part → buffer ≡ line_unless_long part → HasAnswered before before part piece piece buffer old old
 answered_none before part piece buffer old goes_on whole keeps =
     record {
@@ -87,7 +87,7 @@ cut_at left at h =
 line_parts : (begun line behind : List ℕ) → begun ++ (line ++ 10 ∷ behind) ≡ whole_line (begun ++ line) ++ behind
 line_parts begun line behind = sym (append_assoc begun line (10 ∷ behind)) ∙ sym (append_assoc (begun ++ line) (10 ∷ []) behind)
 
-module _ {before between : Course} {part piece left : List ℕ} {buffer : Option (List ℕ)} {old mid : Outlet} (done : HasAnswered before between part piece left buffer old mid) where
+module _ {before between : RunState} {part piece left : List ℕ} {buffer : Option (List ℕ)} {old mid : Outlet} (done : HasAnswered before between part piece left buffer old mid) where
   -- where the next line feed stands
   parts_at : (at : ℕ) → IsFirstByte (is_byte 10) left (Some at) → part ++ piece ≡ whole_lines (done.lines ++ (done.begun ++ take at left) ∷ []) ++ drop (at + 1) left
   parts_at at h =
@@ -106,13 +106,13 @@ module _ {before between : Course} {part piece left : List ℕ} {buffer : Option
   kept_at at line e =
       ap (λ (l : List ℕ). option_and_then (λ (b : List ℕ). line_unless_long (b ++ l)) buffer) e ∙ ap (option_and_then (λ (b : List ℕ). line_unless_long (b ++ take at left))) done.keeps ∙ kept_more done.begun (take at left)
 
-  block_at : {A E : Type 0} (at : ℕ) (line : List ℕ) (after : Course) (new : Outlet) (r : Result A E) → line ≡ take at left
+  block_at : {A E : Type 0} (at : ℕ) (line : List ℕ) (after : RunState) (new : Outlet) (r : Result A E) → line ≡ take at left
       → (wrote : PutsBlock between (option_and_then (λ l. line_unless_long (l ++ line)) buffer) after mid new r) → IsTold between (line_unless_long (done.begun ++ take at left)) wrote.block after
   block_at at line after new r e wrote =
       subst (λ (l : Option (List ℕ)). IsTold between l wrote.block after) (kept_at at line e) wrote.is
 
   -- one line more is answered
-  pub answered_more : {A E : Type 0} {after : Course} {new : Outlet} {buffer' : Option (List ℕ)} (at : ℕ) (line left' : List ℕ) (r : Result A E) → IsFirstByte (is_byte 10) left (Some at)
+  pub answered_more : {A E : Type 0} {after : RunState} {new : Outlet} {buffer' : Option (List ℕ)} (at : ℕ) (line left' : List ℕ) (r : Result A E) → IsFirstByte (is_byte 10) left (Some at)
       → line ≡ take at left → left' ≡ drop (at + 1) left
       → (wrote : PutsBlock between (option_and_then (λ l. line_unless_long (l ++ line)) buffer) after mid new r) → Takes mid new wrote.block → after.ended ≡ false → buffer' ≡ Some []
       → HasAnswered before after part piece left' buffer' old new
@@ -135,7 +135,7 @@ module _ {before between : Course} {part piece left : List ℕ} {buffer : Option
       }
 
   -- one more was answered, and ended the run
-  answered_last : {A E : Type 0} {after : Course} {new : Outlet} {buffer' : Option (List ℕ)} (at : ℕ) (line : List ℕ) (r : Result A E) → IsFirstByte (is_byte 10) left (Some at)
+  answered_last : {A E : Type 0} {after : RunState} {new : Outlet} {buffer' : Option (List ℕ)} (at : ℕ) (line : List ℕ) (r : Result A E) → IsFirstByte (is_byte 10) left (Some at)
       → line ≡ take at left → (wrote : PutsBlock between (option_and_then (λ l. line_unless_long (l ++ line)) buffer) after mid new r) → Takes mid new wrote.block → after.ended ≡ true
       → buffer' ≡ option_and_then (λ l. line_unless_long (l ++ line)) buffer → AnswersLast before after part piece buffer' old new
   answered_last {A} {E} {after} {new} {buffer'} at line r h e wrote put ended kept =
@@ -156,14 +156,14 @@ module _ {before between : Course} {part piece left : List ℕ} {buffer : Option
       }
 
   -- so the lines of the piece are answered
-  pub answers_last : {A E : Type 0} {after : Course} {new : Outlet} {buffer' : Option (List ℕ)} (at : ℕ) (line : List ℕ) (r : Result A E) → IsFirstByte (is_byte 10) left (Some at)
+  pub answers_last : {A E : Type 0} {after : RunState} {new : Outlet} {buffer' : Option (List ℕ)} (at : ℕ) (line : List ℕ) (r : Result A E) → IsFirstByte (is_byte 10) left (Some at)
       → line ≡ take at left → (wrote : PutsBlock between (option_and_then (λ l. line_unless_long (l ++ line)) buffer) after mid new r) → Takes mid new wrote.block → after.ended ≡ true
       → buffer' ≡ option_and_then (λ l. line_unless_long (l ++ line)) buffer → AnswersBy after.ended before after part piece buffer' old new
   answers_last {A} {E} {after} {new} {buffer'} at line r h e wrote put ended kept =
       subst (λ (over : Bool). AnswersBy over before after part piece buffer' old new) (sym ended) (answered_last at line r h e wrote put ended kept)
 
   -- the writer failed in the block of one line more
-  pub answered_some : {A E : Type 0} {after : Course} {new : Outlet} (at : ℕ) (line : List ℕ) (r : Result A E) → IsFirstByte (is_byte 10) left (Some at)
+  pub answered_some : {A E : Type 0} {after : RunState} {new : Outlet} (at : ℕ) (line : List ℕ) (r : Result A E) → IsFirstByte (is_byte 10) left (Some at)
       → line ≡ take at left → (wrote : PutsBlock between (option_and_then (λ l. line_unless_long (l ++ line)) buffer) after mid new r) → TakesFront mid new wrote.block → AnswersSome before after part piece old new
   answered_some {A} {E} {after} {new} at line r h e wrote put =
       let is = block_at at line after new r e wrote in
@@ -206,7 +206,7 @@ module _ {before between : Course} {part piece left : List ℕ} {buffer : Option
   answers_all {buffer'} h pushed = subst (λ (over : Bool). AnswersBy over before between part piece buffer' old mid) (sym done.goes_on) (answered_all h pushed)
 
 -- an error is the writer's
-pub answers_err : {A : Type 0} (before after : Course) (part piece : List ℕ) (buffer : Option (List ℕ)) (old new : Outlet) (r : Result A WriteFault)
+pub answers_err : {A : Type 0} (before after : RunState) (part piece : List ℕ) (buffer : Option (List ℕ)) (old new : Outlet) (r : Result A WriteFault)
     → IsErr r → AnswersSome before after part piece old new → Answers before after part piece buffer old new r
 answers_err before after part piece buffer old new (Ok x) is h = absurd cc
 answers_err before after part piece buffer old new (Err x) is h = h

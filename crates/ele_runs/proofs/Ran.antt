@@ -1,11 +1,11 @@
 -- A run so far, and how it goes on.
 use Rattle.ele_runs.proofs.Basics.{◌≡◌, ℕ, ◌+◌, ◌≤◌, ◌⊎◌, List, [], ◌∷◌, ◌++◌, length, Option, Some, false, refl, sym, ap, subst, ◌∙◌, arith, append_assoc, length-append, append-nil, flat_map-append, flat_map-cons}
 use Rattle.ele_runs.proofs.Basics.{Consumes, Appends, Consumes-nil, Consumes-trans, Appends-nil}
-use Rattle.ele_runs.proofs.Words.{Outlet, Takes, IsTold, most_lines, most_bytes, line_unless_long, AreLines, whole_line, whole_lines, line_count, AreTold, AnswersAll, Course}
+use Rattle.ele_runs.proofs.Words.{Outlet, Takes, IsTold, most_lines, most_bytes, line_unless_long, AreLines, whole_line, whole_lines, line_count, AreTold, AnswersAll, RunState}
 use Rattle.ele_runs.proofs.Joins.{lines_before, told_append, takes_nil, takes_then, takes_over}
 
 -- whole lines were read and a part of one more, and what is told for them put, up to this state; there is room for so many bytes more
-pub record RanSoFar (start state : Course) (room : ℕ) (buffer input rest : Option (List ℕ)) (old new : Outlet) : Type 0 where
+pub record RanSoFar (start state : RunState) (room : ℕ) (buffer input rest : Option (List ℕ)) (old new : Outlet) : Type 0 where
   pub none : old.held ≡ []
   pub given : List ℕ
   pub lines : List (List ℕ)
@@ -23,7 +23,7 @@ pub record RanSoFar (start state : Course) (room : ℕ) (buffer input rest : Opt
   pub put : Takes old new text
 
 -- a run that begins
-pub ran_none : (start : Course) (buffer input : Option (List ℕ)) (old : Outlet) → buffer ≡ Some [] → old.held ≡ []
+pub ran_none : (start : RunState) (buffer input : Option (List ℕ)) (old : Outlet) → buffer ≡ Some [] → old.held ≡ []
     → start.number ≡ 0 → start.ended ≡ false → RanSoFar start start most_bytes buffer input input old old
 ran_none start buffer input old clear none first goes_on =
     record {
@@ -45,10 +45,10 @@ ran_none start buffer input old clear none first goes_on =
     }
 
 -- what is told for some lines, and then for one more
-pub told_push : (start between after : Course) (lines : List (List ℕ)) (line text block : List ℕ)
+pub told_push : (start between after : RunState) (lines : List (List ℕ)) (line text block : List ℕ)
     → AreTold start lines text between → IsTold between (line_unless_long line) block after → AreTold start (lines ++ line ∷ []) (text ++ block) after
 told_push start between after [] line text block are is =
-    let from_start : IsTold start (line_unless_long line) block after = subst (λ (s : Course). IsTold s (line_unless_long line) block after) are.1 is in
+    let from_start : IsTold start (line_unless_long line) block after = subst (λ (s : RunState). IsTold s (line_unless_long line) block after) are.1 is in
     (block, [], after, from_start, (refl, refl), ap (λ (t : List ℕ). t ++ block) are.0 ∙ sym (append-nil block))
 told_push start between after (first ∷ lines) line text block (own, rest, mid, is_first, more, parts) is = (
   own,
@@ -63,7 +63,7 @@ pub joined_push : (lines : List (List ℕ)) (line : List ℕ) → whole_lines (l
 joined_push lines line = flat_map-append whole_line lines (line ∷ []) ∙ ap (λ (xs : List ℕ). whole_lines lines ++ xs) (flat_map-cons whole_line line [] ∙ append-nil (whole_line line))
 
 -- what is held is handed over
-pub ran_over : {start state : Course} {room : ℕ} {buffer input rest : Option (List ℕ)} {old known new : Outlet}
+pub ran_over : {start state : RunState} {room : ℕ} {buffer input rest : Option (List ℕ)} {old known new : Outlet}
     → RanSoFar start state room buffer input rest old known → (new.writer ≡ known.writer) × (new.held ≡ []) × Appends known.known new.known known.held
     → RanSoFar start state room buffer input rest old new
 ran_over {start} {state} {room} {buffer} {input} {rest} {old} {known} {new} ran over =
@@ -91,7 +91,7 @@ ran_over {start} {state} {room} {buffer} {input} {rest} {old} {known} {new} ran 
     }
 
 -- then all that was put is written
-pub written_all : {start state : Course} {room : ℕ} {buffer input rest : Option (List ℕ)} {old new : Outlet}
+pub written_all : {start state : RunState} {room : ℕ} {buffer input rest : Option (List ℕ)} {old new : Outlet}
     → (ran : RanSoFar start state room buffer input rest old new) → new.held ≡ [] → Appends old.known new.known ran.text
 written_all {start} {state} {room} {buffer} {input} {rest} {old} {new} ran none =
     takes_over old new new ran.text ran.none ran.put (rw none (Appends-nil new.known))
@@ -108,7 +108,7 @@ pub few_whole : (lines : List (List ℕ)) (part : List ℕ) → line_count lines
 few_whole lines part few = grind arith
 
 -- a piece more is read and answered
-pub ran_on : {start between after : Course} {room left : ℕ} {buffer buffer' input mid rest : Option (List ℕ)} {old so_far new : Outlet} {piece : List ℕ}
+pub ran_on : {start between after : RunState} {room left : ℕ} {buffer buffer' input mid rest : Option (List ℕ)} {old so_far new : Outlet} {piece : List ℕ}
     → (ran : RanSoFar start between room buffer input mid old so_far) → between.number + length piece ≤ most_lines → 1 ≤ length piece → length piece + left ≡ room
     → Consumes mid rest piece → AnswersAll between after ran.part piece buffer' so_far new
     → RanSoFar start after left buffer' input rest old new

@@ -7,8 +7,8 @@ pub use Rattle.ele_printer.specs.Outlet.{Outlet, Puts, Takes, TakesFront}
 pub use Rattle.ele_printer.specs.Prints.{outlet}
 pub use Rattle.ele_script.specs.Words.{longest_line}
 pub use Rattle.ele_runs.specs.Block.{IsBlock, MayAnswer, as_entry, as_read, as_trim, cut_block, cut_count}
-pub use Rattle.ele_runs.specs.Course.{Course, begun, gone_on, noting}
-pub use Rattle.ele_runs.specs.Manner.{front_of, heard, is_well, plain, tells_reasons}
+pub use Rattle.ele_runs.specs.RunState.{RunState, begun, advance, noting}
+pub use Rattle.ele_runs.specs.RunOptions.{front_of, heard, is_well, plain, tells_reasons}
 pub use Rattle.ele_runs.specs.Note.{IsNoted, cut_note}
 pub use Rattle.ele_runs.specs.Told.{AreTold, IsTold, cut_told}
 pub use Rattle.ele_runs.specs.Bounds.{most_bytes, most_lines}

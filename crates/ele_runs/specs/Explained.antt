@@ -8,7 +8,7 @@ use Rattle.ele_printer.specs.Printed.{bad_text, stop_text}
 use Rattle.ele_printer.specs.Why.{ahead_text, why_text}
 use Rattle.ele_printer.specs.declared.fault.LineFault.{LineFault}
 use Rattle.ele_runs.specs.Block.{IsBlock}
-use Rattle.ele_runs.specs.declared.manner.Manner.{Manner}
+use Rattle.ele_runs.specs.declared.options.RunOptions.{RunOptions}
 use Rattle.ele_script.specs.FirstFault.{IsWordFault}
 use Rattle.ele_script.specs.Question.{asked_in}
 use Rattle.ele_script.specs.declared.kind.WordKind.{WordKind}
@@ -32,8 +32,8 @@ pub data IsExplained (w : World) (kind : WordKind) (word text : List ℕ) : Type
   stopped : text ≡ stop_text NoMemory → IsExplained w kind word text
 
 -- what is asked to be explained by what is heard of a line, if the manner explains
-abbrev pub asked_by : Manner → Option (List ℕ) → Option (WordKind × List ℕ)
-asked_by manner line = if manner.explain then option_and_then asked_in line else None
+abbrev pub asked_by : RunOptions → Option (List ℕ) → Option (WordKind × List ℕ)
+asked_by options line = if options.explain then option_and_then asked_in line else None
 
 -- the block of what is heard of a line: an explanation from the world as it is, which stands in no history and changes nothing,
 -- or the block that the line has in every manner

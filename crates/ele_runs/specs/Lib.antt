@@ -1,13 +1,13 @@
 pub mod Answer
 pub mod Block
 pub mod Bounds
-pub mod Course
+pub mod RunState
 pub mod Explained
 pub mod Fault
 pub mod FrontOfOutput
 pub mod LineLength
 pub mod Lines
-pub mod Manner
+pub mod RunOptions
 pub mod Note
 pub mod OneAnswer
 pub mod OneOutput

@@ -4,19 +4,19 @@ use Rattle.std.specs.Io.KnownBytes.{Keeps}
 use Rattle.ele_printer.specs.Front.{AppendsFront}
 use Rattle.ele_printer.specs.Printed.{bad_text}
 use Rattle.ele_printer.specs.declared.fault.LineFault.{LineFault}
-use Rattle.ele_runs.specs.Course.{Course}
-use Rattle.ele_runs.specs.Manner.{tells_reasons}
+use Rattle.ele_runs.specs.RunState.{RunState}
+use Rattle.ele_runs.specs.RunOptions.{tells_reasons}
 use Rattle.ele_runs.specs.WhyBad.{IsToldReason, cut_reason, why_line}
-use Rattle.ele_runs.specs.declared.manner.Manner.{Manner}
+use Rattle.ele_runs.specs.declared.options.RunOptions.{RunOptions}
 use Rattle.ele_script.specs.declared.reasons.Reason.{Reason}
 
 -- nothing, or, where reasons are told and the block of the line with this number is that of a bad one, why it is; a writer that
 -- fails has a front of that, and the run goes on
-pub data IsNoted (manner : Manner) (number : ℕ) (line : Option (List ℕ)) (block : List ℕ) (old new : Option (List ℕ)) : Type 0 where
-  nothing : Keeps old new → IsNoted manner number line block old new
-  reason : tells_reasons manner ≡ true → (fault : LineFault) → block ≡ bad_text fault → (why : Reason) → IsToldReason manner line why → AppendsFront old new (why_line number (Some why))
-      → IsNoted manner number line block old new
+pub data IsNoted (options : RunOptions) (number : ℕ) (line : Option (List ℕ)) (block : List ℕ) (old new : Option (List ℕ)) : Type 0 where
+  nothing : Keeps old new → IsNoted options number line block old new
+  reason : tells_reasons options ≡ true → (fault : LineFault) → block ≡ bad_text fault → (why : Reason) → IsToldReason options line why → AppendsFront old new (why_line number (Some why))
+      → IsNoted options number line block old new
 
 -- why a last line without its line feed is never run, where reasons are told
-abbrev pub cut_note : Course → Option (List ℕ) → List ℕ
-cut_note course last = if tells_reasons course.manner then why_line (course.number + 1) (cut_reason last) else []
+abbrev pub cut_note : RunState → Option (List ℕ) → List ℕ
+cut_note run_state last = if tells_reasons run_state.options then why_line (run_state.number + 1) (cut_reason last) else []

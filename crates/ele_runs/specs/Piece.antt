@@ -3,13 +3,13 @@ use Rattle.std.specs.Prelude.{◌≡◌, ℕ, ◌+◌, ◌≤◌, Bool, true, fa
 use Rattle.std.specs.List.{AllByRecursion}
 use Rattle.ele_printer.specs.declared.fault.WriteFault.{WriteFault}
 use Rattle.ele_printer.specs.Outlet.{Outlet, Takes, TakesFront}
-use Rattle.ele_runs.specs.Course.{Course}
+use Rattle.ele_runs.specs.RunState.{RunState}
 use Rattle.ele_runs.specs.LineLength.{line_unless_long}
 use Rattle.ele_runs.specs.Lines.{IsUnbroken, AreLines, whole_lines}
 use Rattle.ele_runs.specs.Told.{AreTold}
 
 -- the lines that end in the piece were answered, the first of which may have begun before it, and what is behind them is kept
-pub record AnswersAll (before after : Course) (part piece : List ℕ) (buffer : Option (List ℕ)) (old new : Outlet) : Type 0 where
+pub record AnswersAll (before after : RunState) (part piece : List ℕ) (buffer : Option (List ℕ)) (old new : Outlet) : Type 0 where
   pub lines : List (List ℕ)
   pub last : List ℕ
   pub text : List ℕ
@@ -22,7 +22,7 @@ pub record AnswersAll (before after : Course) (part piece : List ℕ) (buffer : 
   pub put : Takes old new text
 
 -- the last of these lines ended the run, and is kept
-pub record AnswersLast (before after : Course) (part piece : List ℕ) (buffer : Option (List ℕ)) (old new : Outlet) : Type 0 where
+pub record AnswersLast (before after : RunState) (part piece : List ℕ) (buffer : Option (List ℕ)) (old new : Outlet) : Type 0 where
   pub lines : List (List ℕ)
   pub line : List ℕ
   pub rest : List ℕ
@@ -37,7 +37,7 @@ pub record AnswersLast (before after : Course) (part piece : List ℕ) (buffer :
   pub put : Takes old new text
 
 -- the writer failed in a block of these lines, or in what stood before them
-pub record AnswersSome (before after : Course) (part piece : List ℕ) (old new : Outlet) : Type 0 where
+pub record AnswersSome (before after : RunState) (part piece : List ℕ) (old new : Outlet) : Type 0 where
   pub lines : List (List ℕ)
   pub rest : List ℕ
   pub text : List ℕ
@@ -47,15 +47,15 @@ pub record AnswersSome (before after : Course) (part piece : List ℕ) (old new 
   pub put : TakesFront old new text
 
 -- whether the run was ended by them
-abbrev pub AnswersBy : Bool → Course → Course → List ℕ → List ℕ → Option (List ℕ) → Outlet → Outlet → Type 0
+abbrev pub AnswersBy : Bool → RunState → RunState → List ℕ → List ℕ → Option (List ℕ) → Outlet → Outlet → Type 0
 AnswersBy false before after part piece buffer old new = AnswersAll before after part piece buffer old new
 AnswersBy true before after part piece buffer old new = AnswersLast before after part piece buffer old new
 
-abbrev pub Answers : {A : Type 0} → Course → Course → List ℕ → List ℕ → Option (List ℕ) → Outlet → Outlet → Result A WriteFault → Type 0
+abbrev pub Answers : {A : Type 0} → RunState → RunState → List ℕ → List ℕ → Option (List ℕ) → Outlet → Outlet → Result A WriteFault → Type 0
 Answers before after part piece buffer old new (Ok x) = AnswersBy after.ended before after part piece buffer old new
 Answers before after part piece buffer old new (Err fault) = AnswersSome before after part piece old new
 
 -- whatever was kept of a line that began before the piece
-abbrev pub AnswersPiece : {A : Type 0} → Course → Course → Option (List ℕ) → List ℕ → Option (List ℕ) → Outlet → Outlet → Result A WriteFault → Type 0
+abbrev pub AnswersPiece : {A : Type 0} → RunState → RunState → Option (List ℕ) → List ℕ → Option (List ℕ) → Outlet → Outlet → Result A WriteFault → Type 0
 AnswersPiece before after began piece buffer old new result =
     (part : List ℕ) → IsUnbroken part → began ≡ line_unless_long part → Answers before after part piece buffer old new result

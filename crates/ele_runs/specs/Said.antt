@@ -7,10 +7,10 @@ use Rattle.ele_printer.specs.Why.{ahead_text, why_text}
 use Rattle.ele_runs.specs.Answer.{Answer}
 use Rattle.ele_runs.specs.Answer as answer
 use Rattle.ele_runs.specs.Block.{IsText, MayAnswer}
-use Rattle.ele_runs.specs.Course.{Course, gone_on}
+use Rattle.ele_runs.specs.RunState.{RunState, advance}
 use Rattle.ele_runs.specs.Explained.{IsBlockOf, asked_by}
-use Rattle.ele_runs.specs.Manner.{front_of, heard}
-use Rattle.ele_runs.specs.declared.manner.Manner.{Manner}
+use Rattle.ele_runs.specs.RunOptions.{front_of, heard}
+use Rattle.ele_runs.specs.declared.options.RunOptions.{RunOptions}
 use Rattle.ele_runs.specs.declared.said.Said.{Said}
 use Rattle.ele_runs.specs.declared.said.Said.TheVariants.{Nothing, Bad, Stopped, Replied, Passed, History, Trimmed, Why, Ahead}
 use Rattle.ele_printer.specs.declared.fault.LineFault.{LineFault}
@@ -60,22 +60,22 @@ abbrev pub HasText : Past → Said → Type 0
 HasText after said = (text : List ℕ) × IsSaidText after said text
 
 -- what stands in front of that
-abbrev pub said_front : Manner → ℕ → Said → List ℕ
-said_front manner number Nothing = []
-said_front manner number said = if manner.numbers then decimal number ++ 32 ∷ [] else []
+abbrev pub said_front : RunOptions → ℕ → Said → List ℕ
+said_front options number Nothing = []
+said_front options number said = if options.numbers then decimal number ++ 32 ∷ [] else []
 
 -- a line as it is kept was heard, and answered so
-pub record HearsKept (manner : Manner) (before : Past) (line : Option (List ℕ)) (said : Said) (after : Past) : Type 0 where
+pub record HearsKept (options : RunOptions) (before : Past) (line : Option (List ℕ)) (said : Said) (after : Past) : Type 0 where
   pub has_text : HasText after said
-  pub block : (text : List ℕ) → IsSaidText after said text → IsBlockOf (asked_by manner (heard manner line)) before (heard manner line) text after
-  pub front : (number : ℕ) → said_front manner number said ≡ front_of manner number (heard manner line)
+  pub block : (text : List ℕ) → IsSaidText after said text → IsBlockOf (asked_by options (heard options line)) before (heard options line) text after
+  pub front : (number : ℕ) → said_front options number said ≡ front_of options number (heard options line)
 
 -- the next line was heard, and answered so
-pub record HearsNext (before : Course) (line : Option (List ℕ)) (said : Said) (after : Course) : Type 0 where
-  pub kept : HearsKept before.manner before.past line said after.past
-  pub manner : after.manner ≡ before.manner
+pub record HearsNext (before : RunState) (line : Option (List ℕ)) (said : Said) (after : RunState) : Type 0 where
+  pub kept : HearsKept before.options before.past line said after.past
+  pub options : after.options ≡ before.options
   pub number : after.number ≡ before.number + 1
-  pub after_is : (text : List ℕ) → IsSaidText after.past said text → after ≡ gone_on before after.past text before.notes
+  pub after_is : (text : List ℕ) → IsSaidText after.past said text → after ≡ advance before after.past text before.notes
 
 -- what is meant is what the event is answered
 pub record Replies (before : Past) (event : Event) (said : Said) (after : Past) : Type 0 where
@@ -90,9 +90,9 @@ Trims before (Stopped stop) after = (stop ≡ NoMemory) × (after ≡ before)
 Trims before said after = ⊥
 
 -- a line gets no answer: an empty one, or a remark that is passed over
-abbrev pub is_silent : Manner → List ℕ → Bool
-is_silent manner [] = true
-is_silent manner (byte ∷ bytes) = manner.remarks && (byte == 35)
+abbrev pub has_no_reply : RunOptions → List ℕ → Bool
+has_no_reply options [] = true
+has_no_reply options (byte ∷ bytes) = options.remarks && (byte == 35)
 
 -- a word of the kind, which asks for an explanation, was answered so
 abbrev pub Explains : World → Said → WordKind → List ℕ → Type 0
@@ -103,8 +103,8 @@ Explains w (Stopped stop) kind word = stop ≡ NoMemory
 Explains w said kind word = ⊥
 
 -- the line asks for an explanation, if the manner explains, and its word is read so
-pub record AsksBy (manner : Manner) (line : List ℕ) (read : Result Question LineFault) : Type 0 where
+pub record AsksBy (options : RunOptions) (line : List ℕ) (read : Result Question LineFault) : Type 0 where
   pub kind : WordKind
   pub word : List ℕ
-  pub asks : asked_by manner (Some line) ≡ Some (kind, word)
+  pub asks : asked_by options (Some line) ≡ Some (kind, word)
   pub reads : ReadsQuestion read kind word

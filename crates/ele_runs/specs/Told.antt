@@ -2,31 +2,31 @@
 use Rattle.std.specs.Prelude.{◌≡◌, ℕ, ◌+◌, false, List, [], ◌∷◌, ◌++◌, Option}
 use Rattle.ele_history.specs.Past.{Past}
 use Rattle.ele_runs.specs.Block.{cut_block}
-use Rattle.ele_runs.specs.Course.{Course, gone_on}
+use Rattle.ele_runs.specs.RunState.{RunState, advance}
 use Rattle.ele_runs.specs.Explained.{IsBlockOf, asked_by}
 use Rattle.ele_runs.specs.LineLength.{line_unless_long}
-use Rattle.ele_runs.specs.Manner.{front_of, heard}
+use Rattle.ele_runs.specs.RunOptions.{front_of, heard}
 use Rattle.ele_runs.specs.Note.{IsNoted}
 
 -- what is told for the next line: the block of what is heard of it, with the line's number in front where lines are
 -- numbered, and beside it why it is a bad one; no line is heard behind one that ended the run
-pub record IsTold (before : Course) (line : Option (List ℕ)) (told : List ℕ) (after : Course) : Type 0 where
+pub record IsTold (before : RunState) (line : Option (List ℕ)) (told : List ℕ) (after : RunState) : Type 0 where
   pub block : List ℕ
   pub past : Past
   pub notes : Option (List ℕ)
   pub goes_on : before.ended ≡ false
-  pub is : IsBlockOf (asked_by before.manner (heard before.manner line)) before.past (heard before.manner line) block past
-  pub told_is : told ≡ front_of before.manner (before.number + 1) (heard before.manner line) ++ block
-  pub noted : IsNoted before.manner (before.number + 1) line block before.notes notes
-  pub after_is : after ≡ gone_on before past block notes
+  pub is : IsBlockOf (asked_by before.options (heard before.options line)) before.past (heard before.options line) block past
+  pub told_is : told ≡ front_of before.options (before.number + 1) (heard before.options line) ++ block
+  pub noted : IsNoted before.options (before.number + 1) line block before.notes notes
+  pub after_is : after ≡ advance before past block notes
 
 -- what is told for whole lines, one after another
-abbrev pub AreTold : Course → List (List ℕ) → List ℕ → Course → Type 0
+abbrev pub AreTold : RunState → List (List ℕ) → List ℕ → RunState → Type 0
 AreTold before [] text after = (text ≡ []) × (after ≡ before)
 AreTold before (line ∷ lines) text after =
-    (told rest : List ℕ) × (between : Course)
+    (told rest : List ℕ) × (between : RunState)
     × IsTold before (line_unless_long line) told between × AreTold between lines rest after × (text ≡ told ++ rest)
 
 -- and for a last line without its line feed behind them, which is never run, also where it is a remark
-abbrev pub cut_told : Course → Option (List ℕ) → List ℕ
-cut_told course last = front_of course.manner (course.number + 1) last ++ cut_block last
+abbrev pub cut_told : RunState → Option (List ℕ) → List ℕ
+cut_told run_state last = front_of run_state.options (run_state.number + 1) last ++ cut_block last

@@ -2,7 +2,7 @@
 use Rattle.std.specs.Prelude.{◌≡◌, ℕ, List, [], ◌∷◌, ◌++◌, codes, decimal, Option, Some, None, true, ◌⊎◌}
 use Rattle.ele_printer.specs.declared.fault.LineFault.{LineFault}
 use Rattle.ele_runs.specs.Explained.{asked_by}
-use Rattle.ele_runs.specs.declared.manner.Manner.{Manner}
+use Rattle.ele_runs.specs.declared.options.RunOptions.{RunOptions}
 use Rattle.ele_script.specs.FirstFault.{IsFirstFault, IsOfKind}
 use Rattle.ele_script.specs.Memory.{TakesMemory, word_takes}
 use Rattle.ele_script.specs.Reason.{IsReason, IsWordReason}
@@ -18,9 +18,9 @@ IsReasonBy (Some asked) line why = IsWordReason 2 asked.0 asked.1 why
 IsReasonBy None line why = IsReason line why
 
 -- and of one as it is kept, in the manner of the run
-abbrev pub IsToldReason : Manner → Option (List ℕ) → Reason → Type 0
-IsToldReason manner None why = why ≡ TooLong
-IsToldReason manner (Some line) why = IsReasonBy (asked_by manner (Some line)) line why
+abbrev pub IsToldReason : RunOptions → Option (List ℕ) → Reason → Type 0
+IsToldReason options None why = why ≡ TooLong
+IsToldReason options (Some line) why = IsReasonBy (asked_by options (Some line)) line why
 
 -- no reason is told where the word is as it should be, or the line is a command, and where there may have been no memory to
 -- read these
@@ -28,14 +28,14 @@ abbrev pub HasNone : Option (WordKind × List ℕ) → List ℕ → Type 0
 HasNone (Some asked) line = IsOfKind asked.0 asked.1 ⊎ (word_takes asked.0 asked.1 ≡ true)
 HasNone None line = ((fault : LineFault) → ¬ IsFirstFault line fault) ⊎ TakesMemory (words_of line)
 
-abbrev pub IsUntold : Manner → Option (List ℕ) → Type 0
-IsUntold manner None = ⊥
-IsUntold manner (Some line) = HasNone (asked_by manner (Some line)) line
+abbrev pub IsUntold : RunOptions → Option (List ℕ) → Type 0
+IsUntold options None = ⊥
+IsUntold options (Some line) = HasNone (asked_by options (Some line)) line
 
 -- so is what is told of why
-abbrev pub IsWhy : Manner → Option (List ℕ) → Option Reason → Type 0
-IsWhy manner line None = IsUntold manner line
-IsWhy manner line (Some why) = IsToldReason manner line why
+abbrev pub IsWhy : RunOptions → Option (List ℕ) → Option Reason → Type 0
+IsWhy options line None = IsUntold options line
+IsWhy options line (Some why) = IsToldReason options line why
 
 -- why a last line without its line feed is never run, unless it is empty
 abbrev pub cut_reason : Option (List ℕ) → Option Reason

@@ -9,10 +9,10 @@ ghost use Rattle.ele_script.specs.Question.{ReadsQuestion};
 ghost use Rattle.ele_script.specs.declared.kind.WordKind.{WordKind};
 ghost use Rattle.ele_script.specs.declared.kind.WordKind.TheVariants.{Moment as MomentWord};
 
-use crate::manner::Manner;
+use crate::options::RunOptions;
 use crate::said::Said;
 use ele_history::History;
-use ele_model::{Explaining, Moment, Refusal, Stop};
+use ele_model::{Explain, Moment, Refusal, Stop};
 use ele_script::{LineFault, Question, read_question};
 use std::alloc::Global;
 
@@ -20,23 +20,20 @@ use std::alloc::Global;
 #[tactic(auto, using(crate::proofs::Asks::asks_by, crate::proofs::Asks::asks_none, crate::proofs::Asks::never_asked))]
 pub(crate) fn asked(
     alloc: Global,
-    manner: Manner,
+    options: RunOptions,
     line: &[u8],
 ) -> Option<Result<Question, LineFault>>
-    ensures some { IfSome result (AsksBy manner line.now) }
-    ensures none { IfNone result (asked_by manner (Some line.now) ≡ None) }
+    ensures some { IfSome result (AsksBy options line.now) }
+    ensures none { IfNone result (asked_by options (Some line.now) ≡ None) }
 {
-    if !manner.explain {
+    if !options.explain {
         return None;
     }
     read_question(alloc, line)
 }
 
 /// Explains what was asked, from the world as it is.
-pub(crate) fn explain<C: Explaining>(
-    read: &Result<Question, LineFault>,
-    history: &History<C>,
-) -> Said
+pub(crate) fn explain<C: Explain>(read: &Result<Question, LineFault>, history: &History<C>) -> Said
     ensures { (kind : WordKind) (word : List ℕ) → ReadsQuestion read.now kind word
         → Explains (world_of history.now) result kind word }
 {
@@ -49,7 +46,7 @@ pub(crate) fn explain<C: Explaining>(
 }
 
 // What will be due at the moment.
-fn ahead<C: Explaining>(moment: Moment, core: &C) -> Said
+fn ahead<C: Explain>(moment: Moment, core: &C) -> Said
     ensures { (word : List ℕ) → SpellsMoment word moment
         → Explains (C.world core.now) result MomentWord word }
 {

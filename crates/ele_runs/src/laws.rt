@@ -5,7 +5,6 @@ ghost use Rattle.ele_runs.specs.OneOutput.{OneOutput};
 ghost use Rattle.ele_runs.specs.SomeAnswer.{SomeAnswer};
 ghost use Rattle.ele_runs.specs.SomeOutput.{SomeOutput};
 
-use ele_history::laws::pass_is_of_world;
 use ele_script::line_laws::{every_line_meaning, one_line_meaning};
 
 /// From one history a line has one answer, unless want of memory stops it.
@@ -14,7 +13,7 @@ pub fn one_answer()
 {
     // Told for the proof: no line has two meanings, and what a pass is of its world.
     one_line_meaning();
-    pass_is_of_world();
+    ele_history::laws::pass_is_of_world();
 }
 
 /// Lines have one output from one history, unless want of memory stops one of them.

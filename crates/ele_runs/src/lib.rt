@@ -6,19 +6,19 @@
 mod end;
 mod explained;
 mod fault;
-mod keeper;
 pub mod laws;
 mod line_buffer;
 mod lines;
-mod manner;
 mod note;
+mod options;
 mod piece;
+mod runner;
 mod said;
 mod script;
 
 pub use end::{EndLine, RunEnd};
 pub use fault::ShellFault;
 pub use line_buffer::LineBuffer;
-pub use manner::Manner;
 pub use note::{tell_why, why_bad, why_cut};
+pub use options::RunOptions;
 pub use script::{run_in, run_over};

@@ -7,7 +7,7 @@ ghost use Rattle.ele_printer.specs.Front.{AppendsFront};
 ghost use Rattle.ele_printer.specs.Printed.{bad_text};
 ghost use Rattle.ele_printer.specs.Prints.{outlet, Prints};
 ghost use Rattle.ele_runs.specs.Block.{cut_count};
-ghost use Rattle.ele_runs.specs.Course.{noting};
+ghost use Rattle.ele_runs.specs.RunState.{noting};
 ghost use Rattle.ele_runs.specs.LineLength.{line_unless_long};
 ghost use Rattle.ele_runs.specs.Note.{cut_note};
 ghost use Rattle.ele_runs.specs.Piece.{AnswersPiece};
@@ -16,42 +16,42 @@ ghost use Rattle.ele_runs.specs.Told.{cut_told};
 ghost use Rattle.ele_runs.specs.Written.{PutsBlock, WritesLast};
 
 use crate::end::{EndLine, RunEnd};
-use crate::keeper::Keeper;
 use crate::line_buffer::{LineBuffer, kept_line};
+use crate::runner::Runner;
 use crate::said::Said;
-use ele_model::Explaining;
+use ele_model::Explain;
 use ele_script::{LineFault, Printer, WriteFault, put_fault};
 use memchr::memchr;
 use std::io::Write;
 
 // Answers the line that ends with these bytes, and begins a new one, unless that line ended the run.
-fn put_whole<C: Explaining, W: Write, E: Write>(
+fn put_whole<C: Explain, W: Write, E: Write>(
     end: &[u8],
     buffer: &mut LineBuffer,
-    keeper: &mut Keeper<C>,
+    runner: &mut Runner<C>,
     printer: &mut Printer<'_, W>,
     reasons: &mut E,
 ) -> Result<(), WriteFault>
-    requires goes_on { keeper.old.ended ≡ false }
-    requires few { keeper.old.number + 1 < 2 ^ 64 }
-    ensures block { PutsBlock (noting keeper.old (E.contents reasons.old))
+    requires goes_on { runner.old.ended ≡ false }
+    requires few { runner.old.number + 1 < 2 ^ 64 }
+    ensures block { PutsBlock (noting runner.old (E.contents reasons.old))
         (option_and_then (λ line. line_unless_long (line ++ end.now)) buffer.old)
-        (noting keeper.new (E.contents reasons.new))
+        (noting runner.new (E.contents reasons.new))
         (outlet W.contents printer.old) (outlet W.contents printer.new) result }
-    ensures begun { OnOk result (keeper.new.ended ≡ false → buffer.new ≡ Some []) }
-    ensures kept { OnOk result (keeper.new.ended ≡ true → buffer.new
+    ensures begun { OnOk result (runner.new.ended ≡ false → buffer.new ≡ Some []) }
+    ensures kept { OnOk result (runner.new.ended ≡ true → buffer.new
         ≡ option_and_then (λ line. line_unless_long (line ++ end.now)) buffer.old) }
 {
     if buffer.is_empty() {
-        keeper.put_block(kept_line(end), printer, reasons)?;
-        if keeper.has_ended() {
+        runner.put_block(kept_line(end), printer, reasons)?;
+        if runner.has_ended() {
             buffer.extend(end);
         }
         return Ok(());
     }
     buffer.extend(end);
-    keeper.put_block(buffer.line(), printer, reasons)?;
-    if !keeper.has_ended() {
+    runner.put_block(buffer.line(), printer, reasons)?;
+    if !runner.has_ended() {
         buffer.clear();
     }
     Ok(())
@@ -66,23 +66,23 @@ fn line_end(bytes: &[u8]) -> Option<usize>
 
 /// Answers the lines that end in the piece, and keeps what is behind them, or the line that ended
 /// the run.
-pub(crate) fn answer_piece<C: Explaining, W: Write, E: Write>(
+pub(crate) fn answer_piece<C: Explain, W: Write, E: Write>(
     piece: &[u8],
     buffer: &mut LineBuffer,
-    keeper: &mut Keeper<C>,
+    runner: &mut Runner<C>,
     printer: &mut Printer<'_, W>,
     reasons: &mut E,
 ) -> Result<(), WriteFault>
-    requires goes_on { keeper.old.ended ≡ false }
-    requires few { keeper.old.number + length piece.now < 2 ^ 64 }
-    ensures { AnswersPiece (noting keeper.old (E.contents reasons.old))
-        (noting keeper.new (E.contents reasons.new)) buffer.old piece.now buffer.new
+    requires goes_on { runner.old.ended ≡ false }
+    requires few { runner.old.number + length piece.now < 2 ^ 64 }
+    ensures { AnswersPiece (noting runner.old (E.contents reasons.old))
+        (noting runner.new (E.contents reasons.new)) buffer.old piece.now buffer.new
         (outlet W.contents printer.old) (outlet W.contents printer.new) result }
 {
     let mut rest = piece;
     'lines: while let Some(at) = line_end(rest) {
-        put_whole(&rest[..at], buffer, keeper, printer, reasons)?;
-        if keeper.has_ended() {
+        put_whole(&rest[..at], buffer, runner, printer, reasons)?;
+        if runner.has_ended() {
             return Ok(());
         }
         rest = rest.split_at(at + 1).1;
@@ -93,62 +93,62 @@ pub(crate) fn answer_piece<C: Explaining, W: Write, E: Write>(
 
 // Puts the fault of a last line without its line feed, with its number in front where lines are
 // numbered.
-fn put_cut_fault<C: Explaining, W: Write>(
+fn put_cut_fault<C: Explain, W: Write>(
     fault: LineFault,
-    keeper: &Keeper<C>,
+    runner: &Runner<C>,
     printer: &mut Printer<'_, W>,
 ) -> Result<(), WriteFault>
-    requires { keeper.now.number + 1 < 2 ^ 64 }
+    requires { runner.now.number + 1 < 2 ^ 64 }
     ensures { Prints W.contents printer.old printer.new
-        (said_front keeper.now.manner (keeper.now.number + 1) (Said.Bad fault) ++ bad_text fault)
+        (said_front runner.now.options (runner.now.number + 1) (Said.Bad fault) ++ bad_text fault)
         result }
 {
-    Said::Bad(fault).put_front(keeper.manner(), keeper.lines() + 1, printer)?;
+    Said::Bad(fault).put_front(runner.options(), runner.lines() + 1, printer)?;
     put_fault(fault, printer)
 }
 
 // Puts what is told for a last line without its line feed, which is never run, and tells by how much
 // that line counts.
-fn put_cut<C: Explaining, W: Write>(
+fn put_cut<C: Explain, W: Write>(
     line: Option<&[u8]>,
-    keeper: &Keeper<C>,
+    runner: &Runner<C>,
     printer: &mut Printer<'_, W>,
 ) -> Result<u64, WriteFault>
-    requires { keeper.now.number + 1 < 2 ^ 64 }
+    requires { runner.now.number + 1 < 2 ^ 64 }
     ensures count { IfOk result (λ n. n ≡ cut_count (option_map (λ line. line.now) line.entry)) }
     ensures few { IfOk result (λ n. n ≤ 1) }
     ensures put { Prints W.contents printer.old printer.new
-        (cut_told keeper.now (option_map (λ line. line.now) line.entry)) result }
+        (cut_told runner.now (option_map (λ line. line.now) line.entry)) result }
 {
     let fault = match line {
         None => LineFault::LineTooLong,
         Some([]) => return Ok(0),
         Some(_) => LineFault::Syntax,
     };
-    put_cut_fault(fault, keeper, printer)?;
+    put_cut_fault(fault, runner, printer)?;
     Ok(1)
 }
 
 /// Writes all that is held and what is told for a last line without its line feed, tells why that is
 /// never run, where reasons are told, and tells how the run ended: that line counts unless it is
 /// empty, and ends a strict run then.
-pub(crate) fn finish<C: Explaining, W: Write, E: Write>(
+pub(crate) fn finish<C: Explain, W: Write, E: Write>(
     buffer: LineBuffer,
-    keeper: &Keeper<C>,
+    runner: &Runner<C>,
     printer: &mut Printer<'_, W>,
     reasons: &mut E,
 ) -> Result<RunEnd, WriteFault>
-    requires { keeper.now.number + 1 < 2 ^ 64 }
-    ensures last { WritesLast keeper.now buffer (outlet W.contents printer.old)
+    requires { runner.now.number + 1 < 2 ^ 64 }
+    ensures last { WritesLast runner.now buffer (outlet W.contents printer.old)
         (outlet W.contents printer.new) result }
     ensures noted { AppendsFront (E.contents reasons.old) (E.contents reasons.new)
-        (cut_note keeper.now buffer) }
+        (cut_note runner.now buffer) }
 {
-    keeper.tell_cut(buffer.line(), reasons);
-    let cut = put_cut(buffer.line(), keeper, printer)?;
+    runner.tell_cut(buffer.line(), reasons);
+    let cut = put_cut(buffer.line(), runner, printer)?;
     printer.hand_over()?;
-    let lines = keeper.lines() + cut;
-    if keeper.manner().strict && cut > 0 {
+    let lines = runner.lines() + cut;
+    if runner.options().strict && cut > 0 {
         return Ok(RunEnd {
             lines,
             ended_by: Some(EndLine {

@@ -6,7 +6,7 @@ ghost use Rattle.ele_printer.specs.Front.{AppendsFront};
 ghost use Rattle.ele_runs.specs.Explained.{asked_by};
 ghost use Rattle.ele_runs.specs.WhyBad.{HasNone, IsReasonBy, IsToldReason, IsUntold, cut_reason, why_line};
 
-use crate::manner::Manner;
+use crate::options::RunOptions;
 use ele_moment::NoMemory;
 use ele_script::{Reason, WordKind, put, question_word, reason, word_reason};
 use std::alloc::Global;
@@ -14,40 +14,40 @@ use std::io::Write;
 
 /// Why a line as it is kept is no command, where that is told: none where it is one, or where there
 /// was no memory to read it.
-pub fn why_bad(alloc: Global, manner: Manner, line: Option<&[u8]>) -> Option<Reason>
+pub fn why_bad(alloc: Global, options: RunOptions, line: Option<&[u8]>) -> Option<Reason>
     ensures some { IfSome result
-        (IsToldReason manner (option_map (λ line. line.now) line.entry)) }
-    ensures none { IfNone result (IsUntold manner (option_map (λ line. line.now) line.entry)) }
+        (IsToldReason options (option_map (λ line. line.now) line.entry)) }
+    ensures none { IfNone result (IsUntold options (option_map (λ line. line.now) line.entry)) }
 {
     let Some(line) = line else {
         return Some(Reason::TooLong);
     };
-    match line_reason(alloc, manner, line) {
+    match line_reason(alloc, options, line) {
         Ok(found) => found,
         Err(_) => None,
     }
 }
 
 // Why a line is no command: by its second word, if it asks for an explanation.
-fn line_reason(alloc: Global, manner: Manner, line: &[u8]) -> Result<Option<Reason>, NoMemory>
+fn line_reason(alloc: Global, options: RunOptions, line: &[u8]) -> Result<Option<Reason>, NoMemory>
     ensures some { IfOk result (λ found. IfSome found
-        (IsReasonBy (asked_by manner (Some line.now)) line.now)) }
+        (IsReasonBy (asked_by options (Some line.now)) line.now)) }
     ensures none { IfOk result (λ found. IfNone found
-        (HasNone (asked_by manner (Some line.now)) line.now)) }
-    ensures memory { OnErr result (HasNone (asked_by manner (Some line.now)) line.now) }
+        (HasNone (asked_by options (Some line.now)) line.now)) }
+    ensures memory { OnErr result (HasNone (asked_by options (Some line.now)) line.now) }
 {
-    match asked_word(manner, line) {
+    match asked_word(options, line) {
         Some((kind, word)) => word_reason(alloc, 2, kind, word),
         None => reason(alloc, line),
     }
 }
 
 // The word of a line that asks for an explanation, if the manner explains.
-fn asked_word(manner: Manner, line: &[u8]) -> Option<(WordKind, &[u8])>
+fn asked_word(options: RunOptions, line: &[u8]) -> Option<(WordKind, &[u8])>
     ensures { option_map (λ asked. (asked.0, asked.1.now)) result
-        ≡ asked_by manner (Some line.now) }
+        ≡ asked_by options (Some line.now) }
 {
-    if !manner.explain {
+    if !options.explain {
         return None;
     }
     question_word(line)

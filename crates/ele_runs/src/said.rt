@@ -3,13 +3,13 @@
 ghost use Rattle.std.specs.Prelude.{◌≡◌, List, ℕ};
 ghost use Rattle.std.specs.Option.{option_map};
 ghost use Rattle.ele_printer.specs.Prints.{Prints};
-ghost use Rattle.ele_runs.specs.Manner.{is_well};
-ghost use Rattle.ele_runs.specs.Said.{HasText, Hears, HearsKept, IsSaidText, Replies, Trims, is_silent, said_front};
+ghost use Rattle.ele_runs.specs.RunOptions.{is_well};
+ghost use Rattle.ele_runs.specs.Said.{HasText, Hears, HearsKept, IsSaidText, Replies, Trims, has_no_reply, said_front};
 
 use crate::explained::{asked, explain};
-use crate::manner::Manner;
+use crate::options::RunOptions;
 use ele_history::History;
-use ele_model::{Event, Explaining, Fate, KeyList, PassEnd, Refusal, Reply, Stop};
+use ele_model::{Event, Explain, Fate, KeyList, PassEnd, Refusal, Reply, Stop};
 use ele_printer::{put_history, put_in_front, put_trimmed};
 use ele_script::{
     Line, LineFault, Printer, WriteFault, put_ahead, put_answer, put_fault, put_pass, put_stop,
@@ -42,40 +42,40 @@ pub(crate) enum Said {
 }
 
 /// Hears a line as it is kept, and answers it.
-pub(crate) fn hear_kept<C: Explaining>(
+pub(crate) fn hear_kept<C: Explain>(
     alloc: Global,
-    manner: Manner,
+    options: RunOptions,
     line: Option<&[u8]>,
     history: &mut History<C>,
 ) -> Said
-    ensures { HearsKept manner history.old (option_map (λ line. line.now) line.entry) result
+    ensures { HearsKept options history.old (option_map (λ line. line.now) line.entry) result
         history.new }
 {
     let Some(line) = line else {
         return Said::Bad(LineFault::LineTooLong);
     };
-    if is_silent(manner, line) {
+    if has_no_reply(options, line) {
         return Said::Nothing;
     }
-    match asked(alloc, manner, line) {
+    match asked(alloc, options, line) {
         Some(read) => explain(&read, history),
         None => hear(alloc, line, history),
     }
 }
 
 // Whether a line gets no answer: an empty one, or a remark that is passed over.
-fn is_silent(manner: Manner, line: &[u8]) -> bool
-    ensures { result ≡ is_silent manner line.now }
+fn has_no_reply(options: RunOptions, line: &[u8]) -> bool
+    ensures { result ≡ has_no_reply options line.now }
 {
     match line.first() {
-        Some(first) => manner.remarks && *first == b'#',
+        Some(first) => options.remarks && *first == b'#',
         None => true,
     }
 }
 
 // Answers a line that is neither empty nor too long. Whatever a line may ask for in every manner is
 // done here.
-fn hear<C: Explaining>(alloc: Global, line: &[u8], history: &mut History<C>) -> Said
+fn hear<C: Explain>(alloc: Global, line: &[u8], history: &mut History<C>) -> Said
     ensures { Hears history.old line.now result history.new }
 {
     match read_line(alloc, line) {
@@ -92,7 +92,7 @@ fn hear<C: Explaining>(alloc: Global, line: &[u8], history: &mut History<C>) -> 
 
 // Answers an event, whose reply stands in the history then, or the stop in its place, which leaves
 // the history.
-fn hear_event<C: Explaining>(event: Event, history: &mut History<C>) -> Said
+fn hear_event<C: Explain>(event: Event, history: &mut History<C>) -> Said
     ensures { Replies history.old event result history.new }
 {
     match history.record(event) {
@@ -102,7 +102,7 @@ fn hear_event<C: Explaining>(event: Event, history: &mut History<C>) -> Said
 }
 
 // Folds the history.
-fn hear_trim<C: Explaining>(history: &mut History<C>) -> Said
+fn hear_trim<C: Explain>(history: &mut History<C>) -> Said
     ensures { Trims history.old result history.new }
 {
     match history.trim() {
@@ -113,7 +113,7 @@ fn hear_trim<C: Explaining>(history: &mut History<C>) -> Said
 
 impl Said {
     /// Whether it is told by `ok`, or not at all.
-    pub(crate) fn is_well<C: Explaining>(&self, history: &History<C>) -> bool
+    pub(crate) fn is_well<C: Explain>(&self, history: &History<C>) -> bool
         ensures { (text : List ℕ) → IsSaidText history.now self.now text → result ≡ is_well text }
     {
         match self {
@@ -130,22 +130,22 @@ impl Said {
     /// Puts the line's number in front, where lines are numbered and there is something to tell.
     pub(crate) fn put_front<W: Write>(
         &self,
-        manner: Manner,
+        options: RunOptions,
         number: u64,
         printer: &mut Printer<'_, W>,
     ) -> Result<(), WriteFault>
-        ensures { Prints W.contents printer.old printer.new (said_front manner number self.now)
+        ensures { Prints W.contents printer.old printer.new (said_front options number self.now)
             result }
     {
         match self {
             Said::Nothing => Ok(()),
-            _ if manner.numbers => put_in_front(number, printer),
+            _ if options.numbers => put_in_front(number, printer),
             _ => Ok(()),
         }
     }
 
     /// Puts its text.
-    pub(crate) fn put<C: Explaining, W: Write>(
+    pub(crate) fn put<C: Explain, W: Write>(
         &self,
         history: &History<C>,
         printer: &mut Printer<'_, W>,
@@ -169,7 +169,7 @@ impl Said {
 }
 
 // Puts the reply of the last entry.
-fn put_last<C: Explaining, W: Write>(
+fn put_last<C: Explain, W: Write>(
     history: &History<C>,
     printer: &mut Printer<'_, W>,
 ) -> Result<(), WriteFault>

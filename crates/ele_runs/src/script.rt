@@ -3,19 +3,19 @@
 ghost use Rattle.std.specs.Prelude.{◌≡◌, ◌≤◌, ◌-◌, [], false, Some, min, IfOk, IsErrOf, length};
 ghost use Rattle.ele_history.specs.Past.{fresh};
 ghost use Rattle.ele_printer.specs.Prints.{outlet};
-ghost use Rattle.ele_runs.specs.Course.{begun, noting};
+ghost use Rattle.ele_runs.specs.RunState.{begun, noting};
 ghost use Rattle.ele_runs.specs.Telling.{HasTold, Tells, ToldPastABound, ToldToAReadFault, ToldToAWriteFault};
 ghost use Rattle.ele_runs.specs.Written.{RunsAt};
 ghost use Rattle.ele_runs.specs.Running.{RanToTheEnd, RanToAReadFault, RanPastABound, RanToAWriteFault};
 
 use crate::end::{EndLine, RunEnd};
 use crate::fault::ShellFault;
-use crate::keeper::Keeper;
 use crate::line_buffer::LineBuffer;
 use crate::lines::{answer_piece, finish};
-use crate::manner::Manner;
+use crate::options::RunOptions;
 use crate::piece::read_piece;
-use ele_model::{Explaining, Limits};
+use crate::runner::Runner;
+use ele_model::{Explain, Limits};
 use ele_script::Printer;
 use std::alloc::Global;
 use std::io;
@@ -57,12 +57,12 @@ fn most_of(left: u64) -> usize
 }
 
 // How a run ended that this line ended.
-fn ended_by<C: Explaining>(line: LineBuffer, keeper: &Keeper<C>) -> RunEnd
-    ensures lines { result.lines ≡ keeper.now.number }
+fn ended_by<C: Explain>(line: LineBuffer, runner: &Runner<C>) -> RunEnd
+    ensures lines { result.lines ≡ runner.now.number }
     ensures line { result.ended_by ≡ Some (record { line = line; is_cut = false }) }
 {
     RunEnd {
-        lines: keeper.lines(),
+        lines: runner.lines(),
         ended_by: Some(EndLine {
             line,
             is_cut: false,
@@ -73,8 +73,8 @@ fn ended_by<C: Explaining>(line: LineBuffer, keeper: &Keeper<C>) -> RunEnd
 // Reads pieces and answers their lines until the input ends, a line ends the run, a bound is
 // passed, or the reader or the writer fails. No piece is longer than what may still come, so that
 // nothing is read behind the byte that passes a bound.
-fn run_pieces<C: Explaining, R: Read, W: Write, E: Write>(
-    keeper: &mut Keeper<C>,
+fn run_pieces<C: Explain, R: Read, W: Write, E: Write>(
+    runner: &mut Runner<C>,
     reader: &mut R,
     printer: &mut Printer<'_, W>,
     reasons: &mut E,
@@ -82,9 +82,9 @@ fn run_pieces<C: Explaining, R: Read, W: Write, E: Write>(
 ) -> Result<RunEnd, ShellFault>
     requires piece { length piece.old ≡ PIECE }
     requires none { (outlet W.contents printer.old).held ≡ [] }
-    requires first { keeper.old.number ≡ 0 }
-    requires goes_on { keeper.old.ended ≡ false }
-    ensures { RunsAt (noting keeper.old (E.contents reasons.old))
+    requires first { runner.old.number ≡ 0 }
+    requires goes_on { runner.old.ended ≡ false }
+    ensures { RunsAt (noting runner.old (E.contents reasons.old))
         (R.remaining reader.old) (R.remaining reader.new)
         (outlet W.contents printer.old) (outlet W.contents printer.new)
         (E.contents reasons.new) result }
@@ -93,18 +93,18 @@ fn run_pieces<C: Explaining, R: Read, W: Write, E: Write>(
     let mut room = MOST_BYTES;
     'pieces: loop {
         printer.hand_over()?;
-        let left = left_of(room, keeper.lines());
+        let left = left_of(room, runner.lines());
         let count = read_piece(reader, piece, most_of(left))?;
         if count == 0 {
-            return Ok(finish(buffer, keeper, printer, reasons)?);
+            return Ok(finish(buffer, runner, printer, reasons)?);
         }
         if left == 0 {
             return Err(ShellFault::TooManyLines);
         }
-        answer_piece(&piece[..count], &mut buffer, keeper, printer, reasons)?;
-        if keeper.has_ended() {
+        answer_piece(&piece[..count], &mut buffer, runner, printer, reasons)?;
+        if runner.has_ended() {
             printer.hand_over()?;
-            return Ok(ended_by(buffer, keeper));
+            return Ok(ended_by(buffer, runner));
         }
         room -= count as u64;
     }
@@ -112,22 +112,22 @@ fn run_pieces<C: Explaining, R: Read, W: Write, E: Write>(
 
 // Runs the script in pieces, over a printer of its own.
 #[tactic(auto, using(crate::proofs::Ends::told_at))]
-fn run_printed<C: Explaining, R: Read, W: Write, E: Write>(
-    keeper: &mut Keeper<C>,
+fn run_printed<C: Explain, R: Read, W: Write, E: Write>(
+    runner: &mut Runner<C>,
     reader: &mut R,
     writer: &mut W,
     reasons: &mut E,
     piece: &mut [u8],
 ) -> Result<RunEnd, ShellFault>
     requires piece { length piece.old ≡ PIECE }
-    requires first { keeper.old.number ≡ 0 }
-    requires goes_on { keeper.old.ended ≡ false }
-    ensures { Tells (noting keeper.old (E.contents reasons.old))
+    requires first { runner.old.number ≡ 0 }
+    requires goes_on { runner.old.ended ≡ false }
+    ensures { Tells (noting runner.old (E.contents reasons.old))
         (R.remaining reader.old) (R.remaining reader.new)
         (W.contents writer.old) (W.contents writer.new) (E.contents reasons.new) result }
 {
     let mut printer = Printer::new(writer);
-    run_pieces(keeper, reader, &mut printer, reasons, piece)
+    run_pieces(runner, reader, &mut printer, reasons, piece)
 }
 
 /// Runs the script that the reader gives in some manner, as `run_over` does without any option, and
@@ -140,8 +140,8 @@ fn run_printed<C: Explaining, R: Read, W: Write, E: Write>(
 /// each bad line, which word of it is at fault and why. Where that writer fails the run goes on.
 ///
 /// The errors are those of `run_over`.
-pub fn run_in<C: Explaining, R: Read, W: Write, E: Write>(
-    manner: Manner,
+pub fn run_in<C: Explain, R: Read, W: Write, E: Write>(
+    options: RunOptions,
     alloc: Global,
     reader: &mut R,
     writer: &mut W,
@@ -149,20 +149,20 @@ pub fn run_in<C: Explaining, R: Read, W: Write, E: Write>(
     limits: Limits,
 ) -> Result<RunEnd, ShellFault>
     ensures ok { IfOk result (λ ran. HasTold
-        (begun manner (fresh limits) (E.contents reasons.old))
+        (begun options (fresh limits) (E.contents reasons.old))
         (R.remaining reader.old) (R.remaining reader.new)
         (W.contents writer.old) (W.contents writer.new) (E.contents reasons.new)
         ran.lines ran.ended_by) }
     ensures read_fault { IsErrOf result ShellFault.ReadFault
-        → ToldToAReadFault (begun manner (fresh limits) (E.contents reasons.old))
+        → ToldToAReadFault (begun options (fresh limits) (E.contents reasons.old))
         (R.remaining reader.old) (R.remaining reader.new)
         (W.contents writer.old) (W.contents writer.new) (E.contents reasons.new) }
     ensures too_many_lines { IsErrOf result ShellFault.TooManyLines
-        → ToldPastABound (begun manner (fresh limits) (E.contents reasons.old))
+        → ToldPastABound (begun options (fresh limits) (E.contents reasons.old))
         (R.remaining reader.old) (R.remaining reader.new)
         (W.contents writer.old) (W.contents writer.new) (E.contents reasons.new) }
     ensures write_fault { IsErrOf result ShellFault.WriteFault
-        → ToldToAWriteFault (begun manner (fresh limits) (E.contents reasons.old))
+        → ToldToAWriteFault (begun options (fresh limits) (E.contents reasons.old))
         (R.remaining reader.old)
         (W.contents writer.old) (W.contents writer.new) (E.contents reasons.new) }
     ensures no_memory { IsErrOf result ShellFault.NoMemory
@@ -171,8 +171,8 @@ pub fn run_in<C: Explaining, R: Read, W: Write, E: Write>(
     let Ok(mut piece) = vec![in alloc; 0u8; PIECE] else {
         return Err(ShellFault::NoMemory);
     };
-    let mut keeper = Keeper::<C>::new(alloc, limits, manner)?;
-    run_printed(&mut keeper, reader, writer, reasons, piece.as_mut_slice())
+    let mut runner = Runner::<C>::new(alloc, limits, options)?;
+    run_printed(&mut runner, reader, writer, reasons, piece.as_mut_slice())
 }
 
 /// Runs the script that the reader gives: answers each whole line at the writer, and answers how
@@ -190,7 +190,7 @@ pub fn run_in<C: Explaining, R: Read, W: Write, E: Write>(
 /// - WriteFault: the writer failed, or took no byte of some.
 /// - TooManyLines: a byte stands behind the 1,000,000th line feed, or behind 8,589,934,592 bytes;
 ///   the replies to the whole lines before are written.
-pub fn run_over<C: Explaining, R: Read, W: Write>(
+pub fn run_over<C: Explain, R: Read, W: Write>(
     alloc: Global,
     reader: &mut R,
     writer: &mut W,
@@ -211,7 +211,14 @@ pub fn run_over<C: Explaining, R: Read, W: Write>(
         → (reader.new ≡ reader.old) × (writer.new ≡ writer.old) }
 {
     let mut nowhere = io::sink();
-    match run_in::<C, R, W, Sink>(Manner::plain(), alloc, reader, writer, &mut nowhere, limits) {
+    match run_in::<C, R, W, Sink>(
+        RunOptions::plain(),
+        alloc,
+        reader,
+        writer,
+        &mut nowhere,
+        limits,
+    ) {
         Ok(ran) => Ok(ran.lines),
         Err(fault) => Err(fault),
     }

@@ -18,7 +18,7 @@ use std::alloc::Global;
 
 /// The version that a draft is to be, and when the draft is opened.
 #[derive(Clone, Copy, Debug)]
-pub struct Coming {
+pub struct DraftSpec {
     pub file: FileId,
     pub number: VersionNo,
     pub opened: Moment,
@@ -31,15 +31,15 @@ fn start(
     drafts: &mut Vec<Entry>,
     store: &mut BlockStore,
     at: usize,
-    coming: Coming,
+    spec: DraftSpec,
     map: &BlockMap,
 ) -> Result<(), NoMemory>
-    requires gap { IsGap file_in coming.file drafts.old.items at }
+    requires gap { IsGap file_in spec.file drafts.old.items at }
     requires lives { LivesIn store.old map.now }
     requires few { IsUncrowded store.old }
     ensures drafts { OnOk result (drafts_of drafts.new.items
-        ≡ insert_before (is_draft_after coming.file)
-        (new_draft coming.file coming.number coming.opened map.now) (drafts_of drafts.old.items)) }
+        ≡ insert_before (is_draft_after spec.file)
+        (new_draft spec.file spec.number spec.opened map.now) (drafts_of drafts.old.items)) }
     ensures moves { OnOk result (Moves store.old store.new [] (map.now ∷ [])) }
     ensures err { OnErr result (drafts.new.items ≡ drafts.old.items) }
     ensures err_store { OnErr result (store.new ≡ store.old) }
@@ -48,8 +48,8 @@ fn start(
     let mut draft = Box::new(
         alloc,
         Draft {
-            number: coming.number,
-            opened: coming.opened,
+            number: spec.number,
+            opened: spec.opened,
             map: BlockMap::new(alloc),
             changed: false,
         },
@@ -59,7 +59,7 @@ fn start(
         drafts,
         at,
         Entry {
-            file: coming.file,
+            file: spec.file,
             draft,
         },
     );
@@ -72,22 +72,22 @@ pub fn join(
     alloc: Global,
     drafts: &mut Vec<Entry>,
     store: &mut BlockStore,
-    coming: Coming,
+    spec: DraftSpec,
     map: &BlockMap,
 ) -> Result<(), NoMemory>
     requires rise { Rises file_in drafts.old.items }
     requires lives { LivesIn store.old map.now }
     requires few { IsUncrowded store.old }
     ensures drafts { OnOk result (drafts_of drafts.new.items
-        ≡ with_draft (new_draft coming.file coming.number coming.opened map.now)
+        ≡ with_draft (new_draft spec.file spec.number spec.opened map.now)
         (drafts_of drafts.old.items)) }
     ensures opens { OnOk result
-        (Opens store.old store.new (drafts_of drafts.old.items) coming.file map.now) }
+        (Opens store.old store.new (drafts_of drafts.old.items) spec.file map.now) }
     ensures err { OnErr result (drafts.new.items ≡ drafts.old.items) }
     ensures err_store { OnErr result (store.new ≡ store.old) }
 {
-    if let Err(at) = place_of(drafts, coming.file) {
-        start(alloc, drafts, store, at, coming, map)?;
+    if let Err(at) = place_of(drafts, spec.file) {
+        start(alloc, drafts, store, at, spec, map)?;
     }
     Ok(())
 }

@@ -19,7 +19,7 @@ use crate::closing::Closing;
 use crate::entries::{Entry, enter, file_by, take_handle};
 use crate::fault::SessionFault;
 use crate::leaving::leave;
-use crate::opening::{Coming, join};
+use crate::opening::{DraftSpec, join};
 use ele_blocks::{BlockMap, BlockStore};
 use ele_model::{HandleRow, Reads, Refusal};
 use ele_moment::{FileId, Handle, Moment, NoMemory, VersionNo};
@@ -98,12 +98,12 @@ impl Sessions {
     {
         self.handles.reserve(1)?;
         self.counts.reserve()?;
-        let coming = Coming {
+        let spec = DraftSpec {
             file,
             number,
             opened,
         };
-        join(self.alloc, &mut self.drafts, store, coming, map)?;
+        join(self.alloc, &mut self.drafts, store, spec, map)?;
         self.opened += 1;
         let number = Handle(self.opened);
         let handle = HandleRow {

@@ -5,7 +5,7 @@ use mathlib.Core.Option.{some, none, some-injective, some-ne-none}
 use lib.ListN.{get_elem?}
 use Rattle.atomic_table.specs.Table.{opening, Final, Seen}
 use Rattle.ele_history.specs.Past.{Past, count_of}
-use Rattle.ele_shared_history.specs.declared.board.View.{View}
+use Rattle.ele_shared_history.specs.declared.ledger.View.{View}
 use Rattle.ele_shared_history.specs.Rule.{Kind, first_view, history_after, events_after, Fits, Free, Taken, Kept}
 use Rattle.ele_shared_history.specs.Closing.{Closes}
 use Rattle.ele_shared_history.specs.Knowledge.{Knowledge}

@@ -9,9 +9,9 @@ use Rattle.atomic_table.proofs.Lists.{at_set}
 use Rattle.ele_model.specs.declared.entry.Entry.{Entry}
 use Rattle.ele_history.specs.Legal.{IsLegal}
 use Rattle.ele_history.specs.Past.{Past, reply_to, world_of}
-use Rattle.ele_shared_history.specs.declared.board.Call.{Call}
-use Rattle.ele_shared_history.specs.declared.board.Part.{Part}
-use Rattle.ele_shared_history.specs.declared.board.View.{View}
+use Rattle.ele_shared_history.specs.declared.ledger.Call.{Call}
+use Rattle.ele_shared_history.specs.declared.ledger.Part.{Part}
+use Rattle.ele_shared_history.specs.declared.ledger.View.{View}
 use Rattle.ele_shared_history.specs.Running.{continued, entries_of, has, own_of}
 use Rattle.ele_shared_history.specs.Rule.{Kind, history_after, events_after, no_part, PartFits, Fits, Free, Taken, Kept, looking, first_of, own_call, published}
 use Rattle.ele_shared_history.specs.Steps.{IsNews, Looks, Takes, Publishes, GivesBack}

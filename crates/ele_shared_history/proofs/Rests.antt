@@ -6,8 +6,8 @@ use Rattle.atomic_table.specs.Seated.{TableId}
 use Rattle.ele_model.specs.declared.event.Event.{Event}
 use Rattle.ele_model.specs.declared.reply.Reply.{Reply}
 use Rattle.ele_history.specs.Past.{Past, count_of}
-use Rattle.ele_shared_history.specs.declared.board.Call.{Call}
-use Rattle.ele_shared_history.specs.declared.board.View.{View}
+use Rattle.ele_shared_history.specs.declared.ledger.Call.{Call}
+use Rattle.ele_shared_history.specs.declared.ledger.View.{View}
 use Rattle.ele_shared_history.specs.Running.{entries_of, entry, has, own_of}
 use Rattle.ele_shared_history.specs.Rule.{Kind, history_after, first_of, looking, own_call, registered, newcomer}
 use Rattle.ele_shared_history.specs.Steps.{IsIdle, IsNews, RunsEvent, StaysIdle, TakesTurn, Unites}

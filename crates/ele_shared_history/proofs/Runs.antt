@@ -10,8 +10,8 @@ use Rattle.ele_model.specs.declared.refusal.Stop.TheVariants.{NoMemory, HistoryF
 use Rattle.ele_model.specs.Bounds.{AreBounds}
 use Rattle.ele_history.specs.Past.{Past, HasRoom, count_of, reply_to}
 use Rattle.ele_history.specs.Reply.{MayReply, MayStop}
-use Rattle.ele_shared_history.specs.declared.board.Call.{Call}
-use Rattle.ele_shared_history.specs.declared.board.View.{View}
+use Rattle.ele_shared_history.specs.declared.ledger.Call.{Call}
+use Rattle.ele_shared_history.specs.declared.ledger.View.{View}
 use Rattle.ele_shared_history.specs.Running.{continued, entries_of, entry}
 use Rattle.ele_shared_history.proofs.Histories.{length-entries_of}
 use Rattle.ele_shared_history.specs.Rule.{Kind, events_after, history_after, Kept}

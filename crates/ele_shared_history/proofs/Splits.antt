@@ -5,8 +5,8 @@ use mathlib.Core.Option.{some, none, some-injective, some-ne-none}
 use lib.ListN.{get_elem?}
 use Rattle.atomic_table.specs.Table.{State, Me, keeps, step, Allows, Splits, Joins}
 use Rattle.atomic_table.proofs.Lists.{at_set, set_again}
-use Rattle.ele_shared_history.specs.declared.board.Call.{Call}
-use Rattle.ele_shared_history.specs.declared.board.View.{View}
+use Rattle.ele_shared_history.specs.declared.ledger.Call.{Call}
+use Rattle.ele_shared_history.specs.declared.ledger.View.{View}
 use Rattle.ele_history.specs.Past.{Past}
 use Rattle.ele_shared_history.specs.Running.{has, own_of, StartsWith}
 use Rattle.ele_shared_history.specs.Rule.{Kind, Fits, Free, Taken, Kept, looking, newcomer, registered, united, spent_view}

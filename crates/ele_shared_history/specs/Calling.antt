@@ -4,7 +4,7 @@ use Rattle.ele_model.specs.declared.event.Event.{Event}
 use Rattle.ele_model.specs.declared.refusal.Stop.{Stop}
 use Rattle.ele_model.specs.declared.refusal.Stop.TheVariants.{NoMemory, HistoryFull}
 use Rattle.ele_model.specs.declared.reply.Reply.{Reply}
-use Rattle.ele_shared_history.specs.declared.board.Call.{Call}
+use Rattle.ele_shared_history.specs.declared.ledger.Call.{Call}
 use Rattle.ele_shared_history.specs.declared.stop.TryStop.{TryStop}
 use Rattle.ele_shared_history.specs.declared.stop.TryStop.TheVariants.{NoMemory as TryNoMemory, HistoryFull as TryHistoryFull, Busy}
 use Rattle.ele_shared_history.specs.Knowledge.{Knowledge, count_seen}

@@ -8,9 +8,9 @@ use Rattle.ele_model.specs.Bounds.{largest_bounds}
 use Rattle.ele_model.specs.declared.entry.Entry.{Entry}
 use Rattle.ele_history.specs.Legal.{IsLegal}
 use Rattle.ele_history.specs.Past.{Past, count_of, fresh, world_of}
-use Rattle.ele_shared_history.specs.declared.board.Call.{Call}
-use Rattle.ele_shared_history.specs.declared.board.Part.{Part}
-use Rattle.ele_shared_history.specs.declared.board.View.{View}
+use Rattle.ele_shared_history.specs.declared.ledger.Call.{Call}
+use Rattle.ele_shared_history.specs.declared.ledger.Part.{Part}
+use Rattle.ele_shared_history.specs.declared.ledger.View.{View}
 use Rattle.ele_shared_history.specs.Running.{call, continued, entries_of, has, own_of, StartsWith}
 
 -- what the slot holds

@@ -4,7 +4,7 @@ use Rattle.ele_model.specs.declared.entry.Entry.{Entry}
 use Rattle.ele_model.specs.declared.event.Event.{Event}
 use Rattle.ele_model.specs.declared.reply.Reply.{Reply}
 use Rattle.ele_history.specs.Past.{Past}
-use Rattle.ele_shared_history.specs.declared.board.Call.{Call}
+use Rattle.ele_shared_history.specs.declared.ledger.Call.{Call}
 
 abbrev pub entry : Event → Reply → Entry
 entry event reply = record { event = event; reply = reply }

@@ -10,8 +10,8 @@ use Rattle.ele_model.specs.declared.reply.Reply.{Reply}
 use Rattle.ele_history.specs.Legal.{IsLegal}
 use Rattle.ele_history.specs.Past.{reply_to, world_of}
 use Rattle.ele_history.specs.Reply.{MayStop}
-use Rattle.ele_shared_history.specs.declared.board.Call.{Call}
-use Rattle.ele_shared_history.specs.declared.board.View.{View}
+use Rattle.ele_shared_history.specs.declared.ledger.Call.{Call}
+use Rattle.ele_shared_history.specs.declared.ledger.View.{View}
 use Rattle.ele_shared_history.specs.Rule.{Kind, events_after, first_of, history_after, looking, newcomer, published, registered, united}
 use Rattle.ele_shared_history.specs.Running.{continued, entries_of, entry, has, own_of, StartsWith}
 

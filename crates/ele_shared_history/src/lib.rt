@@ -8,15 +8,15 @@ ghost use Rattle.ele_shared_history.specs.Closing.{Closes};
 ghost use Rattle.ele_shared_history.specs.Knowledge.{IsTrue, Looked, count_seen};
 ghost use Rattle.ele_shared_history.specs.Seats.{AreAllNew, AreDealt, IsFirst, Joined, SplitOff};
 
-mod board;
-mod plays;
+mod ledger;
 mod seat;
 mod steps;
 mod stop;
+mod transitions;
 
-use board::Table;
 use ele_history::History;
-use ele_model::{Event, NoMemory, Reply, Stepping, Stop};
+use ele_model::{Event, NoMemory, Reply, Step, Stop};
+use ledger::Table;
 pub use seat::Seat;
 use std::alloc::Global;
 use std::marker::Model;
@@ -28,11 +28,11 @@ pub use stop::{TryStop, TurnHeld};
 
 /// A history that many threads call, each through a seat of its own.
 #[derive(Drop)]
-pub struct Shared<C: Stepping> {
+pub struct Shared<C: Step> {
     table: Table<C>,
 }
 
-impl<C: Stepping> Model for Shared<C> {
+impl<C: Step> Model for Shared<C> {
     ghost use Rattle.std.specs.Prelude.{◌≡◌};
     ghost use Rattle.ele_shared_history.specs.Knowledge.{Object};
 
@@ -47,7 +47,7 @@ impl<C: Stepping> Model for Shared<C> {
         × (s.table.shared.table_id.slots ≡ 1) };
 }
 
-impl<C: Stepping> Shared<C> {
+impl<C: Step> Shared<C> {
     /// Shares the history among so many seats, from 1 to 64. Each has a number of its own, has seen
     /// no event and made no call.
     ///
@@ -83,7 +83,7 @@ impl<C: Stepping> Shared<C> {
     {
         let opening = Snapshot::of(&history);
         let count = history.count();
-        history.base().limits.are_within();
+        history.base().limits.lemma_within();
         let mut slots = Vec::new(alloc);
         if let Err(refused) = slots.push(Some(history)) {
             let Some(history) = refused.value else {
@@ -207,7 +207,7 @@ impl<C: Stepping> Shared<C> {
 }
 
 // What a closed table had: while the word is even, the history is at home.
-fn handed_over<C: Stepping>(word: u64, slot: Option<History<C>>) -> Result<History<C>, TurnHeld>
+fn handed_over<C: Step>(word: u64, slot: Option<History<C>>) -> Result<History<C>, TurnHeld>
     requires { word % 2 ≡ 0 → IsSome slot }
     ensures ok { IfOk result (λ history. (word % 2 ≡ 0) × (slot ≡ Some history)) }
     ensures err { OnErr result (word % 2 ≡ 1) }

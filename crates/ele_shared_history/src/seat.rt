@@ -1,16 +1,16 @@
 //! A thread's place at the shared object.
-use crate::board::Place;
-use ele_model::Stepping;
+use crate::ledger::Place;
+use ele_model::Step;
 use std::marker::Model;
 
 /// A thread's place at the shared object, which it calls through. It takes no memory. A contract
 /// sees its numbers, what it has seen of the running history, and its own calls.
 #[derive(Drop)]
-pub struct Seat<C: Stepping> {
+pub struct Seat<C: Step> {
     pub(crate) place: Place<C>,
 }
 
-impl<C: Stepping> Model for Seat<C> {
+impl<C: Step> Model for Seat<C> {
     ghost use Rattle.ele_shared_history.specs.Knowledge.{Knowledge};
     ghost use Rattle.ele_shared_history.specs.Told.{knowledge};
     ghost use Rattle.ele_shared_history.specs.Steps.{IsIdle};

@@ -5,7 +5,7 @@ ghost use Rattle.ele_content.specs.Content.{content_of};
 ghost use Rattle.ele_due.specs.declared.key.Key.{Key};
 ghost use Rattle.ele_due.specs.HasKey.{has_key};
 ghost use Rattle.ele_files.specs.Held.{Became};
-ghost use Rattle.ele_files.specs.Standing.{Stands};
+ghost use Rattle.ele_files.specs.FileHead.{Stands};
 ghost use Rattle.ele_lists.specs.Lists.{AllLater};
 ghost use Rattle.ele_model.specs.Change.{after_changes};
 ghost use Rattle.ele_model.specs.Cover.{cover_of};
@@ -18,10 +18,10 @@ ghost use Rattle.ele_state.specs.Queued.{comes, former_moment, new_keys};
 ghost use Rattle.ele_state.specs.Source.{IsReady, IsRoomy, appending, coming, source_cells};
 ghost use Rattle.ele_state.specs.Tracked.{IsBooked};
 
-use crate::book::{blocks, one_version, settle_blocks};
+use crate::book::{blocks, charge_blocks, one_version};
 use crate::keys::{KeyChange, floor_in, near_moment, new_key, put_changed, take_back};
 use crate::rows::Rows;
-use ele_files::{Files, Meter, NewVersion, Standing};
+use ele_files::{FileHead, Files, Meter, NewVersion};
 use ele_groups::Groups;
 use ele_model::{FileId, Handle, Moment, NoMemory, Stamps, VersionNo};
 use ele_policy::Policy;
@@ -36,16 +36,16 @@ pub enum Source {
 
 // How the file stands, which is there.
 #[tactic(auto, using(crate::proofs::Words::nat_tests))]
-pub fn standing(files: &Files, file: FileId, meter: &mut Meter) -> Standing
+pub fn head(files: &Files, file: FileId, meter: &mut Meter) -> FileHead
     requires there { 0 < next_of files.now.files file }
     requires meter { meter.old < 2 ^ 60 }
     ensures stands { Stands files.now file result }
     ensures read { meter.new ≤ meter.old + 1 }
 {
-    let Some(standing) = files.standing(file, meter) else {
+    let Some(head) = files.head(file, meter) else {
         unreachable!()
     };
-    standing
+    head
 }
 
 // Whether the policy has a ripe moment for a version without a newer one, where the floor is met or not.
@@ -74,11 +74,11 @@ fn ripens_alone(
 fn gaining(
     files: &Files,
     file: FileId,
-    standing: &Standing,
+    head: &FileHead,
     floor: u64,
     meter: &mut Meter,
 ) -> Option<Stamps>
-    requires stands { Stands files.now file standing.now }
+    requires stands { Stands files.now file head.now }
     requires placed { AllLater ArePlaced files.now.versions }
     requires meter { meter.old < 2 ^ 60 }
     ensures value { result
@@ -86,7 +86,7 @@ fn gaining(
     ensures read { meter.new ≤ meter.old + 1 }
 {
     if floor <= 1 {
-        return standing.newest;
+        return head.newest;
     }
     files.with_newer(file, floor - 1, meter)
 }
@@ -126,19 +126,19 @@ fn new_keys(
     files: &Files,
     groups: &Groups,
     file: FileId,
-    standing: &Standing,
+    head: &FileHead,
     now: Moment,
     again: bool,
     is_live: bool,
     meter: &mut Meter,
 ) -> [KeyChange; 2]
-    requires stands { Stands files.now file standing.now }
+    requires stands { Stands files.now file head.now }
     requires placed { AllLater ArePlaced files.now.versions }
     requires meter { meter.old < 2 ^ 60 }
     ensures keys { result ≡ new_keys groups.now files.now file now again is_live }
     ensures read { meter.new ≤ meter.old + 1 }
 {
-    let policy = &standing.policy;
+    let policy = &head.policy;
     let floor = floor_in(policy, is_live);
     let own = if is_live {
         None
@@ -148,20 +148,17 @@ fn new_keys(
     if again && floor != 0 {
         return [
             new_key(file, VersionNo(0), None),
-            new_key(file, standing.next, own),
+            new_key(file, head.next, own),
         ];
     }
-    let (number, former) = match &gaining(files, file, standing, floor, meter) {
+    let (number, former) = match &gaining(files, file, head, floor, meter) {
         Some(gaining) => {
             let former = former_moment(files, groups, file, policy, floor, gaining, now);
             (gaining.number, former)
         }
         None => (VersionNo(0), None),
     };
-    [
-        new_key(file, number, former),
-        new_key(file, standing.next, own),
-    ]
+    [new_key(file, number, former), new_key(file, head.next, own)]
 }
 
 // The file's next version stands in the files. The answer is its number and its length.
@@ -194,7 +191,7 @@ fn put_version(
 pub fn append(
     rows: &mut Rows,
     file: FileId,
-    standing: &Standing,
+    head: &FileHead,
     again: bool,
     source: Source,
 ) -> Result<VersionNo, NoMemory>
@@ -202,7 +199,7 @@ pub fn append(
     requires absent { (k : Key) → comes (coming rows.old file again) k ≡ true
         → has_key k rows.old.queue ≡ false }
     requires roomy { IsRoomy rows.old.made.versions rows.old.book }
-    requires stands { Stands rows.old.files file standing.now }
+    requires stands { Stands rows.old.files file head.now }
     requires ready { IsReady rows.old.files rows.old.moment file source }
     requires meter { rows.old.meter < 2 ^ 60 }
     ensures number { IfOk result (λ number. number ≡ next_of rows.old.files.files file) }
@@ -219,13 +216,13 @@ pub fn append(
 {
     let is_live = rows.names.is_live(file);
     let now = rows.moment;
-    let kind = standing.policy.kind();
+    let kind = head.policy.kind();
     let before = blocks(&rows.files);
     let changes = new_keys(
         &rows.files,
         &rows.groups,
         file,
-        standing,
+        head,
         now,
         again,
         is_live,
@@ -242,7 +239,7 @@ pub fn append(
         }
     };
     rows.book.add(kind, one_version(made.length));
-    settle_blocks(&mut rows.book, &rows.files, kind, before);
+    charge_blocks(&mut rows.book, &rows.files, kind, before);
     rows.made.versions += 1;
     Ok(made.number)
 }

@@ -39,7 +39,7 @@ pub fn blocks_fit(files: &Files)
 // The book follows a change of a file with a policy of that kind, where all files had so many blocks before: one event changes
 // the blocks of one file, so what came or went is this file's.
 #[tactic(auto, using(crate::proofs::Booked::shift_fits, crate::proofs::Booked::shift_there))]
-pub fn settle_blocks(book: &mut UsageBook, files: &Files, kind: Kind, before: u64)
+pub fn charge_blocks(book: &mut UsageBook, files: &Files, kind: Kind, before: u64)
     requires owed { IsOwedBy files.now book.old kind before }
     requires fits { (k : Kind) → Fits (record (sums_of book.old k) { blocks = 0 }) }
     ensures { IsBooked files.now book.new }
@@ -60,7 +60,7 @@ pub fn follow_blocks(book: &mut UsageBook, files: &Files, file: FileId, before: 
     ensures { IsBooked files.now book.new }
 {
     if let Some(policy) = files.policy_of(file) {
-        settle_blocks(book, files, policy.kind(), before);
+        charge_blocks(book, files, policy.kind(), before);
     }
 }
 

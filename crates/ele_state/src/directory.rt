@@ -75,7 +75,7 @@ impl State {
         ensures world { self.new.world ≡ after_change self.old.world (Govern directory policy) }
         ensures valid { IsPolicy policy }
     {
-        policy.is_given();
+        policy.lemma_valid();
         put_default(&mut self.rows.directories, directory, policy);
     }
 

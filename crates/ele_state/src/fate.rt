@@ -160,7 +160,7 @@ fn free_fate(
 ) -> Fate
     ensures { IsFreeFate cover policy.now closed ended next.now floor_met now result }
 {
-    policy.is_given();
+    policy.lemma_valid();
     let until = ripe_past(
         cover,
         ripe(policy, closed, ended, closing_of(next), floor_met),

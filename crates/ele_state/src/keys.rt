@@ -96,7 +96,7 @@ pub fn take_back(queue: &mut DueQueue, changes: &[KeyChange])
 }
 
 // Takes out all keys that go.
-pub fn settle(queue: &mut DueQueue, changes: &[KeyChange])
+pub fn remove_old_keys(queue: &mut DueQueue, changes: &[KeyChange])
     ensures { (k : Key) → has_key k queue.new ≡ (not (goes changes.now k) && has_key k queue.old) }
 {
     for change in changes {

@@ -38,8 +38,7 @@ use ele_model::{
     Counts, DirId, DirectoryRow, Flat, Limits, ListOf, Moment, NoMemory, Policy, Which,
 };
 use ele_names::Names;
-use ele_policy::laws::policies_are_lawful;
-use ele_policy::{Floor, Interval};
+use ele_policy::{Floor, Interval, laws};
 use ele_usage::UsageBook;
 use std::alloc::Global;
 use std::marker::Model;
@@ -69,8 +68,8 @@ impl State {
     pub fn new(alloc: Global, limits: Limits) -> Result<State, NoMemory>
         ensures { IfOk result (λ state. state.world ≡ fresh_world limits) }
     {
-        limits.are_within();
-        policies_are_lawful();
+        limits.lemma_within();
+        laws::policies_are_lawful();
         let mut directories = Vec::new(alloc);
         directories.push(DirectoryRow {
             id: DirId(0),

@@ -16,7 +16,9 @@ ghost use Rattle.ele_model.specs.declared.cover.Cover.TheVariants.{Free};
 ghost use Rattle.ele_state.specs.Inside.{world_of, IsSound, IsTracked};
 ghost use Rattle.ele_state.specs.Queued.{AreChanges, HasLeaving, change_of, cover_after, files_of, if_changed, moments_by, moments_of};
 
-use crate::keys::{KeyChange, add_change, put_changed, settle, take_back, unmarked_moment};
+use crate::keys::{
+    KeyChange, add_change, put_changed, remove_old_keys, take_back, unmarked_moment,
+};
 use crate::rows::Rows;
 use ele_files::Meter;
 use ele_groups::Groups;
@@ -192,6 +194,6 @@ pub fn regroup(
         take_back(&mut rows.queue, &changes);
         return Err(refused);
     }
-    settle(&mut rows.queue, &changes);
+    remove_old_keys(&mut rows.queue, &changes);
     Ok(())
 }

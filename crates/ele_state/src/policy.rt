@@ -12,7 +12,9 @@ ghost use Rattle.ele_state.specs.Inside.{world_of, IsSound};
 ghost use Rattle.ele_state.specs.Queued.{AreChanges, IsTold, comes, if_changed, is_freed, is_one, is_own, rule_in, unread_under};
 
 use crate::State;
-use crate::keys::{KeyChange, add_change, floor_in, near_moment, new_key, put_changed, settle};
+use crate::keys::{
+    KeyChange, add_change, floor_in, near_moment, new_key, put_changed, remove_old_keys,
+};
 use crate::rows::Rows;
 use ele_files::Meter;
 use ele_model::{FileId, Moment, NoMemory, Stamps};
@@ -30,7 +32,7 @@ impl State {
         ensures err { OnErr result (self.new.world ≡ self.old.world) }
         ensures valid { IsPolicy policy }
     {
-        policy.is_given();
+        policy.lemma_valid();
         let Some(was) = self.rows.files.policy_of(file) else {
             unreachable!()
         };
@@ -38,7 +40,7 @@ impl State {
         let changes = changes_under(&self.rows, file, &was, &policy)?;
         // All keys come before one goes, so that one that is refused is still without trace.
         put_changed(&mut self.rows.queue, &changes)?;
-        settle(&mut self.rows.queue, &changes);
+        remove_old_keys(&mut self.rows.queue, &changes);
         self.rows.files.put_under(file, policy);
         self.rows.book.move_file(was.kind(), policy.kind(), usage);
         Ok(())

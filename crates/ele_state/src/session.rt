@@ -11,7 +11,7 @@ ghost use Rattle.ele_model.specs.declared.rows.Reads.TheVariants.{Draft, Version
 ghost use Rattle.ele_state.specs.Inside.{world_of, IsTracked, IsSound};
 
 use crate::State;
-use crate::append::{Source, append, standing};
+use crate::append::{Source, append, head};
 use crate::book::{blocks, follow_blocks};
 use crate::file::drop_idle;
 use crate::keys::{free_moment, put, take};
@@ -179,8 +179,8 @@ fn finish(
     ensures err { OnErr result (world_of rows.new ≡ world_of rows.old) }
     ensures tracked { IsTracked rows.new }
 {
-    let standing = standing(&rows.files, file, &mut rows.meter);
-    let number = append(rows, file, &standing, false, Source::Draft(handle, opened))?;
+    let head = head(&rows.files, file, &mut rows.meter);
+    let number = append(rows, file, &head, false, Source::Draft(handle, opened))?;
     Ok(Some(number))
 }
 

@@ -13,7 +13,7 @@ ghost use Rattle.ele_state.specs.Home.{IsHome};
 ghost use Rattle.ele_state.specs.Told.{found_of};
 
 use crate::State;
-use crate::append::{Source, append, standing};
+use crate::append::{Source, append, head};
 use crate::book::{blocks, follow_blocks, take_version};
 use crate::file::drop_idle;
 use crate::keys::{take, take_back};
@@ -77,7 +77,7 @@ impl State {
     ///
     /// `NoMemory` where memory is refused; the world stays.
     #[tactic(auto, using(crate::proofs::Words::nat_tests))]
-    pub fn bring_back(&mut self, file: FileId, number: VersionNo) -> Result<VersionNo, NoMemory>
+    pub fn revert_to(&mut self, file: FileId, number: VersionNo) -> Result<VersionNo, NoMemory>
         requires live { is_live self.old.world file ≡ true }
         requires held { is_held self.old.world file number ≡ true }
         requires undrafted { has_draft self.old.world file ≡ false }
@@ -89,9 +89,9 @@ impl State {
             (version_cells self.old.world file number))) }
         ensures err { OnErr result (self.new.world ≡ self.old.world) }
     {
-        let standing = standing(&self.rows.files, file, &mut self.rows.meter);
+        let head = head(&self.rows.files, file, &mut self.rows.meter);
         let source = Source::Version(number);
-        append(&mut self.rows, file, &standing, false, source)
+        append(&mut self.rows, file, &head, false, source)
     }
 
     /// A file without a live name and without a draft has a name again, and a version with the content of its last one; the
@@ -118,16 +118,16 @@ impl State {
             ≡ after_change self.old.world (Revive directory name file)) }
         ensures err { OnErr result (self.new.world ≡ self.old.world) }
     {
-        let standing = standing(&self.rows.files, file, &mut self.rows.meter);
-        let last = standing.next.before();
-        let floor = standing.policy.floor().number();
+        let head = head(&self.rows.files, file, &mut self.rows.meter);
+        let last = head.next.before();
+        let floor = head.policy.floor().number();
         // With the name the floor is in force, and the new version counts.
-        let gone = freed(&self.rows, file, &standing.policy, floor.saturating_sub(1))?;
+        let gone = freed(&self.rows, file, &head.policy, floor.saturating_sub(1))?;
         // The name comes first: it can be taken back without memory.
         self.rows
             .names
             .add(directory, name, Target::File(file), self.rows.moment)?;
-        match append(&mut self.rows, file, &standing, true, Source::Version(last)) {
+        match append(&mut self.rows, file, &head, true, Source::Version(last)) {
             Ok(number) => {
                 take_back(&mut self.rows.queue, &gone);
                 self.rows.made.names += 1;

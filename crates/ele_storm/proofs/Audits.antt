@@ -2,7 +2,7 @@
 use Rattle.std.proofs.Common.{◌≡◌, ℕ, ◌+◌, ◌≤◌, Bool, true, false, cond, IsTrue, List, [], ◌∷◌, ◌++◌, length, ap, subst, arith, length-append}
 use Rattle.ele_history.specs.Legal.{IsLegal}
 use Rattle.ele_history.specs.Past.{Past, world_of}
-use Rattle.ele_shared_history.specs.declared.board.Call.{Call}
+use Rattle.ele_shared_history.specs.declared.ledger.Call.{Call}
 use Rattle.ele_shared_history.specs.Closing.{Closes}
 use Rattle.ele_shared_history.specs.Knowledge.{Knowledge, Object}
 use Rattle.ele_shared_history.specs.Running.{entries_of, has, own_of}

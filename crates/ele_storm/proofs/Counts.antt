@@ -1,6 +1,6 @@
 -- The calls of two seats that were joined, added up.
 use Rattle.std.proofs.Common.{◌≡◌, ℕ, ◌+◌, Bool, true, false, ◌==◌, ◌||◌, cond, List, [], ◌∷◌, ◌++◌, length, refl, sym, ap, ◌∙◌, arith}
-use Rattle.ele_shared_history.specs.declared.board.Call.{Call}
+use Rattle.ele_shared_history.specs.declared.ledger.Call.{Call}
 use Rattle.ele_shared_history.specs.Knowledge.{Knowledge}
 use Rattle.ele_shared_history.specs.Running.{has, own_of}
 use Rattle.ele_shared_history.specs.Seats.{Joined}

@@ -1,7 +1,7 @@
 -- What the workers of a storm leave their seat, from one of them to all.
 use Rattle.std.proofs.Common.{◌≡◌, ℕ, ◌+◌, ◌*◌, ◌<◌, List, [], ◌∷◌, length, refl, sym, ap, subst, ◌∙◌, arith, length-append, Result, Ok, Err}
 use Rattle.std.specs.Result.{result_and}
-use Rattle.ele_shared_history.specs.declared.board.Call.{Call}
+use Rattle.ele_shared_history.specs.declared.ledger.Call.{Call}
 use Rattle.ele_shared_history.specs.Knowledge.{Knowledge}
 use Rattle.ele_shared_history.specs.Running.{entries_of, entry}
 use Rattle.ele_model.specs.declared.event.Event.{Event}

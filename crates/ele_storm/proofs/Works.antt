@@ -1,7 +1,7 @@
 -- What calls in a row leave a seat.
 use Rattle.std.proofs.Common.{◌≡◌, ℕ, List, [], ◌∷◌, ◌++◌, refl, sym, ap, ◌∙◌, append_assoc, Result, Ok, Err}
 use mathlib.Core.List.{append-nil}
-use Rattle.ele_shared_history.specs.declared.board.Call.{Call}
+use Rattle.ele_shared_history.specs.declared.ledger.Call.{Call}
 use Rattle.ele_shared_history.specs.Calling.{Called}
 use Rattle.ele_shared_history.specs.Knowledge.{Knowledge, Looked}
 use Rattle.ele_shared_history.specs.Running.{call, entries_of, entry, StartsWith}

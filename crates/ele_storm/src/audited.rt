@@ -7,8 +7,7 @@ use crate::meet::Meet;
 use crate::plan::StormPlan;
 use crate::storms::storm;
 use ele_history::History;
-use ele_model::laws::usage_fits;
-use ele_model::{Auditable, Limits, NoMemory, Stepping, audit};
+use ele_model::{Audit, Limits, NoMemory, Step, audit, laws};
 use ele_shared_history::{Seat, Shared};
 use std::alloc::Global;
 use std::sync::Wait;
@@ -18,7 +17,7 @@ use std::thread::Threads;
 /// the scans of its rows. Answers how many events the storm ran, and whether all was equal.
 ///
 /// At a fault there was no audit, or no memory for one.
-pub fn storm_and_audit<C: Auditable + Send, R: Threads + Wait + Sync, M: Meet + Sync>(
+pub fn storm_and_audit<C: Audit + Send, R: Threads + Wait + Sync, M: Meet + Sync>(
     rt: &R,
     alloc: Global,
     limits: Limits,
@@ -36,10 +35,7 @@ pub fn storm_and_audit<C: Auditable + Send, R: Threads + Wait + Sync, M: Meet + 
 /// A fresh history of these limits for many threads, and its seat, which has made no call.
 ///
 /// `NoMemory` where memory is refused.
-pub fn share_fresh<C: Stepping>(
-    alloc: Global,
-    limits: Limits,
-) -> Result<(Shared<C>, Seat<C>), NoMemory>
+pub fn share_fresh<C: Step>(alloc: Global, limits: Limits) -> Result<(Shared<C>, Seat<C>), NoMemory>
     ensures { IfOk result (λ made. IsBegun limits made.0 made.1) }
 {
     let history = History::<C>::new(alloc, limits)?;
@@ -57,7 +53,7 @@ pub fn share_fresh<C: Stepping>(
 ///
 /// `TurnHeld` where a call took the turn and never gave it back, and `NoMemory` where there is none
 /// for the scans.
-pub fn close_and_audit<C: Auditable>(shared: Shared<C>, seat: Seat<C>) -> Result<bool, AuditFault>
+pub fn close_and_audit<C: Audit>(shared: Shared<C>, seat: Seat<C>) -> Result<bool, AuditFault>
     requires { seat.object ≡ shared }
     ensures equal { IfOk result (λ equal. IsTrue equal) }
     ensures calls { IfOk result (λ equal. AreOfOne shared.opening (length seat.own) (length seat.view)) }
@@ -67,7 +63,7 @@ pub fn close_and_audit<C: Auditable>(shared: Shared<C>, seat: Seat<C>) -> Result
 }
 
 // Whether what the core tells is what the scans of its rows give.
-fn is_equal<C: Auditable>(core: &C) -> Result<bool, NoMemory>
+fn is_equal<C: Audit>(core: &C) -> Result<bool, NoMemory>
     ensures { IfOk result (λ equal. IsTrue equal) }
 {
     let due = core.due()?;
@@ -76,6 +72,6 @@ fn is_equal<C: Auditable>(core: &C) -> Result<bool, NoMemory>
     let flat = core.flat()?;
     // Told for the proof: the world is well formed, so the sums of its usage are within 64 bits.
     let _now = core.now();
-    usage_fits();
+    laws::usage_fits();
     audit(due.as_slice(), names.as_slice(), &usage, &flat)
 }

@@ -8,7 +8,7 @@ use crate::fault::StormFault;
 use crate::meet::Meet;
 use crate::plan::StormPlan;
 use crate::worker::work;
-use ele_model::Stepping;
+use ele_model::Step;
 use ele_shared_history::{Seat, Shared};
 use std::alloc::Global;
 use std::snapshot::Snapshot;
@@ -20,21 +20,21 @@ pub(crate) type Ended<C> = (Seat<C>, Result<(), StormFault>);
 
 // What is promised of the workers behind a seat.
 #[derive(Drop)]
-struct Half<C: Stepping> {
+struct Half<C: Step> {
     before: Snapshot<Seat<C>>,
     plan: StormPlan,
     from: u32,
     count: u32,
 }
 
-impl<C: Stepping> Promise<Ended<C>> for Half<C> {
+impl<C: Step> Promise<Ended<C>> for Half<C> {
     ghost kept_by = { λ p r. Runs p.plan p.from (p.from + p.count) p.before.value r.0 r.1 };
 }
 
 /// Runs so many workers from this number on: one by the seat, and more by halves, the left one by
 /// the seat and the right one by a seat that is split off, in a thread of its own. The left half's
 /// fault goes before the right's.
-pub(crate) fn run<C: Stepping + Send, R: Threads + Wait + Sync, M: Meet + Sync>(
+pub(crate) fn run<C: Step + Send, R: Threads + Wait + Sync, M: Meet + Sync>(
     rt: &R,
     alloc: Global,
     shared: &Shared<C>,
@@ -104,7 +104,7 @@ pub(crate) fn run<C: Stepping + Send, R: Threads + Wait + Sync, M: Meet + Sync>(
 }
 
 // Runs one worker by the seat.
-fn work_alone<C: Stepping, R: Wait, M: Meet>(
+fn work_alone<C: Step, R: Wait, M: Meet>(
     rt: &R,
     alloc: Global,
     shared: &Shared<C>,

@@ -10,7 +10,7 @@ use crate::halves::run;
 use crate::meet::Meet;
 use crate::plan::StormPlan;
 use crate::worker::make;
-use ele_model::{Event, Ladder, NoMemory, Path, Policy, Stepping};
+use ele_model::{Event, Ladder, NoMemory, Path, Policy, Step};
 use ele_shared_history::{Seat, Shared};
 use std::alloc::Global;
 use std::sync::Wait;
@@ -22,7 +22,7 @@ use std::thread::Threads;
 /// After a fault some of them were run, and it is that of the worker with the lowest number:
 /// `NoThread` of one that wasn't run since a thread was refused. One that waited for such a worker
 /// may be told before, as `Alone`.
-pub fn storm<C: Stepping + Send, R: Threads + Wait + Sync, M: Meet + Sync>(
+pub fn storm<C: Step + Send, R: Threads + Wait + Sync, M: Meet + Sync>(
     rt: &R,
     alloc: Global,
     shared: &Shared<C>,
@@ -45,7 +45,7 @@ pub fn storm<C: Stepping + Send, R: Threads + Wait + Sync, M: Meet + Sync>(
 }
 
 // Sets the policy of the root, and makes a file for each writer.
-fn prepare<C: Stepping, R: Wait>(
+fn prepare<C: Step, R: Wait>(
     rt: &R,
     alloc: Global,
     shared: &Shared<C>,

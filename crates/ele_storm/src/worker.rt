@@ -8,7 +8,7 @@ use crate::events::{bytes_of, file_now, file_of, first_version, handle_in};
 use crate::fault::StormFault;
 use crate::meet::{Meet, MeetEnd};
 use crate::plan::{StormPlan, Task};
-use ele_model::{Event, Reply, Source, Stepping};
+use ele_model::{Event, Reply, Source, Step};
 use ele_shared_history::{Seat, Shared};
 use std::alloc::Global;
 use std::sync::Wait;
@@ -19,7 +19,7 @@ use std::sync::Wait;
 ///
 /// After a fault it has made some of them: `Alone` where it arrived alone, and then none;
 /// `NoMemory` where memory was refused, `HistoryFull` where the history is full.
-pub fn work<C: Stepping, R: Wait, M: Meet>(
+pub fn work<C: Step, R: Wait, M: Meet>(
     rt: &R,
     alloc: Global,
     shared: &Shared<C>,
@@ -55,7 +55,7 @@ fn count_of(task: Task, rounds: u32) -> u64
 }
 
 // Makes the events of all rounds.
-fn run_rounds<C: Stepping, R: Wait>(
+fn run_rounds<C: Step, R: Wait>(
     rt: &R,
     alloc: Global,
     shared: &Shared<C>,
@@ -75,7 +75,7 @@ fn run_rounds<C: Stepping, R: Wait>(
 }
 
 // Makes the events of one round.
-fn run_round<C: Stepping, R: Wait>(
+fn run_round<C: Step, R: Wait>(
     rt: &R,
     alloc: Global,
     shared: &Shared<C>,
@@ -100,7 +100,7 @@ fn run_round<C: Stepping, R: Wait>(
 }
 
 // Writes the round's number over the writer's file, as the clock goes on by a second.
-fn write<C: Stepping, R: Wait>(
+fn write<C: Step, R: Wait>(
     rt: &R,
     alloc: Global,
     shared: &Shared<C>,
@@ -123,7 +123,7 @@ fn write<C: Stepping, R: Wait>(
 }
 
 // Asks for a writer's file, and reads its first version.
-fn look<C: Stepping, R: Wait>(
+fn look<C: Step, R: Wait>(
     rt: &R,
     alloc: Global,
     shared: &Shared<C>,
@@ -142,7 +142,7 @@ fn look<C: Stepping, R: Wait>(
 }
 
 /// Makes one event, whatever it is answered.
-pub(crate) fn make<C: Stepping, R: Wait>(
+pub(crate) fn make<C: Step, R: Wait>(
     rt: &R,
     shared: &Shared<C>,
     seat: &mut Seat<C>,
@@ -157,7 +157,7 @@ pub(crate) fn make<C: Stepping, R: Wait>(
 }
 
 // Makes one event, and answers the reply.
-fn ask<C: Stepping, R: Wait>(
+fn ask<C: Step, R: Wait>(
     rt: &R,
     shared: &Shared<C>,
     seat: &mut Seat<C>,

@@ -9,7 +9,7 @@ use Rattle.ele_printer.specs.Front.{AppendsFront}
 use Rattle.ele_printer.specs.Printed.{line_text}
 use Rattle.ele_runs.specs.Fault.{number_of, name_of}
 use Rattle.std.specs.List.{AllByRecursion}
-use Rattle.ele_runs.specs.Course.{Course}
+use Rattle.ele_runs.specs.RunState.{RunState}
 use Rattle.ele_runs.specs.LineLength.{line_unless_long}
 use Rattle.ele_runs.specs.Lines.{IsUnbroken, whole_lines}
 use Rattle.ele_runs.specs.Telling.{EndsBy, HasTold, ToldPastABound, ToldToAReadFault, ToldToAWriteFault}
@@ -21,7 +21,7 @@ use Rattle.ele_runs.specs.declared.fault.ShellFault.TheVariants.{ReadFault, Writ
 use Rattle.ele_words.specs.Ends.{HasRun, HasWritten, fault_line}
 
 -- what a run says of each of its ends
-pub has_run : (start : Course) (input rest old new notes : Option (List ℕ)) (r : Result RunEnd ShellFault) → IfOk r (λ end. HasTold start input rest old new notes end.lines end.ended_by)
+pub has_run : (start : RunState) (input rest old new notes : Option (List ℕ)) (r : Result RunEnd ShellFault) → IfOk r (λ end. HasTold start input rest old new notes end.lines end.ended_by)
     → (IsErrOf r ReadFault → ToldToAReadFault start input rest old new notes) → (IsErrOf r TooManyLines → ToldPastABound start input rest old new notes)
     → (IsErrOf r WriteFault → ToldToAWriteFault start input old new notes) → (IsErrOf r NoMemory → Keeps input rest × Keeps old new × Keeps start.notes notes)
     → HasRun start input rest old new notes r
@@ -39,14 +39,14 @@ pub whole_front : (old new : Option (List ℕ)) (bytes : List ℕ) → Appends o
 whole_front old new bytes is = record { front = bytes; back = []; parts = sym (append-nil bytes); written = is }
 
 -- the writer holds what it held before it was flushed
-kept_told : (start : Course) (n : ℕ) (ended_by : Option EndLine) (input rest old mid new notes : Option (List ℕ)) → HasTold start input rest old mid notes n ended_by → Keeps mid new
+kept_told : (start : RunState) (n : ℕ) (ended_by : Option EndLine) (input rest old mid new notes : Option (List ℕ)) → HasTold start input rest old mid notes n ended_by → Keeps mid new
     → HasTold start input rest old new notes n ended_by
 kept_told start n None input rest old mid new notes ran same = record {
   given = ran.given;
   lines = ran.lines;
   last = ran.last;
   text = ran.text;
-  course = ran.course;
+  run_state = ran.run_state;
   taken = ran.taken;
   at_end = ran.at_end;
   are = ran.are;
@@ -56,8 +56,8 @@ kept_told start n None input rest old mid new notes ran same = record {
   told = ran.told;
   goes_on = ran.goes_on;
   uncut = ran.uncut;
-  written = Appends-kept old mid new (ran.text ++ cut_told ran.course (line_unless_long ran.last)) ran.written same;
-  noted = ran.noted;
+  written = Appends-kept old mid new (ran.text ++ cut_told ran.run_state (line_unless_long ran.last)) ran.written same;
+  keeps_error = ran.keeps_error;
 }
 kept_told start n (Some end) input rest old mid new notes ran same = record {
   given = ran.given;
@@ -74,7 +74,7 @@ kept_told start n (Some end) input rest old mid new notes ran same = record {
   written = Appends-kept old mid new ran.text ran.written same;
 }
 
-kept : (start : Course) (input rest old mid new notes : Option (List ℕ)) (ended : Result RunEnd ShellFault) → HasRun start input rest old mid notes ended → Keeps mid new
+kept : (start : RunState) (input rest old mid new notes : Option (List ℕ)) (ended : Result RunEnd ShellFault) → HasRun start input rest old mid notes ended → Keeps mid new
     → HasRun start input rest old new notes ended
 kept start input rest old mid new notes (Ok end) ran same = kept_told start end.lines end.ended_by input rest old mid new notes ran same
 kept start input rest old mid new notes (Err ReadFault) ran same =
@@ -83,7 +83,7 @@ kept start input rest old mid new notes (Err ReadFault) ran same =
       lines = ran.lines;
       part = ran.part;
       text = ran.text;
-      course = ran.course;
+      run_state = ran.run_state;
       taken = ran.taken;
       are = ran.are;
       few_lines = ran.few_lines;
@@ -91,7 +91,7 @@ kept start input rest old mid new notes (Err ReadFault) ran same =
       told = ran.told;
       goes_on = ran.goes_on;
       written = Appends-kept old mid new ran.text ran.written same;
-      noted = ran.noted;
+      keeps_error = ran.keeps_error;
     }
 kept start input rest old mid new notes (Err TooManyLines) ran same =
     record {
@@ -100,7 +100,7 @@ kept start input rest old mid new notes (Err TooManyLines) ran same =
       lines = ran.lines;
       part = ran.part;
       text = ran.text;
-      course = ran.course;
+      run_state = ran.run_state;
       taken = ran.taken;
       are = ran.are;
       few_lines = ran.few_lines;
@@ -109,14 +109,14 @@ kept start input rest old mid new notes (Err TooManyLines) ran same =
       told = ran.told;
       goes_on = ran.goes_on;
       written = Appends-kept old mid new ran.text ran.written same;
-      noted = ran.noted;
+      keeps_error = ran.keeps_error;
     }
 kept start input rest old mid new notes (Err WriteFault) ran same =
     record {
       lines = ran.lines;
       rest = ran.rest;
       text = ran.text;
-      course = ran.course;
+      run_state = ran.run_state;
       input_is = ran.input_is;
       whole = ran.whole;
       told = ran.told;
@@ -168,69 +168,69 @@ front_of_kept : (old new : Option (List ℕ)) (bytes : List ℕ) → Keeps old n
 front_of_kept old new bytes same = record { front = []; back = bytes; parts = refl; written = Appends-kept old old new [] (Appends-nil old) same }
 
 -- a run that a line ended has got as far as one whose writer failed
-ended_write_fault : (start : Course) (is_cut : Bool) (input rest old new notes : Option (List ℕ)) (given : List ℕ) (lines : List (List ℕ)) (line text : List ℕ) → Consumes input rest given
+ended_write_fault : (start : RunState) (is_cut : Bool) (input rest old new notes : Option (List ℕ)) (given : List ℕ) (lines : List (List ℕ)) (line text : List ℕ) → Consumes input rest given
     → AllByRecursion IsUnbroken lines → IsUnbroken line → EndsBy is_cut start given rest lines line text notes → Appends old new text → ToldToAWriteFault start input old new notes
 ended_write_fault start false input rest old new notes given lines line text taken whole unbroken by written = record {
   lines = lines ++ line ∷ [];
   rest = by.behind ++ left rest;
   text = text;
-  course = by.course;
+  run_state = by.run_state;
   input_is = taken_is input rest given (whole_lines (lines ++ line ∷ [])) by.behind taken by.parts;
   whole = all_both IsUnbroken lines (line ∷ []) whole (unbroken, tt);
   told = by.are;
-  written = inl (whole_front old new text written, by.noted);
+  written = inl (whole_front old new text written, by.keeps_error);
 }
 ended_write_fault start true input rest old new notes given lines line text taken whole unbroken by written = record {
   lines = lines;
   rest = line;
   text = by.text;
-  course = by.course;
+  run_state = by.run_state;
   input_is = all_is input rest given (whole_lines lines) line taken by.at_end by.parts;
   whole = whole;
   told = by.are;
-  written = inr (unbroken, subst (AppendsFront old new) by.told_is (whole_front old new text written), front_of_kept by.course.notes notes _ by.noted);
+  written = inr (unbroken, subst (AppendsFront old new) by.told_is (whole_front old new text written), front_of_kept by.run_state.notes notes _ by.keeps_error);
 }
 
 -- so has one that ended in any way
-told_write_fault : (start : Course) (n : ℕ) (ended_by : Option EndLine) (input rest old new notes : Option (List ℕ)) → HasTold start input rest old new notes n ended_by → ToldToAWriteFault start input old new notes
+told_write_fault : (start : RunState) (n : ℕ) (ended_by : Option EndLine) (input rest old new notes : Option (List ℕ)) → HasTold start input rest old new notes n ended_by → ToldToAWriteFault start input old new notes
 told_write_fault start n None input rest old new notes ran =
     record {
       lines = ran.lines;
       rest = ran.last;
       text = ran.text;
-      course = ran.course;
+      run_state = ran.run_state;
       input_is = all_is input rest ran.given (whole_lines ran.lines) ran.last ran.taken ran.at_end ran.are.parts;
       whole = ran.are.whole;
       told = ran.told;
-      written = inr (ran.are.cut, whole_front old new (ran.text ++ cut_told ran.course (line_unless_long ran.last)) ran.written, ran.noted);
+      written = inr (ran.are.cut, whole_front old new (ran.text ++ cut_told ran.run_state (line_unless_long ran.last)) ran.written, ran.keeps_error);
     }
 told_write_fault start n (Some end) input rest old new notes ran =
     ended_write_fault start end.is_cut input rest old new notes ran.given ran.lines ran.line ran.text ran.taken ran.whole ran.unbroken ran.by ran.written
 
-as_write_fault : (start : Course) (input rest old new notes : Option (List ℕ)) (ended : Result RunEnd ShellFault) → HasRun start input rest old new notes ended → ToldToAWriteFault start input old new notes
+as_write_fault : (start : RunState) (input rest old new notes : Option (List ℕ)) (ended : Result RunEnd ShellFault) → HasRun start input rest old new notes ended → ToldToAWriteFault start input old new notes
 as_write_fault start input rest old new notes (Ok end) ran = told_write_fault start end.lines end.ended_by input rest old new notes ran
 as_write_fault start input rest old new notes (Err ReadFault) ran =
     record {
       lines = ran.lines;
       rest = ran.part ++ left rest;
       text = ran.text;
-      course = ran.course;
+      run_state = ran.run_state;
       input_is = taken_is input rest ran.given (whole_lines ran.lines) ran.part ran.taken ran.are.parts;
       whole = ran.are.whole;
       told = ran.told;
-      written = inl (whole_front old new ran.text ran.written, ran.noted);
+      written = inl (whole_front old new ran.text ran.written, ran.keeps_error);
     }
 as_write_fault start input rest old new notes (Err TooManyLines) ran =
     record {
       lines = ran.lines;
       rest = (ran.part ++ ran.byte ∷ []) ++ left rest;
       text = ran.text;
-      course = ran.course;
+      run_state = ran.run_state;
       input_is = taken_is input rest (ran.given ++ ran.byte ∷ []) (whole_lines ran.lines) (ran.part ++ ran.byte ∷ []) ran.taken
           (ap (λ (zs : List ℕ). zs ++ ran.byte ∷ []) ran.are.parts ∙ append_assoc (whole_lines ran.lines) ran.part (ran.byte ∷ []));
       whole = ran.are.whole;
       told = ran.told;
-      written = inl (whole_front old new ran.text ran.written, ran.noted);
+      written = inl (whole_front old new ran.text ran.written, ran.keeps_error);
     }
 as_write_fault start input rest old new notes (Err WriteFault) ran = ran
 as_write_fault start input rest old new notes (Err NoMemory) ran =
@@ -238,7 +238,7 @@ as_write_fault start input rest old new notes (Err NoMemory) ran =
       lines = [];
       rest = left input;
       text = [];
-      course = start;
+      run_state = start;
       input_is = untaken input;
       whole = tt;
       told = (refl, refl);
@@ -246,7 +246,7 @@ as_write_fault start input rest old new notes (Err NoMemory) ran =
     }
 
 -- a run, and then a flush
-pub run_flushed : (start : Course) (input rest old mid new notes : Option (List ℕ)) (ran : Result RunEnd ShellFault) (is_flushed : Bool) (ended : Result RunEnd ShellFault)
+pub run_flushed : (start : RunState) (input rest old mid new notes : Option (List ℕ)) (ran : Result RunEnd ShellFault) (is_flushed : Bool) (ended : Result RunEnd ShellFault)
     → HasRun start input rest old mid notes ran → Keeps mid new → ended ≡ (if is_flushed then ran else Err WriteFault) → HasRun start input rest old new notes ended
 run_flushed start input rest old mid new notes ran true ended has same is = rw is (kept start input rest old mid new notes ran has same)
 run_flushed start input rest old mid new notes ran false ended has same is =

@@ -3,7 +3,7 @@ use Rattle.std.specs.Prelude.{◌≡◌, ℕ, Bool, List, string_bytes, Option, 
 use Rattle.std.specs.Io.KnownBytes.{Appends, Keeps}
 use Rattle.ele_printer.specs.Front.{AppendsFront}
 use Rattle.ele_history.specs.Past.{fresh}
-use Rattle.ele_runs.specs.Course.{begun}
+use Rattle.ele_runs.specs.RunState.{begun}
 use Rattle.ele_runs.specs.declared.fault.ShellFault.{ShellFault}
 use Rattle.ele_runs.specs.declared.fault.ShellFault.TheVariants.{ReadFault, WriteFault, TooManyLines, NoMemory}
 pub use Rattle.ele_words.specs.Status.{fault_line, Tells}
@@ -11,8 +11,8 @@ use Rattle.ele_words.specs.Status.{status_of}
 use Rattle.ele_words.specs.Forecasts.{ForecastEnds}
 pub use Rattle.ele_words.specs.RunEnds.{HasRun, RunEnds}
 use Rattle.ele_words.specs.Progress.{EndsWatched}
-use Rattle.ele_words.specs.declared.asked.Asked.{Asked}
-use Rattle.ele_words.specs.declared.asked.Asked.TheVariants as asked
+use Rattle.ele_words.specs.declared.invocation.Invocation.{Invocation}
+use Rattle.ele_words.specs.declared.invocation.Invocation.TheVariants as invocation
 
 -- help, by the fault that ended it: all of it was written, or a front
 abbrev pub HasWritten : List ℕ → Option (List ℕ) → Option (List ℕ) → Option ShellFault → Type 0
@@ -30,14 +30,14 @@ pub record Ends (Done : Option ShellFault → Type 0) (before after : Option (Li
   pub told : Tells fault before after
 
 -- by what was asked for; words that weren't understood are told with status 2
-abbrev pub EndsWith : Asked → Bool → Option (List ℕ) → Option (List ℕ) → Option (List ℕ) → Option (List ℕ) → Option (List ℕ) → Option (List ℕ) → ℕ → Type 0
-EndsWith (asked.Run limits manner) watched input rest old new before after status =
-    RunEnds (begun manner (fresh limits) before) input rest old new after status
-EndsWith (asked.Storm plan) watched input rest old new before after status = Keeps input rest × EndsWatched watched plan old new before after status
-EndsWith (asked.Forecast ask) watched input rest old new before after status = ForecastEnds ask input rest old new before after status
-EndsWith (asked.Help text) watched input rest old new before after status =
+abbrev pub EndsWith : Invocation → Bool → Option (List ℕ) → Option (List ℕ) → Option (List ℕ) → Option (List ℕ) → Option (List ℕ) → Option (List ℕ) → ℕ → Type 0
+EndsWith (invocation.Run limits options) watched input rest old new before after status =
+    RunEnds (begun options (fresh limits) before) input rest old new after status
+EndsWith (invocation.Storm plan) watched input rest old new before after status = Keeps input rest × EndsWatched watched plan old new before after status
+EndsWith (invocation.Forecast ask) watched input rest old new before after status = ForecastEnds ask input rest old new before after status
+EndsWith (invocation.Help text) watched input rest old new before after status =
     Keeps input rest × Ends (HasWritten (string_bytes text) old new) before after status
-EndsWith (asked.NotUnderstood text) watched input rest old new before after status =
+EndsWith (invocation.NotUnderstood text) watched input rest old new before after status =
     Keeps input rest × Keeps old new × AppendsFront before after (string_bytes text) × (status ≡ 2)
-EndsWith asked.NoMemory watched input rest old new before after status =
+EndsWith invocation.NoMemory watched input rest old new before after status =
     Keeps input rest × Keeps old new × AppendsFront before after (fault_line NoMemory) × (status ≡ 3)

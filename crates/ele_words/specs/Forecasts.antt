@@ -5,7 +5,7 @@ use Rattle.ele_printer.specs.Front.{AppendsFront}
 use Rattle.ele_runs.specs.declared.fault.ShellFault.TheVariants as shell
 use Rattle.ele_outlook.specs.Foretold.{Foretells}
 use Rattle.ele_outlook.specs.Input.{bad_text}
-use Rattle.ele_outlook.specs.declared.ask.Ask.{Ask}
+use Rattle.ele_outlook.specs.declared.options.ForecastOptions.{ForecastOptions}
 use Rattle.ele_outlook.specs.declared.fault.ForecastFault.{ForecastFault}
 use Rattle.ele_outlook.specs.declared.fault.ForecastFault.TheVariants.{ReadFault, BadInput, TooMany, WriteFault, NoMemory}
 use Rattle.ele_words.specs.Status.{fault_line}
@@ -31,7 +31,7 @@ TellsForecast (Ok _) before after status = Keeps before after × (status ≡ 0)
 TellsForecast (Err fault) before after status = AppendsFront before after (forecast_line fault) × (status ≡ forecast_status fault)
 
 -- the closings that were read were told, up to a fault or to the end
-pub record ForecastEnds (ask : Ask) (input rest old new before after : Option (List ℕ)) (status : ℕ) : Type 0 where
+pub record ForecastEnds (ask : ForecastOptions) (input rest old new before after : Option (List ℕ)) (status : ℕ) : Type 0 where
   pub ended : Result (Unit {0}) ForecastFault
   pub foretold : Foretells ask input rest old new ended
   pub told : TellsForecast ended before after status

@@ -1,4 +1,4 @@
-pub mod Asked
+pub mod Invocation
 pub mod Ends
 pub mod Forecasts
 pub mod Progress

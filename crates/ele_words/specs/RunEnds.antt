@@ -2,12 +2,12 @@
 use Rattle.std.specs.Prelude.{◌≡◌, ℕ, List, Option, Result, Ok, Err}
 use Rattle.std.specs.Io.KnownBytes.{Keeps}
 use Rattle.ele_printer.specs.Front.{AppendsFront}
-use Rattle.ele_runs.specs.Course.{Course}
+use Rattle.ele_runs.specs.RunState.{RunState}
 use Rattle.ele_runs.specs.Telling.{HasTold, ToldPastABound, ToldToAReadFault, ToldToAWriteFault}
 use Rattle.ele_runs.specs.declared.end.RunEnd.{RunEnd}
 use Rattle.ele_runs.specs.declared.fault.ShellFault.{ShellFault}
 use Rattle.ele_runs.specs.declared.fault.ShellFault.TheVariants.{ReadFault, WriteFault, TooManyLines, NoMemory}
-use Rattle.ele_runs.specs.declared.manner.Manner.{Manner}
+use Rattle.ele_runs.specs.declared.options.RunOptions.{RunOptions}
 use Rattle.ele_words.specs.Status.{fault_status}
 use Rattle.ele_words.specs.StrictEnd.{TellsEnd, end_status}
 use Rattle.ele_words.specs.SystemReason.{IsReasonOf, failed_line}
@@ -15,7 +15,7 @@ use Rattle.ele_words.specs.declared.system_reason.SystemReason.{SystemReason}
 
 -- what a run has done, by how it ended, and `notes`, what stood at the other writer then; without memory nothing was read or
 -- written
-abbrev pub HasRun : Course → Option (List ℕ) → Option (List ℕ) → Option (List ℕ) → Option (List ℕ) → Option (List ℕ) → Result RunEnd ShellFault → Type 0
+abbrev pub HasRun : RunState → Option (List ℕ) → Option (List ℕ) → Option (List ℕ) → Option (List ℕ) → Option (List ℕ) → Result RunEnd ShellFault → Type 0
 HasRun start input rest old new notes (Ok end) = HasTold start input rest old new notes end.lines end.ended_by
 HasRun start input rest old new notes (Err ReadFault) = ToldToAReadFault start input rest old new notes
 HasRun start input rest old new notes (Err TooManyLines) = ToldPastABound start input rest old new notes
@@ -27,15 +27,15 @@ run_status (Ok end) = end_status end.ended_by
 run_status (Err fault) = fault_status fault
 
 -- which line ended it was told, or which fault, and why the system failed to read or to write, where that is known
-abbrev pub TellsRun : Manner → Result RunEnd ShellFault → Option (List ℕ) → Option (List ℕ) → Type 0
-TellsRun manner (Ok end) before after = TellsEnd manner end.lines end.ended_by before after
-TellsRun manner (Err fault) before after =
+abbrev pub TellsRun : RunOptions → Result RunEnd ShellFault → Option (List ℕ) → Option (List ℕ) → Type 0
+TellsRun options (Ok end) before after = TellsEnd options end.lines end.ended_by before after
+TellsRun options (Err fault) before after =
     (why : Option SystemReason) × IsReasonOf fault why × AppendsFront before after (failed_line fault why)
 
 -- a run was done up to an end, which was told behind the reasons of bad lines
-pub record RunEnds (start : Course) (input rest old new after : Option (List ℕ)) (status : ℕ) : Type 0 where
+pub record RunEnds (start : RunState) (input rest old new after : Option (List ℕ)) (status : ℕ) : Type 0 where
   pub ended : Result RunEnd ShellFault
   pub notes : Option (List ℕ)
   pub done : HasRun start input rest old new notes ended
   pub status_is : status ≡ run_status ended
-  pub told : TellsRun start.manner ended notes after
+  pub told : TellsRun start.options ended notes after

@@ -5,8 +5,8 @@ ghost use Rattle.ele_printer.specs.Front.{AppendsFront};
 ghost use Rattle.ele_outlook.specs.Input.{bad_text};
 ghost use Rattle.ele_words.specs.Forecasts.{ForecastEnds, forecast_line, forecast_status};
 
-use crate::ends::tell;
-use ele_outlook::{Ask, BadLine, ForecastFault, foretell, write_bad_line};
+use crate::dispatch::tell;
+use ele_outlook::{BadLine, ForecastFault, ForecastOptions, write_bad_line, write_forecast};
 use ele_printer::put;
 use ele_runs::ShellFault;
 use std::alloc::Global;
@@ -16,7 +16,7 @@ use std::io::{Read, Write};
 /// status that the program ends with.
 pub(crate) fn run_forecast<R: Read, W: Write, E: Write>(
     alloc: Global,
-    ask: &Ask,
+    ask: &ForecastOptions,
     reader: &mut R,
     writer: &mut W,
     errors: &mut E,
@@ -25,7 +25,7 @@ pub(crate) fn run_forecast<R: Read, W: Write, E: Write>(
         (W.contents writer.old) (W.contents writer.new)
         (E.contents errors.old) (E.contents errors.new) result }
 {
-    match foretell(alloc, ask, reader, writer) {
+    match write_forecast(alloc, ask, reader, writer) {
         Ok(()) => 0,
         Err(fault) => tell_fault(fault, errors),
     }

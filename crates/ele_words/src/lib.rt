@@ -2,16 +2,16 @@
 //! A contract sees the limits of a run, how it ended, what the ends hold then, and the status.
 #![tactic(auto)]
 
-mod asked;
-mod ends;
+mod dispatch;
 mod forecasting;
-mod noted;
+mod invocation;
+mod keeps_error;
 mod storming;
 mod strict;
 mod system_reason;
 mod watched;
 
-pub use asked::{Asked, no_words, words};
-pub use ends::answer;
-pub use noted::{Failing, Noted};
+pub use dispatch::dispatch;
+pub use invocation::{Invocation, unreadable_args, words};
+pub use keeps_error::{KeepsError, LastError};
 pub use system_reason::SystemReason;

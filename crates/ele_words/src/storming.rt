@@ -7,9 +7,9 @@ ghost use Rattle.ele_words.specs.Progress.{EndsWatched};
 ghost use Rattle.ele_words.specs.Storms.{HasStormed, HasTold, TellsEnd, TellsStorm, audit_word, storm_fault_line, storm_line, storm_status};
 ghost use Rattle.ele_words.specs.Watched.{Watched};
 
-use crate::ends::{tell, write_text};
+use crate::dispatch::{tell, write_text};
 use crate::watched::watch_storm;
-use ele_model::{Auditable, Limits};
+use ele_model::{Audit, Limits};
 use ele_runs::ShellFault;
 use ele_script::write_named;
 use ele_storm::{AuditFault, Flags, StormFault, StormPlan, storm_and_audit};
@@ -25,7 +25,7 @@ const MOST_LOOKS: u64 = 10_000_000;
 /// Runs the storm over a fresh core of the largest limits, audits it, and tells how many events it
 /// ran and whether the audit found all equal. Where it is watched it also tells how far it is while
 /// it runs, at the writer of faults. The result is the status that the program ends with.
-pub(crate) fn run_storm<C: Auditable + Send, T: Threads + Wait + Clock + Sync, W: Write, E: Write>(
+pub(crate) fn run_storm<C: Audit + Send, T: Threads + Wait + Clock + Sync, W: Write, E: Write>(
     rt: &T,
     alloc: Global,
     plan: &StormPlan,
@@ -61,7 +61,7 @@ fn tell_ended<W: Write, E: Write>(
 }
 
 // Runs the storm, audits what its core tells, and tells meanwhile how far it is.
-fn storm_and_watch<C: Auditable + Send, T: Threads + Wait + Clock + Sync, E: Write>(
+fn storm_and_watch<C: Audit + Send, T: Threads + Wait + Clock + Sync, E: Write>(
     rt: &T,
     alloc: Global,
     plan: &StormPlan,
@@ -74,7 +74,7 @@ fn storm_and_watch<C: Auditable + Send, T: Threads + Wait + Clock + Sync, E: Wri
 }
 
 // Runs the storm, and audits what its core tells.
-fn storm_and_look<C: Auditable + Send, T: Threads + Wait + Sync>(
+fn storm_and_look<C: Audit + Send, T: Threads + Wait + Sync>(
     rt: &T,
     alloc: Global,
     plan: &StormPlan,

@@ -5,22 +5,27 @@ ghost use Rattle.ele_printer.specs.Front.{AppendsFront};
 ghost use Rattle.ele_runs.specs.WhyBad.{why_line};
 ghost use Rattle.ele_words.specs.StrictEnd.{IsWhyEnded, TellsEnd, end_line, end_status, shown};
 
-use ele_runs::{EndLine, LineBuffer, Manner, RunEnd, tell_why, why_bad, why_cut};
+use ele_runs::{EndLine, LineBuffer, RunEnd, RunOptions, tell_why, why_bad, why_cut};
 use ele_script::{Reason, write_placed};
 use std::alloc::Global;
 use std::io::Write;
 
 /// Tells which line ended a strict run, if one did, and why it is no command, if it is none. The
 /// result is the status to end with.
-pub(crate) fn tell_end<E: Write>(alloc: Global, manner: Manner, ran: &RunEnd, errors: &mut E) -> u8
+pub(crate) fn report_end<E: Write>(
+    alloc: Global,
+    options: RunOptions,
+    ran: &RunEnd,
+    errors: &mut E,
+) -> u8
     ensures status { result ≡ end_status ran.now.ended_by }
-    ensures told { TellsEnd manner ran.now.lines ran.now.ended_by (E.contents errors.old)
+    ensures told { TellsEnd options ran.now.lines ran.now.ended_by (E.contents errors.old)
         (E.contents errors.new) }
 {
     let Some(end) = &ran.ended_by else {
         return 0;
     };
-    let why = why_ended(alloc, manner, end);
+    let why = why_ended(alloc, options, end);
     tell_line(alloc, ran.lines, &end.line, why, errors);
     let _ = errors.flush();
     5
@@ -55,11 +60,11 @@ fn shown(line: &LineBuffer) -> &[u8]
 }
 
 // Why the line that ended a run is no command, where that is told.
-fn why_ended(alloc: Global, manner: Manner, end: &EndLine) -> Option<Reason>
-    ensures { IsWhyEnded end.now.is_cut manner end.now.line result }
+fn why_ended(alloc: Global, options: RunOptions, end: &EndLine) -> Option<Reason>
+    ensures { IsWhyEnded end.now.is_cut options end.now.line result }
 {
     if end.is_cut {
         return why_cut(end.line.line());
     }
-    why_bad(alloc, manner, end.line.line())
+    why_bad(alloc, options, end.line.line())
 }

@@ -6,7 +6,7 @@ ghost use Rattle.ele_printer.specs.Front.{AppendsFront};
 ghost use Rattle.ele_words.specs.Status.{fault_status};
 ghost use Rattle.ele_words.specs.SystemReason.{failed_line, fault_front, system_text};
 
-use crate::ends::{status, tell};
+use crate::dispatch::{status, tell};
 use ele_runs::ShellFault;
 use ele_script::write_placed;
 use std::io;
@@ -55,7 +55,7 @@ pub(crate) fn system_reason(error: &io::Error) -> Option<SystemReason>
 
 /// Tells the fault as its number and its name, and why the system failed, if it told. The result is
 /// the status to end with.
-pub(crate) fn tell_failed<E: Write>(
+pub(crate) fn report_error<E: Write>(
     fault: ShellFault,
     why: Option<SystemReason>,
     errors: &mut E,

@@ -9,7 +9,7 @@ ghost use Rattle.ele_shared_history.specs.Knowledge.{Looked, count_seen};
 ghost use Rattle.ele_words.specs.Progress.{ShowsProgress, progress_line};
 ghost use Rattle.ele_words.specs.Watched.{Stormed, Watched};
 
-use ele_model::{Auditable, Limits, Stepping};
+use ele_model::{Audit, Limits, Step};
 use ele_script::{WriteFault, write_placed};
 use ele_shared_history::{Seat, Shared};
 use ele_storm::{AuditFault, Flags, StormFault, StormPlan, close_and_audit, share_fresh, storm};
@@ -60,19 +60,19 @@ type Ended<C> = (Seat<C>, Result<u64, StormFault>);
 
 // What is promised of a storm by a seat.
 #[derive(Drop)]
-struct Storming<C: Stepping> {
+struct Storming<C: Step> {
     before: Snapshot<Seat<C>>,
     plan: StormPlan,
 }
 
-impl<C: Stepping> Promise<Ended<C>> for Storming<C> {
+impl<C: Step> Promise<Ended<C>> for Storming<C> {
     ghost kept_by = { λ p r. Stormed p.plan p.before.value r.0 r.1 };
 }
 
 /// Runs the storm over a fresh core of the largest limits, and audits it. Meanwhile it tells how many
 /// events were answered: nothing in the first second, and then ten lines a second at most. Once a
 /// line can't be written no more are.
-pub(crate) fn watch_storm<C: Auditable + Send, R: Threads + Wait + Clock + Sync, E: Write>(
+pub(crate) fn watch_storm<C: Audit + Send, R: Threads + Wait + Clock + Sync, E: Write>(
     rt: &R,
     alloc: Global,
     plan: &StormPlan,
@@ -94,7 +94,7 @@ pub(crate) fn watch_storm<C: Auditable + Send, R: Threads + Wait + Clock + Sync,
 
 // Runs the storm by the seat in a thread of its own, and tells by the watcher's how far it is. Where
 // that thread is refused the storm runs in this one, and nothing is told.
-fn run_watched<C: Stepping + Send, R: Threads + Wait + Clock + Sync, E: Write>(
+fn run_watched<C: Step + Send, R: Threads + Wait + Clock + Sync, E: Write>(
     rt: &R,
     alloc: Global,
     shared: &Shared<C>,
@@ -145,17 +145,17 @@ fn run_watched<C: Stepping + Send, R: Threads + Wait + Clock + Sync, E: Write>(
             }
         },
     );
-    take_back(errors);
+    end_borrow(errors);
     (watcher, ended)
 }
 
 // Does nothing, but this use of a returned reference ties it to the parameter that lent it.
-fn take_back<E>(errors: &mut E)
+fn end_borrow<E>(errors: &mut E)
     ensures { errors.new ≡ errors.old }
 {}
 
 // Runs the storm by the seat, and then rings.
-fn run_and_ring<C: Stepping + Send, R: Threads + Wait + Sync>(
+fn run_and_ring<C: Step + Send, R: Threads + Wait + Sync>(
     rt: &R,
     alloc: Global,
     shared: &Shared<C>,
@@ -173,7 +173,7 @@ fn run_and_ring<C: Stepping + Send, R: Threads + Wait + Sync>(
 }
 
 // Tells how far the storm is until the bell rings, or until a line can't be written.
-fn tell_until<C: Stepping, R: Wait + Clock, E: Write>(
+fn tell_until<C: Step, R: Wait + Clock, E: Write>(
     rt: &R,
     shared: &Shared<C>,
     mut seat: Seat<C>,
@@ -199,7 +199,7 @@ fn tell_until<C: Stepping, R: Wait + Clock, E: Write>(
 }
 
 // Tells how many events were answered by now.
-fn tell_next<C: Stepping, E: Write>(
+fn tell_next<C: Step, E: Write>(
     shared: &Shared<C>,
     seat: &mut Seat<C>,
     errors: &mut E,

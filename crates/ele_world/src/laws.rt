@@ -34,14 +34,14 @@ pub mod tree;
 pub use ele_model::laws::{
     always_well_formed, fresh_is_well_formed, readers_stay, step_keeps_well_formed, usage_fits,
 };
-use ele_policy::laws::policies_are_lawful;
+use ele_policy::laws;
 
 /// A change that may be made leaves a well-formed world well formed.
 #[tactic(auto, using(ele_model::proofs::Keeps::change_keeps_well_formed))]
 pub fn change_keeps_well_formed()
     ensures { ChangeKeepsWellFormed }
 {
-    policies_are_lawful();
+    laws::policies_are_lawful();
 }
 
 /// An event that is refused changes nothing.
@@ -60,56 +60,56 @@ pub fn asking_stays()
 pub fn make_dir_leads()
     ensures { MakeDirLeads }
 {
-    policies_are_lawful();
+    laws::policies_are_lawful();
 }
 
 /// After a rmdir its path leads nowhere.
 pub fn remove_dir_ends()
     ensures { RemoveDirEnds }
 {
-    policies_are_lawful();
+    laws::policies_are_lawful();
 }
 
 /// After a create its path leads to the new file, whose current version is empty.
 pub fn create_leads()
     ensures { CreateLeads }
 {
-    policies_are_lawful();
+    laws::policies_are_lawful();
 }
 
 /// After a link both paths lead to the file.
 pub fn link_leads()
     ensures { LinkLeads }
 {
-    policies_are_lawful();
+    laws::policies_are_lawful();
 }
 
 /// After a rename the new path leads where the old one led, the old one leads nowhere, and no version has changed.
 pub fn rename_leads()
     ensures { RenameLeads }
 {
-    policies_are_lawful();
+    laws::policies_are_lawful();
 }
 
 /// After an unlink its path leads nowhere, and a file without another live name has no current version.
 pub fn unlink_ends()
     ensures { UnlinkEnds }
 {
-    policies_are_lawful();
+    laws::policies_are_lawful();
 }
 
 /// After an undelete its path leads to what the name last stood for, and a version that it made has the cells of the last.
 pub fn undelete_leads()
     ensures { UndeleteLeads }
 {
-    policies_are_lawful();
+    laws::policies_are_lawful();
 }
 
 /// An event leaves no file of which nothing is left: no live name, no held version and no draft.
 pub fn no_idle_stays()
     ensures { NoIdleStays }
 {
-    policies_are_lawful();
+    laws::policies_are_lawful();
 }
 
 /// After any list of events there is none.
@@ -117,49 +117,49 @@ pub fn no_idle_stays()
 pub fn no_idle_stays_in_runs()
     ensures { NoIdleStaysInRuns }
 {
-    policies_are_lawful();
+    laws::policies_are_lawful();
 }
 
 /// A close that tells of a version has made it of all that was written.
 pub fn close_keeps()
     ensures { CloseKeeps }
 {
-    policies_are_lawful();
+    laws::policies_are_lawful();
 }
 
 /// A version leaves only by a clean event in whose world it was due, and so neither open nor marked.
 pub fn only_due_leave()
     ensures { OnlyDueLeave }
 {
-    policies_are_lawful();
+    laws::policies_are_lawful();
 }
 
 /// A held version's opened, closed and cells never change, and its end is set at most once.
 pub fn held_stays()
     ensures { HeldStays }
 {
-    policies_are_lawful();
+    laws::policies_are_lawful();
 }
 
 /// A version that a handle reads never leaves.
 pub fn open_stays()
     ensures { OpenStays }
 {
-    policies_are_lawful();
+    laws::policies_are_lawful();
 }
 
 /// A marked version never leaves: one that was current at a mark of a group that has its file.
 pub fn marked_stays()
     ensures { MarkedStays }
 {
-    policies_are_lawful();
+    laws::policies_are_lawful();
 }
 
 /// A revert gives the file a current version with the cells of the one that was named.
 pub fn revert_keeps()
     ensures { RevertKeeps }
 {
-    policies_are_lawful();
+    laws::policies_are_lawful();
 }
 
 /// In every run, of all versions of a file that ever closed exactly one lived at each moment that a name of the file covers. A
@@ -168,7 +168,7 @@ pub fn revert_keeps()
 pub fn one_life()
     ensures { OneLife }
 {
-    policies_are_lawful();
+    laws::policies_are_lawful();
 }
 
 /// After any list of events on a well-formed world no two versions of a file that stood in the run lived at one moment, and one
@@ -176,7 +176,7 @@ pub fn one_life()
 pub fn one_life_from()
     ensures { OneLifeFrom }
 {
-    policies_are_lawful();
+    laws::policies_are_lawful();
 }
 
 /// A read of a held version gives the bytes that it had when it closed, whatever events came since.
@@ -184,7 +184,7 @@ pub fn one_life_from()
 pub fn reads_as_closed()
     ensures { ReadsAsClosed }
 {
-    policies_are_lawful();
+    laws::policies_are_lawful();
 }
 
 /// So it is in every run.
@@ -192,21 +192,21 @@ pub fn reads_as_closed()
 pub fn reads_as_closed_in_runs()
     ensures { ReadsAsClosedInRuns }
 {
-    policies_are_lawful();
+    laws::policies_are_lawful();
 }
 
 /// An undisturbed finished pass leaves exactly the versions that the scan at its start kept.
 pub fn pass_leaves_kept()
     ensures { PassLeavesKept }
 {
-    policies_are_lawful();
+    laws::policies_are_lawful();
 }
 
 /// A held version is due from its ripe moment on, and never where it has none.
 pub fn due_from_ripe()
     ensures { DueFromRipe }
 {
-    policies_are_lawful();
+    laws::policies_are_lawful();
 }
 
 /// The ripe moment of a held version that has ended and isn't protected is what `ripe` of `ele_policy` answers of it and of the
@@ -214,19 +214,19 @@ pub fn due_from_ripe()
 pub fn ripe_is_answered()
     ensures { RipeIsAnswered }
 {
-    policies_are_lawful();
+    laws::policies_are_lawful();
 }
 
 /// Whichever due version is removed, the due versions afterwards are those before without it.
 pub fn removal_order()
     ensures { RemovalOrder }
 {
-    policies_are_lawful();
+    laws::policies_are_lawful();
 }
 
 /// Where the first due version is removed, no other version's ripe moment changes.
 pub fn clean_keeps_keys()
     ensures { CleanKeepsKeys }
 {
-    policies_are_lawful();
+    laws::policies_are_lawful();
 }

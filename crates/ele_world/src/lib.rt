@@ -6,10 +6,10 @@ pub mod laws;
 pub mod schedule;
 
 pub use ele_model::{
-    Auditable, ByteList, Cause, Cell, Counts, Cover, DeadName, DeadNameList, DirId, DirectoryRow,
-    DraftRow, Entry, Event, Explaining, Fate, FileId, FileRow, FileStat, Flat, Floor, GroupList,
+    Audit, ByteList, Cause, Cell, Counts, Cover, DeadName, DeadNameList, DirId, DirectoryRow,
+    DraftRow, Entry, Event, Explain, Fate, FileId, FileRow, FileStat, Flat, Floor, GroupList,
     GroupRow, Handle, HandleRow, Interval, Key, KeyList, Kind, Ladder, LimitNumbers, Limits,
     ListOf, MarkRow, Moment, Name, NameList, NameRow, NoMemory, PassEnd, Path, PathAt, Policy,
-    Reads, Refusal, Reply, Source, Stamps, StampsList, Stepping, Stop, Tag, TaggedPath, Target,
-    Usage, VersionNo, VersionRow, Which, audit,
+    Reads, Refusal, Reply, Source, Stamps, StampsList, Step, Stop, Tag, TaggedPath, Target, Usage,
+    VersionNo, VersionRow, Which, audit,
 };

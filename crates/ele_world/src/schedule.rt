@@ -6,35 +6,35 @@ ghost use Rattle.ele_world.specs.IdleLeave.{IdleLeave};
 ghost use Rattle.ele_world.specs.Lags.{CleanLags, LagsKeeps};
 ghost use Rattle.ele_world.specs.Schedule.{Schedule};
 
-use ele_policy::laws::policies_are_lawful;
+use ele_policy::laws;
 
 /// Whichever due versions are removed, the due versions afterwards are the others that were due, those kept are those kept
 /// before, and the world is well formed: so every order of removal ends in the same rows.
 pub fn any_due_leave()
     ensures { AnyDueLeave }
 {
-    policies_are_lawful();
+    laws::policies_are_lawful();
 }
 
 /// The same where the files of which nothing is left are dropped too; then each file has something left.
 pub fn idle_leave()
     ensures { IdleLeave }
 {
-    policies_are_lawful();
+    laws::policies_are_lawful();
 }
 
 /// A world that lags behind another keeps what the other keeps; once nothing is due in it, it has those versions alone.
 pub fn lags_keeps()
     ensures { LagsKeeps }
 {
-    policies_are_lawful();
+    laws::policies_are_lawful();
 }
 
 /// After a clean of it alone it still lags.
 pub fn clean_lags()
     ensures { CleanLags }
 {
-    policies_are_lawful();
+    laws::policies_are_lawful();
 }
 
 /// After an event made in both it still lags, and where the event doesn't only ask it is answered alike: any event but a clean,
@@ -42,7 +42,7 @@ pub fn clean_lags()
 pub fn event_lags()
     ensures { EventLags }
 {
-    policies_are_lawful();
+    laws::policies_are_lawful();
 }
 
 /// However clean events stand in a run of such events, from any well-formed world without groups, a finished pass at its end
@@ -50,5 +50,5 @@ pub fn event_lags()
 pub fn schedule()
     ensures { Schedule }
 {
-    policies_are_lawful();
+    laws::policies_are_lawful();
 }

@@ -3,10 +3,10 @@
 //! forecast` tells what becomes of the versions of a file that closed at the moments that it reads.
 #![tactic(auto)]
 
-ghost use Rattle.ele_words.specs.Asked.{IsAsked};
+ghost use Rattle.ele_words.specs.Invocation.{IsAsked};
 
 use ele_core::Core;
-use ele_words::{Asked, Noted, answer, no_words, words};
+use ele_words::{Invocation, KeepsError, dispatch, unreadable_args, words};
 use std::io::{IsTerminal, Write};
 use std::process::ExitCode;
 
@@ -14,37 +14,37 @@ const GREETING: &str = "elephant: each line is answered as it comes, and Ctrl-D 
     'elephant help script' tells the commands\n";
 
 // What the program's words ask for.
-fn asked_for(rt: &HostRuntime) -> Asked
+fn asked_for(rt: &HostRuntime) -> Invocation
     ensures { IsAsked result }
 {
     match std::env::args(rt) {
         Ok(arguments) => match arguments.collect::<Vec<String>>(rt.alloc()) {
             Ok(arguments) => words(rt.alloc(), arguments.as_slice()),
-            Err(_) => Asked::NoMemory,
+            Err(_) => Invocation::NoMemory,
         },
-        Err(error) => no_words(rt.alloc(), error.kind()),
+        Err(error) => unreadable_args(rt.alloc(), error.kind()),
     }
 }
 
 // A person at a terminal is told what a run waits for, on standard error alone.
-fn greet(rt: &HostRuntime, asked: &Asked) {
-    if matches!(asked, Asked::Run(_, _)) && rt.stdin().is_terminal() {
+fn greet(rt: &HostRuntime, invocation: &Invocation) {
+    if matches!(invocation, Invocation::Run(_, _)) && rt.stdin().is_terminal() {
         let _ = rt.stderr().write_all(GREETING.as_bytes());
     }
 }
 
 fn main(rt: HostRuntime) -> ExitCode {
-    let asked = asked_for(&rt);
-    greet(&rt, &asked);
-    let mut input = Noted::new(rt.stdin());
-    let mut output = Noted::new(rt.stdout());
+    let invocation = asked_for(&rt);
+    greet(&rt, &invocation);
+    let mut input = KeepsError::new(rt.stdin());
+    let mut output = KeepsError::new(rt.stdout());
     let mut errors = rt.stderr();
     // A person at a terminal is told how far a storm is.
     let watched = errors.is_terminal();
-    let status = answer::<Core, _, _, _, _>(
+    let status = dispatch::<Core, _, _, _, _>(
         &rt,
         rt.alloc(),
-        &asked,
+        &invocation,
         watched,
         &mut input,
         &mut output,

@@ -9,10 +9,9 @@ ghost use Rattle.ele_model.specs.Step.{step};
 ghost use Rattle.ele_model.specs.declared.event.Event.TheVariants as event;
 ghost use Rattle.empty_world.specs.Empty.{IsEmpty};
 
-use ele_model::laws::{fresh_is_well_formed, step_keeps_well_formed};
 use ele_model::{
-    Auditable, Counts, DeadNameList, DirId, DirectoryRow, Event, Explaining, Fate, Flat, KeyList,
-    Limits, ListOf, NoMemory, Refusal, Reply, Stepping,
+    Audit, Counts, DeadNameList, DirId, DirectoryRow, Event, Explain, Fate, Flat, KeyList, Limits,
+    ListOf, NoMemory, Refusal, Reply, Step, laws,
 };
 use ele_moment::Moment;
 use ele_path::{Path, Tag, TaggedPath};
@@ -44,7 +43,7 @@ const ROOT: DirId = DirId(0);
 
 impl EmptyWorld {
     // Says which world it is, and does nothing.
-    fn is_empty(&self)
+    fn lemma_empty(&self)
         ensures { IsEmpty self.entry.now }
     {
         let _now = self.now;
@@ -75,7 +74,7 @@ impl EmptyWorld {
     fn remove_dir(&self, path: &Path) -> Reply
         ensures { (result, self.entry.now) ≡ step self.entry.now (event.RemoveDir path.now) }
     {
-        self.is_empty();
+        self.lemma_empty();
         if path.names().is_empty() {
             return Reply::Refused(Refusal::IsRoot);
         }
@@ -86,7 +85,7 @@ impl EmptyWorld {
         ensures step { (result, self.new) ≡ step self.old (event.SetDefault path.now policy) }
         ensures valid { IsPolicy policy }
     {
-        policy.is_given();
+        policy.lemma_valid();
         if path.names().is_empty() {
             self.default = policy;
             return Reply::Done;
@@ -118,7 +117,7 @@ impl EmptyWorld {
     fn clean(&self) -> Reply
         ensures { (result, self.entry.now) ≡ step self.entry.now event.CleanOne }
     {
-        self.is_empty();
+        self.lemma_empty();
         Reply::Nothing
     }
 
@@ -126,7 +125,7 @@ impl EmptyWorld {
     fn usage(&self) -> Reply
         ensures { (result, self.entry.now) ≡ step self.entry.now event.UsageAll }
     {
-        self.is_empty();
+        self.lemma_empty();
         let nothing = Usage {
             files: 0,
             versions: 0,
@@ -137,7 +136,7 @@ impl EmptyWorld {
     }
 }
 
-impl Stepping for EmptyWorld {
+impl Step for EmptyWorld {
     ghost world = { λ w. w };
 
     fn fresh(alloc: Global, limits: Limits) -> Result<EmptyWorld, NoMemory> {
@@ -159,7 +158,7 @@ impl Stepping for EmptyWorld {
             Event::Stat(tagged) => Ok(self.stat(tagged)),
             Event::UsageAll => Ok(self.usage()),
             Event::SetPolicy(_, policy) => {
-                policy.is_given();
+                policy.lemma_valid();
                 Err(NoMemory)
             }
             _ => Err(NoMemory),
@@ -199,31 +198,31 @@ impl Stepping for EmptyWorld {
     fn now(&self) -> Moment {
         // Told for the proof: the moment and the policy come by events, which keep a world well
         // formed.
-        fresh_is_well_formed();
-        step_keeps_well_formed();
-        self.limits.are_within();
-        self.default.is_given();
+        laws::fresh_is_well_formed();
+        laws::step_keeps_well_formed();
+        self.limits.lemma_within();
+        self.default.lemma_valid();
         let _within = self.now.seconds();
         self.now
     }
 }
 
-impl Auditable for EmptyWorld {
+impl Audit for EmptyWorld {
     #[tactic(auto, using(crate::proofs::Nothing::nothing_due))]
     fn due(&self) -> Result<KeyList, NoMemory> {
-        self.is_empty();
+        self.lemma_empty();
         Ok(ListOf::new(self.alloc))
     }
 
     #[tactic(auto, using(crate::proofs::Nothing::nothing_returns))]
     fn restorable(&self) -> Result<DeadNameList, NoMemory> {
-        self.is_empty();
+        self.lemma_empty();
         Ok(ListOf::new(self.alloc))
     }
 
     #[tactic(auto, using(crate::proofs::Nothing::nothing_used))]
     fn usage(&self) -> [Usage; 4] {
-        self.is_empty();
+        self.lemma_empty();
         let nothing = Usage {
             files: 0,
             versions: 0,
@@ -234,7 +233,7 @@ impl Auditable for EmptyWorld {
     }
 }
 
-impl Explaining for EmptyWorld {
+impl Explain for EmptyWorld {
     fn fate_at(&self, tagged: &TaggedPath) -> Result<Fate, Refusal> {
         if let Tag::At(moment) = tagged.tag() {
             if self.now.seconds() < moment.seconds() {
@@ -249,7 +248,7 @@ impl Explaining for EmptyWorld {
 
     #[tactic(auto, using(crate::proofs::Nothing::nothing_ahead))]
     fn due_by(&self, moment: Moment) -> Result<KeyList, NoMemory> {
-        self.is_empty();
+        self.lemma_empty();
         Ok(ListOf::new(self.alloc))
     }
 }

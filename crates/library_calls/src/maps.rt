@@ -4,8 +4,7 @@ ghost use Rattle.ele_blocks.specs.Stock.{IsStocked};
 ghost use Rattle.ele_blocks.specs.Store.{no_blocks};
 ghost use Rattle.library_calls.specs.Maps.{one_map, two_maps};
 
-use ele_blocks::laws::stocks;
-use ele_blocks::{BlockMap, BlockStore};
+use ele_blocks::{BlockMap, BlockStore, laws};
 use ele_moment::VersionNo;
 use std::alloc::Global;
 use std::test::Fail;
@@ -17,7 +16,7 @@ fn map_of(alloc: Global, store: &mut BlockStore, bytes: &[u8]) -> Result<BlockMa
     requires fits { length bytes.now ≤ 1048576 }
     ensures { IfOk result (λ map. IsStocked store.new (one_map map)) }
 {
-    stocks();
+    laws::stocks();
     let mut map = BlockMap::new(alloc);
     map.write(store, VersionNo(1), 0, bytes)?;
     Ok(map)
@@ -29,7 +28,7 @@ fn copy_of(map: &BlockMap, store: &mut BlockStore) -> Result<BlockMap, Fail>
     requires { IsStocked store.old (one_map map.now) }
     ensures { IfOk result (λ copy. IsStocked store.new (two_maps copy map.now)) }
 {
-    stocks();
+    laws::stocks();
     Ok(map.copy(store)?)
 }
 
@@ -46,7 +45,7 @@ fn cut(
     requires fits { size ≤ 1048576 }
     ensures { OnOk result (IsStocked store.new (two_maps copy.new map.now)) }
 {
-    stocks();
+    laws::stocks();
     copy.truncate(store, VersionNo(2), size)?;
     let writer = copy.cell(store, 0).map(|cell| cell.0);
     Ok(([map.slots(), copy.slots()], writer, store.distinct()))
@@ -62,7 +61,7 @@ fn has_content(
 ) -> Result<bool, Fail>
     requires { IsStocked store.now (two_maps copy.now map.now) }
 {
-    stocks();
+    laws::stocks();
     let content = copy.content(store)?;
     Ok(map.slots() == 2 && content.as_slice() == bytes)
 }

@@ -2,8 +2,7 @@
 //! scripts.
 ghost use Rattle.std.specs.Prelude.{◌≡◌, None, IfOk};
 
-use ele_blocks::laws::stocks;
-use ele_blocks::{BlockMap, BlockStore};
+use ele_blocks::{BlockMap, BlockStore, laws};
 use ele_due::{DueQueue, Key};
 use ele_inode_log::{InodeLog, Meter, VersionRow};
 use ele_moment::{FileId, Handle, Moment, VersionNo};
@@ -35,7 +34,7 @@ fn a_block_goes_with_its_last_owner(rt: HostRuntime) -> Result<(), Fail> {
 
 #[test]
 fn a_copy_shares_its_leaves(rt: HostRuntime) -> Result<(), Fail> {
-    stocks();
+    laws::stocks();
     let mut store = BlockStore::new(rt.alloc());
     let mut map = BlockMap::new(rt.alloc());
     map.truncate(&mut store, VersionNo(1), 1_048_576)?;

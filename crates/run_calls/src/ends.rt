@@ -7,7 +7,7 @@ use std::io::{Error, ErrorKind, Read, Write};
 const INTERRUPTIONS: u8 = 100;
 
 /// A reader that gives a byte at a time, is interrupted before each, and ends in a failure where
-/// `fails` says so. Asked again it would tell of no failure, but that it is at its end.
+/// `fails` says so. Invocation again it would tell of no failure, but that it is at its end.
 #[derive(Drop)]
 pub struct SlowReader<'a> {
     rest: &'a [u8],

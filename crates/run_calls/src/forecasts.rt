@@ -1,9 +1,9 @@
 //! What the program tells of closings, and how it ends.
 use crate::ends::{Full, SlowReader, SlowWriter};
 use ele_moment::Moment;
-use ele_outlook::{Ask, Form};
+use ele_outlook::{ForecastOptions, Form};
 use ele_policy::{Ladder, Policy};
-use ele_words::{Asked, Noted, answer};
+use ele_words::{Invocation, KeepsError, dispatch};
 use empty_world::EmptyWorld;
 use std::alloc::Global;
 use std::io::{Read, Write};
@@ -49,12 +49,12 @@ at 2026-02-10T06:00:00Z stay 4: 8 9 11 12
 ";
 
 // A forecast under that policy, at the moments that these words spell.
-fn ask_about(alloc: Global, policy: Policy, words: &[&[u8]]) -> Result<Asked, Fail> {
+fn ask_about(alloc: Global, policy: Policy, words: &[&[u8]]) -> Result<Invocation, Fail> {
     let mut moments = Vec::new(alloc);
     for word in words {
         moments.push(Moment::read(word).map_err(|_| "not a moment")?)?;
     }
-    Ok(Asked::Forecast(Ask {
+    Ok(Invocation::Forecast(ForecastOptions {
         policy,
         moments,
         form: Form::Table,
@@ -62,20 +62,20 @@ fn ask_about(alloc: Global, policy: Policy, words: &[&[u8]]) -> Result<Asked, Fa
 }
 
 // What the program does, over a world that it doesn't ask.
-fn foretell<T: Threads + Wait + Clock + Sync, R: Read, W: Write>(
+fn write_forecast<T: Threads + Wait + Clock + Sync, R: Read, W: Write>(
     rt: &T,
     alloc: Global,
-    asked: &Asked,
+    invocation: &Invocation,
     reader: &mut R,
     writer: &mut W,
     errors: &mut Vec<u8>,
 ) -> u8 {
-    let mut reader = Noted::new(reader);
-    let mut writer = Noted::new(writer);
-    answer::<EmptyWorld, T, _, _, Vec<u8>>(
+    let mut reader = KeepsError::new(reader);
+    let mut writer = KeepsError::new(writer);
+    dispatch::<EmptyWorld, T, _, _, Vec<u8>>(
         rt,
         alloc,
-        asked,
+        invocation,
         false,
         &mut reader,
         &mut writer,
@@ -85,7 +85,7 @@ fn foretell<T: Threads + Wait + Clock + Sync, R: Read, W: Write>(
 
 #[test]
 fn twelve_closings_are_told_under_the_standard_ladder(rt: HostRuntime) -> Result<(), Fail> {
-    let asked = ask_about(
+    let invocation = ask_about(
         rt.alloc(),
         Policy::Landmarks(Ladder::standard()),
         &[
@@ -97,10 +97,10 @@ fn twelve_closings_are_told_under_the_standard_ladder(rt: HostRuntime) -> Result
     let mut reader = SlowReader::new(CLOSINGS, false);
     let mut writer = SlowWriter::new(rt.alloc(), 2_000, Full::Fails);
     let mut errors = Vec::new(rt.alloc());
-    let status = foretell(
+    let status = write_forecast(
         &rt,
         rt.alloc(),
-        &asked,
+        &invocation,
         &mut reader,
         &mut writer,
         &mut errors,
@@ -122,15 +122,15 @@ fn the_first_bad_line_is_told(rt: HostRuntime) -> Result<(), Fail> {
         (b"05", b"elephant: line 1 is not a moment\n"),
         (b"5\r\n", b"elephant: line 1 is not a moment\n"),
     ];
-    let asked = ask_about(rt.alloc(), Policy::One, &[])?;
+    let invocation = ask_about(rt.alloc(), Policy::One, &[])?;
     for (input, told) in cases {
         let mut reader = input;
         let mut writer = Vec::<u8>::new(rt.alloc());
         let mut errors = Vec::new(rt.alloc());
-        let status = foretell(
+        let status = write_forecast(
             &rt,
             rt.alloc(),
-            &asked,
+            &invocation,
             &mut reader,
             &mut writer,
             &mut errors,
@@ -144,14 +144,14 @@ fn the_first_bad_line_is_told(rt: HostRuntime) -> Result<(), Fail> {
 
 #[test]
 fn ends_that_fail_end_a_forecast(rt: HostRuntime) -> Result<(), Fail> {
-    let asked = ask_about(rt.alloc(), Policy::All, &[])?;
+    let invocation = ask_about(rt.alloc(), Policy::All, &[])?;
     let mut reader = SlowReader::new(b"5\n", true);
     let mut writer = Vec::<u8>::new(rt.alloc());
     let mut errors = Vec::new(rt.alloc());
-    let unread = foretell(
+    let unread = write_forecast(
         &rt,
         rt.alloc(),
-        &asked,
+        &invocation,
         &mut reader,
         &mut writer,
         &mut errors,
@@ -160,7 +160,14 @@ fn ends_that_fail_end_a_forecast(rt: HostRuntime) -> Result<(), Fail> {
     assert!(rt; writer.is_empty());
     let mut whole = SlowReader::new(b"5", false);
     let mut full = SlowWriter::new(rt.alloc(), 30, Full::TakesNothing);
-    let unwritten = foretell(&rt, rt.alloc(), &asked, &mut whole, &mut full, &mut errors);
+    let unwritten = write_forecast(
+        &rt,
+        rt.alloc(),
+        &invocation,
+        &mut whole,
+        &mut full,
+        &mut errors,
+    );
     assert_eq!(rt; unwritten, 1);
     assert_eq!(rt;
         full.taken.as_slice(),

@@ -10,12 +10,12 @@ use std::test::Fail;
 #[test]
 fn a_line_asks_for_its_event_or_for_something_else(rt: HostRuntime) {
     assert_eq!(rt; read_event(rt.alloc(), b"due"), Ok(Event::Due));
-    for (line, asked) in [
+    for (line, invocation) in [
         (b"pass 3".as_slice(), Line::Pass(3)),
         (b"history".as_slice(), Line::History),
         (b"trim".as_slice(), Line::Trim),
     ] {
-        assert_eq!(rt; read_line(rt.alloc(), line), Ok(asked));
+        assert_eq!(rt; read_line(rt.alloc(), line), Ok(invocation));
         assert_eq!(rt; read_event(rt.alloc(), line), Err(LineFault::Syntax));
     }
 }

@@ -1,8 +1,8 @@
 //! What a run tells beside the blocks of its bad lines.
 use crate::ends::{Full, SlowWriter};
 use ele_model::Limits;
-use ele_runs::{Manner, run_in};
-use ele_words::{Asked, Noted, answer};
+use ele_runs::{RunOptions, run_in};
+use ele_words::{Invocation, KeepsError, dispatch};
 use empty_world::EmptyWorld;
 use std::test::Fail;
 
@@ -20,12 +20,12 @@ elephant: line 4, word 2: a path begins with a slash\n\
 elephant: line 7, end: it has no line feed\n";
 
 /// With numbers, and lines that are explained.
-fn numbered(strict: bool) -> Manner {
-    Manner {
+fn numbered(strict: bool) -> RunOptions {
+    RunOptions {
         strict,
         numbers: true,
         explain: true,
-        ..Manner::plain()
+        ..RunOptions::plain()
     }
 }
 
@@ -73,14 +73,14 @@ fn a_writer_of_reasons_that_fails_ends_no_run(rt: HostRuntime) -> Result<(), Fai
 #[test]
 fn a_strict_run_with_numbers_tells_one_reason(rt: HostRuntime) -> Result<(), Fail> {
     let alloc = rt.alloc();
-    let mut reader = Noted::new(b"tick 3\nhello".as_slice());
-    let mut writer = Noted::new(Vec::<u8>::new(alloc));
+    let mut reader = KeepsError::new(b"tick 3\nhello".as_slice());
+    let mut writer = KeepsError::new(Vec::<u8>::new(alloc));
     let mut errors = Vec::<u8>::new(alloc);
-    let asked = Asked::Run(Limits::largest(), numbered(true));
-    let status = answer::<EmptyWorld, _, _, _, _>(
+    let invocation = Invocation::Run(Limits::largest(), numbered(true));
+    let status = dispatch::<EmptyWorld, _, _, _, _>(
         &rt,
         alloc,
-        &asked,
+        &invocation,
         false,
         &mut reader,
         &mut writer,

@@ -1,8 +1,8 @@
 //! What the program writes, and how it ends.
 use ele_model::Limits;
-use ele_runs::Manner;
+use ele_runs::RunOptions;
 use ele_storm::StormPlan;
-use ele_words::{Asked, Noted, answer};
+use ele_words::{Invocation, KeepsError, dispatch};
 use empty_world::EmptyWorld;
 use std::alloc::Global;
 use std::io;
@@ -52,14 +52,22 @@ impl Write for Late {
 fn do_over_empty<T: Threads + Wait + Clock + Sync, R: Read, W: Write, E: Write>(
     rt: &T,
     alloc: Global,
-    asked: &Asked,
+    invocation: &Invocation,
     reader: &mut R,
     writer: &mut W,
     errors: &mut E,
 ) -> u8 {
-    let mut reader = Noted::new(reader);
-    let mut writer = Noted::new(writer);
-    answer::<EmptyWorld, T, _, _, E>(rt, alloc, asked, false, &mut reader, &mut writer, errors)
+    let mut reader = KeepsError::new(reader);
+    let mut writer = KeepsError::new(writer);
+    dispatch::<EmptyWorld, T, _, _, E>(
+        rt,
+        alloc,
+        invocation,
+        false,
+        &mut reader,
+        &mut writer,
+        errors,
+    )
 }
 
 fn make_late(alloc: Global, fails: bool) -> Late {
@@ -74,12 +82,12 @@ fn make_late(alloc: Global, fails: bool) -> Late {
 fn an_empty_script_ends_well(rt: HostRuntime) {
     let mut writer = make_late(rt.alloc(), false);
     let mut errors = Vec::<u8>::new(rt.alloc());
-    let asked = Asked::Run(Limits::largest(), Manner::plain());
+    let invocation = Invocation::Run(Limits::largest(), RunOptions::plain());
     let mut reader = b"".as_slice();
     let status = do_over_empty(
         &rt,
         rt.alloc(),
-        &asked,
+        &invocation,
         &mut reader,
         &mut writer,
         &mut errors,
@@ -93,12 +101,12 @@ fn an_empty_script_ends_well(rt: HostRuntime) {
 fn a_run_that_ends_early_is_flushed_and_told(rt: HostRuntime) -> Result<(), Fail> {
     let mut writer = make_late(rt.alloc(), false);
     let mut errors = Vec::<u8>::new(rt.alloc());
-    let asked = Asked::Run(Limits::largest(), Manner::plain());
+    let invocation = Invocation::Run(Limits::largest(), RunOptions::plain());
     let mut reader = Broken(b"tick 5\n");
     let status = do_over_empty(
         &rt,
         rt.alloc(),
-        &asked,
+        &invocation,
         &mut reader,
         &mut writer,
         &mut errors,
@@ -113,12 +121,12 @@ fn a_run_that_ends_early_is_flushed_and_told(rt: HostRuntime) -> Result<(), Fail
 fn a_flush_that_fails_is_told(rt: HostRuntime) -> Result<(), Fail> {
     let mut writer = make_late(rt.alloc(), true);
     let mut errors = Vec::<u8>::new(rt.alloc());
-    let asked = Asked::Run(Limits::largest(), Manner::plain());
+    let invocation = Invocation::Run(Limits::largest(), RunOptions::plain());
     let mut reader = b"tick 5\n".as_slice();
     let status = do_over_empty(
         &rt,
         rt.alloc(),
-        &asked,
+        &invocation,
         &mut reader,
         &mut writer,
         &mut errors,
@@ -136,12 +144,12 @@ fn a_flush_that_fails_is_told(rt: HostRuntime) -> Result<(), Fail> {
 fn help_is_written_and_flushed(rt: HostRuntime) -> Result<(), Fail> {
     let mut writer = make_late(rt.alloc(), false);
     let mut errors = Vec::<u8>::new(rt.alloc());
-    let asked = Asked::Help(String::from_str(rt.alloc(), "so")?);
+    let invocation = Invocation::Help(String::from_str(rt.alloc(), "so")?);
     let mut reader = b"".as_slice();
     let status = do_over_empty(
         &rt,
         rt.alloc(),
-        &asked,
+        &invocation,
         &mut reader,
         &mut writer,
         &mut errors,
@@ -158,7 +166,7 @@ fn want_of_memory_and_words_are_told_at_the_other_end(rt: HostRuntime) -> Result
     let mut writer = Vec::<u8>::new(rt.alloc());
     let mut errors = Vec::<u8>::new(rt.alloc());
     let mut reader = b"".as_slice();
-    let wrong = Asked::NotUnderstood(String::from_str(rt.alloc(), "what?")?);
+    let wrong = Invocation::NotUnderstood(String::from_str(rt.alloc(), "what?")?);
     let status = do_over_empty(
         &rt,
         rt.alloc(),
@@ -171,7 +179,7 @@ fn want_of_memory_and_words_are_told_at_the_other_end(rt: HostRuntime) -> Result
     let none = do_over_empty(
         &rt,
         rt.alloc(),
-        &Asked::NoMemory,
+        &Invocation::NoMemory,
         &mut reader,
         &mut writer,
         &mut errors,
@@ -192,11 +200,11 @@ fn a_storm_without_memory_is_told(rt: HostRuntime) -> Result<(), Fail> {
     let mut errors = Vec::<u8>::new(rt.alloc());
     let mut reader = b"".as_slice();
     let plan = StormPlan::new(2, 1, 10).ok_or("there is such a plan")?;
-    let asked = Asked::Storm(plan);
+    let invocation = Invocation::Storm(plan);
     let status = do_over_empty(
         &rt,
         rt.alloc(),
-        &asked,
+        &invocation,
         &mut reader,
         &mut writer,
         &mut errors,
@@ -211,10 +219,10 @@ fn a_storm_without_memory_is_told(rt: HostRuntime) -> Result<(), Fail> {
 #[test]
 fn a_refused_why_ends_a_strict_run(rt: HostRuntime) -> Result<(), Fail> {
     let alloc = rt.alloc();
-    let manner = Manner {
+    let options = RunOptions {
         strict: true,
         explain: true,
-        ..Manner::plain()
+        ..RunOptions::plain()
     };
     let mut reader = b"tick 3\nahead 3\nwhy /f\nwhy /\n".as_slice();
     let mut writer = Vec::new(alloc);
@@ -222,7 +230,7 @@ fn a_refused_why_ends_a_strict_run(rt: HostRuntime) -> Result<(), Fail> {
     let status = do_over_empty(
         &rt,
         alloc,
-        &Asked::Run(Limits::largest(), manner),
+        &Invocation::Run(Limits::largest(), options),
         &mut reader,
         &mut writer,
         &mut errors,

@@ -1,12 +1,12 @@
 //! What the program's words ask for.
 use ele_policy::Policy;
-use ele_runs::Manner;
-use ele_words::{Asked, no_words, words};
+use ele_runs::RunOptions;
+use ele_words::{Invocation, unreadable_args, words};
 use std::alloc::Global;
 use std::io;
 use std::test::Fail;
 
-fn asked_by(alloc: Global, texts: &[&str]) -> Result<Asked, Fail> {
+fn asked_by(alloc: Global, texts: &[&str]) -> Result<Invocation, Fail> {
     let mut given = Vec::new(alloc);
     for text in texts {
         given.push(String::from_str(alloc, text)?)?;
@@ -17,7 +17,7 @@ fn asked_by(alloc: Global, texts: &[&str]) -> Result<Asked, Fail> {
 // The limit of events of a run that the words ask for.
 fn events_of(alloc: Global, texts: &[&str]) -> Result<Option<u64>, Fail> {
     match asked_by(alloc, texts)? {
-        Asked::Run(limits, _) => Ok(Some(limits.events())),
+        Invocation::Run(limits, _) => Ok(Some(limits.events())),
         _ => Ok(None),
     }
 }
@@ -42,9 +42,9 @@ fn a_run_has_a_limit_of_events(rt: HostRuntime) -> Result<(), Fail> {
 }
 
 // The manner of a run that the words ask for.
-fn manner_of(alloc: Global, texts: &[&str]) -> Result<Option<Manner>, Fail> {
+fn manner_of(alloc: Global, texts: &[&str]) -> Result<Option<RunOptions>, Fail> {
     match asked_by(alloc, texts)? {
-        Asked::Run(_, manner) => Ok(Some(manner)),
+        Invocation::Run(_, options) => Ok(Some(options)),
         _ => Ok(None),
     }
 }
@@ -52,18 +52,18 @@ fn manner_of(alloc: Global, texts: &[&str]) -> Result<Option<Manner>, Fail> {
 #[test]
 fn a_run_has_a_manner(rt: HostRuntime) -> Result<(), Fail> {
     let alloc = rt.alloc();
-    let plain = Manner::plain();
+    let plain = RunOptions::plain();
     assert_eq!(rt; manner_of(alloc, &["elephant", "run"])?, Some(plain));
     assert_eq!(rt;
         manner_of(alloc, &["elephant", "run", "--strict"])?,
-        Some(Manner {
+        Some(RunOptions {
             strict: true,
             ..plain
         })
     );
     assert_eq!(rt;
         manner_of(alloc, &["elephant", "run", "--explain"])?,
-        Some(Manner {
+        Some(RunOptions {
             explain: true,
             ..plain
         })
@@ -73,7 +73,7 @@ fn a_run_has_a_manner(rt: HostRuntime) -> Result<(), Fail> {
             alloc,
             &["elephant", "run", "--numbers", "--events", "5", "--remarks"]
         )?,
-        Some(Manner {
+        Some(RunOptions {
             numbers: true,
             remarks: true,
             ..plain
@@ -85,7 +85,7 @@ fn a_run_has_a_manner(rt: HostRuntime) -> Result<(), Fail> {
 // The plan of a storm that the words ask for.
 fn plan_of(alloc: Global, texts: &[&str]) -> Result<Option<[u32; 3]>, Fail> {
     match asked_by(alloc, texts)? {
-        Asked::Storm(plan) => Ok(Some([plan.writers, plan.historians, plan.rounds])),
+        Invocation::Storm(plan) => Ok(Some([plan.writers, plan.historians, plan.rounds])),
         _ => Ok(None),
     }
 }
@@ -110,7 +110,7 @@ fn a_storm_has_a_plan(rt: HostRuntime) -> Result<(), Fail> {
 
 // The policy and the moments of a forecast that the words ask for.
 fn ask_of(alloc: Global, texts: &[&str]) -> Result<Option<(Policy, [Option<u64>; 2])>, Fail> {
-    let Asked::Forecast(ask) = asked_by(alloc, texts)? else {
+    let Invocation::Forecast(ask) = asked_by(alloc, texts)? else {
         return Ok(None);
     };
     let moments = ask.moments.as_slice();
@@ -173,7 +173,7 @@ fn other_words_are_not_understood(rt: HostRuntime) -> Result<(), Fail> {
     ];
     for texts in wrong {
         match asked_by(rt.alloc(), texts)? {
-            Asked::NotUnderstood(text) => assert!(rt; !text.is_empty(), "{texts:?}"),
+            Invocation::NotUnderstood(text) => assert!(rt; !text.is_empty(), "{texts:?}"),
             _ => assert!(rt; false, "{texts:?}"),
         }
     }
@@ -190,7 +190,7 @@ fn help_is_given_to_those_who_ask(rt: HostRuntime) -> Result<(), Fail> {
     ];
     for texts in asking {
         match asked_by(rt.alloc(), texts)? {
-            Asked::Help(text) => assert!(rt;
+            Invocation::Help(text) => assert!(rt;
                 text.as_str().contains("Usage: elephant"),
                 "{texts:?}"
             ),
@@ -202,16 +202,16 @@ fn help_is_given_to_those_who_ask(rt: HostRuntime) -> Result<(), Fail> {
 
 #[test]
 fn words_that_cannot_be_had_are_told_as_such(rt: HostRuntime) {
-    let memory = no_words(rt.alloc(), io::ErrorKind::OutOfMemory);
-    assert!(rt; matches!(memory, Asked::NoMemory));
-    let text = no_words(rt.alloc(), io::ErrorKind::InvalidData);
-    assert!(rt; matches!(text, Asked::NotUnderstood(_)));
+    let memory = unreadable_args(rt.alloc(), io::ErrorKind::OutOfMemory);
+    assert!(rt; matches!(memory, Invocation::NoMemory));
+    let text = unreadable_args(rt.alloc(), io::ErrorKind::InvalidData);
+    assert!(rt; matches!(text, Invocation::NotUnderstood(_)));
 }
 
 #[test]
 fn the_version_is_told_alone(rt: HostRuntime) -> Result<(), Fail> {
     match asked_by(rt.alloc(), &["elephant", "--version"])? {
-        Asked::Help(text) => assert_eq!(rt; text.as_str(), "elephant 0.1.0\n"),
+        Invocation::Help(text) => assert_eq!(rt; text.as_str(), "elephant 0.1.0\n"),
         _ => assert!(rt; false),
     }
     Ok(())

@@ -1,5 +1,5 @@
 //! Workers of a storm by themselves, and the flags where they arrive.
-use ele_model::{Limits, Stepping};
+use ele_model::{Limits, Step};
 use ele_storm::{Flags, Meet, MeetEnd, StormFault, StormPlan, share_fresh, work};
 use empty_world::EmptyWorld;
 use std::alloc::Global;
@@ -8,7 +8,7 @@ use std::test::Fail;
 
 /// What the first of four workers is answered that arrives before the others, and how many events
 /// there are then.
-fn work_first<C: Stepping, R: Wait>(
+fn work_first<C: Step, R: Wait>(
     rt: &R,
     alloc: Global,
 ) -> Result<(Result<u64, StormFault>, u64), Fail> {

@@ -4,7 +4,7 @@
 use anyhow::{Context, Result, anyhow};
 use ele_core::Core;
 use ele_model::Limits;
-use ele_runs::{Manner, run_in};
+use ele_runs::{RunOptions, run_in};
 use ele_shell::run;
 use std::{fs, io};
 
@@ -88,13 +88,13 @@ fn printed(rt: &HostRuntime, name: &str, limits: Limits) -> Result<String> {
 fn explained(rt: &HostRuntime, name: &str) -> Result<String> {
     let script = fs::read(rt, format!(in rt.alloc(); "{name}.script")?)?;
     let mut text = Vec::new(rt.alloc());
-    let manner = Manner {
+    let options = RunOptions {
         explain: true,
-        ..Manner::plain()
+        ..RunOptions::plain()
     };
     let mut reader = script.as_slice();
     match run_in::<Core, _, _, _>(
-        manner,
+        options,
         rt.alloc(),
         &mut reader,
         &mut text,

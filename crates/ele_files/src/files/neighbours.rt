@@ -1,7 +1,7 @@
 //! How a file stands, and when the next version behind one closed.
 //! A contract sees each answer as a look at the rows.
 ghost use Rattle.std.specs.Prelude.{◌≡◌, ◌<◌, ◌≤◌, ◌+◌, ◌^◌, IfNone, IfSome};
-ghost use Rattle.ele_files.specs.Standing.{Stands};
+ghost use Rattle.ele_files.specs.FileHead.{Stands};
 ghost use Rattle.ele_model.specs.Neighbours.{next_closing};
 ghost use Rattle.ele_model.specs.World.{next_of};
 
@@ -14,7 +14,7 @@ use ele_policy::Policy;
 
 /// How a file stands: what its next version is, and what the moments of its versions depend on.
 #[derive(Clone, Copy)]
-pub struct Standing {
+pub struct FileHead {
     pub policy: Policy,
     /// The number of its next version.
     pub next: VersionNo,
@@ -39,15 +39,15 @@ impl Files {
     /// How the file stands, by one look-up; none where there is no such file. It reads at most one
     /// row.
     #[tactic(auto, using(std::proofs::lemmas::Bool::Decides::nat_tests, crate::proofs::Rows::next_found, crate::proofs::Rows::file_row_found, crate::proofs::Tagged::newest_shown))]
-    pub fn standing(&self, file: FileId, meter: &mut Meter) -> Option<Standing>
+    pub fn head(&self, file: FileId, meter: &mut Meter) -> Option<FileHead>
         requires meter { meter.old < 2 ^ 60 }
-        ensures some { IfSome result (λ standing. Stands self.now file standing) }
+        ensures some { IfSome result (λ head. Stands self.now file head) }
         ensures none { IfNone result (next_of self.now.files file ≡ 0) }
         ensures read { meter.new ≤ meter.old + 1 }
     {
         let held = file_of(&self.files, file)?;
         let newest = held.log.prev_held(held.next, meter).map(stamps_of);
-        Some(Standing {
+        Some(FileHead {
             policy: held.policy,
             next: held.next,
             newest,

@@ -11,69 +11,69 @@ ghost use Rattle.ele_world.specs.TruncateFits.{TruncateFits};
 ghost use Rattle.ele_world.specs.UndeleteRevives.{UndeleteRevives};
 ghost use Rattle.ele_world.specs.WriteLays.{WriteLays};
 
-use ele_policy::laws::policies_are_lawful;
+use ele_policy::laws;
 
 /// After a policy event the file at its path has the policy, every other file its own, and nothing else has changed.
 pub fn policy_governs()
     ensures { PolicyGoverns }
 {
-    policies_are_lawful();
+    laws::policies_are_lawful();
 }
 
 /// After a default event the directory at its path gives the policy, every other one its own, and nothing else has changed.
 pub fn default_governs()
     ensures { DefaultGoverns }
 {
-    policies_are_lawful();
+    laws::policies_are_lawful();
 }
 
 /// After a mark what was current then of the group's files is marked, beside what was marked before, and nothing else.
 pub fn mark_marks()
     ensures { MarkMarks }
 {
-    policies_are_lawful();
+    laws::policies_are_lawful();
 }
 
 /// The first handle that writes a file reads the content of its current version, a later one that of the file's draft.
 pub fn draft_begins()
     ensures { DraftBegins }
 {
-    policies_are_lawful();
+    laws::policies_are_lawful();
 }
 
 /// After a write the file's draft has what it had with the bytes laid over it, and nothing else has changed.
 pub fn write_lays()
     ensures { WriteLays }
 {
-    policies_are_lawful();
+    laws::policies_are_lawful();
 }
 
 /// After a truncate the file's draft has as many bytes as told, and nothing else has changed.
 pub fn truncate_fits()
     ensures { TruncateFits }
 {
-    policies_are_lawful();
+    laws::policies_are_lawful();
 }
 
 /// A handle that is opened for reading reads the version that was meant.
 pub fn handle_reads()
     ensures { HandleReads }
 {
-    policies_are_lawful();
+    laws::policies_are_lawful();
 }
 
 /// A handle reads what it read until it is closed.
 pub fn handle_stays()
     ensures { HandleStays }
 {
-    policies_are_lawful();
+    laws::policies_are_lawful();
 }
 
 /// A number reads, tells and opens one version, and no other.
 pub fn number_means()
     ensures { NumberMeans }
 {
-    policies_are_lawful();
+    laws::policies_are_lawful();
 }
 
 /// The close of a handle that writes makes a version just where the draft was changed and no other handle writes it.

@@ -1,7 +1,7 @@
 //! What the fate of a held version tells: each law is the contract of a function that does nothing.
 ghost use Rattle.ele_world.specs.FateTells.{DueFate, OneFate};
 
-use ele_policy::laws::policies_are_lawful;
+use ele_policy::laws;
 
 /// A version has one fate at most.
 pub fn one_fate()
@@ -12,5 +12,5 @@ pub fn one_fate()
 pub fn due_fate()
     ensures { DueFate }
 {
-    policies_are_lawful();
+    laws::policies_are_lawful();
 }

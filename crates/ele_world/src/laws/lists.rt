@@ -4,13 +4,13 @@ ghost use Rattle.ele_world.specs.RestorableLists.{RestorableLists};
 ghost use Rattle.ele_model.specs.ScanLists.{ScanLists};
 ghost use Rattle.ele_world.specs.UndeleteTakes.{UndeleteTakes};
 
-use ele_policy::laws::policies_are_lawful;
+use ele_policy::laws;
 
 /// A name is listed as restorable just where an undelete of a path to it isn't refused as `Exists`, `NoEntry` or `NotRestorable`.
 pub fn undelete_takes()
     ensures { UndeleteTakes }
 {
-    policies_are_lawful();
+    laws::policies_are_lawful();
 }
 
 /// The list of restorable names has each name once, in order, and just those whose newest row is dead and may come back.
@@ -22,7 +22,7 @@ pub fn restorable_lists()
 pub fn scan_lists()
     ensures { ScanLists }
 {
-    policies_are_lawful();
+    laws::policies_are_lawful();
 }
 
 /// The blocks of usage are as many as there are different places.

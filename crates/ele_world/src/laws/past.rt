@@ -9,27 +9,27 @@ ghost use Rattle.ele_world.specs.PastStays.{PastStays};
 ghost use Rattle.ele_world.specs.ReadsPast.{ReadsPast};
 
 pub use ele_model::laws::numbers_rise;
-use ele_policy::laws::policies_are_lawful;
+use ele_policy::laws;
 
 /// What a name stood for at a moment before now stays so, unless it was a file that has gone.
 pub fn past_stays()
     ensures { PastStays }
 {
-    policies_are_lawful();
+    laws::policies_are_lawful();
 }
 
 /// Name rows stay in their order, but for those of a file that has gone: a birth never changes, and a death is set once, to now.
 pub fn name_rows_stay()
     ensures { NameRowsStay }
 {
-    policies_are_lawful();
+    laws::policies_are_lawful();
 }
 
 /// A held version lived at each moment before now after an event as before it.
 pub fn life_stays()
     ensures { LifeStays }
 {
-    policies_are_lawful();
+    laws::policies_are_lawful();
 }
 
 /// The names that an event doesn't name stand for what they stood for.
@@ -42,14 +42,14 @@ pub fn other_names_stay()
 pub fn reads_past()
     ensures { ReadsPast }
 {
-    policies_are_lawful();
+    laws::policies_are_lawful();
 }
 
 /// An event leaves each draft a handle that writes it.
 pub fn drafts_written()
     ensures { DraftsWritten }
 {
-    policies_are_lawful();
+    laws::policies_are_lawful();
 }
 
 /// After any list of events each draft has one.
@@ -57,14 +57,14 @@ pub fn drafts_written()
 pub fn drafts_written_in_runs()
     ensures { DraftsWrittenInRuns }
 {
-    policies_are_lawful();
+    laws::policies_are_lawful();
 }
 
 /// An event leaves what one version wrote into a slot the same wherever it stands.
 pub fn one_content_stays()
     ensures { OneContentStays }
 {
-    policies_are_lawful();
+    laws::policies_are_lawful();
 }
 
 /// After any list of events it is the same.
@@ -72,5 +72,5 @@ pub fn one_content_stays()
 pub fn one_content_in_runs()
     ensures { OneContentInRuns }
 {
-    policies_are_lawful();
+    laws::policies_are_lawful();
 }

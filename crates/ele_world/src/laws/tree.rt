@@ -1,13 +1,13 @@
 //! How live names hang together, whatever the event: each law is the contract of a function that does nothing.
 ghost use Rattle.ele_world.specs.OneTree.{NoneInItself, OneTree, OneTreeInRuns};
 
-use ele_policy::laws::policies_are_lawful;
+use ele_policy::laws;
 
 /// An event leaves the live names one tree: none is the root's, and each hangs from it by live names.
 pub fn one_tree()
     ensures { OneTree }
 {
-    policies_are_lawful();
+    laws::policies_are_lawful();
 }
 
 /// After any list of events they are one.
@@ -15,7 +15,7 @@ pub fn one_tree()
 pub fn one_tree_in_runs()
     ensures { OneTreeInRuns }
 {
-    policies_are_lawful();
+    laws::policies_are_lawful();
 }
 
 /// So no directory stands in itself, at any depth: no path from it leads to it.

@@ -18,4 +18,4 @@ returns c = λ input far.
     let tests = c.is_empty.ensures in
     let some : 0 < length c.args.rest.now = grind (arith, nat_tests) in
     let told = c.in_ok-add_line.ensures in
-    read_all (read_more c.args.rest.now [] far (only_line c.args.rest.now c.requires some) told.0 told.1 told.2) refl c.rise-2.ensures.rises
+    read_all (read_more c.args.rest.now [] far (only_line c.args.rest.now c.requires some) told.0 told.1 told.2) refl c.lemma_sorted-2.ensures.rises

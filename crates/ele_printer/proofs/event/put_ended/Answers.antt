@@ -8,9 +8,9 @@ use Rattle.ele_printer.proofs.event.put_ended.Goals as goal
 pub returns-in_err-put_two : goal.returns-in_err-put_two
 returns-in_err-put_two g c =
     let put = c.in_err-put_two.ensures in
-    record { text = puts_err _ c.from_residual.result (parts_more Mark (Name c.args.name.now ∷ Moment c.args.moment.now ∷ []) (Moment c.args.end.now)) c.from_residual.ensures.0 put.text; values = (put.values.0, (put.values.1.0, (c.is_value.ensures, tt))) }
+    record { text = puts_err _ c.from_residual.result (parts_more Mark (Name c.args.name.now ∷ Moment c.args.moment.now ∷ []) (Moment c.args.end.now)) c.from_residual.ensures.0 put.text; values = (put.values.0, (put.values.1.0, (c.lemma_value.ensures, tt))) }
 
 pub returns : goal.returns
 returns g c =
     let put = c.in_ok-put_two.ensures in
-    record { text = puts_then _ _ c.put_value.result (parts_more Mark (Name c.args.name.now ∷ Moment c.args.moment.now ∷ []) (Moment c.args.end.now)) put.text c.put_value.ensures; values = (put.values.0, (put.values.1.0, (c.is_value.ensures, tt))) }
+    record { text = puts_then _ _ c.put_value.result (parts_more Mark (Name c.args.name.now ∷ Moment c.args.moment.now ∷ []) (Moment c.args.end.now)) put.text c.put_value.ensures; values = (put.values.0, (put.values.1.0, (c.lemma_value.ensures, tt))) }

@@ -5,7 +5,7 @@ use Rattle.ele_printer.proofs.event.put_one.Goals as goal
 
 pub returns-in_err-put_alone : goal.returns-in_err-put_alone
 returns-in_err-put_alone g c =
-    record { text = puts_err _ c.from_residual.result (parts_more c.args.command [] (g.A.Word.value c.args.value.now)) c.from_residual.ensures.0 c.in_err-put_alone.ensures.text; values = (c.is_value.ensures, tt) }
+    record { text = puts_err _ c.from_residual.result (parts_more c.args.command [] (g.A.Word.value c.args.value.now)) c.from_residual.ensures.0 c.in_err-put_alone.ensures.text; values = (c.lemma_value.ensures, tt) }
 
 pub returns : goal.returns
-returns g c = record { text = puts_then _ _ c.put_value.result (parts_more c.args.command [] (g.A.Word.value c.args.value.now)) c.in_ok-put_alone.ensures.text c.put_value.ensures; values = (c.is_value.ensures, tt) }
+returns g c = record { text = puts_then _ _ c.put_value.result (parts_more c.args.command [] (g.A.Word.value c.args.value.now)) c.in_ok-put_alone.ensures.text c.put_value.ensures; values = (c.lemma_value.ensures, tt) }

@@ -8,9 +8,9 @@ use Rattle.ele_printer.proofs.event.put_write.Goals as goal
 pub returns-in_err-put_two : goal.returns-in_err-put_two
 returns-in_err-put_two g c =
     let put = c.in_err-put_two.ensures in
-    record { text = puts_err _ c.from_residual.result (parts_more Write (Number c.args.handle.now ∷ Number c.args.offset.now ∷ []) (Bytes c.args.bytes.now)) c.from_residual.ensures.0 put.text; values = (put.values.0, (put.values.1.0, (c.are_bytes.ensures, tt))) }
+    record { text = puts_err _ c.from_residual.result (parts_more Write (Number c.args.handle.now ∷ Number c.args.offset.now ∷ []) (Bytes c.args.bytes.now)) c.from_residual.ensures.0 put.text; values = (put.values.0, (put.values.1.0, (c.lemma_bytes.ensures, tt))) }
 
 pub returns : goal.returns
 returns g c =
     let put = c.in_ok-put_two.ensures in
-    record { text = puts_then _ _ c.put_byte_word.result (parts_more Write (Number c.args.handle.now ∷ Number c.args.offset.now ∷ []) (Bytes c.args.bytes.now)) put.text c.put_byte_word.ensures; values = (put.values.0, (put.values.1.0, (c.are_bytes.ensures, tt))) }
+    record { text = puts_then _ _ c.put_byte_word.result (parts_more Write (Number c.args.handle.now ∷ Number c.args.offset.now ∷ []) (Bytes c.args.bytes.now)) put.text c.put_byte_word.ensures; values = (put.values.0, (put.values.1.0, (c.lemma_bytes.ensures, tt))) }

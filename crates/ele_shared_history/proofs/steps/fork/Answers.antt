@@ -1,5 +1,5 @@
 use Rattle.std.proofs.Common.{◌≡◌, ap, ◌∙◌, arith, true, false}
-use Rattle.ele_shared_history.specs.declared.board.View.{View}
+use Rattle.ele_shared_history.specs.declared.ledger.View.{View}
 use Rattle.atomic_table.specs.Table.{Me}
 use Rattle.ele_shared_history.specs.Rule.{Kind}
 use Rattle.ele_shared_history.proofs.Splits.{forks, registers}
@@ -9,7 +9,7 @@ pub split_seat-next-requires : goal.split_seat-next-requires
 split_seat-next-requires g c =
     let mine = c.requires.mine in
     let p = c.args.place.now in
-    (mine.0, omega arith, forks c.args.board.now.key.value p.id p.me.0 mine.3)
+    (mine.0, omega arith, forks c.args.ledger.now.key.value p.id p.me.0 mine.3)
 
 pub load-requires : goal.load-requires
 load-requires g c =
@@ -19,4 +19,4 @@ load-requires g c =
     let new : n.me.0.fresh ≡ true = ap (λ (x : Me Kind View). x.0.fresh) made.4 in
     let live : n.me.0.spent ≡ false = ap (λ (x : Me Kind View). x.0.spent) made.4 in
     let idle : n.me.0.holds ≡ false = ap (λ (x : Me Kind View). x.0.holds) made.4 in
-    (made.3 ∙ mine.0, omega arith, rw mine.2 (registers c.args.board.now.key.value n.id n.me new live idle))
+    (made.3 ∙ mine.0, omega arith, rw mine.2 (registers c.args.ledger.now.key.value n.id n.me new live idle))

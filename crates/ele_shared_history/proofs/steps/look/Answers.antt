@@ -6,4 +6,4 @@ pub load-requires : goal.load-requires
 load-requires g c =
     let mine = c.requires in
     let p = c.args.place.now in
-    (mine.0, omega arith, rw mine.2 (looks c.args.board.now.key.value p.id p.me mine.3))
+    (mine.0, omega arith, rw mine.2 (looks c.args.ledger.now.key.value p.id p.me mine.3))

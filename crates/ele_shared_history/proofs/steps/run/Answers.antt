@@ -23,8 +23,8 @@ fetch_add-requires g c =
     let told = answers c.in-Some.history c.apply-outcome.new.self c.args.event c.in-Ok.field-0 may in (
       back.0 ∙ out.0 ∙ mine.0,
       omega arith,
-      rw mine.2 (publishes_here c.args.board.now.key.value c.exchange-empty.new.seat.id m c.exchange-empty.new.seat.me c.apply-outcome.new.self (entry c.args.event c.in-Ok.field-0) mine.3 turn h.1
-          (told.grown ∙ ap (λ (z : Past). continued z (entry c.args.event c.in-Ok.field-0 ∷ [])) h.0) (told.told ∙ ap (λ (z : Past). reply_to z c.args.event) h.0) (few c.in-Some.history m.0.opening m.0.seen h.0 may.0 (rw c.base.ensures.value at c.are_within.ensures))),
+      rw mine.2 (publishes_here c.args.ledger.now.key.value c.exchange-empty.new.seat.id m c.exchange-empty.new.seat.me c.apply-outcome.new.self (entry c.args.event c.in-Ok.field-0) mine.3 turn h.1
+          (told.grown ∙ ap (λ (z : Past). continued z (entry c.args.event c.in-Ok.field-0 ∷ [])) h.0) (told.told ∙ ap (λ (z : Past). reply_to z c.args.event) h.0) (few c.in-Some.history m.0.opening m.0.seen h.0 may.0 (rw c.base.ensures.value at c.lemma_within.ensures))),
     )
 
 pub fetch_sub-requires : goal.fetch_sub-requires
@@ -37,7 +37,7 @@ fetch_sub-requires g c =
     let same = stays c.in-Some.history c.apply-outcome.new.self c.in-Err.field-0 (rw c.in-Err.is at c.apply-outcome.ensures) in (
       back.0 ∙ out.0 ∙ mine.0,
       omega arith,
-      rw mine.2 (gives_back_here c.args.board.now.key.value c.exchange-empty.new.seat.id m c.exchange-empty.new.seat.me c.apply-outcome.new.self mine.3 c.requires.turn h.1 (same ∙ h.0)),
+      rw mine.2 (gives_back_here c.args.ledger.now.key.value c.exchange-empty.new.seat.id m c.exchange-empty.new.seat.me c.apply-outcome.new.self mine.3 c.requires.turn h.1 (same ∙ h.0)),
     )
 
 pub returns-clause-ok : goal.returns-clause-ok

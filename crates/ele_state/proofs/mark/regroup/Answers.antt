@@ -28,9 +28,9 @@ pub returns-clause-tracked : goal.returns-clause-tracked
 returns-clause-tracked c =
     let rows = c.args.rows.now in
     let are = rw (c.requires.files, c.requires.marks, ← c.deref.ensures.value) at c.in_ok-changes.ensures in
-    let went = rw (c.in_default.ensures.kept, c.deref-2.ensures.value, ← c.deref.ensures.value) at c.settle.ensures in
+    let went = rw (c.in_default.ensures.kept, c.deref-2.ensures.value, ← c.deref.ensures.value) at c.remove_old_keys.ensures in
     record {
-      queue = subst (λ (w : World). IsQueued w c.settle.new.queue) (sym c.in_default.ensures.ok) (moved_queue _ _ _ _ _ (regroups _ c.args.change.now c.requires.sound.formed c.requires.leaving) c.deref.result.now are rows.queue c.requires.sound.tracked.queue c.put_changed.new.queue c.settle.new.queue c.in_ok-put_changed.ensures.ok went);
+      queue = subst (λ (w : World). IsQueued w c.remove_old_keys.new.queue) (sym c.in_default.ensures.ok) (moved_queue _ _ _ _ _ (regroups _ c.args.change.now c.requires.sound.formed c.requires.leaving) c.deref.result.now are rows.queue c.requires.sound.tracked.queue c.put_changed.new.queue c.remove_old_keys.new.queue c.in_ok-put_changed.ensures.ok went);
       book = rw c.in_default.ensures.kept c.requires.sound.tracked.book;
       bounds = rw c.in_default.ensures.kept c.requires.sound.tracked.bounds;
     }

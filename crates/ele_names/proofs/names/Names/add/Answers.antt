@@ -4,7 +4,7 @@ use Rattle.ele_names.proofs.names.Names.add.Goals as goal
 pub number_or_next-requires : goal.number_or_next-requires
 number_or_next-requires c =
     let row = born_row c.args.directory c.args.name c.args.target c.args.birth in
-    free_known _ c.self.inside.lives c.args.directory c.args.name row (own_name row) c.self.invariant.counts (rw (← c.self.view_is) at c.requires)
+    free_known _ c.self.inside.live_names c.args.directory c.args.name row (own_name row) c.self.invariant.counts (rw (← c.self.view_is) at c.requires)
 
 pub invariant_of-self : goal.invariant_of-self
 invariant_of-self c = let known = c.number_or_next.ensures in kept_over _ _ c.self.invariant c.number_or_next.new.self known.places known.listed known.counted known.numbered
@@ -38,4 +38,4 @@ pub returns-clause-ok : goal.returns-clause-ok
 returns-clause-ok c =
     let made = c.next_serial-serial in
     rw (← c.self.view_is) (ap values_of (rw (← made.ensures.next) at c.in_default.ensures.ok)
-    ∙ rows_pushed (names_of c.self.inside.lives) c.self.inside.table c.self.invariant.is_table made.result made.ensures.below (born_row c.args.directory c.args.name c.args.target c.args.birth))
+    ∙ rows_pushed (names_of c.self.inside.live_names) c.self.inside.table c.self.invariant.is_table made.result made.ensures.below (born_row c.args.directory c.args.name c.args.target c.args.birth))

@@ -8,7 +8,7 @@ pub invariant_of-self : goal.invariant_of-self
 invariant_of-self c =
     let at = sym c.take.ensures.row ∙ c.in-Some-take.is in
     kept_without c.self.inside c.self.invariant c.in-Some.serial c.in-Some-take.row at _ _ c.leave-2.ensures.names (c.leave-2.ensures.listed c.self.invariant.listed)
-    c.take.ensures.entries (c.leave.ensures.placed (names_of c.self.inside.lives) (value_at c.self.inside.table.rows.entries) (sym c.in-Some-number.ensures.some.0) at
+    c.take.ensures.entries (c.leave.ensures.placed (names_of c.self.inside.live_names) (value_at c.self.inside.table.rows.entries) (sym c.in-Some-number.ensures.some.0) at
     (is_newest c.self.inside c.self.invariant c.args.file _ (rw c.file.view_is at c.newest.ensures) c.in-Some.serial c.in-Some.is c.in-Some-take.row at))
     c.leave-2.ensures.counted c.leave-2.ensures.numbered c.leave.ensures.live
 

@@ -1,7 +1,7 @@
 use Rattle.ele_names.proofs.Lemmas.{◌≡◌, ℕ, List, Some, ap, refl, sym, ◌∙◌, exact, found, found_target, its_name, kept_dead, killed, live_at, named_place, names_of}
 use Rattle.ele_names.proofs.names.Names.kill.Goals as goal
 
-live_is : (c : goal.After-end-arg-1) → live_at c.self.inside.lives c.args.directory c.args.name.now ≡ Some c.in-Some-live_of.live
+live_is : (c : goal.After-end-arg-1) → live_at c.self.inside.live_names c.args.directory c.args.name.now ≡ Some c.in-Some-live_of.live
 live_is c = sym (c.live_of.ensures c.args.directory c.args.name.now (sym c.in-Some.ensures.some.0)) ∙ c.in-Some-live_of.is
 
 pub end-requires : goal.end-requires
@@ -17,7 +17,7 @@ invariant_of-self c =
     let is = sym (c.live_of.ensures d n (sym c.in-Some.ensures.some.0)) ∙ c.in-Some-live_of.is in
     let its = found a kept d n live is in
     let name = its_name a kept d n live is in
-    let number = named_place (names_of a.lives) d n its.row name.0 ∙ sym c.in-Some.ensures.some.0 in
+    let number = named_place (names_of a.live_names) d n its.row name.0 ∙ sym c.in-Some.ensures.some.0 in
     let directory = ap (λ (k : ℕ × List ℕ). k.0) (exact (its.row.directory, its.row.name) (d, n) name.0) in
     kept_dead a kept live.serial its.row its.there name.1 c.args.moment _ _ c.end-3.ensures.names (c.end-3.ensures.listed kept.listed)
     c.end-2.ensures.named (c.end-2.ensures.chained _) (c.end.ensures its.row its.there)

@@ -16,7 +16,7 @@ loop-next-smaller c = rw c.in-Some.is (let less = list_smaller c.self.inside c.s
 pub loop-next-preserved : goal.loop-next-preserved
 loop-next-preserved c =
     let d = c.args.directory in
-    let names = names_of c.self.inside.lives in
+    let names = names_of c.self.inside.live_names in
     let name = c.in-Some-name.name in
     let first = rw c.in-Some.is at c.loop-next.invariant.0 in
     let told = rw c.in-Some.is at c.loop-next.invariant.1 in (

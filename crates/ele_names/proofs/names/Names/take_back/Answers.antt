@@ -11,6 +11,6 @@ invariant_of-self c =
     let at = at_last c.in-Some.serial c.in-Some.row _ _ c.in-Some.ensures.some c.in-Some.ensures.below in
     kept_without c.self.inside c.self.invariant c.in-Some.serial c.in-Some.row at _ _ c.leave-2.ensures.names (c.leave-2.ensures.listed c.self.invariant.listed)
     (sym (without_last c.in-Some.serial c.in-Some.row _ _ c.in-Some.ensures.some c.in-Some.ensures.below))
-    (c.leave.ensures.placed (names_of c.self.inside.lives) (value_at c.self.inside.table.rows.entries) (sym c.in-Some-number.ensures.some.0) at
+    (c.leave.ensures.placed (names_of c.self.inside.live_names) (value_at c.self.inside.table.rows.entries) (sym c.in-Some-number.ensures.some.0) at
     (λ f k _ over. ap (λ o. option_map_or (is_of f) o false) (none_past c.in-Some.serial c.in-Some.row _ _ c.in-Some.ensures.some c.in-Some.ensures.below k over))) c.leave-2.ensures.counted c.leave-2.ensures.numbered
     c.leave.ensures.live

@@ -1,0 +1,40 @@
+//! A core steps, and can be audited. A contract of what is generic over both sees it as its flat world.
+use crate::Core;
+use ele_model::{
+    Audit, DeadNameList, Event, Flat, KeyList, Limits, Moment, NoMemory, Reply, Step, Usage,
+};
+use std::alloc::Global;
+
+impl Step for Core {
+    ghost world = { λ core. core.world };
+
+    fn fresh(alloc: Global, limits: Limits) -> Result<Core, NoMemory> {
+        Core::new(alloc, limits)
+    }
+
+    fn apply(&mut self, event: &Event) -> Result<Reply, NoMemory> {
+        Core::apply(self, event)
+    }
+
+    fn flat(&self) -> Result<Flat, NoMemory> {
+        Core::flat(self)
+    }
+
+    fn now(&self) -> Moment {
+        Core::now(self)
+    }
+}
+
+impl Audit for Core {
+    fn due(&self) -> Result<KeyList, NoMemory> {
+        Core::due(self)
+    }
+
+    fn restorable(&self) -> Result<DeadNameList, NoMemory> {
+        Core::restorable(self)
+    }
+
+    fn usage(&self) -> [Usage; 4] {
+        Core::usage(self)
+    }
+}

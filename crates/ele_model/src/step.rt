@@ -1,0 +1,54 @@
+//! What keeps a world and takes events. Rooms that needn't know how a world is kept, as a run or a
+//! history, are generic over it. A contract sees it as its flat world.
+ghost use Rattle.std.specs.Prelude.{◌≡◌, true, IfOk, OnErr, IsOk};
+
+use crate::event::Event;
+use crate::flat::Flat;
+use crate::limits::Limits;
+use crate::reply::Reply;
+use ele_moment::{Moment, NoMemory};
+use std::alloc::Global;
+
+/// A world that events change.
+pub trait Step: Drop {
+    ghost use Rattle.ele_model.specs.World.{World, fresh_world};
+    ghost use Rattle.ele_model.specs.WellFormed.{IsWellFormed};
+    ghost use Rattle.ele_model.specs.Bounds.{AreBounds};
+    ghost use Rattle.ele_model.specs.NoIdleStays.{HasNoIdle};
+    ghost use Rattle.ele_model.specs.Step.{step};
+    ghost use Rattle.ele_model.specs.Run.{IsEvent};
+    ghost use Rattle.ele_model.specs.Ready.{takes_no_memory};
+
+    ghost world: { Self → World };
+
+    /// The fresh world of these limits.
+    ///
+    /// `NoMemory` where memory is refused.
+    fn fresh(alloc: Global, limits: Limits) -> Result<Self, NoMemory>
+        ensures { IfOk result (λ core. world core ≡ fresh_world limits) };
+
+    /// Takes the event: answers it, and makes its change.
+    ///
+    /// `NoMemory` where memory is refused, and then the world is as it was. `clock`, `tick`,
+    /// `rmdir`, `default`, `clean`, `stat` and `usage` take none.
+    fn apply(&mut self, event: &Event) -> Result<Reply, NoMemory>
+        ensures step { IfOk result
+            (λ reply. (reply, world self.new) ≡ step (world self.old) event.now) }
+        ensures err { OnErr result (world self.new ≡ world self.old) }
+        ensures ready { takes_no_memory event.now ≡ true → IsOk result }
+        ensures event { IsEvent event.now };
+
+    /// A plain copy of all rows and counts.
+    ///
+    /// `NoMemory` where memory is refused.
+    fn flat(&self) -> Result<Flat, NoMemory>
+        ensures { IfOk result (λ flat. flat ≡ world self.now) };
+
+    /// The moment that it is. The world is well formed, its limits are within theirs, and it has
+    /// no file of which nothing is left, so the laws of this crate hold.
+    fn now(&self) -> Moment
+        ensures value { result ≡ (world self.now).now }
+        ensures formed { IsWellFormed (world self.now) }
+        ensures bounds { AreBounds (world self.now).limits }
+        ensures idle { HasNoIdle (world self.now) };
+}

@@ -1,0 +1,21 @@
+//! What is asked of a forecast. A contract sees it as plain data.
+use ele_moment::Moment;
+use ele_policy::Policy;
+
+/// How a forecast is told.
+#[derive(Clone, Copy, Debug, PartialEq, Eq)]
+pub enum Form {
+    /// A line for each version, and one for each moment that is asked about.
+    Table,
+    /// An SVG drawing, of 2,000 versions at most.
+    Drawing,
+}
+
+/// What is asked about the versions of a file: what becomes of them under a policy, and which stay
+/// at each of these moments, told in that form.
+#[derive(Debug, Drop)]
+pub struct ForecastOptions {
+    pub policy: Policy,
+    pub moments: Vec<Moment>,
+    pub form: Form,
+}

@@ -1,0 +1,139 @@
+//! The keeper of a run: a history, the answers to its lines, and the manner in which they are told.
+//! A contract sees a keeper as how far its run has got, by itself without what it tells of reasons.
+ghost use Rattle.std.specs.Prelude.{◌≡◌, ◌+◌, ◌<◌, ◌^◌, false, List, None, ℕ, IfOk};
+ghost use Rattle.std.specs.Option.{option_map};
+ghost use Rattle.ele_history.specs.Past.{fresh};
+ghost use Rattle.ele_printer.specs.Prints.{outlet};
+ghost use Rattle.ele_printer.specs.Front.{AppendsFront};
+ghost use Rattle.ele_runs.specs.RunState.{begun, noting};
+ghost use Rattle.ele_runs.specs.Note.{IsNoted, cut_note};
+ghost use Rattle.ele_runs.specs.Said.{HearsNext, IsSaidText};
+ghost use Rattle.ele_runs.specs.Written.{PutsBlock};
+
+use crate::note::{tell_why, why_bad, why_cut};
+use crate::options::RunOptions;
+use crate::said::{Said, hear_kept};
+use ele_history::History;
+use ele_model::{Explain, Limits};
+use ele_moment::NoMemory;
+use ele_script::{Printer, WriteFault};
+use std::alloc::Global;
+use std::io::Write;
+use std::marker::Model;
+
+/// A history, where lines are read, in which manner they are answered, and how many were.
+#[derive(Drop)]
+pub(crate) struct Runner<C: Explain> {
+    alloc: Global,
+    history: History<C>,
+    options: RunOptions,
+    lines: u64,
+    has_ended: bool,
+}
+
+impl<C: Explain> Model for Runner<C> {
+    ghost use Rattle.std.specs.Prelude.{None};
+    ghost use Rattle.ele_runs.specs.RunState.{RunState};
+
+    ghost Value = { RunState };
+
+    ghost view = { λ k. record { options = k.options; past = k.history; number = k.lines; ended = k.has_ended; notes = None } };
+}
+
+impl<C: Explain> Runner<C> {
+    /// The history of a fresh world, before the first line.
+    pub(crate) fn new(
+        alloc: Global,
+        limits: Limits,
+        options: RunOptions,
+    ) -> Result<Runner<C>, NoMemory>
+        ensures { IfOk result (λ runner. runner ≡ begun options (fresh limits) None) }
+    {
+        let history = History::<C>::new(alloc, limits)?;
+        Ok(Runner {
+            alloc,
+            history,
+            options,
+            lines: 0,
+            has_ended: false,
+        })
+    }
+
+    /// The manner of the run.
+    pub(crate) fn options(&self) -> RunOptions
+        ensures { result ≡ self.now.options }
+    {
+        self.options
+    }
+
+    /// How many lines were heard.
+    pub(crate) fn lines(&self) -> u64
+        ensures { result ≡ self.now.number }
+    {
+        self.lines
+    }
+
+    /// Whether one of them has ended the run.
+    pub(crate) fn has_ended(&self) -> bool
+        ensures { result ≡ self.now.ended }
+    {
+        self.has_ended
+    }
+
+    // Hears the next line as it is kept, and answers it.
+    #[tactic(auto, using(crate::proofs::Blocks::heard_next))]
+    fn hear(&mut self, line: Option<&[u8]>) -> Said
+        requires { self.old.number + 1 < 2 ^ 64 }
+        ensures { HearsNext self.old (option_map (λ line. line.now) line.entry) result self.new }
+    {
+        let said = hear_kept(self.alloc, self.options, line, &mut self.history);
+        self.lines += 1;
+        self.has_ended = self.options.strict && !said.is_well(&self.history);
+        said
+    }
+
+    // Tells why the line that was heard is no command, where reasons are told.
+    fn tell_reason<E: Write>(&self, line: Option<&[u8]>, said: &Said, reasons: &mut E)
+        ensures { (text : List ℕ) → IsSaidText self.now.past said.now text
+            → IsNoted self.now.options self.now.number (option_map (λ line. line.now) line.entry)
+            text (E.contents reasons.old) (E.contents reasons.new) }
+    {
+        if let Said::Bad(_) = said
+            && self.options.tells_reasons()
+        {
+            let why = why_bad(self.alloc, self.options, line);
+            tell_why(self.alloc, self.lines, why, reasons);
+        }
+    }
+
+    /// Tells why a last line without its line feed is never run, where reasons are told.
+    pub(crate) fn tell_cut<E: Write>(&self, line: Option<&[u8]>, reasons: &mut E)
+        requires { self.now.number + 1 < 2 ^ 64 }
+        ensures { AppendsFront (E.contents reasons.old) (E.contents reasons.new)
+            (cut_note self.now (option_map (λ line. line.now) line.entry)) }
+    {
+        if self.options.tells_reasons() {
+            tell_why(self.alloc, self.lines + 1, why_cut(line), reasons);
+        }
+    }
+
+    /// Answers the next line as it is kept: tells why it is no command, where reasons are told, and
+    /// puts what is told for it. At a fault the writer took a front of all.
+    pub(crate) fn put_block<W: Write, E: Write>(
+        &mut self,
+        line: Option<&[u8]>,
+        printer: &mut Printer<'_, W>,
+        reasons: &mut E,
+    ) -> Result<(), WriteFault>
+        requires goes_on { self.old.ended ≡ false }
+        requires few { self.old.number + 1 < 2 ^ 64 }
+        ensures { PutsBlock (noting self.old (E.contents reasons.old))
+            (option_map (λ line. line.now) line.entry) (noting self.new (E.contents reasons.new))
+            (outlet W.contents printer.old) (outlet W.contents printer.new) result }
+    {
+        let said = self.hear(line);
+        self.tell_reason(line, &said, reasons);
+        said.put_front(self.options, self.lines, printer)?;
+        said.put(&self.history, printer)
+    }
+}

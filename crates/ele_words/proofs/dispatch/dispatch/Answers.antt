@@ -1,0 +1,42 @@
+use Rattle.std.proofs.Common.{refl}
+use Rattle.std.proofs.KnownBytes.{Keeps-refl}
+use Rattle.ele_words.proofs.Flushed.{written_flushed}
+use Rattle.ele_words.proofs.dispatch.dispatch.Goals as goal
+
+pub returns-in-Run : goal.returns-in-Run
+returns-in-Run g c =
+    rw c.in-Run.is (record {
+      ended = c.run_script-ran.result;
+      notes = g.E.Write.contents c.run_script-ran.new.errors;
+      done = c.run_script-ran.ensures;
+      status_is = c.tell_run.ensures.status;
+      told = c.tell_run.ensures.told;
+    })
+
+pub returns-in-Forecast : goal.returns-in-Forecast
+returns-in-Forecast g c = rw c.in-Forecast.is c.run_forecast.ensures
+
+pub returns-in-Help : goal.returns-in-Help
+returns-in-Help g c =
+    rw c.in-Help.is (
+      Keeps-refl _,
+      record {
+        fault = c.err.result;
+        done = rw c.err.ensures.value (rw c.as_str.ensures.value at c.write_text.ensures);
+        status_is = c.tell.ensures.status;
+        told = c.tell.ensures.told;
+      },
+    )
+
+pub returns-in-NotUnderstood : goal.returns-in-NotUnderstood
+returns-in-NotUnderstood g c =
+    rw c.in-NotUnderstood.is (
+      Keeps-refl _,
+      Keeps-refl _,
+      rw c.as_bytes.ensures.value at (written_flushed _ _ _ _ c.put.result c.put.ensures.ok c.put.ensures.err c.flush.ensures.bytes),
+      refl,
+    )
+
+pub returns-in-NoMemory : goal.returns-in-NoMemory
+returns-in-NoMemory g c =
+    rw c.in-NoMemory.is (Keeps-refl _, Keeps-refl _, c.tell-in-NoMemory.ensures.told, c.tell-in-NoMemory.ensures.status)

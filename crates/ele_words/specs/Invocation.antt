@@ -1,0 +1,29 @@
+-- What the program's words may ask for.
+use Rattle.std.specs.Prelude.{◌≡◌, ℕ, ◌≤◌}
+use Rattle.ele_model.specs.Bounds.{largest_bounds}
+use Rattle.ele_words.specs.declared.invocation.Invocation.{Invocation}
+use Rattle.ele_words.specs.declared.invocation.Invocation.TheVariants.{Run, Storm, Forecast, Help, NotUnderstood, NoMemory}
+
+-- so many events may be answered: from 1 to 1,000,000,000
+pub record IsEvents (events : ℕ) : Type 0 where
+  pub some : 1 ≤ events
+  pub within : events ≤ 1000000000
+
+-- a run is in any manner, under the largest limits but for that of events; a storm has a plan, whose numbers its type keeps, and
+-- a forecast any policy and moments
+abbrev pub IsAsked : Invocation → Type 0
+IsAsked (Run limits options) = IsEvents limits.events × (limits ≡ record largest_bounds { events = limits.events })
+IsAsked (Storm plan) = Unit {0}
+IsAsked (Forecast ask) = Unit {0}
+IsAsked (Help text) = Unit {0}
+IsAsked (NotUnderstood text) = Unit {0}
+IsAsked NoMemory = Unit {0}
+
+-- no run, no storm, no forecast and no help: words that weren't understood, or no memory to tell them
+abbrev pub IsRefusal : Invocation → Type 0
+IsRefusal (Run limits options) = ⊥
+IsRefusal (Storm plan) = ⊥
+IsRefusal (Forecast ask) = ⊥
+IsRefusal (Help text) = ⊥
+IsRefusal (NotUnderstood text) = Unit {0}
+IsRefusal NoMemory = Unit {0}

@@ -1,0 +1,170 @@
+//! What the program does with what its words ask for, over a reader and two writers.
+//! A contract sees how a run ended, what the ends hold then, and the status.
+ghost use Rattle.std.specs.Prelude.{◌≡◌, Err, IfErr, is_ok, if◌then◌else◌};
+ghost use Rattle.std.specs.Result.{result_err};
+ghost use Rattle.ele_history.specs.Past.{fresh};
+ghost use Rattle.ele_runs.specs.RunState.{begun};
+ghost use Rattle.ele_words.specs.Status.{fault_status, status_of};
+ghost use Rattle.ele_words.specs.Ends.{HasRun, HasWritten, Tells, EndsWith};
+ghost use Rattle.ele_words.specs.RunEnds.{TellsRun, run_status};
+ghost use Rattle.ele_words.specs.SystemReason.{IsReasonOf};
+
+use crate::forecasting::run_forecast;
+use crate::invocation::Invocation;
+use crate::keeps_error::LastError;
+use crate::storming::run_storm;
+use crate::strict::report_end;
+use crate::system_reason::{SystemReason, report_error};
+use ele_model::{Audit, Explain, Limits};
+use ele_runs::{RunEnd, RunOptions, ShellFault, run_in};
+use ele_script::{put, write_named};
+use std::alloc::Global;
+use std::io;
+use std::io::{Read, Write};
+use std::sync::Wait;
+use std::thread::Threads;
+use std::time::Clock;
+
+/// How it ended if its writer was flushed behind it.
+pub(crate) fn after_flush<T: Drop>(
+    ended: Result<T, ShellFault>,
+    flushed: &io::Result<()>,
+) -> Result<T, ShellFault>
+    ensures { result ≡ (if is_ok flushed.now then ended else Err ShellFault.WriteFault) }
+{
+    if flushed.is_ok() {
+        ended
+    } else {
+        Err(ShellFault::WriteFault)
+    }
+}
+
+// Runs the script that the reader gives in this manner under these limits, and flushes what it
+// wrote, however it ended.
+fn run_script<C: Explain, R: Read, W: Write, E: Write>(
+    alloc: Global,
+    options: RunOptions,
+    limits: Limits,
+    reader: &mut R,
+    writer: &mut W,
+    errors: &mut E,
+) -> Result<RunEnd, ShellFault>
+    ensures { HasRun (begun options (fresh limits) (E.contents errors.old))
+        (R.remaining reader.old) (R.remaining reader.new)
+        (W.contents writer.old) (W.contents writer.new) (E.contents errors.new) result }
+{
+    let ran = run_in::<C, R, W, E>(options, alloc, reader, writer, errors, limits);
+    let flushed = writer.flush();
+    after_flush(ran, &flushed)
+}
+
+// Why the system failed where its failure ended a run, if the end that failed knows.
+fn why_failed<R: LastError, W: LastError>(
+    ran: &Result<RunEnd, ShellFault>,
+    reader: &R,
+    writer: &W,
+) -> Option<SystemReason>
+    ensures { IfErr ran.now (λ fault. IsReasonOf fault result) }
+{
+    match ran {
+        Ok(_) => None,
+        Err(ShellFault::ReadFault) => reader.why_failed(),
+        Err(ShellFault::WriteFault) => writer.why_failed(),
+        Err(ShellFault::TooManyLines | ShellFault::NoMemory) => None,
+    }
+}
+
+// Tells how a run ended, and why where the system failed, and the status to end with.
+fn tell_run<E: Write>(
+    alloc: Global,
+    options: RunOptions,
+    ran: &Result<RunEnd, ShellFault>,
+    why: Option<SystemReason>,
+    errors: &mut E,
+) -> u8
+    requires { IfErr ran.now (λ fault. IsReasonOf fault why) }
+    ensures status { result ≡ run_status ran.now }
+    ensures told { TellsRun options ran.now (E.contents errors.old) (E.contents errors.new) }
+{
+    match ran {
+        Ok(end) => report_end(alloc, options, end, errors),
+        Err(fault) => report_error(*fault, why, errors),
+    }
+}
+
+/// Writes a text, and flushes it.
+pub(crate) fn write_text<W: Write>(text: &str, writer: &mut W) -> Result<(), ShellFault>
+    ensures { HasWritten text.now (W.contents writer.old) (W.contents writer.new)
+        (result_err result) }
+{
+    let written = put(writer, text.as_bytes());
+    let flushed = writer.flush();
+    written?;
+    after_flush(Ok(()), &flushed)
+}
+
+/// The status that the program ends with after a fault: 3 without memory, else 1.
+pub(crate) fn status(fault: ShellFault) -> u8
+    ensures { result ≡ fault_status fault }
+{
+    match fault {
+        ShellFault::ReadFault | ShellFault::WriteFault | ShellFault::TooManyLines => 1,
+        ShellFault::NoMemory => 3,
+    }
+}
+
+/// Tells the fault as its number and its name, if there is one, and the status to end with.
+pub(crate) fn tell<E: Write>(fault: Option<ShellFault>, errors: &mut E) -> u8
+    ensures status { result ≡ status_of fault }
+    ensures told { Tells fault (E.contents errors.old) (E.contents errors.new) }
+{
+    let Some(fault) = fault else {
+        return 0;
+    };
+    let _ = write_named(b"elephant:", fault.number(), fault.name(), errors);
+    let _ = errors.flush();
+    status(fault)
+}
+
+/// Does what was asked for: answers at the writer, and tells faults and words that weren't
+/// understood at the other, and there, where it is watched, how far a storm is too, and of a run with
+/// numbers why its bad lines are no commands. The result is the
+/// status that the program ends with.
+pub fn dispatch<
+    C: Audit + Explain + Send,
+    T: Threads + Wait + Clock + Sync,
+    R: Read + LastError,
+    W: Write + LastError,
+    E: Write,
+>(
+    rt: &T,
+    alloc: Global,
+    invocation: &Invocation,
+    watched: bool,
+    reader: &mut R,
+    writer: &mut W,
+    errors: &mut E,
+) -> u8
+    ensures { EndsWith invocation.now watched (R.remaining reader.old) (R.remaining reader.new)
+        (W.contents writer.old) (W.contents writer.new)
+        (E.contents errors.old) (E.contents errors.new) result }
+{
+    match invocation {
+        Invocation::Run(limits, options) => {
+            let ran = run_script::<C, R, W, E>(alloc, *options, *limits, reader, writer, errors);
+            let why = why_failed(&ran, reader, writer);
+            tell_run(alloc, *options, &ran, why, errors)
+        }
+        Invocation::Storm(plan) => run_storm::<C, T, W, E>(
+            rt, alloc, plan, watched, writer, errors,
+        ),
+        Invocation::Forecast(ask) => run_forecast(alloc, ask, reader, writer, errors),
+        Invocation::Help(text) => tell(write_text(text.as_str(), writer).err(), errors),
+        Invocation::NotUnderstood(text) => {
+            let _ = put(errors, text.as_bytes());
+            let _ = errors.flush();
+            2
+        }
+        Invocation::NoMemory => tell(Some(ShellFault::NoMemory), errors),
+    }
+}

@@ -1,0 +1,95 @@
+//! What the words of a forecast ask for.
+ghost use Rattle.ele_words.specs.Invocation.{IsAsked};
+
+use crate::invocation::{Invocation, flag, not_understood};
+use clap::{Arg, ArgAction, ArgMatches, Command};
+use ele_moment::Moment;
+use ele_outlook::{ForecastOptions, Form};
+use ele_policy::Policy;
+use ele_script::read_policy;
+use std::alloc::{AllocError, Global};
+
+const FORECAST: &str = "Tells from when on each version of a file may be forgotten, and why, \
+    and which stay at given moments. The moments at which the file closed come on standard input, \
+    one a line, oldest first";
+
+const POLICY: &str = "The file's policy: one, all, safe:SECONDS, safe:SECONDS/FLOOR, \
+    or landmarks:AGE/WIDTH,.. in seconds";
+
+const AT: &str = "Tells which versions stay at that moment; may be given several times";
+
+const SVG: &str = "Draws it as SVG, up to 2000 versions, in place of the table";
+
+const BAD_POLICY: &str =
+    "error: --policy takes one, all, safe:SECONDS, safe:SECONDS/FLOOR or landmarks:AGE/WIDTH,..\n\n\
+    For more information, try 'elephant forecast --help'.\n";
+
+const BAD_MOMENT: &str =
+    "error: --at takes seconds since 1970 or a time as 2026-01-31T12:00:00Z\n\n\
+    For more information, try 'elephant forecast --help'.\n";
+
+/// The words of a forecast.
+pub(crate) fn forecast<'a>(alloc: Global) -> Result<Command<'a>, AllocError> {
+    let policy = Arg::new(alloc, "policy")
+        .long("policy")
+        .value_name("POL")
+        .help(POLICY)
+        .required(true);
+    let at = Arg::new(alloc, "at")
+        .long("at")
+        .value_name("M")
+        .help(AT)
+        .action(ArgAction::Append);
+    Command::new(alloc, "forecast")
+        .about(FORECAST)
+        .arg(policy)?
+        .arg(at)?
+        .arg(flag(alloc, "svg", SVG))
+}
+
+// The policy that stands behind its option, which the words must have.
+fn policy_in(forecast: &ArgMatches) -> Option<Policy> {
+    read_policy(forecast.get_str("policy")?.as_bytes()).ok()
+}
+
+// The form in which it is to be told.
+fn form_in(forecast: &ArgMatches) -> Form {
+    if forecast.get_flag("svg") {
+        Form::Drawing
+    } else {
+        Form::Table
+    }
+}
+
+// What a forecast under that policy asks for at the moments that these words spell.
+fn asked_at(alloc: Global, policy: Policy, words: &[&str], form: Form) -> Invocation
+    ensures { IsAsked result }
+{
+    let mut moments = Vec::new(alloc);
+    for word in words {
+        let Ok(at) = Moment::read(word.as_bytes()) else {
+            return not_understood(alloc, BAD_MOMENT);
+        };
+        if moments.push(at).is_err() {
+            return Invocation::NoMemory;
+        }
+    }
+    Invocation::Forecast(ForecastOptions {
+        policy,
+        moments,
+        form,
+    })
+}
+
+/// What the words of a forecast ask for, once they were understood.
+pub(crate) fn asked_forecast(alloc: Global, forecast: &ArgMatches) -> Invocation
+    ensures { IsAsked result }
+{
+    let Some(policy) = policy_in(forecast) else {
+        return not_understood(alloc, BAD_POLICY);
+    };
+    match forecast.get_strs("at") {
+        Some(words) => asked_at(alloc, policy, words, form_in(forecast)),
+        None => asked_at(alloc, policy, &[], form_in(forecast)),
+    }
+}
