@@ -2,7 +2,7 @@
 //! a contract sees the world as the flat rows of `Flat`.
 #![tactic(auto)]
 
-mod audit;
+mod auditing;
 mod audits;
 mod copy;
 mod cover;
@@ -23,7 +23,7 @@ mod scan;
 mod step;
 mod sums;
 
-pub use audit::Audit;
+pub use auditing::Audit;
 pub use audits::audit;
 pub use cover::Cover;
 pub use ele_content::Cell;

@@ -35,8 +35,8 @@ pub record WatchedEnds (plan : StormPlan) (old new before after : Option (List �
   pub most : ℕ
   pub between : Option (List ℕ)
   pub progress : ShowsProgress before between most
-  pub dispatch : StormEnds plan old new between after status
-  pub behind : StandBehind most plan dispatch.ended dispatch.has_stormed
+  pub ends : StormEnds plan old new between after status
+  pub behind : StandBehind most plan ends.ended ends.has_stormed
 
 -- where it isn't watched no progress is told
 abbrev pub EndsWatched : Bool → StormPlan → Option (List ℕ) → Option (List ℕ) → Option (List ℕ) → Option (List ℕ) → ℕ → Type 0

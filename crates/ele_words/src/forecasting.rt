@@ -5,7 +5,7 @@ ghost use Rattle.ele_printer.specs.Front.{AppendsFront};
 ghost use Rattle.ele_outlook.specs.Input.{bad_text};
 ghost use Rattle.ele_words.specs.Forecasts.{ForecastEnds, forecast_line, forecast_status};
 
-use crate::dispatch::tell;
+use crate::program::tell;
 use ele_outlook::{BadLine, ForecastFault, ForecastOptions, write_bad_line, write_forecast};
 use ele_printer::put;
 use ele_runs::ShellFault;

@@ -2,16 +2,16 @@
 //! A contract sees the limits of a run, how it ended, what the ends hold then, and the status.
 #![tactic(auto)]
 
-mod dispatch;
 mod forecasting;
 mod invocation;
 mod keeps_error;
+mod program;
 mod storming;
 mod strict;
 mod system_reason;
 mod watched;
 
-pub use dispatch::dispatch;
 pub use invocation::{Invocation, unreadable_args, words};
 pub use keeps_error::{KeepsError, LastError};
+pub use program::dispatch;
 pub use system_reason::SystemReason;

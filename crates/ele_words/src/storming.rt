@@ -7,7 +7,7 @@ ghost use Rattle.ele_words.specs.Progress.{EndsWatched};
 ghost use Rattle.ele_words.specs.Storms.{HasStormed, HasTold, TellsEnd, TellsStorm, audit_word, storm_fault_line, storm_line, storm_status};
 ghost use Rattle.ele_words.specs.Watched.{Watched};
 
-use crate::dispatch::{tell, write_text};
+use crate::program::{tell, write_text};
 use crate::watched::watch_storm;
 use ele_model::{Audit, Limits};
 use ele_runs::ShellFault;

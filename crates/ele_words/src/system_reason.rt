@@ -6,7 +6,7 @@ ghost use Rattle.ele_printer.specs.Front.{AppendsFront};
 ghost use Rattle.ele_words.specs.Status.{fault_status};
 ghost use Rattle.ele_words.specs.SystemReason.{failed_line, fault_front, system_text};
 
-use crate::dispatch::{status, tell};
+use crate::program::{status, tell};
 use ele_runs::ShellFault;
 use ele_script::write_placed;
 use std::io;

@@ -7,6 +7,6 @@ returns-then-watched g c =
       most = ended.ensures.most;
       between = g.E.Write.contents ended.new.errors;
       progress = ended.ensures.progress;
-      dispatch = record { ended = ended.result; has_stormed = ended.ensures.stormed; told = c.tell_ended.ensures };
+      ends = record { ended = ended.result; has_stormed = ended.ensures.stormed; told = c.tell_ended.ensures };
       behind = ended.ensures.behind;
     })

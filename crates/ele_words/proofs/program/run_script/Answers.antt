@@ -1,7 +1,7 @@
 use Rattle.std.specs.Prelude.{is_ok}
 use Rattle.std.proofs.KnownBytes.{Keeps-refl}
 use Rattle.ele_words.proofs.Flushed.{has_run, run_flushed}
-use Rattle.ele_words.proofs.dispatch.run_script.Goals as goal
+use Rattle.ele_words.proofs.program.run_script.Goals as goal
 
 pub returns : goal.returns
 returns g c =

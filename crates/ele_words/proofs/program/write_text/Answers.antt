@@ -1,6 +1,6 @@
 use Rattle.std.specs.Prelude.{is_ok}
 use Rattle.ele_words.proofs.Flushed.{text_flushed}
-use Rattle.ele_words.proofs.dispatch.write_text.Goals as goal
+use Rattle.ele_words.proofs.program.write_text.Goals as goal
 
 pub returns : goal.returns
 returns g c =

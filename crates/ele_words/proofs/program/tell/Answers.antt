@@ -1,5 +1,5 @@
 use Rattle.ele_words.proofs.Flushed.{line_flushed}
-use Rattle.ele_words.proofs.dispatch.tell.Goals as goal
+use Rattle.ele_words.proofs.program.tell.Goals as goal
 
 pub returns-clause-told : goal.returns-clause-told
 returns-clause-told g c =

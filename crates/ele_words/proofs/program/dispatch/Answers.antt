@@ -1,7 +1,7 @@
 use Rattle.std.proofs.Common.{refl}
 use Rattle.std.proofs.KnownBytes.{Keeps-refl}
 use Rattle.ele_words.proofs.Flushed.{written_flushed}
-use Rattle.ele_words.proofs.dispatch.dispatch.Goals as goal
+use Rattle.ele_words.proofs.program.dispatch.Goals as goal
 
 pub returns-in-Run : goal.returns-in-Run
 returns-in-Run g c =
