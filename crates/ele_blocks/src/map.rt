@@ -1,7 +1,7 @@
 //! A block map: one content of at most 1,048,576 bytes, cut into slots of 512 bytes, which stand in
 //! leaves of 16. A contract sees its length and leaves, and through a store the cells of the
 //! content.
-ghost use Rattle.std.specs.Prelude.{◌≡◌, ◌<◌, ◌≤◌, ◌-◌, ◌*◌, ◌/◌, [], ◌∷◌, OnOk, OnErr, IfOk, IfSome, Some, drop, slice_get, take, vec_len};
+ghost use Rattle.std.specs.Prelude.{◌≡◌, ◌<◌, ◌-◌, ◌*◌, ◌/◌, [], ◌∷◌, OnOk, OnErr, IfOk, IfSome, Some, drop, slice_get, take, vec_len};
 ghost use Rattle.std.specs.Option.{option_map};
 ghost use Rattle.ele_content.specs.Content.{content_of, slot_bytes, slot_count};
 ghost use Rattle.ele_blocks.specs.Layout.{Layout, slots_of, shown};

@@ -1,7 +1,7 @@
 //! Values that many own, each under a number, with the count of its owners.
 //! A contract sees its places, each of which holds a value with its owners or nothing, and the room
 //! behind them.
-ghost use Rattle.std.specs.Prelude.{◌≡◌, ◌<◌, ◌≤◌, ◌+◌, ◌^◌, [], ◌∷◌, OnOk, OnErr, IfOk, Some, None, map, count_by, is_some, vec_len, vec_capacity};
+ghost use Rattle.std.specs.Prelude.{◌≡◌, ◌<◌, ◌≤◌, ◌+◌, ◌^◌, [], OnOk, OnErr, IfOk, Some, None, map, count_by, is_some, vec_len, vec_capacity};
 ghost use Rattle.slab.specs.Slab.{HasRoomFor};
 ghost use Rattle.ele_blocks.specs.Shared.{place_at, value_at, owners, Sets, Adds, Owned, shared, released, leaving};
 

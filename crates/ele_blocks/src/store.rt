@@ -1,6 +1,6 @@
 //! The blocks and leaves that all maps of one core share.
 //! A contract sees what stands under each number: bytes or slots and a count of owners, or nothing.
-ghost use Rattle.std.specs.Prelude.{◌≡◌, ◌<◌, ◌≤◌, ◌+◌, ◌^◌, [], OnErr, IfOk, Some, None, List, length, map, count_by, is_some, nat_eq};
+ghost use Rattle.std.specs.Prelude.{◌≡◌, ◌<◌, ◌≤◌, ◌^◌, OnErr, IfOk, Some, None, List, length, count_by, is_some, nat_eq};
 ghost use Rattle.ele_content.specs.Place.{different};
 ghost use Rattle.ele_blocks.specs.Distinct.{blocks_of};
 ghost use Rattle.ele_blocks.specs.Owes.{Owes};

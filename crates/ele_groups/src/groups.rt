@@ -6,7 +6,7 @@ ghost use Rattle.std.specs.Option.{option_copied, option_map_or};
 ghost use Rattle.ele_model.specs.GroupRows.{group_named, has_group, has_member, is_marked_at, is_member, with_group, without_group, with_member, without_member, with_mark, without_mark, forgotten};
 ghost use Rattle.ele_model.specs.Cover.{cover_by, cover_of};
 ghost use Rattle.ele_model.specs.declared.cover.Cover.TheVariants.{Free};
-ghost use Rattle.ele_model.specs.GroupsAsked.{members_of, marks_of, cover_with, cover_without};
+ghost use Rattle.ele_model.specs.GroupsAsked.{members_of, marks_of, cover_without};
 ghost use Rattle.ele_groups.specs.Faults.{make_fault, drop_fault, add_fault, remove_fault, mark_fault, unmark_fault, Fails, answer_of};
 ghost use Rattle.ele_groups.specs.Rows.{row_of};
 
@@ -196,25 +196,6 @@ impl Groups {
             except: None,
         };
         cover_at(&self.rows, name, &span)
-    }
-
-    /// For how long they would, with the file in that group too. It takes no memory.
-    pub fn cover_with(
-        &self,
-        name: &Name,
-        file: FileId,
-        closed: Moment,
-        ended: Option<Moment>,
-    ) -> Cover
-        ensures { result ≡ cover_with self.now name.now file closed ended }
-    {
-        let span = Span {
-            closed,
-            ended,
-            except: None,
-        };
-        let of_group = cover_at(&self.rows, name, &span);
-        of_group.longer(cover(&self.rows, &self.memberships, file, &span))
     }
 
     /// For how long they do, that mark of that group left out, or the whole group where no mark is

@@ -1,12 +1,11 @@
 //! A forecast as a drawing. A contract sees its text, and a printer as its outlet.
-ghost use Rattle.std.specs.Prelude.{◌≡◌, ◌<◌, ◌≤◌, ◌+◌, ◌-◌, ◌*◌, ◌/◌, ◌^◌, ◌++◌, ◌∷◌, [], codes, decimal, length, slice_get};
+ghost use Rattle.std.specs.Prelude.{◌≡◌, ◌<◌, ◌≤◌, ◌+◌, ◌-◌, ◌*◌, ◌/◌, ◌^◌, ◌++◌, ◌∷◌, [], codes, decimal, slice_get};
 ghost use Rattle.std.specs.List.{flat_map, join_with_byte};
 ghost use Rattle.ele_policy.specs.Ladder.{level_of};
 ghost use Rattle.ele_printer.specs.Prints.{Prints};
 ghost use Rattle.ele_outlook.specs.Drawing.{IsOnPage, band_drawn, band_marks, band_top, drawing_text, floor_words, frame_drawn, head_drawn, heading_drawn, kept_drawn, kept_marks, moment_drawn, policy_name, rows_drawn, scale_drawn, scale_marks, spans_drawn, tie_from, version_drawn, version_tied};
 ghost use Rattle.ele_outlook.specs.Mark.{mark_text};
 ghost use Rattle.ele_outlook.specs.Page.{step_of};
-ghost use Rattle.ele_outlook.specs.Table.{version_line};
 ghost use Rattle.ele_outlook.specs.Why.{spaced};
 
 use crate::mark::{put_marks, put_parts};

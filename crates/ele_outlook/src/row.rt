@@ -5,7 +5,6 @@ ghost use Rattle.std.specs.List.{join_with_byte};
 ghost use Rattle.ele_printer.specs.Prints.{Prints};
 ghost use Rattle.ele_outlook.specs.Stamp.{stamp_of, stamp_or};
 ghost use Rattle.ele_outlook.specs.Table.{version_line};
-ghost use Rattle.ele_outlook.specs.Why.{why_words};
 
 use crate::why::put_why;
 use ele_forecast::Forecast;

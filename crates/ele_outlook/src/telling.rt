@@ -1,5 +1,5 @@
 //! A forecast from the first byte to the last. A contract sees what was read and what was written.
-ghost use Rattle.std.specs.Prelude.{◌≡◌, OnOk, OnErr, length};
+ghost use Rattle.std.specs.Prelude.{◌≡◌, OnOk, OnErr};
 ghost use Rattle.std.specs.Io.KnownBytes.{Appends, Keeps};
 ghost use Rattle.ele_printer.specs.Front.{AppendsFront};
 ghost use Rattle.ele_printer.specs.Prints.{Prints};

@@ -1,6 +1,6 @@
 //! Why a version may be forgotten or stays, in words. A contract sees these, and a printer as its
 //! outlet.
-ghost use Rattle.std.specs.Prelude.{◌≡◌, ◌∷◌, [], codes, decimal};
+ghost use Rattle.std.specs.Prelude.{◌≡◌, ◌∷◌, codes, decimal};
 ghost use Rattle.std.specs.List.{join_with_byte};
 ghost use Rattle.ele_printer.specs.Prints.{Prints};
 ghost use Rattle.ele_outlook.specs.Why.{is_in_time, length_words, never_word, spaced, span_words, width_at, width_of, why_words};

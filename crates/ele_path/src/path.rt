@@ -1,5 +1,5 @@
 //! Names behind one another, from the root. A contract sees a path as the list of its names.
-ghost use Rattle.std.specs.Prelude.{◌≡◌, ◌≤◌, ◌⊎◌, ◌↔◌, ◌++◌, ◌∷◌, [], ℕ, List, All, length, nat_eq, slice_get, Some, Ok, Err, IfOk, IfErr, OnOk, IsErrOf, MatchOption, ◌<◌};
+ghost use Rattle.std.specs.Prelude.{◌≡◌, ◌≤◌, ◌⊎◌, ◌↔◌, ◌++◌, ◌∷◌, [], ℕ, List, All, length, nat_eq, slice_get, Some, Ok, Err, IfOk, IfErr, OnOk, IsErrOf, ◌<◌};
 ghost use Rattle.std.specs.Cmp.{on_per, on_equiv, partial_equiv_from_equiv};
 ghost use Rattle.std.specs.Cmp.Lexicographic.{pointwise, lists_per, lists_equiv, nat_list_eq_equiv};
 ghost use Rattle.ele_moment.specs.Name.{IsName};
@@ -80,18 +80,6 @@ impl Path {
         let mut path = self.clone().map_err(|_| PathFault::NoMemory)?;
         path.names.push(name)?;
         Ok(path)
-    }
-
-    /// The path of the directory in which this one stands. None of the root.
-    pub fn parent(&self) -> Result<Option<Path>, NoMemory>
-        ensures { IfOk result (λ parent. MatchOption parent (self.now ≡ [])
-            (λ path. (name : List ℕ) × (self.now ≡ path ++ name ∷ []))) }
-    {
-        let Some((_, names)) = self.names.split_last() else {
-            return Ok(None);
-        };
-        let names = Vec::from_slice(*self.names.allocator(), names)?;
-        Ok(Some(Path { names }))
     }
 
     /// The names, from the root on.

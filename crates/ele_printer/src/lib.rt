@@ -23,5 +23,5 @@ pub use fault::{LineFault, WriteFault};
 pub use history::{put_history, put_trimmed};
 pub use printer::{Printer, put, put_line, put_word, put_words};
 pub use reply::{put_answer, put_fault, put_in_front, put_pass, put_reply, put_stop};
-pub use text::{write_event_text, write_fault, write_named, write_pass, write_placed, write_reply};
+pub use text::{write_event_text, write_named, write_placed, write_reply};
 pub use why::{put_ahead, put_why};

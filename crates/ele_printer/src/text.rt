@@ -6,13 +6,13 @@ ghost use Rattle.std.specs.Io.KnownBytes.{Appends};
 ghost use Rattle.ele_printer.specs.EventText.{IsValue, event_words};
 ghost use Rattle.ele_printer.specs.Front.{AppendsFront};
 ghost use Rattle.ele_printer.specs.Parts.{parts_of};
-ghost use Rattle.ele_printer.specs.Printed.{line_text, pass_text, bad_text, WritesAnswer, WritesAnswerFront};
+ghost use Rattle.ele_printer.specs.Printed.{line_text, WritesAnswer, WritesAnswerFront};
 
 use crate::event::put_event_line;
-use crate::fault::{LineFault, WriteFault};
+use crate::fault::WriteFault;
 use crate::printer::Printer;
-use crate::reply::{put_fault, put_named, put_pass, put_placed, put_reply};
-use ele_model::{Event, PassEnd, Reply, Stop};
+use crate::reply::{put_named, put_placed, put_reply};
+use ele_model::{Event, Reply, Stop};
 use std::io::Write;
 
 /// Writes the lines of a reply, or of the stop that came in its place. At a fault the writer took a
@@ -40,34 +40,6 @@ pub fn write_event_text<W: Write>(event: &Event, writer: &mut W) -> Result<(), W
 {
     let mut printer = Printer::new(writer);
     put_event_line(event, &mut printer)?;
-    printer.hand_over()
-}
-
-/// Writes the line that tells a bad line's fault. At a fault of the writer it took a front of that
-/// line.
-#[tactic(auto, using(crate::proofs::Known::err_over))]
-pub fn write_fault<W: Write>(fault: LineFault, writer: &mut W) -> Result<(), WriteFault>
-    ensures ok { OnOk result
-        (Appends (W.contents writer.old) (W.contents writer.new) (bad_text fault)) }
-    ensures err { OnErr result
-        (AppendsFront (W.contents writer.old) (W.contents writer.new) (bad_text fault)) }
-{
-    let mut printer = Printer::new(writer);
-    put_fault(fault, &mut printer)?;
-    printer.hand_over()
-}
-
-/// Writes the line that tells how a pass ended, and how many versions it removed. At a fault of the
-/// writer it took a front of that line.
-#[tactic(auto, using(crate::proofs::Known::err_over))]
-pub fn write_pass<W: Write>(end: &PassEnd, writer: &mut W) -> Result<(), WriteFault>
-    ensures ok { OnOk result
-        (Appends (W.contents writer.old) (W.contents writer.new) (pass_text end.now)) }
-    ensures err { OnErr result
-        (AppendsFront (W.contents writer.old) (W.contents writer.new) (pass_text end.now)) }
-{
-    let mut printer = Printer::new(writer);
-    put_pass(end, &mut printer)?;
     printer.hand_over()
 }
 

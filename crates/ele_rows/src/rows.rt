@@ -1,6 +1,5 @@
 //! The rows of a list in chunks, one after the other.
 //! A contract sees those that are left.
-ghost use Rattle.std.specs.Prelude.{◌≡◌};
 ghost use Rattle.std.specs.Iterator.{YieldsFirstRef, item_count};
 
 use std::iter::FusedIterator;

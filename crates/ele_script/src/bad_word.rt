@@ -1,5 +1,5 @@
 //! Why words are no command, and a line. A contract sees a line as its bytes, and a reason as itself.
-ghost use Rattle.std.specs.Prelude.{◌≡◌, ◌⊎◌, ◌+◌, ◌<◌, ◌≤◌, ◌^◌, true, map, length, ℕ, List, Err, IfOk, IfErr, IfSome, IfNone, OnOk, OnErr};
+ghost use Rattle.std.specs.Prelude.{◌≡◌, ◌⊎◌, ◌+◌, ◌<◌, ◌≤◌, ◌^◌, true, map, length, Err, IfOk, IfErr, IfSome, IfNone, OnOk, OnErr};
 ghost use Rattle.std.specs.List.{list_all, list_any};
 ghost use Rattle.ele_script.specs.FirstFault.{IsFirstFault, IsOfKind, IsWordFault};
 ghost use Rattle.ele_script.specs.Memory.{TakesMemory, word_takes};

@@ -20,8 +20,7 @@ mod writing;
 pub use bad_word::{reason, word_reason};
 pub use ele_printer::{
     LineFault, Printer, WriteFault, put, put_ahead, put_answer, put_fault, put_history, put_pass,
-    put_reply, put_stop, put_trimmed, put_why, write_fault, write_named, write_pass, write_placed,
-    write_reply,
+    put_reply, put_stop, put_trimmed, put_why, write_named, write_placed, write_reply,
 };
 pub use kind::WordKind;
 pub use question::{Question, question_word, read_question};

@@ -1,5 +1,5 @@
 //! Reading the pairs of a ladder. A contract sees a pair as its two numbers.
-ghost use Rattle.std.specs.Prelude.{◌≡◌, ◌==◌, ℕ, List, IfSome, IfNone};
+ghost use Rattle.std.specs.Prelude.{◌≡◌, ◌==◌, List, IfSome, IfNone};
 ghost use Rattle.std.specs.List.{position};
 ghost use Rattle.ele_policy.specs.Ladder.{Rung};
 ghost use Rattle.ele_script.specs.KeptPairs.{KeepsLadder, KeepsPairs};

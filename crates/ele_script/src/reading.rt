@@ -1,5 +1,5 @@
 //! Reading lines. A contract sees a line as its bytes, and an event as itself.
-ghost use Rattle.std.specs.Prelude.{◌≡◌, ◌≢◌, ◌<◌, ◌∷◌, [], ◌⊎◌, ℕ, map, length, true, false, IfOk, IfErr, IfSome, IsSome, None, Ok, Err};
+ghost use Rattle.std.specs.Prelude.{◌≡◌, ◌<◌, ◌⊎◌, map, length, true, false, IfOk, IfErr, IfSome, IsSome, None, Ok, Err};
 ghost use Rattle.std.specs.List.{position};
 ghost use Rattle.ele_script.specs.Memory.{TakesMemory};
 ghost use Rattle.ele_script.specs.Words.{words_of, is_worded, ends_word};

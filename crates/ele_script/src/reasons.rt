@@ -1,6 +1,5 @@
 //! Why a line is no command. A contract sees a reason as itself, and its text.
 ghost use Rattle.std.specs.Prelude.{◌≡◌, Some};
-ghost use Rattle.ele_script.specs.Reason.{fault_of};
 ghost use Rattle.ele_script.specs.ReasonText.{syntax_text, other_text, reason_text, takes_text, why_text, word_text};
 
 use crate::kind::WordKind;
@@ -46,21 +45,6 @@ pub enum Reason {
 }
 
 impl Reason {
-    /// The fault by which the line is answered.
-    pub fn fault(self) -> LineFault
-        ensures { result ≡ fault_of self }
-    {
-        match self {
-            Reason::TooLong => LineFault::LineTooLong,
-            Reason::Word { fault, .. } => fault,
-            Reason::Cut
-            | Reason::Empty(_)
-            | Reason::Byte(_, _)
-            | Reason::NoCommand(_)
-            | Reason::Words(_) => LineFault::Syntax,
-        }
-    }
-
     // Why, without the place.
     fn why(self) -> &'static str
         ensures { result.now ≡ why_text self }

@@ -1,5 +1,5 @@
 //! The paths and the bytes that the events of a storm name.
-ghost use Rattle.std.specs.Prelude.{◌≡◌, ◌<◌, ◌^◌, IfOk};
+ghost use Rattle.std.specs.Prelude.{◌≡◌, ◌<◌, IfOk};
 ghost use Rattle.std.specs.Int.{to_be_bytes, w64};
 ghost use Rattle.ele_path.specs.declared.tagged.Tag.TheVariants as tag;
 ghost use Rattle.ele_storm.specs.Plan.{file_of, handle_in, tagged};

@@ -1,5 +1,5 @@
 //! The workers of a storm, each in a thread of its own.
-ghost use Rattle.std.specs.Prelude.{◌≡◌, ◌+◌, ◌<◌, ◌≤◌, ◌/◌, ◌-◌, [], length};
+ghost use Rattle.std.specs.Prelude.{◌≡◌, ◌+◌, ◌<◌, ◌≤◌, ◌/◌, ◌-◌, []};
 ghost use Rattle.std.specs.Thread.{IsSync};
 ghost use Rattle.ele_storm.specs.Plan.{workers_of};
 ghost use Rattle.ele_storm.specs.Halves.{Runs};

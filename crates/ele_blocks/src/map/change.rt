@@ -1,11 +1,11 @@
 //! The changes of a content: a write, and a truncate.
 //! A contract sees the new cells as a definition over the old ones, and that the owners of leaves
 //! which other maps share stay.
-ghost use Rattle.std.specs.Prelude.{◌≡◌, ◌<◌, ◌≤◌, ◌+◌, ◌-◌, ◌*◌, ◌/◌, ◌^◌, OnOk, OnErr, IfOk, drop, max, min, length, vec_len};
-ghost use Rattle.ele_content.specs.Content.{content_after_write, content_of, longest_content, slot_bytes, slot_count};
+ghost use Rattle.std.specs.Prelude.{◌≡◌, ◌<◌, ◌≤◌, ◌+◌, ◌-◌, ◌*◌, ◌/◌, ◌^◌, OnOk, OnErr, IfOk, max, min, length, vec_len};
+ghost use Rattle.ele_content.specs.Content.{content_after_write, content_of, longest_content, slot_count};
 ghost use Rattle.ele_blocks.specs.Changes.{IsWritten, IsResized};
-ghost use Rattle.ele_blocks.specs.Layout.{slots_of, shown};
-ghost use Rattle.ele_blocks.specs.LivesIn.{LivesIn, leaf_count};
+ghost use Rattle.ele_blocks.specs.Layout.{shown};
+ghost use Rattle.ele_blocks.specs.LivesIn.{LivesIn};
 ghost use Rattle.ele_blocks.specs.Pieces.{pieces_between};
 ghost use Rattle.ele_blocks.specs.Renewed.{IsReplaced};
 
