@@ -1,5 +1,5 @@
 -- What a write and a truncate make of a map and its store.
-use Rattle.ele_blocks.proofs.Lemmas.{slice_get-map, [], ap, append-nil, AreSized, arith, backed_there, Bool, bytes_of, Cell, cell_by, cell_of, cond, content_after_truncate, content_after_write, content_of, drop, drop_all, false, fill_by_all, flat-at, flat-laid, flat-take, flat_map, flat_map-map, Hands, hands_with, is_between, is_whole_by, IsReplaced, IsResized, IsRewritten, IsWritten, Layout, leaf_at, length, length-append, length-chunks, length-content, length-drop, length-map, length-replicate, length-spliced, length-take, List, LivesIn, longest_content, map, max, meets, min, moved_one, nat_tests, nil_from_length, no_cell, pieces, pieces_between, pieces_are, pieces_taken, range_with_len, refits, refl, Renews, shown, sized-count, sized-is, sized-laid, sized-length, sized-map, sized-take, slice_get-get_or, Slot, slot_bytes, slot_count, slots_of, spliced_part, Store, sym, take, take-add, take-append-drop, take-take, take_all, times, whole_is, writer_at, ℕ, ◌*◌, ◌++◌, ◌+◌, ◌-◌, ◌/◌, ◌<◌, ◌∙◌, ◌≡◌, ◌≤◌, ◌⊎◌}
+use Rattle.ele_blocks.proofs.Lemmas.{slice_get-map, [], ap, append-nil, AreSized, arith, backed_there, Bool, bytes_of, Cell, cell_by, cell_of, cond, content_after_truncate, content_after_write, content_of, drop, drop_all, false, fill_by_all, flat-at, flat-laid, flat-take, flat_map, flat_map-map, Hands, is_between, is_whole_by, IsReplaced, IsResized, IsRewritten, IsWritten, Layout, leaf_at, length, length-append, length-chunks, length-content, length-drop, length-map, length-replicate, length-spliced, length-take, List, LivesIn, longest_content, map, max, meets, min, moved_one, nat_tests, nil_from_length, no_cell, pieces, pieces_between, pieces_are, pieces_taken, range_with_len, refits, refl, Renews, shown, sized-count, sized-is, sized-laid, sized-length, sized-map, sized-take, slice_get-get_or, Slot, slot_bytes, slot_count, slots_of, spliced_part, Store, sym, take, take-add, take-append-drop, take-take, take_all, times, whole_is, writer_at, ℕ, ◌*◌, ◌++◌, ◌+◌, ◌-◌, ◌/◌, ◌<◌, ◌∙◌, ◌≡◌, ◌≤◌}
 use Rattle.ele_content.specs.Content.{cells_after_truncate, cells_after_write}
 use Rattle.std.proofs.lemmas.Simd.{map-map}
 

@@ -1,5 +1,5 @@
 -- Values beside the counts of their owners.
-use Rattle.ele_blocks.proofs.Words.{[], ap, arith, cond, count_by, Counted, get_or, get_or-set_other, get_or-set_same, get_or_past, HasRoomFor, IfSome, is_some, leaving, length, length-set, List, nat_tests, None, Option, option_map, Owned, owners, owners_of, place_at, refl, released, replicate, set, Sets, shared, Slab, slab_len, Some, suc, sum_by-cons, value_at, value_of, zero, ℕ, ◌++◌, ◌+◌, ◌-◌, ◌<◌, ◌∷◌, ◌≡◌, ◌≢◌, ◌≤◌}
+use Rattle.ele_blocks.proofs.Words.{[], ap, arith, cond, count_by, Counted, get_or, get_or-set_other, get_or-set_same, get_or_past, HasRoomFor, IfSome, is_some, leaving, length, length-set, List, nat_tests, None, Option, option_map, Owned, owners, owners_of, place_at, refl, released, replicate, set, Sets, shared, Slab, slab_len, Some, suc, sum_by-cons, zero, ℕ, ◌++◌, ◌+◌, ◌-◌, ◌<◌, ◌∷◌, ◌≡◌, ◌≢◌, ◌≤◌}
 use Rattle.ele_blocks.specs.SharedInside.{counted, counted_with, with_count}
 
 module _ {X : Type 0} where

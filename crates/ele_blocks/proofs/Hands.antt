@@ -1,8 +1,8 @@
 -- How leaves change hands, one change after another.
-use Rattle.ele_blocks.proofs.Words.{[], ap, AreBacked, AreThere, arith, backing, bytes_at, cell_of, Counted, Covers, get_or, Hands, ids_of, is_whole, Layout, leaf_at, leaving, length, length-take-le, List, LivesIn, map, map-append, Moves, nat_tests, None, Option, owners, place_at, refl, released, Sets, shared, Slot, slot_count, slots_in, Some, Store, take, times, Trades, true, unwrap_or, value_of, ℕ, ◌+◌, ◌<◌, ◌^◌, ◌∷◌, ◌≡◌, ◌≤◌}
+use Rattle.ele_blocks.proofs.Words.{[], ap, AreBacked, AreThere, arith, backing, bytes_at, cell_of, Counted, Covers, get_or, Hands, ids_of, is_whole, Layout, leaf_at, leaving, length, length-take-le, List, LivesIn, map, map-append, Moves, nat_tests, None, Option, owners, place_at, refl, released, Sets, shared, Slot, slot_count, slots_in, Some, Store, take, times, Trades, true, value_of, ℕ, ◌+◌, ◌<◌, ◌^◌, ◌∷◌, ◌≡◌, ◌≤◌}
 use Rattle.ele_blocks.proofs.Sized.{fills-map}
 use Rattle.ele_blocks.proofs.Backing.{backing_sets, backing_least, slots_backed, slots_least}
-use Rattle.ele_blocks.proofs.Trades.{times-le-length, shared_value, released_value, trades_share, trades_release, one_more, times_next}
+use Rattle.ele_blocks.proofs.Trades.{times-le-length, trades_share, trades_release, one_more, times_next}
 
 pub cells_each : (s t : Store) (slots : List Slot) → ((id : ℕ) → 0 < times id (ids_of slots) → bytes_at t id ≡ bytes_at s id) → map (cell_of t) slots ≡ map (cell_of s) slots
 cells_each s t [] same = refl

@@ -1,5 +1,5 @@
 -- What stands in each place of a list over which items were laid.
-use Rattle.ele_blocks.proofs.Words.{drop-append-add, [], ap, append_assoc, arith, cond, drop, drop-drop, drop-map, is_between, laid_over, length, length-append, length-drop, length-map, length-take-le, List, map, map-append, nat_tests, refl, set, set_split, slice_get, suc, sym, take, take-map, take_at, zero, ℕ, ◌++◌, ◌+◌, ◌-◌, ◌<◌, ◌∙◌, ◌∷◌, ◌≡◌, ◌≤◌, take-nil, slice_get-get_or, slice_get_past, get_or_append_left, get_or-append_right, get_or-take, get_or-drop, length-take}
+use Rattle.ele_blocks.proofs.Words.{drop-append-add, [], append_assoc, arith, cond, drop, drop-drop, drop-map, is_between, laid_over, length, length-append, length-drop, length-map, length-take-le, List, map, map-append, nat_tests, set, set_split, slice_get, take, take-map, take_at, ℕ, ◌++◌, ◌+◌, ◌-◌, ◌<◌, ◌∷◌, ◌≡◌, ◌≤◌, slice_get-get_or, slice_get_past, get_or_append_left, get_or-append_right, get_or-take, get_or-drop, length-take}
 
 module _ {X : Type 0} where
   pub slice_get-take : (d : X) (n k : ℕ) (xs : List X) → k < n → slice_get (take n xs) k ≡ slice_get xs k

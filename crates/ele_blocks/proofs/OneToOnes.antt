@@ -1,5 +1,5 @@
 -- A change by a new writer leaves slots and blocks one to one.
-use Rattle.ele_blocks.proofs.Lemmas.{◌-◌, [], AreOneToOne, arith, backed_there, Bool, false, false≢true, ids_of, inr, IsIn, Layout, List, LivesIn, Moves, Named, names_from, names_of, nat_tests, None, Option, owners_at, refl, Renews, slice_get, slice_get_within, Slot, slots_of, Some, Store, suc, times, true, ℕ, ⊎_elim, ◌++◌, ◌+◌, ◌<◌, ◌∷◌, ◌≡◌, ◌≤◌, ◌⊎◌}
+use Rattle.ele_blocks.proofs.Lemmas.{◌-◌, [], AreOneToOne, arith, backed_there, Bool, false, false≢true, ids_of, inr, IsIn, Layout, List, LivesIn, Moves, Named, names_from, names_of, nat_tests, None, Option, owners_at, refl, Renews, slice_get, slice_get_within, Slot, slots_of, Some, Store, suc, times, true, ℕ, ⊎_elim, ◌++◌, ◌+◌, ◌<◌, ◌∷◌, ◌≡◌, ◌⊎◌}
 
 -- no name is of this writer of the file
 abbrev pub NoneBy : ℕ → ℕ → List Named → Type 0

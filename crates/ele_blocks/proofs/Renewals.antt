@@ -1,6 +1,6 @@
 -- New leaves in place of others: blocks are put, those that stay are shared, leaves are put, and the
 -- old leaves released.
-use Rattle.ele_blocks.proofs.Lemmas.{[], Adds, ap, AreBacked, AreThere, arith, backing, bytes_at, cell_by, cell_of, cells_each, chunks_joined, Counted, Covers, drop, flat_map, flat_map-map, Hands, hands_then, hands_with, ids_of, IsLaid, IsRenewed, laid_over, laid_over-map, leaf_at, leaf_count, leaf_there, length, length-drop, length-map, length-take-le, List, map, nat_tests, Option, owners, parts, refl, Slot, slot_by, slots_in, slots_least, Some, stay_in, Store, sym, take, times, times-ids, times-le-length, times-split, Trades, unwrap_or, value_at, values_stay, ℕ, ◌++◌, ◌+◌, ◌<◌, ◌^◌, ◌∙◌, ◌≡◌, ◌≤◌}
+use Rattle.ele_blocks.proofs.Lemmas.{[], Adds, ap, AreBacked, AreThere, arith, backing, bytes_at, cell_by, cell_of, cells_each, chunks_joined, Counted, Covers, drop, flat_map-map, Hands, hands_then, hands_with, ids_of, IsLaid, IsRenewed, laid_over, laid_over-map, leaf_at, leaf_count, leaf_there, length, length-drop, length-map, length-take-le, List, map, nat_tests, Option, owners, parts, Slot, slot_by, slots_in, slots_least, Some, stay_in, Store, sym, take, times, times-ids, times-le-length, times-split, Trades, unwrap_or, value_at, values_stay, ℕ, ◌++◌, ◌+◌, ◌<◌, ◌^◌, ◌∙◌, ◌≡◌, ◌≤◌}
 use Rattle.ele_blocks.proofs.Distincts.{Blocks}
 use Rattle.std.proofs.lemmas.Simd.{map-map}
 use Rattle.std.proofs.lemmas.List.{map-id}

@@ -1,5 +1,5 @@
 -- New slots over the first slots of a map, and new leaves in place of the run of those that they meet.
-use Rattle.ele_blocks.proofs.Lemmas.{[], ap, append-nil, append_assoc, AreBacked, AreSized, AreThere, arith, backed_there, cell_by, cell_of, chunks_joined, cond, Covers, drop, drop-append-le, drop-drop, drop_all, flat-drop, flat-take, flat_map, flat_map-append, flat_map-map, get_or, get_or-map, hands_with, ids_of, inl, inr, is_between, IsRenewed, IsReplaced, laid_at, laid_over, Layout, leaf_at, leaf_count, leaf_there, leaves-count, length, length-append, length-chunks, length-drop, length-laid_over, length-map, length-take, length-take-le, List, LivesIn, map, map-append, map-id, max, min, nat_tests, order, owners_at, parts, refl, Renews, shown, sized-append, sized-chunks, sized-count, sized-drop, sized-is, sized-length, sized-map, sized-take, slice_get, slice_get-get_or, slice_get-take, Slot, slot_by, slot_count, slots-count, slots_in, slots_of, stay_in, StayIn, Store, sym, take, take-add, take-append-drop, take-append-le, take-map, take-take, take_all, take_at, times, times-append, times-split, one_more, whole_is, ℕ, ⊎_elim, ◌*◌, ◌++◌, ◌+◌, ◌-◌, ◌/◌, ◌<◌, ◌∙◌, ◌≡◌, ◌≤◌, ◌⊎◌}
+use Rattle.ele_blocks.proofs.Lemmas.{[], ap, append-nil, append_assoc, AreBacked, AreSized, AreThere, arith, backed_there, cell_by, cell_of, chunks_joined, cond, Covers, drop, drop-append-le, drop-drop, drop_all, flat-drop, flat-take, flat_map, flat_map-append, flat_map-map, get_or, get_or-map, hands_with, ids_of, inl, is_between, IsRenewed, IsReplaced, laid_at, laid_over, Layout, leaf_at, leaf_count, leaf_there, leaves-count, length, length-append, length-chunks, length-drop, length-laid_over, length-map, length-take, length-take-le, List, LivesIn, map, map-append, map-id, max, min, nat_tests, owners_at, parts, Renews, shown, sized-append, sized-chunks, sized-count, sized-drop, sized-is, sized-length, sized-map, sized-take, slice_get, slice_get-get_or, slice_get-take, Slot, slot_by, slot_count, slots-count, slots_in, slots_of, stay_in, StayIn, Store, sym, take, take-add, take-append-drop, take-append-le, take-map, take-take, take_all, take_at, times, times-append, times-split, one_more, whole_is, ℕ, ◌*◌, ◌++◌, ◌+◌, ◌-◌, ◌/◌, ◌<◌, ◌∙◌, ◌≡◌, ◌≤◌, ◌⊎◌}
 use Rattle.ele_blocks.proofs.Words.{drop-append-add, take-append-add}
 use Rattle.ele_blocks.proofs.Renewals.{times_laid}
 

@@ -1,5 +1,5 @@
 -- The laws of maps over one store.
-use Rattle.ele_blocks.proofs.Lemmas.{[], AllByRecursion, ap, AreOneToOne, arith, backing, backing_least, blocks_of, Bool, broken, cond, eqb, ids_of, is_below, is_place, is_whole, IsEarlier, IsIn, IsStocked, IsUncrowded, Layout, layouts_of, leaves-count, length, length-content, length-map, List, list_all, LivesIn, ltb, map, map-append, Moves, Named, named, names_from, names_in, names_of, nat_tests, Owes, owners, refl, Renews, SameStock, ShowsSame, slice_get, slice_get_within, Slot, slots-count, slots_backed, slots_of, Some, stay_in, StayIn, Stays, StockLaws, Store, suc, sum_by, sum_by-cons, sym, Tagged, tally, times, times-le-length, true, whole_is, whole_same, ℕ, ◌&&◌, ◌*◌, ◌++◌, ◌+◌, ◌<◌, ◌^◌, ◌∙◌, ◌∷◌, ◌≡◌, ◌≤◌}
+use Rattle.ele_blocks.proofs.Lemmas.{[], AllByRecursion, ap, AreOneToOne, arith, backing, backing_least, blocks_of, Bool, broken, cond, eqb, ids_of, is_below, is_place, is_whole, IsEarlier, IsIn, IsStocked, Layout, layouts_of, leaves-count, length, length-content, length-map, List, list_all, LivesIn, ltb, map, map-append, Moves, Named, named, names_from, names_in, names_of, nat_tests, Owes, owners, refl, Renews, SameStock, ShowsSame, slice_get, slice_get_within, Slot, slots-count, slots_backed, slots_of, Some, stay_in, StayIn, Stays, StockLaws, Store, suc, sum_by, sum_by-cons, sym, Tagged, tally, times, times-le-length, true, whole_is, whole_same, ℕ, ◌&&◌, ◌*◌, ◌++◌, ◌+◌, ◌<◌, ◌∙◌, ◌∷◌, ◌≡◌, ◌≤◌}
 use Rattle.ele_blocks.proofs.Distincts.{self_eq, as_many}
 use Rattle.ele_blocks.proofs.OneToOnes.{NoneBy, in_either, in_front, in_back, slot_owned, stays_one_to_one}
 

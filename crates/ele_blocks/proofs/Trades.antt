@@ -1,5 +1,5 @@
 -- How owners change hands, one change after another.
-use Rattle.ele_blocks.proofs.Words.{[], add-one, Adds, ap, append_assoc, arith, Counted, Covers, drop, eqb, false, get_or, ids_of, leaving, length, length-map, length-take-le, List, map, map-append, map_more, nat_tests, None, Option, owners, owners_of, place_at, refl, released, Sets, shared, Slot, Some, suc, sym, take, take-append-drop, take-suc, times, Trades, true, value_at, value_of, zero, ℕ, ◌++◌, ◌+◌, ◌<◌, ◌^◌, ◌∙◌, ◌∷◌, ◌≡◌, ◌≤◌, ◌-◌, take_more}
+use Rattle.ele_blocks.proofs.Words.{[], Adds, ap, append_assoc, arith, Counted, Covers, drop, eqb, false, get_or, ids_of, length, length-map, length-take-le, List, map, map-append, map_more, nat_tests, None, Option, owners, owners_of, place_at, refl, released, Sets, shared, Slot, Some, sym, take, take-append-drop, times, Trades, value_at, value_of, ℕ, ◌++◌, ◌+◌, ◌<◌, ◌^◌, ◌∙◌, ◌∷◌, ◌≡◌, ◌≤◌, ◌-◌, take_more}
 
 pub times-append : (id : ℕ) (xs ys : List ℕ) → times id (xs ++ ys) ≡ times id xs + times id ys
 times-append id [] ys = omega arith
@@ -18,15 +18,9 @@ module _ {X : Type 0} where
   pub trades_put : (old new : List (Option (Counted X))) (id : ℕ) (x : X) → place_at old id ≡ None → Sets old new id (Some (record { value = x; owners = 1 })) → Trades old new [] (id ∷ [])
   trades_put old new id x vacant h = grind (arith, nat_tests, trades_set)
 
-  pub shared_value : (b : Option (Counted X)) → value_of (shared b) ≡ value_of b
-  shared_value o = grind (arith, nat_tests)
-
   -- a value gets an owner more
   pub trades_share : (old new : List (Option (Counted X))) (id : ℕ) → 0 < owners old id → Sets old new id (shared (place_at old id)) → Trades old new [] (id ∷ [])
   trades_share old new id lt h = grind (arith, nat_tests, trades_set)
-
-  pub released_value : (b : Option (Counted X)) → 1 < owners_of b → value_of (released b) ≡ value_of b
-  released_value o lt = grind (arith, nat_tests)
 
   -- a value loses an owner
   pub trades_release : (old new : List (Option (Counted X))) (id : ℕ) → 0 < owners old id → Sets old new id (released (place_at old id)) → Trades old new (id ∷ []) []

@@ -1,14 +1,13 @@
 -- The content that a write or a truncate leaves.
-use Rattle.std.proofs.Common.{◌≡◌, ℕ, suc, zero, ◌+◌, ◌-◌, ◌*◌, ◌≤◌, ◌==◌, ◌&&◌, true, refl, List, [], ◌∷◌, ◌++◌, length, take, drop, map, ap, sym, ◌∙◌, arith, length-append, length-drop, cond, ltb, ◌<◌, Bool, false}
+use Rattle.std.proofs.Common.{◌≡◌, ℕ, suc, zero, ◌+◌, ◌-◌, ◌*◌, ◌≤◌, true, refl, List, [], ◌∷◌, length, take, drop, map, sym, ◌∙◌, arith, length-append, length-drop, cond}
 use Rattle.std.specs.Prelude.{min}
 use Rattle.std.specs.List.{range_with_len}
 use Rattle.std.proofs.Math.Seq.{take-add}
-use Rattle.std.proofs.lemmas.Bool.{false≢true}
 use Rattle.std.proofs.lemmas.Bool.Decides.{nat_tests}
 use Rattle.std.proofs.lemmas.List.{length-take, length-replicate, drop-drop, take_all}
 use Rattle.std.proofs.lemmas.List.Concat.{flat_map-cons}
 use Rattle.ele_content.specs.declared.cell.Cell.{Cell}
-use Rattle.ele_content.specs.Content.{content_of, longest_content, fill_slots, content_after_write, slot_bytes, slot_count, cells_after_write, writer_at, meets, content_after_truncate, refits, cells_after_truncate}
+use Rattle.ele_content.specs.Content.{content_of, longest_content, fill_slots, content_after_write, slot_bytes, slot_count, cells_after_write, writer_at, meets, content_after_truncate, cells_after_truncate}
 
 abbrev slot_cell : (ℕ → ℕ) → List ℕ → ℕ → Cell
 slot_cell writer content slot = record { writer = writer slot; bytes = slot_bytes content slot }

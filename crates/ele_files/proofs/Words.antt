@@ -23,7 +23,7 @@ pub use Rattle.ele_inode_log.specs.declared.row.VersionRow.{VersionRow as LogRow
 pub use Rattle.ele_lists.proofs.Alls.{all-append, all-flat_map, all-got, all-left, all-map, all-place as all_place, all-right, all-split, flat_map-all, later-map, later-weaker, map-all}
 pub use Rattle.ele_lists.proofs.Backs.{back-map}
 pub use Rattle.ele_lists.proofs.Buckets.{IsLocal, bucket_changes, filter-buckets, find-buckets, local-after, local-insert_before, local-remove_first, local-update_first}
-pub use Rattle.ele_lists.proofs.Cuts.{find-at, find-cut, flat_map-cut, remove_first-at, remove_first-unfound as remove_first_unfound, update_first-at, update_first-same as update_first_same, update_first-unfound as update_first_unfound}
+pub use Rattle.ele_lists.proofs.Cuts.{find-at, find-cut, remove_first-at, remove_first-unfound as remove_first_unfound, update_first-at, update_first-same as update_first_same, update_first-unfound as update_first_unfound}
 pub use Rattle.ele_lists.proofs.Edits.{all-any, all-both, all-found as all_found, all-insert_before, all-none, all-not_found as all_not_found, all-push, all-remove_first, all-update_first, all-weaker, find-remove_first, found_passes, later-push, later-remove_first, later-update_first, not_found}
 pub use Rattle.ele_lists.proofs.Ends.{all-last as all_last}
 pub use Rattle.ele_lists.proofs.Filters.{filter-all, filter-none as filter_none, find-filter}

@@ -2,7 +2,7 @@
 use Rattle.ele_forecast.proofs.Words.{◌≡◌, ℕ, zero, suc, ◌+◌, ◌-◌, ◌≤◌, nat_le, Bool, true, false, not, cond, List, [], ◌∷◌, ◌++◌, Some, refl, ap, sym, subst, ◌∙◌, arith, nat_tests, append_assoc, filter, map, slice_get, AllByRecursion, AllLater, length, drop, append-nil}
 use Rattle.std.proofs.lemmas.List.{drop_all, length-drop, take_all}
 use Rattle.std.proofs.Common.{take}
-use Rattle.ele_forecast.proofs.Words.{all-weaker, filter-none, filter-passes, filter-same_all, filter-swap, later-filter, meets_floor, Policy, IsToldBy, VersionRow, FileView, closings, due_in, file_view, is_due_by, is_newer, is_version_of, IsFileOf, Life, life_of, lives_from, AreKept, come_by, goes, kept_from}
+use Rattle.ele_forecast.proofs.Words.{all-weaker, filter-none, filter-passes, filter-same_all, filter-swap, later-filter, Policy, VersionRow, FileView, closings, due_in, file_view, is_due_by, is_newer, is_version_of, IsFileOf, Life, life_of, lives_from, AreKept, come_by, goes, kept_from}
 use Rattle.ele_model.specs.Due.{is_due_at}
 use Rattle.ele_model.proofs.Views.{Precedes, newer_is}
 use Rattle.ele_forecast.proofs.Followed.{due_is}
@@ -45,12 +45,6 @@ all_come at cs n rising many =
 
 pub come_rise : (at : ℕ) (cs : List ℕ) → AllLater ◌≤◌ cs → AllLater ◌≤◌ (come_by at cs)
 come_rise at cs rising = later-filter ◌≤◌ ◌≤◌ (λ c. nat_le c at) cs (λ x y px py below. below) rising
-
--- ---- whether one goes, by what `ripe` answers
-
-module _ (policy : Policy) (closed ended at : ℕ) (later : List ℕ) (rises : AllLater ◌≤◌ (closed ∷ ended ∷ later)) where
-  pub so_told : IsToldBy policy closed (Some ended) (meets_floor policy true (length (ended ∷ later))) (record { newer = ended ∷ later; live = true })
-  so_told = record { near = record { in_order = rises; first = refl }; floor = refl }
 
 -- ---- what a file's view says of them
 

@@ -1,6 +1,7 @@
 -- What is told of one version after another.
-use Rattle.ele_forecast.proofs.Words.{◌≡◌, ℕ, zero, suc, ◌+◌, ◌≤◌, List, [], ◌∷◌, ◌++◌, Some, refl, ap, sym, ◌∙◌, arith, append_assoc, append-nil, map, slice_get, AllByRecursion, length, drop}
+use Rattle.ele_forecast.proofs.Words.{◌≡◌, ℕ, zero, suc, ◌+◌, ◌≤◌, List, [], ◌∷◌, ◌++◌, Some, ap, sym, ◌∙◌, arith, append_assoc, append-nil, map, slice_get, AllByRecursion, length, drop}
 use Rattle.ele_forecast.proofs.Words.{Policy, FileView, IsFileOf, Life, lives_from, Tells, Forecast}
+use Rattle.ele_lists.proofs.Alls.{all-append}
 use Rattle.std.proofs.lemmas.List.{drop_all, map-append}
 use Rattle.ele_forecast.specs.Tells.{AreForecasts, told_life}
 
@@ -10,17 +11,10 @@ lives_step n [] place c e = absurd (cc)
 lives_step n (x ∷ cs) zero c e = let same : x ≡ c = cc in ap (λ (y : ℕ). lives_from n (y ∷ cs)) same
 lives_step n (x ∷ cs) (suc place) c e = lives_step n cs place c e
 
-all_push : {A : Type 0} (P : A → Type 0) (xs : List A) (x : A) → AllByRecursion P xs → P x → AllByRecursion P (xs ++ x ∷ [])
-all_push P [] x h p = (p, tt)
-all_push P (y ∷ xs) x h p = (h.0, all_push P xs x h.1 p)
-
 -- so far it was told, and the lives from there on are left
 pub record ToldSoFar (policy : Policy) (closings : List ℕ) (place : ℕ) (forecasts : List Forecast) : Type 0 where
   pub lives : map told_life forecasts ++ lives_from (place + 1) (drop place closings) ≡ lives_from 1 closings
   pub tell : (v : FileView) → IsFileOf policy closings v → AllByRecursion (Tells v) forecasts
-
-pub told_none : (policy : Policy) (closings : List ℕ) → ToldSoFar policy closings 0 []
-told_none policy closings = record { lives = refl; tell = λ v is. tt }
 
 pub told_one : {policy : Policy} {closings : List ℕ} {place : ℕ} {forecasts : List Forecast} (forecast : Forecast) → ToldSoFar policy closings place forecasts
     → forecast.number ≡ place + 1 → Some forecast.closed ≡ slice_get closings place → forecast.ended ≡ slice_get closings (place + 1)
@@ -35,7 +29,7 @@ told_one {policy} {closings} {place} {forecasts} forecast far number closed ende
     record {
       lives = ap (λ (ls : List Life). ls ++ behind) (map-append told_life forecasts (forecast ∷ [])) ∙ append_assoc (map told_life forecasts) (told_life forecast ∷ []) behind
           ∙ ap (λ (ls : List Life). map told_life forecasts ++ ls) (sym moved) ∙ far.lives;
-      tell = λ v is. all_push (Tells v) forecasts forecast (far.tell v is) (tells v is);
+      tell = λ v is. all-append (Tells v) forecasts (forecast ∷ []) (far.tell v is) (tells v is, tt);
     }
 
 pub told_all : {policy : Policy} {closings : List ℕ} {place : ℕ} {forecasts : List Forecast} → ToldSoFar policy closings place forecasts → length closings ≤ place → AreForecasts policy closings forecasts

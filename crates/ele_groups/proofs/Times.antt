@@ -24,10 +24,6 @@ module _ (made : List MarkRow) (times new : BTreeMap ℕ MarkRow) (timed : AreTi
     same = λ t. grind (arith, nat_tests, changed t, timed.same t, find_push t mark made fresh);
   }
 
-  -- the same times
-  pub timed_still : ((t : ℕ) → get nat_cmp new t ≡ get nat_cmp times t) → AreTimed made new
-  timed_still same = record { apart = timed.apart; same = λ t. same t ∙ timed.same t }
-
   pub timed_without : (moment k : ℕ) → k ≡ moment → ((t : ℕ) → get nat_cmp new t ≡ cond (is_at (nat_cmp k) t) None (get nat_cmp times t)) → AreTimed (remove_first (is_mark moment) made) new
   timed_without moment k is changed = record {
     apart = later-remove_first (is_mark moment) (λ x y. (x.at == y.at) ≡ false) made timed.apart;

@@ -24,7 +24,7 @@ world_of-extended past entry =
     ap (run_of past.base) (events_of-append past.entries (entry ∷ []))
     ∙ run_of-append past.base (events_of past.entries) (entry.event ∷ [])
 
-legal-append : (w : World) (xs : List Entry) (entry : Entry) → IsLegal w xs → entry.reply ≡ (step (run_of w (events_of xs)) entry.event).0 → IsLegal w (xs ++ entry ∷ [])
+pub legal-append : (w : World) (xs : List Entry) (entry : Entry) → IsLegal w xs → entry.reply ≡ (step (run_of w (events_of xs)) entry.event).0 → IsLegal w (xs ++ entry ∷ [])
 legal-append w [] entry legal is = (is, tt)
 legal-append w (x ∷ xs) entry legal is = (legal.0, legal-append ((step w x.event).1) xs entry legal.1 is)
 

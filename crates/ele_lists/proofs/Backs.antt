@@ -1,6 +1,6 @@
 -- The element that has so many behind it: in lists after one another, and among rows of rising keys, where so many have a
 -- greater one.
-use Rattle.ele_lists.proofs.Basics.{AllByRecursion, AllLater, Bool, Global, List, None, Rises, Some, Vec, [], append-nil, append_assoc, arith, cond, count_by, count_by-le-length, eqb, false, filter, find, is_behind, last_passing, leb, length, length-append, length-map, length-reverse, map, nat_tests, option_map, option_map_or, refl, reverse, reverse-append, slice_get, slice_get_past, suc, take, true, zero, ℕ, ◌++◌, ◌+◌, ◌-◌, ◌<◌, ◌∷◌, ◌≡◌, ◌≤◌}
+use Rattle.ele_lists.proofs.Basics.{AllByRecursion, AllLater, Bool, List, None, Rises, Some, [], arith, cond, count_by, count_by-le-length, eqb, false, filter, find, is_behind, last_passing, leb, length, length-append, length-map, length-reverse, map, nat_tests, option_map, option_map_or, refl, reverse, reverse-append, slice_get, slice_get_past, suc, true, zero, ℕ, ◌++◌, ◌+◌, ◌-◌, ◌<◌, ◌∷◌, ◌≡◌, ◌≤◌}
 use Rattle.ele_lists.proofs.Edits.{all-weaker}
 use Rattle.ele_lists.proofs.Found.{find-same_all}
 use Rattle.ele_lists.proofs.Sums.{count-all, count-cons}

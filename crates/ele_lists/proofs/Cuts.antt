@@ -1,5 +1,5 @@
 -- A list cut at an element: at the first that passes, at a place, or where one comes in; and what finds and changes do there.
-use Rattle.ele_lists.proofs.Basics.{AllByRecursion, Bool, List, Some, [], ap, append_assoc, arith, cond, false, find, flat_map, insert_before, list_any, refl, remove_first, sym, true, update_first, ◌++◌, ◌∙◌, ◌∷◌, ◌≡◌}
+use Rattle.ele_lists.proofs.Basics.{AllByRecursion, Bool, List, Some, [], ap, arith, cond, false, find, insert_before, list_any, refl, remove_first, true, update_first, ◌++◌, ◌∙◌, ◌∷◌, ◌≡◌}
 
 -- the first that passes, with what stands before and behind it
 pub record IsCut {X : Type 0} (p : X → Bool) (xs : List X) (x : X) : Type 0 where
@@ -87,8 +87,3 @@ module _ {X : Type 0} (p : X → Bool) where
   pub update_first-same : (f : X → X) (xs : List X) (x : X) → find p xs ≡ Some x → f x ≡ x → update_first p f xs ≡ xs
   update_first-same f [] x found same = refl
   update_first-same f (y ∷ xs) x found same = grind (arith, update_first-same f xs x)
-
--- lists after one another, cut at one of them
-pub flat_map-cut : {X Y : Type 0} (h : X → List Y) (xs : List X) (x : X) (zs : List X) → flat_map h (xs ++ x ∷ zs) ≡ flat_map h xs ++ (h x ++ flat_map h zs)
-flat_map-cut h [] x zs = refl
-flat_map-cut h (y ∷ xs) x zs = ap (λ ys. h y ++ ys) (flat_map-cut h xs x zs) ∙ sym (append_assoc (h y) (flat_map h xs) (h x ++ flat_map h zs))

@@ -3,6 +3,10 @@ use Rattle.ele_lists.proofs.Basics.{AllByRecursion, AllLater, Bool, List, None, 
 use Rattle.ele_lists.proofs.Edits.{all-weaker, all-update_first, not_found}
 
 -- what tests that agree find
+pub find-same : {X : Type 0} (p q : X → Bool) (xs : List X) → ((x : X) → p x ≡ q x) → find p xs ≡ find q xs
+find-same p q [] same = refl
+find-same p q (x ∷ xs) same = rw (same x, find-same p q xs same) refl
+
 pub find-same_all : {X : Type 0} (p q : X → Bool) (xs : List X) → AllByRecursion (λ x. p x ≡ q x) xs → find p xs ≡ find q xs
 find-same_all p q [] same = refl
 find-same_all p q (x ∷ xs) same = grind (arith, find-same_all p q xs)

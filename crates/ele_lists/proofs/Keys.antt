@@ -1,6 +1,6 @@
 -- Rows of rising keys: what a binary search by a key finds (`place_of`), and that rising keys are parted at any key.
-use Rattle.ele_lists.proofs.Basics.{AllLater, Bool, IsNonDecreasingBy, IsPartitionPoint, IsPartitionedBy, IsPartitionedBy-ltb, List, None, Rises, Some, [], arith, false, filter, get_or, stands_by, is_behind, leb, length, ltb, nat_tests, not, position, position_or_len_is, refl, remove_first, suc, true, unwrap_or, ℕ, ◌<◌, ◌∷◌, ◌≡◌, ◌≢◌, ◌≤◌}
-use Rattle.ele_lists.proofs.Alls.{later-place, later-weaker}
+use Rattle.ele_lists.proofs.Basics.{Bool, IsNonDecreasingBy, IsPartitionPoint, IsPartitionedBy, IsPartitionedBy-ltb, List, None, Rises, Some, [], arith, false, filter, get_or, stands_by, is_behind, length, ltb, nat_tests, not, position, position_or_len_is, refl, remove_first, suc, true, unwrap_or, ℕ, ◌<◌, ◌∷◌, ◌≡◌, ◌≢◌, ◌≤◌}
+use Rattle.ele_lists.proofs.Alls.{later-place}
 use Rattle.ele_lists.proofs.Edits.{all-weaker}
 use Rattle.ele_lists.proofs.Filters.{filter-all}
 

@@ -53,10 +53,7 @@ module _ {X : Type 0} (p : X → Bool) where
   count-all [] all = refl
   count-all (x ∷ xs) all = grind (arith, count-cons x xs, count-all xs)
 
-  -- of a view, and of what passes another test
-  pub count-map : {Y : Type 0} (h : Y → X) (ys : List Y) → count_by p (map h ys) ≡ count_by (λ y. p (h y)) ys
-  count-map h ys = sum_by-map one h ys
-
+  -- of what passes another test
   pub count-filter_both : (q : X → Bool) (xs : List X) → count_by p (filter q xs) ≡ count_by (λ x. q x && p x) xs
   count-filter_both q [] = refl
   count-filter_both q (x ∷ xs) = grind (arith, nat_tests, count-cons, sum_by-cons (λ x. cond (q x && p x) 1 0) x xs, count-filter_both q xs)

@@ -1,7 +1,13 @@
 -- What holds of the first so many elements, and of the one that stands behind them.
-use Rattle.ele_lists.proofs.Basics.{AllByRecursion, Bool, IfSome, List, None, Some, [], arith, false, find, length, list_any, nat_tests, refl, slice_get, suc, take, true, zero, ℕ, ◌<◌, ◌∷◌, ◌≡◌, ◌≤◌}
+use Rattle.ele_lists.proofs.Basics.{AllByRecursion, Bool, IfSome, List, Some, [], ap, arith, drop, false, find, get_or, length, list_any, refl, slice_get, suc, sym, take, true, zero, ℕ, ◌++◌, ◌+◌, ◌<◌, ◌∙◌, ◌∷◌, ◌≡◌, ◌≤◌}
+use Rattle.std.proofs.lemmas.List.{drop_more, take-append-drop}
 
 module _ {X : Type 0} where
+  -- the elements before a place, the one at it, and those after
+  pub cut-at : (xs : List X) (place : ℕ) (x d : X) → place < length xs → get_or xs place d ≡ x → xs ≡ take place xs ++ x ∷ drop (place + 1) xs
+  cut-at xs place x d within is =
+      sym (take-append-drop place xs) ∙ ap (λ (ys : List X). take place xs ++ ys) (drop_more xs place d within ∙ ap (λ (y : X). y ∷ drop (place + 1) xs) is)
+
   -- what holds of all holds of the one at a place
   pub all-at : (P : X → Type 0) (xs : List X) (place : ℕ) (x : X) → slice_get xs place ≡ Some x → AllByRecursion P xs → P x
   all-at P [] place x is all = absurd cc

@@ -120,9 +120,6 @@ module _ (w : World) (file opened : ℕ) (cells : List Cell) (k : MayGrow w file
   none_behind : next_closing appended.versions file next ≡ None
   none_behind = grind (arith, nat_tests, find-insert_before behind (is_newer_of file next) new (with_end w file), none_past w.files w.now (with_end w file) file next ended.each)
 
-  same_floor : (f : ℕ) → floor_for appended f ≡ floor_for w f
-  same_floor f = ap (λ o. floor_in o (is_live w f)) (policies-numbered w.files file f)
-
   -- it has its moment where it ends at once
   pub next_after : ripe_at appended file next ≡ cond (is_live w file) None (near_moment cover policy None true w.now w.now)
   next_after =

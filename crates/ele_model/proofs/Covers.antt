@@ -1,5 +1,5 @@
 -- For how long marks keep: as long as the longest of them does, in whatever order they stand.
-use Rattle.ele_model.proofs.Basics.{nat_tests, arith, ◌≡◌, ℕ, ◌+◌, ◌<◌, ◌==◌, nat_lt, cond, Bool, true, false, ◌&&◌, ◌||◌, List, [], ◌∷◌, ◌++◌, Option, Some, None, refl, sym, ◌∙◌, length, get_or, take, take_more, append-nil, list_any, list_any-append, option_map_or, filter, filter-append, filter_map, flat_map, flat_map-append}
+use Rattle.ele_model.proofs.Basics.{nat_tests, arith, ◌≡◌, ℕ, ◌+◌, ◌<◌, ◌==◌, nat_lt, cond, Bool, true, false, ◌&&◌, ◌||◌, List, [], ◌∷◌, ◌++◌, Option, Some, None, refl, sym, length, get_or, take, take_more, append-nil, list_any, list_any-append, option_map_or, filter, filter-append, filter_map, flat_map, flat_map-append}
 use Rattle.ele_model.proofs.Words.{Cover, Always, Free, Until, GroupRow, MarkRow, covers_moment, cover_by, cover_of, cover_until, ends_over, is_member, keeps_at, lasts, longer, marks_over}
 
 -- the one keeps longer than the other
@@ -33,10 +33,6 @@ exceeds_by closed ended d (x ∷ xs) = grind (arith, nat_tests, exceeds_longer (
 
 pub cover_append : (closed : ℕ) (ended : Option ℕ) (xs ys : List MarkRow) → cover_by closed ended (xs ++ ys) ≡ longer (cover_by closed ended xs) (cover_by closed ended ys)
 cover_append closed ended xs ys = exceeds_same _ _ (λ d. grind (arith, nat_tests, exceeds_by closed ended d, exceeds_longer (cover_by closed ended xs) (cover_by closed ended ys) d, list_any-append (reaches closed ended d) xs ys))
-
--- marks that reach as far give the same cover
-pub cover_same : (closed : ℕ) (ended : Option ℕ) (xs ys : List MarkRow) → ((d : Cover) → list_any (reaches closed ended d) xs ≡ list_any (reaches closed ended d) ys) → cover_by closed ended xs ≡ cover_by closed ended ys
-cover_same closed ended xs ys same = exceeds_same _ _ (λ d. exceeds_by closed ended d xs ∙ same d ∙ sym (exceeds_by closed ended d ys))
 
 -- ---- at a moment
 

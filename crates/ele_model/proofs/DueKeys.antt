@@ -7,7 +7,8 @@ use Rattle.ele_model.specs.Due.{ripe_of}
 use Rattle.ele_model.specs.Scan.{due_key}
 use Rattle.ele_model.proofs.Readers.{numbers_are}
 use Rattle.ele_model.specs.IgnoresNewer.{ignores_newer}
-use Rattle.ele_model.proofs.RipeMoments.{due_from_ripe_of, earliest_same, ripe_told}
+use Rattle.ele_policy.proofs.Earliest.{earliest_same}
+use Rattle.ele_model.proofs.RipeMoments.{due_from_ripe_of, ripe_told}
 
 -- ---- a row's ripe moment, and that it is due from then on
 

@@ -46,10 +46,6 @@ module _ (w : World) (directory : ℕ) (name : List ℕ) (file : ℕ) where
   pub others_live : live_target w.names directory name ≡ Some (File file) → (f : ℕ) → (f == file) ≡ false → is_live after f ≡ is_live w f
   others_live stands f other = list_any-update_found (is_live_name directory name) (is_live_name_of f) (dies w.now) w.names (λ row found. grind (arith, nat_tests, stands, found, other))
 
-  -- while it has another name all stay
-  pub live_moments : HasParts w → is_live after file ≡ true → (f n : ℕ) → floor_for after f ≡ floor_for w f → ripe_at after f n ≡ ripe_at w f n
-  live_moments k live f n floor = moments_stay w after (in_order_of w k) refl (rw live refl) refl refl f n floor
-
   module _ (k : HasParts w) (f n : ℕ) (apart : ((f == file) && (n == last)) ≡ false) where
     same_next : next_closing after.versions f n ≡ next_closing w.versions f n
     same_next = by (is_live after file) where

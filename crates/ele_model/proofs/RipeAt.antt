@@ -4,7 +4,8 @@ use Rattle.ele_model.proofs.Words.{Time, after_change, Key, has_key, is_key, is_
 use Rattle.ele_model.specs.Due.{is_due, is_due_at, ripe_of}
 use Rattle.ele_model.specs.FileView.{ripe_numbered}
 use Rattle.ele_model.specs.Scan.{due_key}
-use Rattle.ele_model.proofs.RipeMoments.{earliest_same, ripens}
+use Rattle.ele_policy.proofs.Earliest.{earliest_same}
+use Rattle.ele_model.proofs.RipeMoments.{ripens}
 use Rattle.ele_model.proofs.Views.{now_of, placed_of}
 
 pub ripe_at_is : (w : World) (file number : ℕ) → ripe_at w file number ≡ option_and_then (ripe_of w) (find (is_version file number) w.versions)

@@ -13,10 +13,6 @@ pub earliest_never : (d : ℕ → Bool) → ((at : ℕ) → at ≤ last_moment �
 earliest_never d never [] = refl
 earliest_never d never (at ∷ moments) = grind (arith, nat_tests, never at, earliest_never d never moments)
 
-pub earliest_same : (d e : ℕ → Bool) → ((at : ℕ) → at ≤ last_moment → d at ≡ e at) → (moments : List ℕ) → earliest_of d moments ≡ earliest_of e moments
-earliest_same d e same [] = refl
-earliest_same d e same (at ∷ moments) = grind (arith, nat_tests, same at, earliest_same d e same moments)
-
 -- the earliest is one of them, not past the last moment, and passes
 record IsOne (d : ℕ → Bool) (m : ℕ) (moments : List ℕ) : Type 0 where
   stands : list_any (λ at. at == m) moments ≡ true

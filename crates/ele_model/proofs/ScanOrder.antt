@@ -1,37 +1,12 @@
 -- The scan is in order, and has a key just where its version is due from then on.
-use Rattle.ele_model.proofs.Basics.{nat_tests, arith, ◌≡◌, ℕ, ◌==◌, ◌&&◌, ◌||◌, ◌∙◌, Bool, true, false, List, [], ◌∷◌, Option, Some, None, refl, cond, cons_option, option_map, find, fold, AllByRecursion, AllLater, all-weaker, not_found, filter_map, insert_key, option_map_or, IsTotalOrder, nat_cmp_total, then_total, on_total, Less}
-use Rattle.ele_model.proofs.Words.{World, Key, VersionRow, ArePlaced, Versions, has_key, is_key, is_version, key_cmp, key_of, HasParts}
+use Rattle.ele_model.proofs.Basics.{nat_tests, arith, ◌≡◌, ℕ, ◌==◌, ◌&&◌, ◌||◌, ◌∙◌, Bool, true, false, List, [], ◌∷◌, Option, Some, None, refl, cond, cons_option, option_map, find, AllByRecursion, AllLater, all-weaker, not_found, filter_map, option_map_or}
+use Rattle.ele_model.proofs.Words.{World, Key, VersionRow, ArePlaced, Versions, has_key, is_key, is_version, key_of, HasParts}
 use Rattle.std.proofs.Math.Bool.{or-false}
-use Rattle.std.specs.List.Sorted.{IsStrictlySortedBy}
 use Rattle.ele_model.specs.Due.{is_due_at, ripe_of}
 use Rattle.ele_model.specs.Scan.{due_key, scan}
 use Rattle.ele_model.specs.ScanLists.{is_due_from, ListsDue}
-
--- ---- keys in order
-
-key_total : IsTotalOrder key_cmp
-key_total = then_total (on_total (λ (k : Key). k.ripe) nat_cmp_total) (then_total (on_total (λ (k : Key). k.file) nat_cmp_total) (on_total (λ (k : Key). k.number) nat_cmp_total))
-
-all-insert_key : (P : Key → Type 0) (key : Key) (keys : List Key) → P key → AllByRecursion P keys → AllByRecursion P (insert_key key_cmp keys key)
-all-insert_key P key [] one all = (one, tt)
-all-insert_key P key (x ∷ xs) one all = grind (arith, all-insert_key P key xs one all.1)
-
-inserted_up : (key : Key) (keys : List Key) → IsStrictlySortedBy key_cmp keys → IsStrictlySortedBy key_cmp (insert_key key_cmp keys key)
-unfolding IsStrictlySortedBy
-inserted_up key [] up = (tt, tt)
-inserted_up key (x ∷ xs) up = grind (arith, key_total.antisymm x key, all-insert_key (λ y. key_cmp x y ≡ Less) key xs, inserted_up key xs up.1, λ (e : key_cmp key x ≡ Less). all-weaker (λ y. key_cmp x y ≡ Less) (λ y. key_cmp key y ≡ Less) xs (λ y h. key_total.trans key x y e h) up.0)
-
-folded_up : (keys sorted : List Key) → IsStrictlySortedBy key_cmp sorted → IsStrictlySortedBy key_cmp (fold (insert_key key_cmp) sorted keys)
-folded_up [] sorted up = up
-folded_up (k ∷ ks) sorted up = folded_up ks (insert_key key_cmp sorted k) (inserted_up k sorted up)
-
-has-inserted : (k key : Key) (keys : List Key) → has_key k (insert_key key_cmp keys key) ≡ (is_key k key || has_key k keys)
-has-inserted k key [] = refl
-has-inserted k key (x ∷ xs) = grind (arith, nat_tests, has-inserted k key xs)
-
-has-folded : (k : Key) (keys sorted : List Key) → has_key k (fold (insert_key key_cmp) sorted keys) ≡ (has_key k sorted || has_key k keys)
-has-folded k [] sorted = grind arith
-has-folded k (x ∷ xs) sorted = grind (arith, has-folded k xs (insert_key key_cmp sorted x), has-inserted k x sorted)
+use Rattle.ele_due.proofs.Members.{has_key-in_order}
+use Rattle.ele_due.proofs.Ordered.{IsInOrder-in_order}
 
 -- ---- the keys of rows that are due
 
@@ -60,5 +35,5 @@ module _ (w : World) (key : Key) where
     by false is = refl
 
 pub scan_lists : (w : World) → HasParts w → ListsDue w
-unfolding scan IsStrictlySortedBy
-scan_lists w k = record { in_order = folded_up (filter_map (due_key w) w.versions) [] tt; each = λ key. has-folded key (filter_map (due_key w) w.versions) [] ∙ keyed w key w.versions (k.holds Versions).placed }
+unfolding scan
+scan_lists w k = record { in_order = IsInOrder-in_order (filter_map (due_key w) w.versions); each = λ key. has_key-in_order key (filter_map (due_key w) w.versions) ∙ keyed w key w.versions (k.holds Versions).placed }

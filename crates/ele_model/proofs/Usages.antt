@@ -1,14 +1,13 @@
 -- How changes of the world change usage.
 use Rattle.ele_model.proofs.Basics.{◌≡◌, ℕ, ◌+◌, ◌*◌, ◌^◌, ◌<◌, ◌≤◌, false, cond, List, [], ◌∷◌, ◌++◌, ◌==◌, length, refl, arith}
-use Rattle.ele_model.proofs.Basics.{AllByRecursion, flat_map, nat_tests, append-nil, length-append, flat_map-cons, filter-append, all-weaker, update_first, remove_first, filter-none, length-split}
+use Rattle.ele_model.proofs.Basics.{AllByRecursion, flat_map, nat_tests, append-nil, length-append, flat_map-cons, filter-append, all-weaker, remove_first, filter-none, length-split}
 use Rattle.ele_model.proofs.Words.{Kind, Policy, kind_of, is_kind, Usage, only_at, nothing, plus, Fits, Cell, Place, is_place, different, slots_few, VersionRow, DraftRow, is_of, is_file_of, places_from, places, bytes_in, usages}
-use Rattle.ele_model.proofs.Words.{whole, part, ChangesOnly, World, is_draft, is_version, FileRow, IsContent, IsFile, IsVersion, IsDraft, Counted, Files, Versions, Drafts, HasParts, longest_content, AreBounds}
+use Rattle.ele_model.proofs.Words.{whole, part, ChangesOnly, World, is_version, FileRow, IsContent, IsFile, IsVersion, IsDraft, Counted, Files, Versions, Drafts, HasParts, longest_content, AreBounds}
 use Rattle.ele_policy.specs.declared.policy.Kind.TheVariants as kinds
 use Rattle.ele_model.specs.Usage.{usage_of}
 use Rattle.ele_model.proofs.Created.{new_file, created, versions_before}
 use Rattle.ele_model.proofs.Files.{next_of-given}
-use Rattle.ele_model.proofs.Opened.{opened}
-use Rattle.ele_model.proofs.Others.{drafts-updated, drafts-opened, versions-removed}
+use Rattle.ele_model.proofs.Others.{versions-removed}
 use Rattle.ele_model.proofs.Splits.{bytes_in-cons, file_moves, split_usage}
 
 -- ---- a change of one file
@@ -49,13 +48,6 @@ created_usage w directory name policy keeps k =
 pub usage_same : (w v : World) → v.files ≡ w.files → v.versions ≡ w.versions → v.drafts ≡ w.drafts → (k : Kind) → usage_of v k ≡ usage_of w k
 unfolding usage_of
 usage_same w v files versions drafts k = rw (files, versions, drafts) refl
-
--- a change of the file's draft alone
-pub changes_updated : (file : ℕ) (w : World) (f : DraftRow → DraftRow) → ((row : DraftRow) → (f row).file ≡ row.file) → ChangesOnly file w (record w { drafts = update_first (is_draft file) f w.drafts })
-changes_updated file w f keeps = record { kinds = λ k id. refl; files = λ k. refl; versions = refl; drafts = drafts-updated file f w.drafts keeps }
-
-pub changes_opened : (w : World) (file number : ℕ) → ChangesOnly file w (opened w file number)
-changes_opened w file number = record { kinds = λ k id. refl; files = λ k. refl; versions = refl; drafts = drafts-opened w file }
 
 pub changes_removed : (file number : ℕ) (w : World) → ChangesOnly file w (record w { versions = remove_first (is_version file number) w.versions })
 changes_removed file number w = record { kinds = λ k id. refl; files = λ k. refl; versions = versions-removed file number w.versions; drafts = refl }

@@ -1,5 +1,6 @@
 -- Rows of one name are over when a later one is born, so the newest decides; and what the index by name says of them.
 use Rattle.ele_names.proofs.Words.{◌≡◌, ℕ, ◌≤◌, Bool, true, false, ◌&&◌, ◌==◌, List, [], ◌∷◌, Some, Option, is_none, is_some, live_target, refl, ap, sym, ◌∙◌, arith, find, AllByRecursion, bytes_eq, false≢true, nat_tests, bytes_eq-Decides, AllLater, last_passing, passing, later-weaker, find_last, last_moment, NameRow, is_named, covers, lives_past, is_live_name, is_born_by, Follows, ◌<◌, ◌^◌, length, None, nat_cmp, unsigned_tied, has_birth, IsLastOf, value_at, is_placed, all-mid, split_at, found_key, later_at, none_last, is_last, not_true, Table, IsTable, rows_of, number_in, place_in}
+use Rattle.ele_lists.proofs.Found.{find-same}
 use Rattle.ele_names.proofs.Numbers.{named_place, one_place}
 
 pub equal : (a b : ℕ) → (a == b) ≡ true → a ≡ b
@@ -18,15 +19,11 @@ named_dead d n row = grind (arith, nat_tests, bytes_eq, is_none)
 pub named_and_live : (d : ℕ) (n : List ℕ) (row : NameRow) → is_live_name d n row ≡ true → (is_named d n row ≡ true) × (is_none row.death ≡ true)
 named_and_live d n row = grind (arith, nat_tests, bytes_eq, is_none, false≢true)
 
-find_same : {X : Type 0} (p q : X → Bool) (xs : List X) → ((x : X) → p x ≡ q x) → find p xs ≡ find q xs
-find_same p q [] same = refl
-find_same p q (x ∷ xs) same = grind (arith, nat_tests, same x, find_same p q xs same)
-
 module _ (d : ℕ) (n : List ℕ) (rows : List NameRow) (apart : AllLater Follows rows) where
   -- the row that covers a moment is the newest by then, if it lives on
   pub covering_is_newest : (t : ℕ) (newest : Option NameRow) → newest ≡ last_passing (is_born_by d n t) rows → find (λ row. is_named d n row && covers t row) rows ≡ passing (lives_past t) newest
   covering_is_newest t newest is =
-      find_same (λ row. is_named d n row && covers t row) (λ row. is_born_by d n t row && lives_past t row) rows (λ row. grind (arith, nat_tests))
+      find-same (λ row. is_named d n row && covers t row) (λ row. is_born_by d n t row && lives_past t row) rows (λ row. grind (arith, nat_tests))
       ∙ find_last (is_born_by d n t) (lives_past t) rows
       (later-weaker Follows (λ x y. is_born_by d n t x ≡ true → is_born_by d n t y ≡ true → lives_past t x ≡ false) rows
       (λ x y follows a b. grind (arith, nat_tests, same_name d n x y, follows.apart)) apart)
@@ -35,7 +32,7 @@ module _ (d : ℕ) (n : List ℕ) (rows : List NameRow) (apart : AllLater Follow
   -- a name whose newest row is dead is live nowhere
   live_by_newest : find (is_live_name d n) rows ≡ passing (λ row. is_none row.death) (last_passing (is_named d n) rows)
   live_by_newest =
-      find_same (is_live_name d n) (λ row. is_named d n row && is_none row.death) rows (λ row. grind (arith, nat_tests))
+      find-same (is_live_name d n) (λ row. is_named d n row && is_none row.death) rows (λ row. grind (arith, nat_tests))
       ∙ find_last (is_named d n) (λ row. is_none row.death) rows
       (later-weaker Follows (λ x y. is_named d n x ≡ true → is_named d n y ≡ true → is_none x.death ≡ false) rows
       (λ x y follows a b. grind (arith, nat_tests, same_name d n x y, follows.apart)) apart)

@@ -1,5 +1,5 @@
 -- The numbers of names.
-use Rattle.ele_names.proofs.Words.{◌≡◌, ℕ, ◌≤◌, ◌<◌, true, false, slice_get_within, suc, zero, IsDistinct, IsDistinct-head, IsDistinct-tail, all-at, not, ◌==◌, nat_lt, List, [], ◌∷◌, ◌++◌, length, slice_get, position, is_some, Option, Some, None, length_append, sym, ap, ◌∙◌, ◌⊎◌, arith, list_any, HashMap, get, keys, false≢true, true≢false, cases_lt, keys_of, values_of, lookup, set_value_at, cond, nat_tests, position_or_len_push, prefix_len-le-length, bytes_eq-Decides, some_index, NameRow, Target, is_named, Live, name_eq, place_in, number_in, KeepsPlaces}
+use Rattle.ele_names.proofs.Words.{◌≡◌, ℕ, ◌≤◌, ◌<◌, true, false, slice_get_within, suc, zero, IsDistinct, IsDistinct-head, IsDistinct-tail, all-at, not, ◌==◌, nat_lt, List, [], ◌∷◌, ◌++◌, length, slice_get, position, is_some, Option, Some, None, length_append, sym, ap, ◌∙◌, ◌⊎◌, arith, list_any, HashMap, get, keys, true≢false, cases_lt, keys_of, values_of, lookup, set_value_at, cond, nat_tests, position_or_len_push, prefix_len-le-length, bytes_eq-Decides, some_index, NameRow, Target, is_named, Live, name_eq, place_in, number_in, KeepsPlaces}
 
 pub exact : (k q : ℕ × List ℕ) → name_eq k q ≡ true → k ≡ q
 exact k q h = grind (arith, nat_tests, bytes_eq-Decides k.1 q.1)
@@ -71,9 +71,6 @@ module _ {S : Type 0} (by_name : HashMap (ℕ × List ℕ) (Option (Live Target)
   -- what has a number is there
   pub present : place_in (keys by_name) d n < length (keys by_name) → is_some (get name_eq by_name (d, n)) ≡ true
   present inside = grind (arith, nat_tests, among, place_in, keys, is_some, nat_lt)
-
-  pub not_missing : place_in (keys by_name) d n < length (keys by_name) → get name_eq by_name (d, n) ≡ None → ⊥
-  not_missing inside none = false≢true (sym (ap is_some none) ∙ present inside)
 
   -- and what has none isn't
   pub missing : place_in (keys by_name) d n ≡ length (keys by_name) → get name_eq by_name (d, n) ≡ None

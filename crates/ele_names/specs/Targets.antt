@@ -1,5 +1,5 @@
 -- Targets. No public clause cites this module.
-use Rattle.std.specs.Prelude.{◌&&◌, not, is_none, Bool}
+use Rattle.std.specs.Prelude.{◌&&◌, is_none, Bool}
 use Rattle.ele_model.specs.declared.rows.NameRow.{NameRow}
 use Rattle.ele_model.specs.declared.rows.Target.{Target}
 use Rattle.ele_model.specs.contracts.rows.TargetPartialEq.TheImpl.{eq-value}
@@ -7,10 +7,6 @@ use Rattle.ele_model.specs.contracts.rows.TargetPartialEq.TheImpl.{eq-value}
 -- the two are one
 abbrev pub target_eq : Target → Target → Bool
 target_eq = eq-value.it
-
--- a row of another target
-abbrev pub is_other : Target → NameRow → Bool
-is_other target row = not (target_eq row.target target)
 
 -- a live row of the target
 abbrev pub is_live_of : Target → NameRow → Bool

@@ -58,9 +58,6 @@ pub record HasSent (old new : Outlet) (whole rest : List ℕ) : Type 0 where
   pub parts : whole ≡ sent ++ rest
   pub written : Takes old new sent
 
-pub sent_none : (a : Outlet) (whole : List ℕ) → HasSent a a whole whole
-sent_none a whole = record { sent = []; parts = refl; written = takes_nil a }
-
 -- a piece of the rest is put
 pub sent_more : {a b c : Outlet} {whole rest x : List ℕ} (y : List ℕ) → HasSent a b whole rest → rest ≡ x ++ y → Takes b c x → HasSent a c whole y
 sent_more {a} {b} {c} {x = x} y s e p = record { sent = s.sent ++ x; parts = cc (append_assoc s.sent x y); written = takes_then a b c s.sent x s.written p }
@@ -68,10 +65,6 @@ sent_more {a} {b} {c} {x = x} y s e p = record { sent = s.sent ++ x; parts = cc 
 -- a front of a piece of the rest is put
 pub sent_err : {A E : Type 0} {a b c : Outlet} {whole rest x : List ℕ} (y : List ℕ) (r : Result A E) → HasSent a b whole rest → rest ≡ x ++ y → IsErr r → TakesFront b c x → Puts a c whole r
 sent_err {c = c} {rest = rest} y r s e is p = puts_then c rest r s.parts s.written (puts_err y r e is p)
-
--- the rest is put, or a front of it
-pub sent_last : {A E : Type 0} {a b : Outlet} {whole rest : List ℕ} (c : Outlet) (r : Result A E) → HasSent a b whole rest → Puts b c rest r → Puts a c whole r
-sent_last {rest = rest} c r s p = puts_then c rest r s.parts s.written p
 
 lines_here : {A : Type 0} (line : A → List ℕ) (xs : List A) (i : ℕ) (x : A) → i < length xs → x ≡ get_or xs i x → flat_map line (drop i xs) ≡ line x ++ flat_map line (drop (i + 1) xs)
 lines_here {A} line xs i x lt is = ap (λ (ys : List A). flat_map line ys) (drop_more xs i x lt) ∙ ap (λ (y : A). line y ++ flat_map line (drop (i + 1) xs)) (sym is)

@@ -2,7 +2,5 @@
 mod Known
 -- the lines of an input
 mod Lines
--- which versions stay
-mod Stayings
 -- dates, one after another
 mod Dates

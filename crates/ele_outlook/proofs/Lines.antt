@@ -1,7 +1,7 @@
 -- The lines of an input, and the closings that they spell.
 use Rattle.std.proofs.Common.{◌≡◌, ◌≢◌, ℕ, zero, suc, ◌+◌, ◌<◌, ◌≤◌, ◌==◌, Bool, true, false, List, [], ◌∷◌, ◌++◌, length, take, drop, get_or, Option, Some, None, Err, refl, sym, ap, subst, ◌∙◌, arith, append_assoc}
 use Rattle.std.proofs.lemmas.Bool.{ne_eqb, eq-eqb, eqb-true}
-use Rattle.std.proofs.lemmas.List.{append-nil, drop_more, length-append, length-take-le, take-append-drop}
+use Rattle.std.proofs.lemmas.List.{append-nil, length-append, length-take-le}
 use Rattle.std.proofs.lemmas.List.Elements.{All-nil, All-cons}
 use Rattle.std.proofs.lemmas.List.Splits.{length-slice_split, slice_split_at, slice_split_none}
 use Rattle.std.proofs.KnownBytes.{Consumes-trans}
@@ -9,6 +9,7 @@ use Rattle.std.specs.Io.KnownBytes.{Consumes}
 use Rattle.std.specs.List.{All, AllZip, slice_split}
 use Rattle.memchr.specs.Find.{IsFirstByte, is_byte}
 use Rattle.ele_lists.specs.Lists.{AllLater}
+use Rattle.ele_lists.proofs.Taken.{cut-at}
 use Rattle.ele_moment.specs.Spelled.{SpellsMoment}
 use Rattle.ele_outlook.specs.Input.{SpellClosings, lines_of, without_empty_last}
 use Rattle.ele_outlook.specs.Reading.{FailsToAdd, ReadSoFar, Reads}
@@ -35,12 +36,6 @@ plain_before [] (suc n) h = All-nil (λ byte. is_feed byte ≡ false)
 plain_before (x ∷ xs) (suc n) h =
     All-cons (λ byte. is_feed byte ≡ false) x (take n xs) (ne_eqb x 10 (λ e. h 0 (omega arith) (eq-eqb x 10 e))) (plain_before xs n (λ k lt is. h (suc k) (omega (arith, lt)) is))
 
--- a line feed is found at this place
-cut_at : (left : List ℕ) (at : ℕ) → IsFirstByte (is_byte 10) left (Some at) → left ≡ take at left ++ 10 ∷ drop (at + 1) left
-cut_at left at h =
-    sym (take-append-drop at left)
-    ∙ ap (λ (w : List ℕ). take at left ++ w) (drop_more left at 0 h.0.high ∙ ap (λ (b : ℕ). b ∷ drop (at + 1) left) (eqb-true (get_or left at 0) 10 h.1))
-
 parts_more : (line : List ℕ) (parts : List (List ℕ)) → 0 < length parts → without_empty_last (line ∷ parts) ≡ line ∷ without_empty_last parts
 parts_more line [] some = absurd (omega (arith, some))
 parts_more [] (next ∷ parts) some = refl
@@ -51,7 +46,7 @@ pub first_line : (rest : List ℕ) (at : ℕ) → IsFirstByte (is_byte 10) rest 
 first_line rest at h =
     let line = take at rest in
     let more = drop (at + 1) rest in
-    ap lines_of (cut_at rest at h)
+    ap lines_of (cut-at rest at 10 0 h.0.high (eqb-true (get_or rest at 0) 10 h.1))
     ∙ ap without_empty_last (slice_split_at is_feed line 10 more (plain_before rest at (λ k lt is. h.0.before k (omega arith) lt is)) refl)
     ∙ parts_more line (slice_split is_feed more) (omega (arith, length-slice_split is_feed more))
 
@@ -59,13 +54,6 @@ first_line rest at h =
 pub only_line : (rest : List ℕ) → IsFirstByte (is_byte 10) rest None → 0 < length rest → lines_of rest ≡ rest ∷ []
 only_line [] h some = absurd (omega (arith, some))
 only_line (byte ∷ bytes) h some = ap without_empty_last (slice_split_none is_feed (byte ∷ bytes) (plain_all (byte ∷ bytes) h))
-
-pub no_line : (rest : List ℕ) → length rest ≡ 0 → lines_of rest ≡ []
-no_line [] none = refl
-no_line (byte ∷ bytes) none = absurd (omega (arith, none))
-
-pub read_none : (input : List ℕ) → ReadSoFar input input []
-read_none input = record { done = []; lines = refl; spelled = tt }
 
 zip_push : (words : List (List ℕ)) (closings : List ℕ) (word : List ℕ) (closing : ℕ) → AllZip SpellsMoment words closings → SpellsMoment word closing → AllZip SpellsMoment (words ++ word ∷ []) (closings ++ closing ∷ [])
 zip_push [] [] word closing all is = (is, tt)

@@ -2,15 +2,12 @@
 use Rattle.ele_path.proofs.Basics.{◌≡◌, ℕ, get_or, ◌∷◌, List, refl, sym, ap, subst, ◌∙◌, arith, Option, Some, None, Result, Ok, Err}
 use Rattle.ele_path.proofs.Words.{OneMeaning, SpellsMoment, PathAtFault, Path, Numbered, PathAt, Now, TaggedPath, SpellsPath, SpellsTag, path_part, tag_part, of_tag, tag_at, SpellsPathAt, IsNumbered, IsMomentFault, IsPathAtFault}
 use Rattle.ele_path.proofs.Spelled.{one_path, spelled_faultless}
-use Rattle.ele_path.proofs.Tags.{spelled_parts}
+use Rattle.ele_path.proofs.Tags.{ok_is, spelled_parts}
 use Rattle.ele_path.proofs.TaggedFaults.{tagged_faultless, one_tagged_fault}
 
 -- the same path with a tag
 abbrev pub tagged_at : PathAt → TaggedPath
 tagged_at value = record { path = value.path; tag = tag_at value.moment }
-
-ok_is : {A E : Type 0} {x y : A} → ◌≡◌ {A = Result A E} (Ok x) (Ok y) → x ≡ y
-ok_is h = cc
 
 -- a moment behind `@` is one
 pub moment_only : {E : Type 0} (text rest : List ℕ) (moment : ℕ) → text ≡ 64 ∷ rest → ((m : ℕ) → SpellsMoment rest m → ◌≡◌ {A = Result ℕ E} (Ok moment) (Ok m)) → (other : Option ℕ) → SpellsTag text (tag_at other) → ◌≡◌ {A = Result (Option ℕ) PathAtFault} (Ok (Some moment)) (Ok other)

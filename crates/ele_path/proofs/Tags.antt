@@ -61,7 +61,7 @@ spelled_parts word value h =
 pub no_path_fault : (word : List ℕ) (value : TaggedPath) (fault : PathFault) → SpellsTaggedPath word value → (fault ≡ NoMemory) ⊎ (path_fault (path_part word) ≡ Some fault) → fault ≡ NoMemory
 no_path_fault word value fault h bad = no_other_fault (path_part word) value.path fault (spelled_parts word value h).0 bad
 
-ok_is : {A E : Type 0} {x y : A} → ◌≡◌ {A = Result A E} (Ok x) (Ok y) → x ≡ y
+pub ok_is : {A E : Type 0} {x y : A} → ◌≡◌ {A = Result A E} (Ok x) (Ok y) → x ≡ y
 ok_is h = cc
 
 -- and what its parts are read as is what it spells

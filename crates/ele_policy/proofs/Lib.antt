@@ -1,7 +1,7 @@
 -- from when on a policy lets a version go, and that it goes as before beside fewer
 mod Waits
 -- the earliest of moments
-mod Earliest
+pub mod Earliest
 -- spans lie in wider ones
 mod Nesting
 -- ladders in their fields

@@ -1,12 +1,9 @@
 -- Values by serial number, and indexes of them.
-use Rattle.std.specs.Prelude.{◌≡◌, ℕ, Bool, false, List, Option}
-use Rattle.std.specs.Option.{option_map_or}
+use Rattle.std.specs.Prelude.{ℕ, Bool, List, Option}
 use Rattle.std.specs.declared.cmp.Ordering.{Ordering}
 use Rattle.std.specs.Ordering.{nat_cmp, ordering_then, is_eq}
 use Rattle.std.specs.BTreeMap.{is_at}
 use Rattle.std.specs.Map.{lookup}
-use Rattle.ele_rows.specs.Index.{has}
-use Rattle.ele_rows.specs.declared.index.Index.{Index}
 
 -- the value with the serial number
 abbrev pub value_at : {X : Type 0} → List (ℕ × X) → ℕ → Option X

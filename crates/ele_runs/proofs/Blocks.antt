@@ -3,7 +3,7 @@ use Rattle.ele_runs.proofs.Basics.{◌≡◌, ◌≢◌, ℕ, ◌≤◌, ◌+◌
 use Rattle.std.specs.Prelude.{not, ◌&&◌, if◌then◌else◌}
 use Rattle.std.specs.Option.{option_and_then}
 use Rattle.ele_model.specs.World.{World}
-use Rattle.ele_runs.proofs.Words.{Reply, Stop, HistoryFull, AppendsFront, RunState, Outlet, Takes, TakesFront, Puts, HasRoom, IsNoted, recorded, MayReply, MayAnswer, as_entry, as_read, as_trim, IsTold, cut_told, front_of, heard, is_well, noting, MayPass, Past, PutsBlock, reply_to, world_of}
+use Rattle.ele_runs.proofs.Words.{Reply, Stop, HistoryFull, AppendsFront, RunState, Outlet, Takes, TakesFront, Puts, HasRoom, IsNoted, recorded, MayReply, MayAnswer, as_entry, as_trim, IsTold, cut_told, front_of, heard, is_well, noting, Past, PutsBlock, reply_to, world_of}
 use Rattle.ele_model.specs.declared.entry.Entry.{Entry}
 use Rattle.ele_model.specs.declared.event.Event.{Event}
 use Rattle.ele_model.specs.declared.refusal.Stop.TheVariants.{NoMemory}
@@ -13,17 +13,13 @@ use Rattle.ele_script.specs.Question.{ReadsQuestion, asked_in}
 use Rattle.ele_script.specs.declared.kind.WordKind.{WordKind}
 use Rattle.ele_script.specs.declared.question.Question.{Question}
 use Rattle.ele_script.specs.FirstFault.{IsFirstFault}
-use Rattle.ele_script.specs.Memory.{TakesMemory}
-use Rattle.ele_printer.specs.Printed.{IsReplyText, stop_text, bad_text}
+use Rattle.ele_printer.specs.Printed.{stop_text, bad_text}
 use Rattle.ele_printer.specs.Why.{ahead_text, why_text}
-use Rattle.ele_script.specs.Words.{words_of}
 use Rattle.ele_printer.specs.declared.fault.LineFault.{LineFault}
 use Rattle.ele_printer.specs.declared.fault.LineFault.TheVariants as fault
 use Rattle.ele_script.specs.declared.reading.Line.TheVariants as asks
 use Rattle.ele_runs.specs.Answer.{Answer}
 use Rattle.ele_runs.specs.Answer as answer
-use Rattle.ele_model.specs.declared.pass.PassEnd.{PassEnd}
-use Rattle.ele_model.specs.declared.pass.PassEnd.TheVariants as ends
 use Rattle.ele_runs.specs.Block.{IsText}
 use Rattle.ele_runs.specs.Explained.{IsBlockOf, IsExplained, asked_by}
 use Rattle.ele_runs.specs.Explained as explained
@@ -32,8 +28,6 @@ use Rattle.ele_runs.specs.declared.end.RunEnd.{RunEnd}
 use Rattle.ele_runs.specs.declared.options.RunOptions.{RunOptions}
 use Rattle.ele_runs.specs.declared.said.Said.{Said}
 use Rattle.ele_runs.specs.declared.said.Said.TheVariants.{Nothing, Bad, Stopped, Replied, Passed, History, Trimmed, Why, Ahead}
-use Rattle.ele_model.specs.declared.fate.Fate.{Fate}
-use Rattle.ele_model.specs.declared.fate.Fate.TheVariants as fate
 use Rattle.ele_runs.specs.Written.{WritesLast}
 use Rattle.ele_runs.proofs.InTime.{IsInTime, asked_in_time, some_text, told_in_time}
 use Rattle.ele_runs.proofs.Joins.{front_behind, front_then, takes_then}
@@ -70,20 +64,11 @@ pub hears_event : (before after : Past) (line : List ℕ) (event : Event) (said 
 hears_event before after line event said asked replies =
     record { answer = answer.Reply replies.reply; may = may_answer before after line event replies.reply asked replies.may; means = replies.means }
 
-pub hears_pass : (before after : Past) (line : List ℕ) (budget : ℕ) (end : PassEnd) → Asks line (asks.Pass budget) → MayPass before budget end after → Hears before line (Passed end) after
-hears_pass before after line budget end asked may = record { answer = answer.Pass end; may = (budget, asked, may); means = refl }
-
-pub hears_history : (past : Past) (line : List ℕ) → Asks line asks.History → Hears past line History past
-hears_history past line asked = record { answer = answer.History past.folded past.entries; may = (asked, refl, refl, refl); means = refl }
-
 pub hears_trim : (before after : Past) (line : List ℕ) (said : Said) → Asks line asks.Trim → Trims before said after → Hears before line said after
 hears_trim before after line (Trimmed count) asked trims = record { answer = answer.Trimmed count; may = (asked, trims.0, trims.1); means = refl }
 hears_trim before after line (Stopped NoMemory) asked trims = record { answer = answer.Reply (Err NoMemory); may = (as_trim asked, trims.1); means = refl }
 hears_trim before after line (Stopped HistoryFull) asked trims = absurd cc
 hears_trim before after line said asked trims = absurd trims
-
-pub hears_stop : (past : Past) (line : List ℕ) → TakesMemory (words_of line) → Hears past line (Stopped NoMemory) past
-hears_stop past line memory = record { answer = answer.Reply (Err NoMemory); may = (as_read memory, refl); means = refl }
 
 pub hears_fault : (past : Past) (line : List ℕ) (why : LineFault) → (why ≡ fault.NoMemory) ⊎ IsFirstFault line why → why ≢ fault.NoMemory → Hears past line (Bad why) past
 hears_fault past line why (inl memory) other = absurd (other memory)
@@ -244,59 +229,6 @@ kept_long options past = record {
   block = λ text is. as_heard options past past None None None text (long_heard options) (never_asks options.explain None refl) (said_text past (Bad fault.LineTooLong) text (answer.Bad fault.LineTooLong) refl is, refl);
   front = λ number. ap (front_of options number) (sym (long_heard options));
 }
-
--- a reply is told by `ok` unless it is a refusal
-abbrev pub is_refused : Reply → Bool
-is_refused (reply.Refused why) = true
-is_refused other = false
-
-well_reply : (said : Reply) (text : List ℕ) → IsReplyText said text → is_well text ≡ not (is_refused said)
-well_reply (reply.Now moment) text is = rw is.2 refl
-well_reply (reply.Closed None) text is = rw is refl
-well_reply (reply.Closed (Some number)) text is = rw is refl
-well_reply said text is = rw is refl
-
-abbrev pub is_fine : Past → Said → Bool
-is_fine after Nothing = true
-is_fine after (Bad f) = false
-is_fine after (Stopped s) = false
-is_fine after Replied = true
-is_fine after (Passed (ends.Stopped s n)) = false
-is_fine after (Passed end) = true
-is_fine after History = true
-is_fine after (Trimmed c) = true
-is_fine after (Why (Ok f)) = true
-is_fine after (Why (Err r)) = false
-is_fine after (Ahead (Ok keys)) = true
-is_fine after (Ahead (Err r)) = false
-
--- what becomes of a version is told by `ok`
-well_why : (told : Fate) → is_well (why_text (Ok told)) ≡ true
-well_why fate.Current = refl
-well_why fate.Open = refl
-well_why (fate.Marked group mark) = refl
-well_why (fate.Kept until level) = refl
-well_why (fate.Due since cause) = refl
-
--- and whatever else is said by what it is
-pub well_said : (after : Past) (said : Said) (text : List ℕ) → said ≢ Replied → IsSaidText after said text → is_well text ≡ is_fine after said
-well_said after Nothing text other is = rw is refl
-well_said after Replied text other is = absurd (other refl)
-well_said after (Bad f) text other is = rw (said_text after (Bad f) text (answer.Bad f) refl is) refl
-well_said after (Stopped s) text other is = rw (said_text after (Stopped s) text (answer.Reply (Err s)) refl is) refl
-well_said after (Passed (ends.Finished n)) text other is = rw (said_text after (Passed (ends.Finished n)) text (answer.Pass (ends.Finished n)) refl is) refl
-well_said after (Passed (ends.Budget n)) text other is = rw (said_text after (Passed (ends.Budget n)) text (answer.Pass (ends.Budget n)) refl is) refl
-well_said after (Passed (ends.Stopped s n)) text other is = rw (said_text after (Passed (ends.Stopped s n)) text (answer.Pass (ends.Stopped s n)) refl is) refl
-well_said after History text other is = rw (said_text after History text (answer.History after.folded after.entries) refl is) refl
-well_said after (Trimmed c) text other is = rw (said_text after (Trimmed c) text (answer.Trimmed c) refl is) refl
-well_said after (Why (Ok f)) text other is = rw is (well_why f)
-well_said after (Why (Err r)) text other is = rw is refl
-well_said after (Ahead (Ok keys)) text other is = rw is refl
-well_said after (Ahead (Err r)) text other is = rw is refl
-
-pub well_last : (after : Past) (entry : Entry) (text : List ℕ) → Some entry ≡ slice_get after.entries (length after.entries - 1) → IsSaidText after Replied text
-    → is_well text ≡ not (is_refused entry.reply)
-well_last after entry text last is = well_reply entry.reply text (said_text after Replied text (answer.Reply (Ok entry.reply)) (entry, last, refl) is)
 
 -- the next line was heard
 pub heard_next : (before after : RunState) (line : Option (List ℕ)) (said : Said) (past : Past) (fine : Bool) → HearsKept before.options before.past line said past

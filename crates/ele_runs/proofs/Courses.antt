@@ -1,8 +1,9 @@
 -- What stays in a run, and which runs are ended.
-use Rattle.ele_runs.proofs.Basics.{◌≡◌, ◌⊎◌, inl, inr, Bool, true, false, ℕ, List, [], ◌∷◌, Option, refl, sym, ap, ◌∙◌}
+use Rattle.ele_runs.proofs.Basics.{◌≡◌, inl, inr, Bool, true, false, ℕ, List, [], ◌∷◌, Option, refl, sym, ap, ◌∙◌}
 use Rattle.ele_runs.proofs.Words.{AreTold, RunState, IsTold, is_well, line_unless_long}
 use Rattle.std.specs.Prelude.{not, ◌&&◌}
 use Rattle.ele_runs.specs.declared.options.RunOptions.{RunOptions}
+use Rattle.std.proofs.lemmas.Bool.{cases_Bool}
 
 manner_after : (before after : RunState) (line : Option (List ℕ)) (told : List ℕ) → IsTold before line told after → after.options ≡ before.options
 manner_after before after line told is = ap (λ (c : RunState). c.options) is.after_is
@@ -26,14 +27,10 @@ ends_strict : (before after : RunState) (line : Option (List ℕ)) (told : List 
 ends_strict before after line told is ended =
     both before.options.strict (not (is_well is.block)) (sym (ap (λ (c : RunState). c.ended) is.after_is) ∙ ended)
 
-either : (test : Bool) → (test ≡ true) ⊎ (test ≡ false)
-either true = inl refl
-either false = inr refl
-
 pub strict_run : (before after : RunState) (lines : List (List ℕ)) (text : List ℕ) → AreTold before lines text after → before.ended ≡ false → after.ended ≡ true
     → before.options.strict ≡ true
 strict_run before after [] text are on ended = clash after.ended ended (ap (λ (c : RunState). c.ended) are.1 ∙ on)
-strict_run before after (line ∷ lines) text (told, rest, between, is, more, parts) on ended = elim (either between.ended) [
+strict_run before after (line ∷ lines) text (told, rest, between, is, more, parts) on ended = elim (cases_Bool between.ended) [
   | inl over ↦ ends_strict before between (line_unless_long line) told is over
   | inr goes_on ↦
       sym (ap (λ (m : RunOptions). m.strict) (manner_after before between (line_unless_long line) told is)) ∙ strict_run between after lines rest more goes_on ended

@@ -2,6 +2,7 @@
 use Rattle.ele_runs.proofs.Basics.{◌≡◌, ◌≢◌, true, length-append, ℕ, ◌+◌, ◌≤◌, List, [], ◌∷◌, ◌++◌, length, take, get_or, min, ◌-◌, Option, Some, None, Result, Ok, Err, refl, sym, ap, subst, ◌∙◌, arith, append_assoc, inl, inr, append-nil, length-take, nat_tests}
 use Rattle.ele_runs.proofs.Basics.{flat_map-append, cases_order, IfOk, AllByRecursion, Consumes, Keeps, Appends, IsAtEnd, Consumes-trans, Consumes-kept, Appends-trans}
 use Rattle.ele_runs.proofs.Words.{AppendsFront, Outlet, cut_note, Takes, TakesFront, longest_line, cut_count, cut_told, end_by, most_lines, line_unless_long, IsUnbroken, whole_line, whole_lines, line_count, AreTold, AnswersLast, AnswersSome, RunState}
+use Rattle.ele_lists.proofs.Alls.{all-append}
 use Rattle.ele_runs.specs.declared.fault.ShellFault.{ShellFault}
 use Rattle.ele_runs.specs.declared.fault.ShellFault.TheVariants.{ReadFault}
 use Rattle.ele_runs.specs.declared.end.EndLine.{EndLine}
@@ -13,7 +14,7 @@ use Rattle.std.specs.Prelude.{Bool, false, nat_le, if◌then◌else◌}
 use Rattle.ele_runs.proofs.Courses.{clash, manner_stays, strict_run}
 use Rattle.std.proofs.KnownBytes.{Keeps-refl}
 use Rattle.ele_runs.proofs.Notes.{strict_cut}
-use Rattle.ele_runs.proofs.Joins.{told_append, front_behind, front_then, all_both, takes_over, takes_then}
+use Rattle.ele_runs.proofs.Joins.{told_append, front_behind, front_then, takes_over, takes_then}
 use Rattle.ele_runs.specs.declared.options.RunOptions.{RunOptions}
 use Rattle.ele_runs.proofs.Ran.{RanSoFar, written_all, few_whole}
 
@@ -269,7 +270,7 @@ module _ {start state : RunState} {room : ℕ} {buffer input mid : Option (List 
       fails_in start after (ran.given ++ piece) did.rest (ran.text ++ did.text) (ran.lines ++ did.lines) input rest old.known new.known
       (ap (λ (w : List ℕ). w ++ piece) ran.are.parts ∙ append_assoc (whole_lines ran.lines) ran.part piece ∙ ap (λ (w : List ℕ). whole_lines ran.lines ++ w) did.parts
       ∙ sym (append_assoc (whole_lines ran.lines) (whole_lines did.lines) did.rest) ∙ ap (λ (w : List ℕ). w ++ did.rest) (sym (flat_map-append whole_line ran.lines did.lines)))
-      (all_both IsUnbroken ran.lines did.lines ran.are.whole did.whole)
+      (all-append IsUnbroken ran.lines did.lines ran.are.whole did.whole)
       (told_append start state after ran.lines did.lines ran.text did.text ran.told did.told)
       (Consumes-trans input mid rest ran.given piece ran.taken took)
       (subst (λ (w : List ℕ). AppendsFront old.known new.known (w ++ (ran.text ++ did.text))) ran.none (front_then old so_far new ran.text did.text ran.put did.put))
@@ -289,7 +290,7 @@ module _ {start state : RunState} {room : ℕ} {buffer input mid : Option (List 
         text = ran.text ++ did.text;
         strict = ap (λ (m : RunOptions). m.strict) (sym (manner_stays start state ran.lines ran.text ran.told)) ∙ strict_run state after (did.lines ++ did.line ∷ []) did.text did.told ran.goes_on did.ended;
         taken = Consumes-trans input mid rest ran.given piece ran.taken took;
-        whole = all_both IsUnbroken ran.lines did.lines ran.are.whole did.whole;
+        whole = all-append IsUnbroken ran.lines did.lines ran.are.whole did.whole;
         unbroken = did.unbroken;
         count = omega (arith, did.counted, ran.count, length-append ran.lines did.lines);
         keeps = did.keeps;
@@ -314,7 +315,7 @@ module _ {start state : RunState} {room : ℕ} {buffer input mid : Option (List 
         rest = did.rest;
         text = did.text;
         parts = did.parts;
-        whole = all_both IsUnbroken did.lines (did.line ∷ []) did.whole (did.unbroken, tt);
+        whole = all-append IsUnbroken did.lines (did.line ∷ []) did.whole (did.unbroken, tt);
         told = did.told;
         put = handed_front so_far new over did.text did.put front;
       })

@@ -1,6 +1,7 @@
 -- Lines and their blocks, and then more of them.
 use Rattle.ele_runs.proofs.Basics.{Option, Appends, Appends-nil, Appends-trans, append-nil, ◌≡◌, ℕ, List, [], ◌∷◌, ◌++◌, refl, sym, ap, ◌∙◌, append_assoc, flat_map-append, AllByRecursion}
 use Rattle.ele_runs.proofs.Words.{Outlet, Takes, TakesFront, AppendsFront, IsUnbroken, AreLines, whole_line, whole_lines, AreBlocks, AreTold, RunState, Past}
+use Rattle.ele_lists.proofs.Alls.{all-append}
 
 -- what was put at first, and then more
 pub takes_nil : (a : Outlet) → Takes a a []
@@ -26,11 +27,6 @@ front_then a b c x y p q =
     let parts : a.held ++ (x ++ y) ≡ p.sent ++ (b.held ++ y) = cc (append_assoc a.held x y, append_assoc p.sent b.held y) in
     rw parts (front_behind _ _ _ p.sent (b.held ++ y) p.written q.front)
 
--- what holds of each of two lists holds of each of both
-pub all_both : {A : Type 0} (P : A → Type 0) (a b : List A) → AllByRecursion P a → AllByRecursion P b → AllByRecursion P (a ++ b)
-all_both P [] b h g = g
-all_both P (x ∷ a) b h g = (h.0, all_both P a b h.1 g)
-
 -- these lines stand before those of the rest
 pub lines_before : (input rest : List ℕ) (before after : List (List ℕ)) (last : List ℕ)
     → input ≡ whole_lines before ++ rest → AllByRecursion IsUnbroken before → AreLines rest after last → AreLines input (before ++ after) last
@@ -38,7 +34,7 @@ lines_before input rest before after last e whole h =
     record {
       parts = e ∙ ap (λ (xs : List ℕ). whole_lines before ++ xs) h.parts ∙ sym (append_assoc (whole_lines before) (whole_lines after) last)
           ∙ ap (λ (xs : List ℕ). xs ++ last) (sym (flat_map-append whole_line before after));
-      whole = all_both IsUnbroken before after whole h.whole;
+      whole = all-append IsUnbroken before after whole h.whole;
       cut = h.cut;
     }
 

@@ -1,7 +1,7 @@
 -- What is told beside a block.
-use Rattle.ele_runs.proofs.Basics.{◌≡◌, ℕ, List, [], ◌∷◌, ◌++◌, Option, Some, None, Result, Ok, Err, true, false, refl, sym, subst, ◌∙◌, Keeps, Appends, Appends-nil, append-nil}
+use Rattle.ele_runs.proofs.Basics.{◌≡◌, ℕ, List, [], ◌∷◌, ◌++◌, Option, Some, None, Result, Ok, Err, true, false, refl, sym, subst, ◌∙◌, Keeps, Appends, append-nil}
 use Rattle.std.specs.Prelude.{Bool, IfSome, OnOk, OnErr, not, ◌&&◌, ◌+◌, if◌then◌else◌}
-use Rattle.std.proofs.KnownBytes.{Appends-kept, Keeps-refl}
+use Rattle.std.proofs.KnownBytes.{Appends-kept}
 use Rattle.ele_runs.proofs.Words.{AppendsFront, RunState, IsNoted, Past, cut_note, tells_reasons}
 use Rattle.ele_printer.specs.declared.fault.LineFault.{LineFault}
 use Rattle.ele_runs.specs.Answer.{Answer}
@@ -13,11 +13,7 @@ use Rattle.ele_runs.specs.declared.options.RunOptions.{RunOptions}
 use Rattle.ele_runs.specs.declared.said.Said.TheVariants.{Bad}
 use Rattle.ele_script.specs.declared.reasons.Reason.{Reason}
 
--- nothing is a front of whatever is told
-pub front_none : (old : Option (List ℕ)) (bytes : List ℕ) → AppendsFront old old bytes
-front_none old bytes = record { front = []; back = bytes; parts = refl; written = Appends-nil old }
-
--- and nothing has no other front
+-- the only front of nothing is nothing
 first_none : (front back : List ℕ) → [] ≡ front ++ back → front ≡ []
 first_none [] back parts = refl
 first_none (byte ∷ front) back parts = absurd cc
@@ -41,10 +37,6 @@ pub noted_bad : (options : RunOptions) (past : Past) (number : ℕ) (line : Opti
     → IfSome why (IsToldReason options line) → AppendsFront old new (why_line number why) → (text : List ℕ) → IsSaidText past (Bad fault) text → IsNoted options number line text old new
 noted_bad options past number line fault None old new tells is told text said = note.nothing (front_of_none old new told)
 noted_bad options past number line fault (Some why) old new tells is told text said = note.reason tells fault (subst (λ (a : Answer). IsText a text) said.1 said.2) why is told
-
--- or nothing
-pub noted_nothing : (options : RunOptions) (number : ℕ) (line : Option (List ℕ)) (old : Option (List ℕ)) (text : List ℕ) → IsNoted options number line text old old
-noted_nothing options number line old text = note.nothing (Keeps-refl old)
 
 -- in a strict run nothing is told of a last line
 quiet : (numbers strict : Bool) (text : List ℕ) → strict ≡ true → (if numbers && not strict then text else []) ≡ []

@@ -1,14 +1,16 @@
 -- A piece that was answered so far.
 use Rattle.ele_runs.proofs.Basics.{◌≢◌, ◌≡◌, ℕ, ◌+◌, ◌<◌, ◌≤◌, ◌⊎◌, List, [], ◌∷◌, ◌++◌, length, take, drop, get_or, Option, Some, None, Result, Ok, Err, refl, sym, ap, subst, ◌∙◌, arith, append_assoc, length-append, inl, inr, true, false, ◌==◌, zero}
-use Rattle.ele_runs.proofs.Basics.{nat_tests, suc, IsErr, take-append-drop, drop_more, length-drop, eq-eqb, eqb-true, AllByRecursion}
+use Rattle.ele_runs.proofs.Basics.{nat_tests, suc, IsErr, length-drop, eq-eqb, eqb-true, AllByRecursion}
 use Rattle.ele_runs.proofs.Words.{Outlet, Takes, TakesFront, IsTold, line_unless_long, IsUnbroken, whole_line, whole_lines, AreTold, Answers, AnswersAll, AnswersLast, AnswersSome, RunState, PutsBlock}
+use Rattle.ele_lists.proofs.Alls.{all-append}
+use Rattle.ele_lists.proofs.Taken.{cut-at}
 use Rattle.std.specs.Prelude.{Bool}
 use Rattle.std.specs.Option.{option_and_then}
 use Rattle.ele_runs.specs.Piece.{AnswersBy}
 use Rattle.memchr.specs.Find.{IsFirstByte, is_byte}
 use Rattle.ele_printer.specs.declared.fault.WriteFault.{WriteFault}
 use Rattle.ele_runs.proofs.Ran.{told_push, joined_push}
-use Rattle.ele_runs.proofs.Joins.{takes_nil, takes_then, front_then, all_both}
+use Rattle.ele_runs.proofs.Joins.{takes_nil, takes_then, front_then}
 
 -- these lines of a piece were answered, and so much of it is left; a line that began before is only the first
 pub record HasAnswered (before state : RunState) (part piece left : List ℕ) (buffer : Option (List ℕ)) (old new : Outlet) : Type 0 where
@@ -78,12 +80,6 @@ unbroken_before (x ∷ xs) (suc n) h =
 pub kept_more : (line bytes : List ℕ) → option_and_then (λ line. line_unless_long (line ++ bytes)) (line_unless_long line) ≡ line_unless_long (line ++ bytes)
 kept_more line bytes = grind (arith, nat_tests, length-append)
 
--- a line feed is found at this place
-cut_at : (left : List ℕ) (at : ℕ) → IsFirstByte (is_byte 10) left (Some at) → left ≡ take at left ++ 10 ∷ drop (at + 1) left
-cut_at left at h =
-    sym (take-append-drop at left)
-    ∙ ap (λ (w : List ℕ). take at left ++ w) (drop_more left at 0 h.0.high ∙ ap (λ (b : ℕ). b ∷ drop (at + 1) left) (eqb-true (get_or left at 0) 10 h.1))
-
 line_parts : (begun line behind : List ℕ) → begun ++ (line ++ 10 ∷ behind) ≡ whole_line (begun ++ line) ++ behind
 line_parts begun line behind = sym (append_assoc begun line (10 ∷ behind)) ∙ sym (append_assoc (begun ++ line) (10 ∷ []) behind)
 
@@ -92,15 +88,15 @@ module _ {before between : RunState} {part piece left : List ℕ} {buffer : Opti
   parts_at : (at : ℕ) → IsFirstByte (is_byte 10) left (Some at) → part ++ piece ≡ whole_lines (done.lines ++ (done.begun ++ take at left) ∷ []) ++ drop (at + 1) left
   parts_at at h =
       let line = done.begun ++ take at left in
-      done.parts ∙ ap (λ (w : List ℕ). whole_lines done.lines ++ (done.begun ++ w)) (cut_at left at h)
+      done.parts ∙ ap (λ (w : List ℕ). whole_lines done.lines ++ (done.begun ++ w)) (cut-at left at 10 0 h.0.high (eqb-true (get_or left at 0) 10 h.1))
       ∙ ap (λ (w : List ℕ). whole_lines done.lines ++ w) (line_parts done.begun (take at left) (drop (at + 1) left))
       ∙ sym (append_assoc (whole_lines done.lines) (whole_line line) (drop (at + 1) left))
       ∙ ap (λ (w : List ℕ). w ++ drop (at + 1) left) (sym (joined_push done.lines line))
 
   whole_at : (at : ℕ) → IsFirstByte (is_byte 10) left (Some at) → AllByRecursion IsUnbroken (done.lines ++ (done.begun ++ take at left) ∷ [])
   whole_at at h =
-      all_both IsUnbroken done.lines ((done.begun ++ take at left) ∷ []) done.whole
-      (all_both (λ b. b ≢ 10) done.begun (take at left) done.unbroken (unbroken_before left at (λ k lt is. h.0.before k (omega arith) lt is)), tt)
+      all-append IsUnbroken done.lines ((done.begun ++ take at left) ∷ []) done.whole
+      (all-append (λ b. b ≢ 10) done.begun (take at left) done.unbroken (unbroken_before left at (λ k lt is. h.0.before k (omega arith) lt is)), tt)
 
   kept_at : (at : ℕ) (line : List ℕ) → line ≡ take at left → option_and_then (λ (l : List ℕ). line_unless_long (l ++ line)) buffer ≡ line_unless_long (done.begun ++ take at left)
   kept_at at line e =
@@ -147,7 +143,7 @@ module _ {before between : RunState} {part piece left : List ℕ} {buffer : Opti
         text = done.text ++ wrote.block;
         parts = parts_at at h;
         whole = done.whole;
-        unbroken = all_both (λ b. b ≢ 10) done.begun (take at left) done.unbroken (unbroken_before left at (λ k lt is. h.0.before k (omega arith) lt is));
+        unbroken = all-append (λ b. b ≢ 10) done.begun (take at left) done.unbroken (unbroken_before left at (λ k lt is. h.0.before k (omega arith) lt is));
         counted = omega (arith, done.counted, number_told is);
         keeps = kept ∙ kept_at at line e;
         ended = ended;
@@ -185,7 +181,7 @@ module _ {before between : RunState} {part piece left : List ℕ} {buffer : Opti
         lines = done.lines;
         last = done.begun ++ left;
         text = done.text;
-        are = record { parts = done.parts; whole = done.whole; cut = all_both (λ b. b ≢ 10) done.begun left done.unbroken (none_found left h) };
+        are = record { parts = done.parts; whole = done.whole; cut = all-append (λ b. b ≢ 10) done.begun left done.unbroken (none_found left h) };
         counted = done.counted;
         few = few_of done.begun done.first;
         keeps = pushed ∙ kept_at_end;

@@ -15,12 +15,6 @@ take_kept zero xs ys = refl
 take_kept (suc n) [] ys = refl
 take_kept (suc n) (x ∷ xs) ys = ap (λ zs. x ∷ zs) (take_kept n xs ys)
 
-pub take_few : {A : Type 0} (n : ℕ) (xs : List A) → length xs ≤ n → take n xs ≡ xs
-take_few zero [] le = refl
-take_few zero (x ∷ xs) le = absurd (omega (arith, le))
-take_few (suc n) [] le = refl
-take_few (suc n) (x ∷ xs) le = ap (λ zs. x ∷ zs) (take_few n xs (omega (arith, le)))
-
 -- where there are as many already, none is put behind them
 pub take_full : {A : Type 0} (n : ℕ) (xs ys : List A) → length xs ≡ n → take n (xs ++ ys) ≡ xs
 take_full zero [] ys is = refl

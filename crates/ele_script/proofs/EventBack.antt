@@ -24,6 +24,7 @@ use Rattle.ele_script.proofs.JoinedWords.{joined_words, joined_worded}
 use Rattle.ele_script.proofs.PlainValues.{are_bytes, values_are}
 use Rattle.ele_script.proofs.PlainWords.{is_word}
 use Rattle.ele_script.proofs.PolicyBack.{policy_back, spelled}
+use Rattle.ele_printer.proofs.Words.{some_word}
 
 moment_back : (m : ℕ) → m ≤ last_moment → SpellsMoment (decimal m) m
 moment_back m le = record { in_range = le; form = inl (spelled m le) }
@@ -66,9 +67,6 @@ values_back : (values : List Value) → AllByRecursion IsValue values → Spells
 values_back [] are = tt
 values_back (value ∷ values) are = (value_back value are.0, values_back values are.1)
 
-named : (command : Command) → 0 < length (command_words command)
-named command = grind arith
-
 name_words : (command : Command) → list_all is_word (command_words command) ≡ true
 name_words command = grind arith
 
@@ -76,7 +74,7 @@ pub event_back : EventBack
 event_back event are =
     let name = command_words (parts_of event).0 in
     let values = map value_word (parts_of event).1 in
-    let some : 0 < length (name ++ values) = omega (arith, named (parts_of event).0, length-append name values) in
+    let some : 0 < length (name ++ values) = omega (arith, some_word (parts_of event).0, length-append name values) in
     let plain : list_all is_word (name ++ values) ≡ true = list_all-append is_word name values ∙ rw (name_words (parts_of event).0, values_are (parts_of event).1 are) refl in
     let words : SpellsWords (event_words event) (asks.Event event) = record { arguments = values; are = refl; values = values_back (parts_of event).1 are } in
     record {

@@ -7,6 +7,7 @@ use Rattle.std.specs.Char.{digit_value}
 use Rattle.std.proofs.Math.Seq.{take-append_seam, drop-append_seam}
 use Rattle.std.proofs.lemmas.Str.Parse.{IsNumeralModel}
 use Rattle.ele_script.proofs.Moments.{one_number}
+use Rattle.std.proofs.lemmas.Option.{none-some}
 
 abbrev pub is_slash : ℕ → Bool
 is_slash byte = byte == 47
@@ -45,23 +46,20 @@ parts_at word pair at is found =
     let width : drop 1 (drop at word) ≡ is.width = rw (place, is.are, drop-append_seam is.age (47 ∷ is.width)) refl in
     (rw age is.age_is, rw width is.width_is)
 
-pub none_is : {A : Type 0} {x : A} → ◌≡◌ {A = Option A} None (Some x) → ⊥
-none_is h = cc
-
 -- what has no slash is no pair
 pub unslashed : (word : List ℕ) (r : Option Rung) → None ≡ position is_slash word → r ≡ None → IfNone r ((pair : Rung) → ¬ SpellsPair word pair)
-unslashed word r none is = rw is (λ pair spelled. none_is (none ∙ slash_at word pair spelled))
+unslashed word r none is = rw is (λ pair spelled. none-some _ (none ∙ slash_at word pair spelled))
 
 -- nor is what has no number in front of the slash
 pub bad_age : (word front : List ℕ) (at : ℕ) (r : Option Rung) → Some at ≡ position is_slash word → front ≡ take at word → ((n : ℕ) → SpellsNumber front n → ◌≡◌ {A = Option ℕ} None (Some n)) → r ≡ None
     → IfNone r ((pair : Rung) → ¬ SpellsPair word pair)
-bad_age word front at r found before none is = grind (arith, nat_tests, none_is, parts_at)
+bad_age word front at r found before none is = grind (arith, nat_tests, none-some, parts_at)
 
 -- or behind it
 pub bad_width : (word behind rest : List ℕ) (at : ℕ) (r : Option Rung) → Some at ≡ position is_slash word → behind ≡ drop at word → rest ≡ drop 1 behind → ((n : ℕ) → SpellsNumber rest n → ◌≡◌ {A = Option ℕ} None (Some n)) → r ≡ None
     → IfNone r ((pair : Rung) → ¬ SpellsPair word pair)
 bad_width word behind rest at r found after more none is =
-    rw is (λ pair spelled. none_is (none pair.1 (rw (more, after) (parts_at word pair at spelled (sym found)).1)))
+    rw is (λ pair spelled. none-some _ (none pair.1 (rw (more, after) (parts_at word pair at spelled (sym found)).1)))
 
 -- and the numbers around it are the pair
 pub made_pair : (word front behind rest : List ℕ) (at m n : ℕ) → Some at ≡ position is_slash word → front ≡ take at word → behind ≡ drop at word → rest ≡ drop 1 behind → SpellsNumber front m → SpellsNumber rest n

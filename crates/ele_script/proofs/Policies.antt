@@ -5,7 +5,8 @@ use Rattle.std.specs.Str.{bytes_eq}
 use Rattle.ele_policy.specs.declared.policy.Policy.{Policy}
 use Rattle.ele_script.proofs.Moments.{one_number}
 use Rattle.ele_script.proofs.Decided.{same_behind}
-use Rattle.ele_script.proofs.PairWords.{none_is, number_unmarked, one_pair, one_pairs, slashed}
+use Rattle.ele_script.proofs.PairWords.{number_unmarked, one_pair, one_pairs, slashed}
+use Rattle.std.proofs.lemmas.Option.{none-some}
 
 -- seconds are no pair
 no_both : (text : List ℕ) (seconds : ℕ) (pair : Rung) → SpellsNumber text seconds → SpellsPair text pair → ⊥
@@ -31,7 +32,7 @@ unsafe word text None cut none = λ seconds floor is. none seconds floor (subst 
 pub neither : (text : List ℕ) (r : Option (ℕ × ℕ)) → ((n : ℕ) → SpellsNumber text n → ◌≡◌ {A = Option ℕ} None (Some n)) → IfNone r ((pair : Rung) → ¬ SpellsPair text pair)
     → IfNone r ((seconds floor : ℕ) → ¬ SpellsSafe text seconds floor)
 neither text (Some numbers) unnumbered unpaired = tt
-neither text None unnumbered unpaired = λ seconds floor is. elim is [ inl number ↦ none_is (unnumbered seconds number.0) | inr pair ↦ unpaired (seconds, floor) pair ]
+neither text None unnumbered unpaired = λ seconds floor is. elim is [ inl number ↦ none-some _ (unnumbered seconds number.0) | inr pair ↦ unpaired (seconds, floor) pair ]
 
 -- a word has the form of one policy
 one_form : (word : List ℕ) (a b : Policy) → HasForm word a → HasForm word b → a ≡ b

@@ -1,5 +1,5 @@
 -- Words and what they stand for: each one value of a kind.
-use Rattle.ele_script.proofs.Basics.{nat_tests, arith, ◌≡◌, ℕ, List, refl, sym, ap, subst, ◌∙◌, Option, Some, None, Ok, Err, Result, codes, IfErr, ok_or, decode_of, option_map, same_Some}
+use Rattle.ele_script.proofs.Basics.{nat_tests, arith, ◌≡◌, ℕ, List, refl, sym, ap, subst, ◌∙◌, Ok, Err, Result, codes, IfErr, ok_or, decode_of, option_map, same_Some}
 use Rattle.ele_script.proofs.Prelude.{SpellsMoment, OneMeaning, LineFault, BadMoment, WordKind, NumberWord, MomentWord, NameWord, PathWord, TaggedWord, TimedWord, SourceWord, BytesWord}
 use Rattle.ele_script.proofs.Prelude.{PolicyWord, Value, Moment, Name, Path, Timed, Bytes, word_kind, SpellsBytes, SpellsValue, fault_of_path, fault_of_path_at, IsOfKind, IsWordFault}
 use Rattle.std.specs.Result.{result_ok}
@@ -7,6 +7,7 @@ use Rattle.ele_script.proofs.Moments.{one_number, one_moment}
 use Rattle.ele_script.proofs.PathWords.{one_tagged, one_timed, one_source, faultless_tagged, faultless_source, one_tagged_word, one_source_fault}
 use Rattle.ele_script.proofs.Policies.{one_policy}
 use Rattle.ele_script.specs.Value.{Number, Tagged, Source, Policy}
+use Rattle.std.proofs.lemmas.Option.{none-some}
 
 absurd_ok : {A E : Type 0} {x : A} {e : E} → ◌≡◌ {A = Result A E} (Err e) (Ok x) → ⊥
 absurd_ok h = cc
@@ -17,9 +18,6 @@ no_dash word bytes dash digits = absurd_ok (sym (ap decode_of dash) ∙ digits)
 
 one_bytes : (word : List ℕ) (a b : List ℕ) → SpellsBytes word a → SpellsBytes word b → a ≡ b
 one_bytes word a b x3 x4 = grind (arith, nat_tests, no_dash)
-
-none_is : {A : Type 0} {x : A} → ◌≡◌ {A = Option A} None (Some x) → ⊥
-none_is h = cc
 
 module _ (law : OneMeaning) where
   -- a word stands for one value of a kind
@@ -37,7 +35,7 @@ module _ (law : OneMeaning) where
 
   -- a word that stands for a value of its kind has no fault
   pub faultless_word : (kind : WordKind) (word : List ℕ) (fault : LineFault) → IsOfKind kind word → IsWordFault kind word fault → ⊥
-  faultless_word PathWord word fault (Path names, k, is) bad = none_is (ap (λ o. option_map fault_of_path o) (sym (law.faultless_path word names is)) ∙ bad)
+  faultless_word PathWord word fault (Path names, k, is) bad = none-some _ (ap (λ o. option_map fault_of_path o) (sym (law.faultless_path word names is)) ∙ bad)
   faultless_word TaggedWord word fault (Tagged value, k, is) bad = faultless_tagged law word value fault is bad
   faultless_word TimedWord word fault (Timed value, k, is) bad = law.faultless_at word value bad.0 is bad.1
   faultless_word SourceWord word fault (Source value, k, is) bad = faultless_source law word value fault is bad
@@ -56,7 +54,7 @@ module _ (law : OneMeaning) where
   one_word_fault BytesWord word a b x y = x.0 ∙ sym y.0
   one_word_fault PolicyWord word a b x y = let same = one_policy word (Err a) (Err b) x y in cc
 
-moment_of : (word : List ℕ) → IsOfKind MomentWord word → (m : ℕ) × SpellsMoment word m
+pub moment_of : (word : List ℕ) → IsOfKind MomentWord word → (m : ℕ) × SpellsMoment word m
 moment_of word (Moment m, k, is) = (m, is)
 moment_of word (value, k, is) = absurd cc
 

@@ -1,6 +1,6 @@
 -- Why words are no command, and what was found of their first ones.
 use Rattle.ele_script.proofs.Basics.{◌≡◌, ◌≢◌, ℕ, ◌+◌, ◌<◌, ◌≤◌, ◌==◌, Bool, true, List, [], ◌∷◌, ◌++◌, zero, suc, length, take, drop, refl, true≢false, sym, ap, ◌∙◌, arith, inl, inr, append_assoc, length-append, take-append-drop, subst, map, length-map, Option, Some, None, Result, Ok, Err, IfOk}
-use Rattle.ele_script.proofs.Prelude.{OneMeaning, Command, LineFault, WordKind, command_words, kinds_behind, kinds_if, longest_line, words_of, is_worded, TakesMemory}
+use Rattle.ele_script.proofs.Prelude.{OneMeaning, Command, LineFault, WordKind, command_words, kinds_behind, kinds_if, longest_line, words_of, is_worded}
 use Rattle.ele_script.proofs.Prelude.{IsFirstWordFault, FitsCommand, IsFaultOfWords, IsFirstFault, too_long, not_worded, of_words, no_command, of_word}
 use Rattle.ele_printer.specs.declared.command.Command.TheVariants.{Read}
 use Rattle.ele_script.specs.CommandOf.{command_of}
@@ -117,12 +117,6 @@ pub takes_behind : (command : Command) (arguments : List (List ℕ)) → any_tak
 takes_behind Read [] takes = absurd cc
 takes_behind Read (word ∷ arguments) takes = grind (arith, takes)
 takes_behind command arguments takes = any_of (kinds_behind command arguments) arguments takes
-
--- the line takes memory where its first words do
-pub line_takes : (line : List ℕ) (first : List (List ℕ)) → first ≡ take 5 (words_of line) → TakesBehind first → TakesMemory (words_of line)
-line_takes line first is takes =
-    let found = subst TakesBehind is takes in
-    record { command = found.command; arguments = found.arguments; are = sym (all_fit (words_of line) found.command found.arguments found.fits) ∙ found.fits.are; takes = found.takes }
 
 -- words in front of which no command is found are none
 pub unknown_reason : (words : List (List ℕ)) (number : ℕ) → command_of words ≡ None → number ≡ unknown_number words → IsReasonOfWords words (NoCommand number)

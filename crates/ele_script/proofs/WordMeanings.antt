@@ -1,6 +1,6 @@
 -- The words behind a command: what they stand for, or the first fault of them.
 use Rattle.ele_script.proofs.Basics.{◌≡◌, ℕ, List, [], ◌∷◌, length, codes, refl, arith, ◌⊎◌, inl, inr, Result, Ok, Err, decode_of, option_map, ap, dec_lt}
-use Rattle.ele_script.proofs.Prelude.{LineFault, BadMoment, Syntax, WordKind, NumberWord, MomentWord, NameWord, PathWord, TaggedWord, TimedWord, SourceWord, BytesWord, PolicyWord, Value, Moment, Name, Path, Timed, Bytes, SpellsNumber, SpellsMoment, SpellsBytes}
+use Rattle.ele_script.proofs.Prelude.{LineFault, BadMoment, Syntax, WordKind, NumberWord, MomentWord, NameWord, PathWord, TaggedWord, TimedWord, SourceWord, BytesWord, PolicyWord, Value, Moment, Name, Path, Timed, Bytes, SpellsNumber, SpellsBytes}
 use Rattle.ele_script.proofs.Prelude.{fault_of_path, SpellsValues, IsOfKind, IsWordFault, IsFirstWordFault}
 use Rattle.ele_printer.specs.declared.fault.LineFault.TheVariants.{BadName}
 use Rattle.ele_moment.specs.Name.{IsName}
@@ -12,15 +12,12 @@ use Rattle.ele_script.proofs.Laws.{kinds_of}
 use Rattle.ele_script.proofs.Moments.{dec_moment, dec_number}
 use Rattle.ele_script.proofs.PathMeanings.{path_meaning, tagged_meaning, timed_meaning, source_meaning}
 use Rattle.ele_script.proofs.PolicyMeanings.{policy_meaning}
+use Rattle.ele_script.proofs.Values.{moment_of}
 
 -- a word of a kind stands for such a value
 number_of : (word : List ℕ) → IsOfKind NumberWord word → (n : ℕ) × SpellsNumber word n
 number_of word (Number n, k, is) = (n, is)
 number_of word (value, k, is) = absurd cc
-
-moment_of : (word : List ℕ) → IsOfKind MomentWord word → (m : ℕ) × SpellsMoment word m
-moment_of word (Moment m, k, is) = (m, is)
-moment_of word (value, k, is) = absurd cc
 
 name_of : (word : List ℕ) → IsOfKind NameWord word → IsName word
 name_of word (Name name, k, is) = is.1

@@ -1,33 +1,22 @@
--- Running histories that grow, and the entries under some numbers.
-use Rattle.std.proofs.Common.{◌≡◌, ℕ, zero, suc, ◌<◌, Bool, true, false, cond, ◌⊎◌, inl, inr, List, [], ◌∷◌, ◌++◌, length, refl, sym, ap, ◌∙◌, arith, append-nil, append_assoc}
+-- Running histories that grow, and the calls under some numbers.
+use Rattle.std.proofs.Common.{◌≡◌, ◌==◌, ◌||◌, ◌≤◌, ℕ, zero, suc, ◌<◌, Bool, true, false, cond, List, [], ◌∷◌, ◌++◌, length, refl, sym, ap, ◌∙◌, arith, append-nil, append_assoc}
 use mathlib.Core.Option.{some, some-ne-none}
 use lib.ListN.{get_elem?}
 use Rattle.std.proofs.lemmas.List.{map-append}
+use Rattle.std.proofs.Math.Bool.{or_assoc}
 use Rattle.ele_model.specs.declared.entry.Entry.{Entry}
-use Rattle.ele_model.specs.declared.event.Event.{Event}
 use Rattle.ele_model.specs.Run.{run_of}
 use Rattle.ele_model.specs.Step.{step}
 use Rattle.ele_model.specs.World.{World}
 use Rattle.ele_history.specs.Legal.{IsLegal}
 use Rattle.ele_history.specs.Past.{Past, events_of, reply_to, world_of}
+use Rattle.ele_history.proofs.Growth.{legal-append, run_of-append}
 use Rattle.ele_shared_history.specs.declared.ledger.Call.{Call}
 use Rattle.ele_shared_history.specs.Running.{continued, entries_of, has, own_of, StartsWith}
-
-pub true_or_false : (b : Bool) → (b ≡ true) ⊎ (b ≡ false)
-true_or_false true = inl refl
-true_or_false false = inr refl
-
-run_of-append : (w : World) (xs ys : List Event) → run_of w (xs ++ ys) ≡ run_of (run_of w xs) ys
-run_of-append w [] ys = refl
-run_of-append w (x ∷ xs) ys = run_of-append ((step w x).1) xs ys
 
 world_of-continued : (past : Past) (entries : List Entry) → world_of (continued past entries) ≡ run_of (world_of past) (events_of entries)
 world_of-continued past entries =
     ap (run_of past.base) (map-append (λ (entry : Entry). entry.event) past.entries entries) ∙ run_of-append past.base (events_of past.entries) (events_of entries)
-
-legal-append : (w : World) (xs : List Entry) (entry : Entry) → IsLegal w xs → entry.reply ≡ (step (run_of w (events_of xs)) entry.event).0 → IsLegal w (xs ++ entry ∷ [])
-legal-append w [] entry legal is = (is, tt)
-legal-append w (x ∷ xs) entry legal is = (legal.0, legal-append ((step w x.event).1) xs entry legal.1 is)
 
 pub entries_of-append : (xs ys : List Call) → entries_of (xs ++ ys) ≡ entries_of xs ++ entries_of ys
 entries_of-append [] ys = refl
@@ -36,6 +25,20 @@ entries_of-append (x ∷ xs) ys = ap (λ (z : List Entry). x.entry ∷ z) (entri
 pub length-entries_of : (xs : List Call) → length (entries_of xs) ≡ length xs
 length-entries_of [] = refl
 length-entries_of (x ∷ xs) = omega (arith, length-entries_of xs)
+
+-- the numbers of one list or the other
+pub has-append : (a b : List ℕ) (n : ℕ) → has (a ++ b) n ≡ (has a n || has b n)
+has-append [] b n = refl
+has-append (m ∷ ms) b n = ap (λ (z : Bool). (m == n) || z) (has-append ms b n) ∙ sym (or_assoc (m == n) (has ms n) (has b n))
+
+short_cond : (p : Bool) (call : Call) (xs ys : List Call) → length ys ≤ length xs → length (cond p (call ∷ ys) ys) ≤ length (call ∷ xs)
+short_cond true call xs ys short = omega arith
+short_cond false call xs ys short = omega arith
+
+-- the calls under some numbers are some of all
+pub own_is_short : (ns : List ℕ) (calls : List Call) → length (own_of ns calls) ≤ length calls
+own_is_short ns [] = omega arith
+own_is_short ns (call ∷ calls) = short_cond (has ns call.by) call calls (own_of ns calls) (own_is_short ns calls)
 
 -- one call more, with the step's own reply
 pub legal_more : (opening : Past) (log : List Call) (call : Call) → IsLegal (world_of opening) (entries_of log) → call.entry.reply ≡ reply_to (continued opening (entries_of log)) call.entry.event → IsLegal (world_of opening) (entries_of (log ++ call ∷ []))

@@ -1,5 +1,6 @@
 -- Each step keeps the rule.
 use Rattle.std.proofs.Common.{◌≡◌, ◌≢◌, ℕ, ◌+◌, ◌-◌, ◌*◌, ◌/◌, ◌%◌, ◌^◌, ◌<◌, Bool, true, false, ◌==◌, cond, inl, inr, ⊎_elim, List, [], ◌∷◌, ◌++◌, length, get_or, set, refl, sym, ap, ◌∙◌, subst, arith, append_assoc, length-append, length-set, Some, None}
+use Rattle.std.proofs.lemmas.Bool.{cases_Bool}
 use Rattle.std.proofs.lemmas.Bool.Decides.{nat_tests}
 use mathlib.Core.Option.{some, none}
 use lib.ListN.{get_elem?}
@@ -15,7 +16,7 @@ use Rattle.ele_shared_history.specs.declared.ledger.View.{View}
 use Rattle.ele_shared_history.specs.Running.{continued, entries_of, has, own_of}
 use Rattle.ele_shared_history.specs.Rule.{Kind, history_after, events_after, no_part, PartFits, Fits, Free, Taken, Kept, looking, first_of, own_call, published}
 use Rattle.ele_shared_history.specs.Steps.{IsNews, Looks, Takes, Publishes, GivesBack}
-use Rattle.ele_shared_history.proofs.Histories.{true_or_false, entries_of-append, legal_more, own_of-mine, own_of-other, starts_whole, starts_more, at_bound}
+use Rattle.ele_shared_history.proofs.Histories.{entries_of-append, legal_more, own_of-mine, own_of-other, starts_whole, starts_more, at_bound}
 
 -- a word that is written as it was
 same_word : (ws : List ℕ) (x : ℕ) → ws ≡ x ∷ [] → set ws 0 (get_or ws 0 0) ≡ ws
@@ -148,7 +149,7 @@ module _ (o : Past) where
 
   part_stays : (log : List Call) (owner : ℕ → ℕ) (t : Call) (id j : ℕ) (u : View) (n : ℕ) → Fits o n owner log j u → owner t.by ≡ id → j ≢ id → (p : Part) → PartFits log u.numbers p → PartFits (log ++ t ∷ []) u.numbers p
   part_stays log owner t id j u n f mine other p fits = record {
-    own = ⊎_elim (λ (h : has p.numbers t.by ≡ true). absurd (other (sym (f.numbers t.by (fits.within t.by h)).0 ∙ mine))) (λ h. own_of-other p.numbers log t h ∙ fits.own) (true_or_false (has p.numbers t.by));
+    own = ⊎_elim (λ (h : has p.numbers t.by ≡ true). absurd (other (sym (f.numbers t.by (fits.within t.by h)).0 ∙ mine))) (λ h. own_of-other p.numbers log t h ∙ fits.own) (cases_Bool (has p.numbers t.by));
     within = fits.within;
   }
 
@@ -158,7 +159,7 @@ module _ (o : Past) where
     opening = f.opening;
     seen = starts_more log u.seen (t ∷ []) f.seen;
     told = starts_more log u.told (t ∷ []) f.told;
-    own = ⊎_elim (λ (h : has u.numbers t.by ≡ true). absurd (other (sym (f.numbers t.by h).0 ∙ mine))) (λ h. own_of-other u.numbers log t h ∙ f.own) (true_or_false (has u.numbers t.by));
+    own = ⊎_elim (λ (h : has u.numbers t.by ≡ true). absurd (other (sym (f.numbers t.by h).0 ∙ mine))) (λ h. own_of-other u.numbers log t h ∙ f.own) (cases_Bool (has u.numbers t.by));
     own_seen = f.own_seen;
     left = part_stays log owner t id j u n f mine other u.left f.left;
     right = part_stays log owner t id j u n f mine other u.right f.right;
@@ -167,7 +168,7 @@ module _ (o : Past) where
     known = f.known;
     fresh = λ h. let g = f.fresh h in (
       g.0,
-      ⊎_elim (λ (h : has (j ∷ []) t.by ≡ true). let e : j ≡ t.by = grind (arith, nat_tests) in absurd (other (sym g.0 ∙ ap owner e ∙ mine))) (λ h. own_of-other (j ∷ []) log t h ∙ g.1) (true_or_false (has (j ∷ []) t.by)),
+      ⊎_elim (λ (h : has (j ∷ []) t.by ≡ true). let e : j ≡ t.by = grind (arith, nat_tests) in absurd (other (sym g.0 ∙ ap owner e ∙ mine))) (λ h. own_of-other (j ∷ []) log t h ∙ g.1) (cases_Bool (has (j ∷ []) t.by)),
       g.2,
       g.3,
     );
@@ -226,13 +227,13 @@ module _ (o : Past) where
           later = rw length-set (λ m far. (
             (k.later m far).0,
             ⊎_elim (λ (h : has (m ∷ []) my.by ≡ true). let q : m ≡ my.by = grind (arith, nat_tests) in let z = (k.later m far).0 in let y : m ≡ id = sym z ∙ ap k.owner q ∙ own in absurd (omega arith))
-                (λ h. own_of-other (m ∷ []) k.log my h ∙ (k.later m far).1) (true_or_false (has (m ∷ []) my.by)),
+                (λ h. own_of-other (m ∷ []) k.log my h ∙ (k.later m far).1) (cases_Bool (has (m ∷ []) my.by)),
           ));
           turn = inl record {
             word = ap (λ (ws : List ℕ). set ws 0 ((get_or s.words 0 0 + 1) % 2 ^ 64)) t.word ∙ ap (λ (x : ℕ). x ∷ []) next;
             home = ap (λ (x : List (ℕ × Kind)). put_back s.homes x) is ∙ ap (λ (hs : List (mathlib.Core.Option.Option Kind)). set hs 0 (some (Some (continued (history_after v.opening v.seen) (e ∷ []))))) t.home ∙ ap (λ (h : Past). some (Some h) ∷ []) grown;
             none_holds = each_new (λ j u. u.holds ≡ true → (j ≡ t.holder) × (u.seen ≡ k.log)) (λ _ u. u.holds ≡ false) s.views id (published v e) t.one_holds
-                (λ j u other h. ⊎_elim (λ (q : u.holds ≡ true). absurd (other ((h q).0 ∙ sym (t.one_holds id v at holds).0))) (λ q. q) (true_or_false u.holds)) refl;
+                (λ j u other h. ⊎_elim (λ (q : u.holds ≡ true). absurd (other ((h q).0 ∙ sym (t.one_holds id v at holds).0))) (λ q. q) (cases_Bool u.holds)) refl;
           };
         },
         λ e' same. let q : e ≡ e' = last_same (entries_in ((0, Some (history_after v.opening v.seen)) ∷ [])) e e' (ap entries_in (sym is ∙ same)) in
@@ -263,7 +264,7 @@ module _ (o : Past) where
             word = ap (λ (ws : List ℕ). set ws 0 ((get_or s.words 0 0 + (2 ^ 64 - 1)) % 2 ^ 64)) t.word ∙ ap (λ (x : ℕ). x ∷ []) next;
             home = ap (λ (x : List (ℕ × Kind)). put_back s.homes x) is ∙ ap (λ (hs : List (mathlib.Core.Option.Option Kind)). set hs 0 (some (Some (history_after v.opening v.seen)))) t.home ∙ ap (λ (h : Past). some (Some h) ∷ []) same;
             none_holds = each_new (λ j u. u.holds ≡ true → (j ≡ t.holder) × (u.seen ≡ k.log)) (λ _ u. u.holds ≡ false) s.views id (looking false v v.seen) t.one_holds
-                (λ j u other h. ⊎_elim (λ (q : u.holds ≡ true). absurd (other ((h q).0 ∙ sym (t.one_holds id v at holds).0))) (λ q. q) (true_or_false u.holds)) refl;
+                (λ j u other h. ⊎_elim (λ (q : u.holds ≡ true). absurd (other ((h q).0 ∙ sym (t.one_holds id v at holds).0))) (λ q. q) (cases_Bool u.holds)) refl;
           };
         },
         ap (λ (x : List (ℕ × Kind)). (looking false v v.seen, rest x)) is,

@@ -1,6 +1,5 @@
 -- A seat between calls.
-use Rattle.std.proofs.Common.{◌≡◌, ℕ, ◌+◌, Bool, true, false, MatchBool, Some, List, [], ◌∷◌, ◌++◌, length, refl, sym, ap, ◌∙◌, subst, arith, length-append, Result, Ok, Err, IfOk, IfErr}
-use Rattle.std.proofs.lemmas.Bool.Decides.{nat_tests}
+use Rattle.std.proofs.Common.{◌≡◌, ◌+◌, Bool, true, false, MatchBool, Some, List, [], ◌∷◌, ◌++◌, length, refl, sym, ap, ◌∙◌, subst, arith, length-append, Result, Ok, Err, IfOk, IfErr}
 use Rattle.atomic_table.specs.Table.{Me}
 use Rattle.atomic_table.specs.Seated.{TableId}
 use Rattle.ele_model.specs.declared.event.Event.{Event}
@@ -8,9 +7,9 @@ use Rattle.ele_model.specs.declared.reply.Reply.{Reply}
 use Rattle.ele_history.specs.Past.{Past, count_of}
 use Rattle.ele_shared_history.specs.declared.ledger.Call.{Call}
 use Rattle.ele_shared_history.specs.declared.ledger.View.{View}
-use Rattle.ele_shared_history.specs.Running.{entries_of, entry, has, own_of}
-use Rattle.ele_shared_history.specs.Rule.{Kind, history_after, first_of, looking, own_call, registered, newcomer}
-use Rattle.ele_shared_history.specs.Steps.{IsIdle, IsNews, RunsEvent, StaysIdle, TakesTurn, Unites}
+use Rattle.ele_shared_history.specs.Running.{entries_of, entry}
+use Rattle.ele_shared_history.specs.Rule.{Kind, history_after, first_of, looking, own_call}
+use Rattle.ele_shared_history.specs.Steps.{IsIdle, IsNews, RunsEvent, StaysIdle, TakesTurn}
 use Rattle.ele_shared_history.specs.Calling.{Called}
 use Rattle.ele_shared_history.specs.Knowledge.{IsTrue, Knowledge, Looked}
 use Rattle.ele_shared_history.specs.Told.{knowledge}
@@ -76,25 +75,6 @@ looked z y m n same (log, news, is) =
       own = refl;
       view = news.seen;
     }
-
-pub idle_registered : (v : View) (k : ℕ) (m n : Me Kind View) → IsIdle m → own_of (k ∷ []) m.0.seen ≡ [] → n ≡ (registered (newcomer m.0) k, []) → IsIdle n
-idle_registered v k m n i none is = subst IsIdle (sym is) record { empty = refl; told = refl; holds = refl; fresh = refl; live = refl; numbered = grind (arith, nat_tests); own = none; legal = i.legal }
-
-still_has : (a b : List ℕ) → has a (first_of a) ≡ true → has (a ++ b) (first_of (a ++ b)) ≡ true
-still_has [] b h = absurd (cc)
-still_has (x ∷ xs) b h = grind (arith, nat_tests)
-
-pub idle_united : (v w : View) (n : Me Kind View) → v.holds ≡ false → has v.numbers (first_of v.numbers) ≡ true → Unites v w n → IsIdle n
-idle_united v w n idle mine (log, news, a, b, apart, is) = subst IsIdle (sym is) record {
-  empty = refl;
-  told = refl;
-  holds = idle;
-  fresh = refl;
-  live = refl;
-  numbered = still_has v.numbers w.numbers mine;
-  own = news.own;
-  legal = news.legal;
-}
 
 pub truth : (z : TableId) (m : Me Kind View) → IsIdle m → IsTrue (knowledge z m.0)
 truth z m i = record { legal = i.legal; own = i.own }

@@ -1,5 +1,6 @@
 -- Splitting a seat, giving the new one a number, and joining two.
 use Rattle.std.proofs.Common.{◌≡◌, ◌≢◌, ℕ, zero, suc, ◌+◌, ◌<◌, ◌≤◌, Bool, true, false, nat_lt, ◌==◌, ◌||◌, cond, ◌⊎◌, inl, inr, ⊎_elim, List, [], ◌∷◌, ◌++◌, length, get_or, set, refl, sym, ap, ◌∙◌, subst, arith, append-nil, length-append, length-set}
+use Rattle.std.proofs.lemmas.Bool.{cases_Bool}
 use Rattle.std.proofs.lemmas.Bool.Decides.{nat_tests}
 use mathlib.Core.Option.{some, none, some-injective, some-ne-none}
 use lib.ListN.{get_elem?}
@@ -11,7 +12,7 @@ use Rattle.ele_history.specs.Past.{Past}
 use Rattle.ele_shared_history.specs.Running.{has, own_of, StartsWith}
 use Rattle.ele_shared_history.specs.Rule.{Kind, Fits, Free, Taken, Kept, looking, newcomer, registered, united, spent_view}
 use Rattle.ele_shared_history.specs.Steps.{Meets, Registers}
-use Rattle.ele_shared_history.proofs.Histories.{true_or_false, own_of-append, starts_trans, at_bound}
+use Rattle.ele_shared_history.proofs.Histories.{has-append, own_of-append, starts_trans, at_bound}
 use Rattle.ele_shared_history.proofs.Keeps.{each_set, own_of-none, no_part_fits, sees, news}
 
 at_end : {A : Type 0} (l : List A) (a b : A) (j : ℕ) → get_elem? (l ++ a ∷ []) j ≡ some b → (get_elem? l j ≡ some b) ⊎ ((j ≡ length l) × (a ≡ b))
@@ -22,7 +23,7 @@ at_end (x ∷ xs) a b (suc j) e = ⊎_elim (λ h. inl h) (λ h. inr (let f = h.0
 
 -- a number that is at least the bound isn't among those below it
 not_has : (ns : List ℕ) (m : ℕ) → ((n : ℕ) → has ns n ≡ true → n < m) → has ns m ≡ false
-not_has ns m below = ⊎_elim (λ (h : has ns m ≡ true). absurd (let b = below m h in omega arith)) (λ h. h) (true_or_false (has ns m))
+not_has ns m below = ⊎_elim (λ (h : has ns m ≡ true). absurd (let b = below m h in omega arith)) (λ h. h) (cases_Bool (has ns m))
 
 module _ (o : Past) where
   -- made rises
@@ -78,7 +79,7 @@ module _ (o : Past) where
             (λ (g : Free o k.log s). inl record {
               word = g.word;
               home = g.home;
-              none_holds = λ j u there. ⊎_elim (λ (h : u.holds ≡ true). absurd (let e = g.none_holds j u (none j u there h) in cc)) (λ h. h) (true_or_false u.holds);
+              none_holds = λ j u there. ⊎_elim (λ (h : u.holds ≡ true). absurd (let e = g.none_holds j u (none j u there h) in cc)) (λ h. h) (cases_Bool u.holds);
             })
             (λ (t : Taken o k.log s). inr record { holder = t.holder; word = t.word; home = t.home; one_holds = λ j u there h. t.one_holds j u (none j u there h) h })
             k.turn;
@@ -130,7 +131,7 @@ module _ (o : Past) where
         right = no_part_fits k.log (id ∷ []);
         apart = λ m h. absurd (cc);
         numbers = λ n h. let e : id ≡ n = grind (arith, nat_tests) in (subst (λ x. k.owner x ≡ id) e g.0, omega arith);
-        known = λ n h. ⊎_elim (λ (q : (id == n) ≡ true). let e : id ≡ n = grind (arith, nat_tests) in omega arith) (λ q. f.known n (rw q at h)) (true_or_false (id == n));
+        known = λ n h. ⊎_elim (λ (q : (id == n) ≡ true). let e : id ≡ n = grind (arith, nat_tests) in omega arith) (λ q. f.known n (rw q at h)) (cases_Bool (id == n));
         fresh = λ h. absurd (cc);
       } in
       let K : List ℕ → Type 0 = λ ws. Kept o record { words = ws; homes = s.homes; views = set s.views id (registered v id) } in (
@@ -166,21 +167,13 @@ nothing_more : (xs ys : List Call) → xs ++ ys ≡ xs → ys ≡ []
 nothing_more [] ys e = e
 nothing_more (x ∷ xs) ys e = nothing_more xs ys (cc)
 
-or_assoc : (a b c : Bool) → (a || (b || c)) ≡ ((a || b) || c)
-or_assoc true b c = refl
-or_assoc false b c = refl
-
 empty_left : (xs ys : List Call) → xs ++ ys ≡ [] → xs ≡ []
 empty_left [] ys e = refl
 empty_left (x ∷ xs) ys e = absurd (cc)
 
 -- a list whose first entry isn't owned, and whose rest isn't
 not_own : (a : List ℕ) (t : Call) (ts : List Call) → own_of a (t ∷ ts) ≡ [] → (has a t.by ≡ false) × (own_of a ts ≡ [])
-not_own a t ts e = ⊎_elim (λ (h : has a t.by ≡ true). absurd (let p : t ∷ own_of a ts ≡ [] = rw h at e in cc)) (λ (h : has a t.by ≡ false). (h, rw h at e)) (true_or_false (has a t.by))
-
-has-append : (a b : List ℕ) (n : ℕ) → has (a ++ b) n ≡ (has a n || has b n)
-has-append [] b n = refl
-has-append (m ∷ ms) b n = ap (λ (z : Bool). (m == n) || z) (has-append ms b n) ∙ or_assoc (m == n) (has ms n) (has b n)
+not_own a t ts e = ⊎_elim (λ (h : has a t.by ≡ true). absurd (let p : t ∷ own_of a ts ≡ [] = rw h at e in cc)) (λ (h : has a t.by ≡ false). (h, rw h at e)) (cases_Bool (has a t.by))
 
 own_of-two : (a b : List ℕ) (xs : List Call) → own_of a xs ≡ [] → own_of b xs ≡ [] → own_of (a ++ b) xs ≡ []
 own_of-two a b [] p q = refl
@@ -233,7 +226,7 @@ module _ (o : Past) where
   taken_over owner id w n = cond (has w.numbers n) id (owner n)
 
   not_theirs : (owner : ℕ → ℕ) (n id j other : ℕ) (w : View) → ((has w.numbers n ≡ true) → owner n ≡ other) → owner n ≡ j → j ≢ other → taken_over owner id w n ≡ owner n
-  not_theirs owner n id j other w fits is apart = ⊎_elim (λ (h : has w.numbers n ≡ true). absurd (apart (sym is ∙ fits h))) (λ h. rw h refl) (true_or_false (has w.numbers n))
+  not_theirs owner n id j other w fits is apart = ⊎_elim (λ (h : has w.numbers n ≡ true). absurd (apart (sym is ∙ fits h))) (λ h. rw h refl) (cases_Bool (has w.numbers n))
 
   bystander : (n : ℕ) (owner : ℕ → ℕ) (log : List Call) (id other j : ℕ) (w u : View) → Fits o n owner log other w → j ≢ other → Fits o n owner log j u → Fits o n (taken_over owner id w) log j u
   bystander n owner log id other j w u fw apart f = record {
@@ -258,13 +251,13 @@ module _ (o : Past) where
     own = own_longer v.numbers w.numbers log v.seen w.seen (nat_lt (length v.seen) (length w.seen)) refl f.seen g.seen (f.own ∙ sym f.own_seen) (g.own ∙ sym g.own_seen);
     own_seen = refl;
     left = record { own = f.own; within = λ m h. has-append v.numbers w.numbers m ∙ or_left (has v.numbers m) (has w.numbers m) h };
-    apart = λ m h. ⊎_elim (λ (q : has w.numbers m ≡ true). absurd (differ (sym (g.numbers m q).0 ∙ (f.numbers m h).0))) (λ (q : has w.numbers m ≡ false). q) (true_or_false (has w.numbers m));
+    apart = λ m h. ⊎_elim (λ (q : has w.numbers m ≡ true). absurd (differ (sym (g.numbers m q).0 ∙ (f.numbers m h).0))) (λ (q : has w.numbers m ≡ false). q) (cases_Bool (has w.numbers m));
     right = record { own = g.own; within = λ m h. has-append v.numbers w.numbers m ∙ or_right (has v.numbers m) (has w.numbers m) h };
     numbers = λ m h. ⊎_elim
         (λ (t : has w.numbers m ≡ true). (rw t refl, (g.numbers m t).1))
         (λ (t : has w.numbers m ≡ false). let mine : has v.numbers m ≡ true = ⊎_elim (λ (q : has v.numbers m ≡ true). q) (λ (q : has w.numbers m ≡ true). absurd (cc)) (or_cases (has v.numbers m) (has w.numbers m) (sym (has-append v.numbers w.numbers m) ∙ h)) in
         (rw t (f.numbers m mine).0, (f.numbers m mine).1))
-        (true_or_false (has w.numbers m));
+        (cases_Bool (has w.numbers m));
     known = λ m h. ⊎_elim (λ (q : has v.known m ≡ true). f.known m q) (λ (q : has w.known m ≡ true). g.known m q) (or_cases (has v.known m) (has w.known m) (sym (has-append v.known w.known m) ∙ h));
     fresh = λ h. absurd (cc);
   }
@@ -295,7 +288,7 @@ module _ (o : Past) where
             (λ (t : (j ≢ other) × (j ≢ id) × (get_elem? s.views j ≡ some z)). bystander n k.owner k.log id other j w z g t.0 (k.each j z t.2 lives)) r)
             (find j z q));
         later = rw long (λ m far. let l = k.later m far in (
-          ⊎_elim (λ (h : has w.numbers m ≡ true). absurd (let b = (g.numbers m h).1 in omega arith)) (λ h. rw h l.0) (true_or_false (has w.numbers m)),
+          ⊎_elim (λ (h : has w.numbers m ≡ true). absurd (let b = (g.numbers m h).1 in omega arith)) (λ h. rw h l.0) (cases_Bool (has w.numbers m)),
           l.1,
         ));
         turn = ⊎_elim

@@ -22,11 +22,6 @@ found_is {X} p P xs all = by (find p xs) refl where
 pub none_any : {X : Type 0} (p : X → Bool) (xs : List X) → find p xs ≡ None → list_any p xs ≡ false
 none_any p xs none = any_is p xs ∙ ap is_some none
 
--- what came and was taken out again is as if it had only been taken out
-pub back_and_forth : (a b : Bool) → (not a && (a || b)) ≡ (not a && b)
-back_and_forth true b = refl
-back_and_forth false b = refl
-
 -- where a version had no key, one comes
 pub brought : (k : Key) (file number : ℕ) (is : Option ℕ) → comes (if_changed (Some (record { file = file; number = number; was = None; is = is }))) k ≡ is_entry file number is k
 brought k file number is = grind (arith, nat_tests)

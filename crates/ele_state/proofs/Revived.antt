@@ -45,9 +45,6 @@ module _ (rows : Rows) (file number : ℕ) (sound : IsSound rows) (held : is_hel
 
 -- ---- a file without a live name gets its last version again
 
-or_true : (b : Bool) → (b || true) ≡ true
-or_true b = grind (arith, nat_tests)
-
 module _ (rows : Rows) (directory : ℕ) (name : List ℕ) (file : ℕ) (sound : IsSound rows) (may : MayRevive (world_of rows) directory name file) where
   abbrev w : World
   w = world_of rows

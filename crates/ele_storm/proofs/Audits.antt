@@ -1,17 +1,16 @@
 -- What a storm over a history of its own came to.
-use Rattle.std.proofs.Common.{◌≡◌, ℕ, ◌+◌, ◌≤◌, Bool, true, false, cond, IsTrue, List, [], ◌∷◌, ◌++◌, length, ap, subst, arith, length-append}
+use Rattle.std.proofs.Common.{◌≡◌, ℕ, ◌+◌, Bool, IsTrue, List, [], ◌∷◌, ◌++◌, length, ap, subst, arith, length-append}
 use Rattle.ele_history.specs.Legal.{IsLegal}
 use Rattle.ele_history.specs.Past.{Past, world_of}
-use Rattle.ele_shared_history.specs.declared.ledger.Call.{Call}
 use Rattle.ele_shared_history.specs.Closing.{Closes}
 use Rattle.ele_shared_history.specs.Knowledge.{Knowledge, Object}
-use Rattle.ele_shared_history.specs.Running.{entries_of, has, own_of}
+use Rattle.ele_shared_history.specs.Running.{entries_of}
 use Rattle.ele_shared_history.specs.Seats.{AreNew, IsNew}
 use Rattle.ele_model.specs.Bounds.{Bounds}
 use Rattle.ele_storm.specs.declared.plan.StormPlan.{StormPlan}
 use Rattle.ele_storm.specs.Audited.{AreOfOne, IsAudited, IsBegun}
 use Rattle.ele_storm.specs.Plan.{storm_events}
-use Rattle.ele_storm.proofs.Halving.{length-entries_of}
+use Rattle.ele_shared_history.proofs.Histories.{length-entries_of, own_is_short}
 
 -- the last of a row of new seats is one
 pub last_is_new : (object : Object) (ns : List ℕ) (ks : List Knowledge) (k : Knowledge) → AreNew object ns (ks ++ k ∷ []) → (n : ℕ) × IsNew object n k
@@ -19,14 +18,6 @@ last_is_new object (n ∷ ns) [] k new = (n, new.0)
 last_is_new object [] [] k new = absurd new
 last_is_new object (n ∷ ns) (l ∷ ks) k new = last_is_new object ns ks k new.1
 last_is_new object [] (l ∷ ks) k new = absurd new
-
-short_cond : (p : Bool) (call : Call) (xs ys : List Call) → length ys ≤ length xs → length (cond p (call ∷ ys) ys) ≤ length (call ∷ xs)
-short_cond true call xs ys short = omega arith
-short_cond false call xs ys short = omega arith
-
-own_is_short : (ns : List ℕ) (calls : List Call) → length (own_of ns calls) ≤ length calls
-own_is_short ns [] = omega arith
-own_is_short ns (call ∷ calls) = short_cond (has ns call.by) call calls (own_of ns calls) (own_is_short ns calls)
 
 pub calls_stand : (opening after : Past) (last : Knowledge) → Closes opening last after → AreOfOne opening (length last.own) (length last.view)
 calls_stand opening after last closes = record {

@@ -1,17 +1,10 @@
 -- The calls of two seats that were joined, added up.
-use Rattle.std.proofs.Common.{◌≡◌, ℕ, ◌+◌, Bool, true, false, ◌==◌, ◌||◌, cond, List, [], ◌∷◌, ◌++◌, length, refl, sym, ap, ◌∙◌, arith}
+use Rattle.std.proofs.Common.{◌≡◌, ℕ, ◌+◌, Bool, true, false, ◌||◌, cond, List, [], ◌∷◌, ◌++◌, length, refl, sym, ap, ◌∙◌, arith}
 use Rattle.ele_shared_history.specs.declared.ledger.Call.{Call}
 use Rattle.ele_shared_history.specs.Knowledge.{Knowledge}
 use Rattle.ele_shared_history.specs.Running.{has, own_of}
 use Rattle.ele_shared_history.specs.Seats.{Joined}
-
-or_assoc : (a b c : Bool) → (a || (b || c)) ≡ ((a || b) || c)
-or_assoc true b c = refl
-or_assoc false b c = refl
-
-has-append : (ns ms : List ℕ) (n : ℕ) → has (ns ++ ms) n ≡ (has ns n || has ms n)
-has-append [] ms n = refl
-has-append (x ∷ xs) ms n = ap (λ (b : Bool). (x == n) || b) (has-append xs ms n) ∙ or_assoc (x == n) (has xs n) (has ms n)
+use Rattle.ele_shared_history.proofs.Histories.{has-append}
 
 length-cond : (p q : Bool) (call : Call) (xs ys zs : List Call) → (p ≡ true → q ≡ false) → length xs ≡ length ys + length zs
     → length (cond (p || q) (call ∷ xs) xs) ≡ length (cond p (call ∷ ys) ys) + length (cond q (call ∷ zs) zs)

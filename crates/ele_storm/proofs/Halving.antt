@@ -1,11 +1,11 @@
 -- What the workers of a storm leave their seat, from one of them to all.
-use Rattle.std.proofs.Common.{◌≡◌, ℕ, ◌+◌, ◌*◌, ◌<◌, List, [], ◌∷◌, length, refl, sym, ap, subst, ◌∙◌, arith, length-append, Result, Ok, Err}
+use Rattle.std.proofs.Common.{◌≡◌, ℕ, ◌+◌, ◌*◌, ◌<◌, List, [], ◌∷◌, length, sym, ap, subst, ◌∙◌, arith, length-append, Result, Ok, Err}
 use Rattle.std.specs.Result.{result_and}
-use Rattle.ele_shared_history.specs.declared.ledger.Call.{Call}
 use Rattle.ele_shared_history.specs.Knowledge.{Knowledge}
-use Rattle.ele_shared_history.specs.Running.{entries_of, entry}
+use Rattle.ele_shared_history.specs.Running.{entry}
 use Rattle.ele_model.specs.declared.event.Event.{Event}
 use Rattle.ele_shared_history.specs.Seats.{Joined}
+use Rattle.ele_shared_history.proofs.Histories.{length-entries_of}
 use Rattle.ele_model.specs.declared.entry.Entry.{Entry}
 use Rattle.ele_storm.specs.declared.fault.StormFault.{StormFault}
 use Rattle.ele_storm.specs.declared.plan.StormPlan.{StormPlan}
@@ -16,10 +16,6 @@ use Rattle.ele_storm.specs.declared.plan.Task.{Task}
 use Rattle.ele_storm.proofs.Counts.{calls_of_both}
 use Rattle.ele_storm.proofs.Sizes.{events_next, events_of_all, length-rounds, none_before}
 use Rattle.ele_storm.proofs.Works.{starts_trans}
-
-pub length-entries_of : (calls : List Call) → length (entries_of calls) ≡ length calls
-length-entries_of [] = refl
-length-entries_of (call ∷ calls) = omega (arith, length-entries_of calls)
 
 -- as many calls as entries
 pub length-added : (a b : Knowledge) (entries : List Entry) → Adds a entries b → length b.own ≡ length a.own + length entries

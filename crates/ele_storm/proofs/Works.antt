@@ -1,12 +1,8 @@
 -- What calls in a row leave a seat.
-use Rattle.std.proofs.Common.{◌≡◌, ℕ, List, [], ◌∷◌, ◌++◌, refl, sym, ap, ◌∙◌, append_assoc, Result, Ok, Err}
-use mathlib.Core.List.{append-nil}
-use Rattle.ele_shared_history.specs.declared.ledger.Call.{Call}
-use Rattle.ele_shared_history.specs.Calling.{Called}
-use Rattle.ele_shared_history.specs.Knowledge.{Knowledge, Looked}
-use Rattle.ele_shared_history.specs.Running.{call, entries_of, entry, StartsWith}
+use Rattle.std.proofs.Common.{◌≡◌, ℕ, List, [], ◌∷◌, ◌++◌, refl, ap, ◌∙◌, append_assoc, Result, Ok, Err}
+use Rattle.ele_shared_history.specs.Knowledge.{Knowledge}
+use Rattle.ele_shared_history.specs.Running.{entry, StartsWith}
 use Rattle.ele_model.specs.declared.entry.Entry.{Entry}
-use Rattle.ele_model.specs.declared.event.Event.{Event}
 use Rattle.ele_model.specs.declared.reply.Reply.{Reply}
 use Rattle.std.proofs.Common.{◌+◌, add-one}
 use Rattle.std.specs.Int.{to_be_bytes, w64}
@@ -20,17 +16,10 @@ use Rattle.ele_storm.specs.declared.plan.Task.{Task}
 use Rattle.ele_storm.specs.declared.plan.Task.TheVariants.{Cleaner}
 use Rattle.ele_storm.specs.Plan.{file_of, handle_in, looks, tagged, writes}
 use Rattle.ele_storm.specs.Work.{Adds, GoesOn, Makes, MakesOne, RunsRound, RunsRounds}
+use Rattle.ele_shared_history.proofs.Histories.{entries_of-append}
 
 pub starts_trans : {A : Type 0} (a b c : List A) → StartsWith a b → StartsWith b c → StartsWith a c
 starts_trans a b c p q = (q.0 ++ p.0, p.1 ∙ ap (λ l. l ++ p.0) q.1 ∙ append_assoc c q.0 p.0)
-
-pub goes_nowhere : (a : Knowledge) → GoesOn a a
-goes_nowhere a = record {
-  object = refl;
-  numbers = refl;
-  view = ([], sym (append-nil a.view));
-  own = ([], sym (append-nil a.own));
-}
 
 pub goes_further : (a b c : Knowledge) → GoesOn a b → GoesOn b c → GoesOn a c
 goes_further a b c p q = record {
@@ -39,32 +28,6 @@ goes_further a b c p q = record {
   view = starts_trans c.view b.view a.view q.view p.view;
   own = starts_trans c.own b.own a.own q.own p.own;
 }
-
-pub goes_on_by_call : (a b : Knowledge) (e : Event) (r : Reply) → Called a e r b → GoesOn a b
-goes_on_by_call a b e r c = record {
-  object = c.object;
-  numbers = c.numbers;
-  view = (c.between ++ call c.by (entry e r) ∷ [], c.view ∙ append_assoc a.view c.between (call c.by (entry e r) ∷ []));
-  own = (call c.by (entry e r) ∷ [], c.own);
-}
-
-pub goes_on_by_look : (a b : Knowledge) → Looked a b → GoesOn a b
-goes_on_by_look a b l = record {
-  object = l.object;
-  numbers = l.numbers;
-  view = l.view;
-  own = ([], l.own ∙ sym (append-nil a.own));
-}
-
-pub adds_call : (a b : Knowledge) (e : Event) (r : Reply) → Called a e r b → Adds a (entry e r ∷ []) b
-adds_call a b e r c = (call c.by (entry e r) ∷ [], c.own, refl)
-
-entries_of-append : (xs ys : List Call) → entries_of (xs ++ ys) ≡ entries_of xs ++ entries_of ys
-entries_of-append [] ys = refl
-entries_of-append (x ∷ xs) ys = ap (λ l. x.entry ∷ l) (entries_of-append xs ys)
-
-pub adds_nothing : (a : Knowledge) → Adds a [] a
-adds_nothing a = ([], sym (append-nil a.own), refl)
 
 pub adds_more : (a b c : Knowledge) (xs ys : List Entry) → Adds a xs b → Adds b ys c → Adds a (xs ++ ys) c
 adds_more a b c xs ys (ps, p, pe) (qs, q, qe) = (
@@ -92,9 +55,6 @@ looked_at a b c writer file first is_file is_first (r, asks) (s, reads) = (
 pub cleaned : (writers round : ℕ) (a b : Knowledge) (x : Result (Unit {0}) StormFault) → OnOk x (MakesOne CleanOne a b) → OnOk x (RunsRound writers Cleaner round a b)
 cleaned writers round a b (Ok _) (r, cleans) = (entry CleanOne r ∷ [], cleans, refl)
 cleaned writers round a b (Err e) _ = tt
-
-pub no_rounds : (writers : ℕ) (task : Task) (a : Knowledge) → RunsRounds writers task 0 a a
-no_rounds writers task a = ([], adds_nothing a, refl)
 
 pub rounds_more : (writers : ℕ) (task : Task) (round : ℕ) (a b c : Knowledge) → RunsRounds writers task round a b → RunsRound writers task round b c → RunsRounds writers task (round + 1) a c
 rounds_more writers task round a b c (xs, adds, rounds) (ys, more, last) =

@@ -19,6 +19,7 @@ use Rattle.ele_runs.specs.declared.end.RunEnd.{RunEnd}
 use Rattle.ele_runs.specs.declared.fault.ShellFault.{ShellFault}
 use Rattle.ele_runs.specs.declared.fault.ShellFault.TheVariants.{ReadFault, WriteFault, TooManyLines, NoMemory}
 use Rattle.ele_words.specs.Ends.{HasRun, HasWritten, fault_line}
+use Rattle.ele_lists.proofs.Alls.{all-append}
 
 -- what a run says of each of its ends
 pub has_run : (start : RunState) (input rest old new notes : Option (List ℕ)) (r : Result RunEnd ShellFault) → IfOk r (λ end. HasTold start input rest old new notes end.lines end.ended_by)
@@ -158,11 +159,6 @@ untaken : (input : Option (List ℕ)) → Keeps input (Some (left input))
 untaken None = tt
 untaken (Some xs) = refl
 
--- what holds of each of two lists holds of each of both
-all_both : {A : Type 0} (P : A → Type 0) (a b : List A) → AllByRecursion P a → AllByRecursion P b → AllByRecursion P (a ++ b)
-all_both P [] b h g = g
-all_both P (x ∷ a) b h g = (h.0, all_both P a b h.1 g)
-
 -- where nothing was told a front was of whatever might have been
 front_of_kept : (old new : Option (List ℕ)) (bytes : List ℕ) → Keeps old new → AppendsFront old new bytes
 front_of_kept old new bytes same = record { front = []; back = bytes; parts = refl; written = Appends-kept old old new [] (Appends-nil old) same }
@@ -176,7 +172,7 @@ ended_write_fault start false input rest old new notes given lines line text tak
   text = text;
   run_state = by.run_state;
   input_is = taken_is input rest given (whole_lines (lines ++ line ∷ [])) by.behind taken by.parts;
-  whole = all_both IsUnbroken lines (line ∷ []) whole (unbroken, tt);
+  whole = all-append IsUnbroken lines (line ∷ []) whole (unbroken, tt);
   told = by.are;
   written = inl (whole_front old new text written, by.keeps_error);
 }

@@ -1,8 +1,7 @@
 -- What is told of a storm while it runs, line after line.
-use Rattle.std.proofs.Common.{◌≡◌, ℕ, ◌≤◌, List, [], ◌∷◌, ◌++◌, length, refl, sym, ap, subst, ◌∙◌, append_assoc, append-nil, length-append, arith, Option, Result, Ok, Err}
-use Rattle.std.specs.Prelude.{OnOk, OnErr}
-use Rattle.std.specs.Io.KnownBytes.{Appends, Keeps}
-use Rattle.std.proofs.KnownBytes.{Appends-nil, Appends-trans, Appends-kept}
+use Rattle.std.proofs.Common.{◌≡◌, ℕ, ◌≤◌, List, [], ◌∷◌, ◌++◌, length, refl, sym, ap, subst, ◌∙◌, append_assoc, append-nil, length-append, arith, Option}
+use Rattle.std.specs.Io.KnownBytes.{Appends}
+use Rattle.std.proofs.KnownBytes.{Appends-nil, Appends-trans}
 use Rattle.ele_printer.specs.Front.{AppendsFront}
 use Rattle.ele_shared_history.specs.Knowledge.{Knowledge, Looked, count_seen}
 use Rattle.ele_words.specs.Progress.{Rise, ShowsProgress, progress_line, progress_text}
@@ -29,10 +28,6 @@ seen_more a b p =
 rise_next : (from : ℕ) (counts : List ℕ) (upto next : ℕ) → Rise from counts upto → upto ≤ next → Rise from (counts ++ next ∷ []) next
 rise_next from [] upto next rise more = (omega (arith, rise, more), omega arith)
 rise_next from (count ∷ counts) upto next rise more = (rise.0, rise_next count counts upto next rise.1 more)
-
-rise_more : (from : ℕ) (counts : List ℕ) (upto most : ℕ) → Rise from counts upto → upto ≤ most → Rise from counts most
-rise_more from [] upto most rise more = omega (arith, rise, more)
-rise_more from (count ∷ counts) upto most rise more = (rise.0, rise_more count counts upto most rise.1 more)
 
 text_next : (counts : List ℕ) (next : ℕ) → progress_text (counts ++ next ∷ []) ≡ progress_text counts ++ progress_line next
 text_next [] next = append-nil (progress_line next)
@@ -77,17 +72,3 @@ shows_front a b c upto next told more line =
         written = Appends-trans a b c _ _ told.written line.written;
       };
     }
-
--- what is shown up to a count is shown up to a greater one
-pub shows_more : (a b : Option (List ℕ)) (upto most : ℕ) → ShowsProgress a b upto → upto ≤ most → ShowsProgress a b most
-shows_more a b upto most told more = record { counts = told.counts; rise = rise_more 0 told.counts upto most told.rise more; written = told.written }
-
--- a line was written, and then its writer was flushed
-pub all_flushed : {A E : Type 0} (r : Result A E) (a b c : Option (List ℕ)) (line : List ℕ) → OnOk r (Appends a b line) → Keeps b c → OnOk r (Appends a c line)
-all_flushed (Ok x) a b c line all same = Appends-kept a b c line all same
-all_flushed (Err e) a b c line all same = tt
-
-pub front_flushed : {A E : Type 0} (r : Result A E) (a b c : Option (List ℕ)) (line : List ℕ) → OnErr r (AppendsFront a b line) → Keeps b c → OnErr r (AppendsFront a c line)
-front_flushed (Ok x) a b c line front same = tt
-front_flushed (Err e) a b c line front same =
-    record { front = front.front; back = front.back; parts = front.parts; written = Appends-kept a b c front.front front.written same }

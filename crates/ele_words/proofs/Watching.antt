@@ -1,25 +1,16 @@
 -- What a watched storm came to.
-use Rattle.std.proofs.Common.{◌≡◌, ℕ, ◌+◌, ◌≤◌, Bool, true, false, cond, IsTrue, List, [], ◌∷◌, length, ap, subst, ◌∙◌, arith, length-append, Option, Ok}
+use Rattle.std.proofs.Common.{◌≡◌, ℕ, ◌+◌, Bool, IsTrue, List, [], length, ap, subst, ◌∙◌, arith, length-append, Option, Ok}
 use Rattle.ele_history.specs.Legal.{IsLegal}
 use Rattle.ele_history.specs.Past.{Past, count_of, fresh, world_of}
-use Rattle.ele_shared_history.specs.declared.ledger.Call.{Call}
 use Rattle.ele_shared_history.specs.Knowledge.{Knowledge, count_seen}
-use Rattle.ele_shared_history.specs.Running.{has, own_of}
 use Rattle.ele_shared_history.specs.Seats.{Joined}
+use Rattle.ele_shared_history.proofs.Histories.{own_is_short}
 use Rattle.ele_storm.specs.declared.plan.StormPlan.{StormPlan}
 use Rattle.ele_storm.specs.Audited.{AreOfOne}
 use Rattle.ele_storm.specs.Plan.{storm_events}
 use Rattle.ele_model.specs.Bounds.{largest_bounds}
 use Rattle.ele_words.specs.Progress.{ShowsProgress}
 use Rattle.ele_words.specs.Watched.{Watched}
-
-short_cond : (p : Bool) (call : Call) (xs ys : List Call) → length ys ≤ length xs → length (cond p (call ∷ ys) ys) ≤ length (call ∷ xs)
-short_cond true call xs ys short = omega arith
-short_cond false call xs ys short = omega arith
-
-own_is_short : (ns : List ℕ) (calls : List Call) → length (own_of ns calls) ≤ length calls
-own_is_short ns [] = omega arith
-own_is_short ns (call ∷ calls) = short_cond (has ns call.by) call calls (own_of ns calls) (own_is_short ns calls)
 
 -- the seat of the storm and the watcher's were joined, and the history was closed by both
 pub watched : (plan : StormPlan) (before after : Option (List ℕ)) (events : ℕ) (equal : Bool) (opening : Past) (first last watcher both : Knowledge) → opening ≡ fresh largest_bounds → watcher.object.opening ≡ opening → first.own ≡ []

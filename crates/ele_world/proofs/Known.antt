@@ -146,7 +146,7 @@ data From (w u : World) (known : Known) (file number : ℕ) (row : VersionRow) :
   New : row_of w file number ≡ None → row_of u file number ≡ Some row → row.closed ≡ u.now → From w u known file number row
 
 -- the time never goes back
-change_later : (event : Event) (first w : World) (change : Change) → MayBy event first w change → w.now ≤ (after_change w change).now
+pub change_later : (event : Event) (first w : World) (change : Change) → MayBy event first w change → w.now ≤ (after_change w change).now
 change_later event first w (Time to) may = may.0
 change_later event first w (DropIdle of) may = dropped (λ v. w.now ≤ v.now) w of (λ idle. omega arith) (λ busy. omega arith)
 change_later event first w change may = omega arith

@@ -1,6 +1,5 @@
 pub mod Words
 pub mod NameEnds
-pub mod Revivals
 pub mod Leads
 pub mod ReadsBack
 pub mod Known

@@ -1,14 +1,15 @@
 -- A held version's life before now stays: an event may end it, and then now.
 use Rattle.ele_model.proofs.Basics.{AllByRecursion, nat_tests, arith, ◌≡◌, ℕ, ◌<◌, ◌≤◌, List, [], ◌∷◌, Option, Some, None, find, AllLater, all-weaker, all-both}
-use Rattle.ele_model.proofs.Words.{World, Change, Time, HasParts, ArePlaced, IsVersion, Versions, after_change, after_changes, ended_at, is_version, lives_at, plan}
+use Rattle.ele_model.proofs.Words.{World, Change, HasParts, ArePlaced, IsVersion, Versions, after_change, after_changes, ended_at, is_version, lives_at, plan}
 use Rattle.ele_world.proofs.Words.{Event, VersionRow}
 use Rattle.ele_world.specs.LifeStays.{LivesAsBefore}
 use Rattle.ele_model.proofs.Allowed.{allowed}
 use Rattle.ele_model.proofs.Keeps.{reached}
-use Rattle.ele_model.proofs.May.{MayBy, MayAll}
+use Rattle.ele_model.proofs.May.{MayAll}
 use Rattle.ele_model.proofs.Moves.{IsPast, change_past, Moves, Same, Ended, Taken, change_moves}
 use Rattle.ele_model.proofs.Stays.{held_past}
 use Rattle.ele_model.proofs.Versions.{IsFound, all_found}
+use Rattle.ele_world.proofs.Known.{change_later}
 
 -- before the moment it lived as the row did
 abbrev LivesOn : ℕ → VersionRow → Option VersionRow → Type 0
@@ -24,15 +25,11 @@ moved event first since now rows row None after le was (Ended e) = λ later mome
 moved event first since now rows row (Some old) after le was (Ended e) = λ later moment found less. grind (arith, e, found, was old moment, ends old now moment)
 moved event first since now rows row before after le was (Taken w may is e) = λ later moment found less. absurd cc
 
-goes_on : (event : Event) (first w : World) (change : Change) → MayBy event first w change → w.now ≤ (after_change w change).now
-goes_on event first w (Time to) may = grind (arith, nat_tests)
-goes_on event first w change may = grind (arith, nat_tests)
-
 follow : (event : Event) (first w : World) (row : VersionRow) (changes : List Change) → AllLater ArePlaced first.versions → MayAll event first w changes → IsPast w row.file row.number → first.now ≤ w.now → LivesOn first.now row (find (is_version row.file row.number) w.versions) → LivesOn first.now row (find (is_version row.file row.number) (after_changes w changes).versions)
 follow event first w row [] placed may past le was = was
 follow event first w row (change ∷ changes) placed may past le was =
     let v = after_change w change in
-    let on : w.now ≤ v.now = goes_on event first w change may.0 in
+    let on : w.now ≤ v.now = change_later event first w change may.0 in
     follow event first v row changes placed may.1 (change_past event first w change row.file row.number may.0 past) (omega arith)
     (moved event first first.now w.now w.versions row (find (is_version row.file row.number) w.versions) (find (is_version row.file row.number) v.versions) le was (change_moves event first row.file row.number w change placed may.0 past))
 

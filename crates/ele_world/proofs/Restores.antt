@@ -6,6 +6,7 @@ use Rattle.std.specs.List.Sorted.{IsStrictlySortedBy}
 use Rattle.std.proofs.lemmas.Map.{lookup-none}
 use Rattle.std.proofs.lemmas.Map.Entries.{none_past_head}
 use Rattle.ele_lists.proofs.Lasts.{find_last}
+use Rattle.ele_lists.proofs.Found.{find-same}
 use Rattle.ele_model.specs.Restorable.{restorable}
 use Rattle.ele_world.specs.RestorableLists.{RestorableLists}
 use Rattle.ele_world.specs.UndeleteTakes.{is_dead_name, cannot_return}
@@ -77,14 +78,10 @@ any_is_some : {X Y : Type 0} (p : X → Bool) (f : X → Y) (xs : List X) → li
 any_is_some p f [] = refl
 any_is_some p f (x ∷ xs) = grind (arith, nat_tests, any_is_some p f xs)
 
-find_same : {X : Type 0} (p q : X → Bool) (xs : List X) → ((x : X) → p x ≡ q x) → find p xs ≡ find q xs
-find_same p q [] same = refl
-find_same p q (x ∷ xs) same = rw (same x, find_same p q xs same) refl
-
 -- a live name's newest row is live
 none_lost : (rows : List NameRow) (d : ℕ) (n : List ℕ) → AllLater AreApart rows → is_some (live_target rows d n) ≡ true → last_dead rows d n ≡ None
 none_lost rows d n apart live =
-    let last = find_same (is_live_name d n) (λ row. is_named d n row && is_none row.death) rows (λ row. grind (arith, nat_tests)) ∙ find_last (is_named d n) (λ (row : NameRow). is_none row.death) rows (later-weaker AreApart (λ x y. is_named d n x ≡ true → is_named d n y ≡ true → is_none x.death ≡ false) rows (λ x y is a b. grind (arith, nat_tests, bytes_eq-Decides)) apart) in
+    let last = find-same (is_live_name d n) (λ row. is_named d n row && is_none row.death) rows (λ row. grind (arith, nat_tests)) ∙ find_last (is_named d n) (λ (row : NameRow). is_none row.death) rows (later-weaker AreApart (λ x y. is_named d n x ≡ true → is_named d n y ≡ true → is_none x.death ≡ false) rows (λ x y is a b. grind (arith, nat_tests, bytes_eq-Decides)) apart) in
     grind (arith, nat_tests, last, live)
 
 answer : (w : World) (path : List (List ℕ)) (at : ℕ × List ℕ) → parent_now w.names path ≡ Ok at → cannot_return ((outcome w (plan w (Undelete path))).0) ≡ (is_some (live_target w.names at.0 at.1) || not (is_some (passing (may_return w) (last_dead w.names at.0 at.1))))

@@ -1,4 +1,4 @@
-use Rattle.ele_blocks.proofs.Cited.{ap, arith, drop, inside, IsRenewed, IsRun, laid_over, Layout, leaves_new, length, now_room, part_backed, part_owned, placed, replaced, rules, slots_in, take, window_there, ◌*◌, ◌+◌, ◌-◌, ◌∙◌, ◌≡◌}
+use Rattle.ele_blocks.proofs.Cited.{ap, arith, drop, inside, IsRenewed, IsRun, laid_over, Layout, leaves_new, length, now_room, part_backed, part_owned, placed, replaced, slots_in, take, window_there, ◌*◌, ◌+◌, ◌-◌, ◌∙◌, ◌≡◌}
 use Rattle.ele_blocks.proofs.map.BlockMap.replace.Goals as goal
 use Rattle.ele_blocks.proofs.map.BlockMap.replace.Goals.{After-reserve, After-deref, After-deref-3, After-truncate, After-drop-now}
 

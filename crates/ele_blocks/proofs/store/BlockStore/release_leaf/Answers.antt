@@ -1,4 +1,4 @@
-use Rattle.ele_blocks.proofs.Lemmas.{leaf_covered, leaf_goes, leaf_stays, refl, Store, ◌≡◌}
+use Rattle.ele_blocks.proofs.Lemmas.{leaf_covered, leaf_goes, leaf_stays, Store}
 use Rattle.ele_blocks.proofs.store.BlockStore.release_leaf.Goals as goal
 use Rattle.ele_blocks.proofs.Cited.{arith}
 

@@ -1,4 +1,4 @@
-use Rattle.ele_blocks.proofs.Lemmas.{refl, share_leaf, Store, arith}
+use Rattle.ele_blocks.proofs.Lemmas.{share_leaf, arith}
 use Rattle.ele_blocks.proofs.store.BlockStore.share_leaf.Goals as goal
 
 pub returns : goal.returns
