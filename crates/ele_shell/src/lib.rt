@@ -7,9 +7,11 @@ ghost use Rattle.std.specs.Prelude.{◌≡◌, IfOk, IsErrOf};
 ghost use Rattle.ele_history.specs.Past.{fresh};
 ghost use Rattle.ele_runs.specs.Running.{RanToTheEnd, RanToAReadFault, RanPastABound, RanToAWriteFault};
 
+mod audits;
+
+pub use audits::audit;
 use ele_core::Core;
 use ele_model::Limits;
-pub use ele_model::audit;
 pub use ele_runs::ShellFault;
 use ele_runs::run_over;
 pub use ele_shared::{Elephant, Seat};
