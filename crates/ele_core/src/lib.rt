@@ -34,7 +34,7 @@ pub use ele_model::{
     Fate, FileId, FileRow, FileStat, Flat, GroupList, GroupRow, Handle, HandleRow, Key, KeyList,
     Kind, Ladder, LimitNumbers, Limits, ListOf, MarkRow, Moment, Name, NameList, NameRow, NoMemory,
     PassEnd, Path, PathAt, Policy, Reads, Refusal, Reply, Source, Stamps, StampsList, Stop, Tag,
-    TaggedPath, Target, Usage, VersionNo, VersionRow, Which,
+    TaggedPath, Target, Usage, VersionNo, VersionRow, Which, laws,
 };
 pub use ele_moment::{BadMoment, BadName};
 pub use ele_path::{PathAtFault, PathFault};

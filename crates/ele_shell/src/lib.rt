@@ -7,20 +7,17 @@ ghost use Rattle.std.specs.Prelude.{◌≡◌, IfOk, IsErrOf};
 ghost use Rattle.ele_history.specs.Past.{fresh};
 ghost use Rattle.ele_runs.specs.Running.{RanToTheEnd, RanToAReadFault, RanPastABound, RanToAWriteFault};
 
+mod audits;
+
+pub use audits::audit;
 use ele_core::Core;
 use ele_model::Limits;
-pub use ele_model::audit;
 pub use ele_runs::ShellFault;
 use ele_runs::run_over;
+pub use ele_shared::{Elephant, Seat};
 pub use ele_storm::{Flags, Meet, MeetEnd, StormFault, StormPlan, storm, work};
 use std::alloc::Global;
 use std::io::{Read, Write};
-
-/// A core's history for many threads, each of which calls it through a seat of its own.
-pub type Elephant = ele_shared_history::Shared<Core>;
-
-/// A seat of such a history.
-pub type Seat = ele_shared_history::Seat<Core>;
 
 /// Runs the script that the reader gives: answers each whole line at the writer, and answers how
 /// many lines there were, a last one without its line feed counted. An empty line gets no reply, a

@@ -6,13 +6,35 @@ use Rattle.ele_printer.specs.Printed.{line_text}
 use Rattle.ele_runs.specs.Fault.{number_of, name_of}
 use Rattle.ele_runs.specs.declared.fault.ShellFault.{ShellFault}
 use Rattle.ele_runs.specs.declared.fault.ShellFault.TheVariants.{ReadFault, WriteFault, TooManyLines, NoMemory}
+use Rattle.ele_storm.specs.declared.fault.AuditFault.{AuditFault}
+use Rattle.ele_storm.specs.declared.fault.AuditFault.TheVariants as audited
+use Rattle.ele_storm.specs.declared.fault.StormFault.TheVariants as storm
+use Rattle.ele_words.specs.declared.failure.Failure.{Failure}
+use Rattle.ele_words.specs.declared.failure.Failure.TheVariants.{Fault, Storm, Unequal, NotUnderstood, BadInput, StrictLine}
+
+-- after a failure
+abbrev pub status_after : Failure → ℕ
+status_after (Fault ReadFault) = 1
+status_after (Fault WriteFault) = 1
+status_after (Fault TooManyLines) = 1
+status_after (Fault NoMemory) = 3
+status_after (Storm (audited.Storm storm.NoThread)) = 1
+status_after (Storm (audited.Storm storm.NoMemory)) = 3
+status_after (Storm (audited.Storm storm.HistoryFull)) = 4
+status_after (Storm (audited.Storm storm.Alone)) = 4
+status_after (Storm audited.TurnHeld) = 4
+status_after Unequal = 4
+status_after NotUnderstood = 2
+status_after BadInput = 2
+status_after StrictLine = 5
 
 -- after a fault
 abbrev pub fault_status : ShellFault → ℕ
-fault_status ReadFault = 1
-fault_status WriteFault = 1
-fault_status TooManyLines = 1
-fault_status NoMemory = 3
+fault_status fault = status_after (Fault fault)
+
+-- after a fault of a storm
+abbrev pub storm_status : AuditFault → ℕ
+storm_status fault = status_after (Storm fault)
 
 -- where a fault ended what was asked for, or none did
 abbrev pub status_of : Option ShellFault → ℕ

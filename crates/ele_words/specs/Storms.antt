@@ -8,18 +8,9 @@ use Rattle.ele_runs.specs.declared.fault.ShellFault.TheVariants as shell
 use Rattle.ele_storm.specs.Audited.{IsAudited}
 use Rattle.ele_storm.specs.Fault.{name_of, number_of}
 use Rattle.ele_storm.specs.declared.fault.AuditFault.{AuditFault}
-use Rattle.ele_storm.specs.declared.fault.AuditFault.TheVariants.{Storm, TurnHeld}
-use Rattle.ele_storm.specs.declared.fault.StormFault.TheVariants.{NoMemory, HistoryFull, NoThread, Alone}
 use Rattle.ele_storm.specs.declared.plan.StormPlan.{StormPlan}
 use Rattle.ele_model.specs.Bounds.{largest_bounds}
-use Rattle.ele_words.specs.Status.{fault_status, Tells}
-
-abbrev pub storm_status : AuditFault → ℕ
-storm_status (Storm NoThread) = 1
-storm_status (Storm NoMemory) = 3
-storm_status (Storm HistoryFull) = 4
-storm_status (Storm Alone) = 4
-storm_status TurnHeld = 4
+use Rattle.ele_words.specs.Status.{fault_status, storm_status, Tells}
 
 -- the line that tells a fault of a storm
 abbrev pub storm_fault_line : AuditFault → List ℕ

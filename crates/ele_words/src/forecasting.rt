@@ -5,6 +5,7 @@ ghost use Rattle.ele_printer.specs.Front.{AppendsFront};
 ghost use Rattle.ele_outlook.specs.Input.{bad_text};
 ghost use Rattle.ele_words.specs.Forecasts.{ForecastEnds, forecast_line, forecast_status};
 
+use crate::failure::{Failure, status};
 use crate::program::tell;
 use ele_outlook::{BadLine, ForecastFault, ForecastOptions, write_bad_line, write_forecast};
 use ele_printer::put;
@@ -54,7 +55,7 @@ fn tell_too_many<E: Write>(errors: &mut E) -> u8
 {
     let _ = put(errors, b"elephant: more than 2000 versions to draw\n");
     let _ = errors.flush();
-    2
+    status(Failure::BadInput)
 }
 
 // Tells a bad line, and answers the status to end with.
@@ -65,5 +66,5 @@ fn tell_bad_line<E: Write>(number: u64, why: BadLine, errors: &mut E) -> u8
 {
     let _ = write_bad_line(number, why, errors);
     let _ = errors.flush();
-    2
+    status(Failure::BadInput)
 }

@@ -2,6 +2,7 @@
 //! A contract sees the limits of a run, how it ended, what the ends hold then, and the status.
 #![tactic(auto)]
 
+mod failure;
 mod forecasting;
 mod invocation;
 mod keeps_error;
@@ -11,6 +12,7 @@ mod strict;
 mod system_reason;
 mod watched;
 
+pub use failure::{Failure, status};
 pub use invocation::{Invocation, unreadable_args, words};
 pub use keeps_error::{KeepsError, LastError};
 pub use program::dispatch;

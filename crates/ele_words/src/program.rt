@@ -4,11 +4,12 @@ ghost use Rattle.std.specs.Prelude.{◌≡◌, Err, IfErr, is_ok, if◌then◌el
 ghost use Rattle.std.specs.Result.{result_err};
 ghost use Rattle.ele_history.specs.Past.{fresh};
 ghost use Rattle.ele_runs.specs.RunState.{begun};
-ghost use Rattle.ele_words.specs.Status.{fault_status, status_of};
+ghost use Rattle.ele_words.specs.Status.{status_of};
 ghost use Rattle.ele_words.specs.Ends.{HasRun, HasWritten, Tells, EndsWith};
 ghost use Rattle.ele_words.specs.RunEnds.{TellsRun, run_status};
 ghost use Rattle.ele_words.specs.SystemReason.{IsReasonOf};
 
+use crate::failure::{Failure, status};
 use crate::forecasting::run_forecast;
 use crate::invocation::Invocation;
 use crate::keeps_error::LastError;
@@ -103,16 +104,6 @@ pub(crate) fn write_text<W: Write>(text: &str, writer: &mut W) -> Result<(), She
     after_flush(Ok(()), &flushed)
 }
 
-/// The status that the program ends with after a fault: 3 without memory, else 1.
-pub(crate) fn status(fault: ShellFault) -> u8
-    ensures { result ≡ fault_status fault }
-{
-    match fault {
-        ShellFault::ReadFault | ShellFault::WriteFault | ShellFault::TooManyLines => 1,
-        ShellFault::NoMemory => 3,
-    }
-}
-
 /// Tells the fault as its number and its name, if there is one, and the status to end with.
 pub(crate) fn tell<E: Write>(fault: Option<ShellFault>, errors: &mut E) -> u8
     ensures status { result ≡ status_of fault }
@@ -123,7 +114,7 @@ pub(crate) fn tell<E: Write>(fault: Option<ShellFault>, errors: &mut E) -> u8
     };
     let _ = write_named(b"elephant:", fault.number(), fault.name(), errors);
     let _ = errors.flush();
-    status(fault)
+    status(Failure::Fault(fault))
 }
 
 /// Does what was asked for: answers at the writer, and tells faults and words that weren't
@@ -163,7 +154,7 @@ pub fn dispatch<
         Invocation::NotUnderstood(text) => {
             let _ = put(errors, text.as_bytes());
             let _ = errors.flush();
-            2
+            status(Failure::NotUnderstood)
         }
         Invocation::NoMemory => tell(Some(ShellFault::NoMemory), errors),
     }

@@ -4,15 +4,17 @@ ghost use Rattle.std.specs.Prelude.{◌≡◌};
 ghost use Rattle.std.specs.Result.{result_err};
 ghost use Rattle.ele_printer.specs.Front.{AppendsFront};
 ghost use Rattle.ele_words.specs.Progress.{EndsWatched};
-ghost use Rattle.ele_words.specs.Storms.{HasStormed, HasTold, TellsEnd, TellsStorm, audit_word, storm_fault_line, storm_line, storm_status};
+ghost use Rattle.ele_words.specs.Status.{storm_status};
+ghost use Rattle.ele_words.specs.Storms.{HasStormed, HasTold, TellsEnd, TellsStorm, audit_word, storm_fault_line, storm_line};
 ghost use Rattle.ele_words.specs.Watched.{Watched};
 
+use crate::failure::{Failure, status};
 use crate::program::{tell, write_text};
 use crate::watched::watch_storm;
 use ele_model::{Audit, Limits};
 use ele_runs::ShellFault;
 use ele_script::write_named;
-use ele_storm::{AuditFault, Flags, StormFault, StormPlan, storm_and_audit};
+use ele_storm::{AuditFault, Flags, StormPlan, storm_and_audit};
 use std::alloc::Global;
 use std::io::Write;
 use std::sync::Wait;
@@ -122,7 +124,7 @@ fn tell_storm<W: Write, E: Write>(
 {
     match write_line(alloc, events, equal, writer) {
         Ok(()) if equal => 0,
-        Ok(()) => 4,
+        Ok(()) => status(Failure::Unequal),
         Err(fault) => tell(Some(fault), errors),
     }
 }
@@ -135,18 +137,5 @@ fn tell_fault<E: Write>(fault: AuditFault, errors: &mut E) -> u8
 {
     let _ = write_named(b"elephant:", fault.number(), fault.name(), errors);
     let _ = errors.flush();
-    status(fault)
-}
-
-// The status that the program ends with after a fault of a storm.
-fn status(fault: AuditFault) -> u8
-    ensures { result ≡ storm_status fault }
-{
-    match fault {
-        AuditFault::Storm(StormFault::NoThread) => 1,
-        AuditFault::Storm(StormFault::NoMemory) => 3,
-        AuditFault::Storm(StormFault::HistoryFull) => 4,
-        AuditFault::Storm(StormFault::Alone) => 4,
-        AuditFault::TurnHeld => 4,
-    }
+    status(Failure::Storm(fault))
 }

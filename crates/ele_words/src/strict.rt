@@ -5,6 +5,7 @@ ghost use Rattle.ele_printer.specs.Front.{AppendsFront};
 ghost use Rattle.ele_runs.specs.WhyBad.{why_line};
 ghost use Rattle.ele_words.specs.StrictEnd.{IsWhyEnded, TellsEnd, end_line, end_status, shown};
 
+use crate::failure::{Failure, status};
 use ele_runs::{EndLine, LineBuffer, RunEnd, RunOptions, tell_why, why_bad, why_cut};
 use ele_script::{Reason, write_placed};
 use std::alloc::Global;
@@ -28,7 +29,7 @@ pub(crate) fn report_end<E: Write>(
     let why = why_ended(alloc, options, end);
     tell_line(alloc, ran.lines, &end.line, why, errors);
     let _ = errors.flush();
-    5
+    status(Failure::StrictLine)
 }
 
 // Tells which line ended a run, and why it is no command.

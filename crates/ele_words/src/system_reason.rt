@@ -6,7 +6,8 @@ ghost use Rattle.ele_printer.specs.Front.{AppendsFront};
 ghost use Rattle.ele_words.specs.Status.{fault_status};
 ghost use Rattle.ele_words.specs.SystemReason.{failed_line, fault_front, system_text};
 
-use crate::program::{status, tell};
+use crate::failure::{Failure, status};
+use crate::program::tell;
 use ele_runs::ShellFault;
 use ele_script::write_placed;
 use std::io;
@@ -75,7 +76,7 @@ pub(crate) fn report_error<E: Write>(
         errors,
     );
     let _ = errors.flush();
-    status(fault)
+    status(Failure::Fault(fault))
 }
 
 // The name of a fault with a colon behind it.

@@ -1,6 +1,7 @@
 //! The calls of a core that no script reaches. What they answer is in their contracts; here it is that they find memory.
-use ele_core::{ByteList, Core, Event, FileId, Handle, PassEnd, Reply};
-use ele_model::Limits;
+use ele_core::{
+    ByteList, Core, Event, FileId, Handle, Limits, Moment, PassEnd, Reply, Usage, VersionNo,
+};
 use ele_script::read_event;
 use std::alloc::Global;
 use std::test::Fail;
@@ -20,19 +21,37 @@ fn finds_memory(core: &Core) -> bool {
             .is_ok_and(|flat| flat.due().is_ok() && flat.restorable().is_ok())
 }
 
-/// What a fresh core answers that makes a file and is cleaned, and whether it finds memory for what
-/// it is asked.
-fn clean_and_ask(alloc: Global, core: &mut Core) -> Result<(Reply, PassEnd, bool), Fail> {
+/// Whether a core with one empty file under Keep Safe has nothing due, at the first moment.
+fn is_at_rest(core: &Core) -> bool {
+    let file = Usage {
+        files: 1,
+        versions: 1,
+        bytes: 0,
+        blocks: 0,
+    };
+    let none = Usage::default();
+    core.now() == Moment::START
+        && core.usage() == [none, none, file, none]
+        && !core.is_due(FileId(1), VersionNo(1))
+        && core.due_first().is_none()
+}
+
+/// What a fresh core answers that makes a file and is cleaned, whether nothing is due then, and
+/// whether it finds memory for what it is asked.
+fn clean_and_ask(alloc: Global, core: &mut Core) -> Result<(Reply, PassEnd, [bool; 2]), Fail> {
     let reply = reply_to(alloc, core, "create /f")?;
     let end = core.clean_pass(3);
-    Ok((reply, end, finds_memory(core)))
+    Ok((reply, end, [is_at_rest(core), finds_memory(core)]))
 }
 
 #[test]
 fn a_core_is_cleaned_and_asked_and_copied(rt: HostRuntime) -> Result<(), Fail> {
     let mut core = Core::new(rt.alloc(), Limits::largest())?;
     let told = clean_and_ask(rt.alloc(), &mut core)?;
-    assert_eq!(rt; told, (Reply::File(FileId(1)), PassEnd::Finished(0), true));
+    assert_eq!(rt;
+        told,
+        (Reply::File(FileId(1)), PassEnd::Finished(0), [true; 2])
+    );
     Ok(())
 }
 

@@ -1,5 +1,5 @@
 //! Scripts about more than ten thousand files, names, handles, members, versions and keys: ample memory refuses none of them.
-use ele_model::Limits;
+use ele_core::Limits;
 use ele_shell::run;
 use std::alloc::Global;
 use std::test::Fail;

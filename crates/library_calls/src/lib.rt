@@ -20,4 +20,8 @@ mod reads;
 #[cfg(test)]
 mod rooms;
 #[cfg(test)]
+mod shared;
+#[cfg(test)]
+mod values;
+#[cfg(test)]
 mod vaults;

@@ -1,6 +1,5 @@
 //! How long it takes to remove all due versions of a core that holds as many versions as it may.
-use ele_core::{Core, Event, Path, Policy, Reply, VersionNo};
-use ele_model::Limits;
+use ele_core::{Core, Event, Limits, Path, Policy, Reply, VersionNo};
 use std::alloc::Global;
 use std::test::Fail;
 use std::time::Instant;

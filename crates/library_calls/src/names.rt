@@ -1,8 +1,7 @@
 //! Names and paths, called with ample memory.
 use crate::rooms::moment;
-use ele_model::{DirId, Target};
-use ele_moment::{FileId, Moment, Name, VersionNo};
-use ele_names::Names;
+use ele_moment::{DirId, FileId, Moment, Name, VersionNo};
+use ele_names::{Names, Target};
 use ele_path::{Path, PathFault, Tag, TaggedPath};
 use std::test::Fail;
 
@@ -21,6 +20,21 @@ fn a_name_lives_from_its_birth_to_its_death(rt: HostRuntime) -> Result<(), Fail>
     assert!(rt; names.at(root, &name, moment(3)?).is_none());
     assert!(rt; names.last_dead(root, &name) == Some(file));
     assert_eq!(rt; names.dead()?.len(), 1);
+    Ok(())
+}
+
+#[test]
+fn a_dropped_file_has_no_names(rt: HostRuntime) -> Result<(), Fail> {
+    let root = DirId(0);
+    let name = Name::new(b"f")?;
+    let mut names = Names::new(rt.alloc());
+    names.add(root, name, Target::File(FileId(1)), Moment::START)?;
+    assert_eq!(rt; names.live(root, &name), Some(Target::File(FileId(1))));
+    assert_eq!(rt; names.names_of(FileId(1)), 1);
+    assert!(rt; !names.dir_live(DirId(1)));
+    names.drop_file(FileId(1));
+    assert!(rt; names.row(0).is_none());
+    assert!(rt; names.is_empty(root));
     Ok(())
 }
 

@@ -1,7 +1,6 @@
 //! How many version rows are read by the cleans of scripts, and by their questions for usage.
 use crate::cores::reply_to;
-use ele_core::{Core, Reply};
-use ele_model::Limits;
+use ele_core::{Core, Limits, Reply};
 use std::alloc::Global;
 use std::test::Fail;
 

@@ -6,7 +6,6 @@ use ele_blocks::{BlockMap, BlockStore, laws};
 use ele_due::{DueQueue, Key};
 use ele_inode_log::{InodeLog, Meter, VersionRow};
 use ele_moment::{FileId, Handle, Moment, VersionNo};
-use ele_policy::{BadLadder, Ladder};
 use ele_sessions::{Closing, Sessions};
 use std::alloc::Global;
 use std::test::Fail;
@@ -25,7 +24,9 @@ fn a_block_goes_with_its_last_owner(rt: HostRuntime) -> Result<(), Fail> {
     let second = store.put(b"a")?;
     assert!(rt; first != second);
     store.share(first);
+    assert_eq!(rt; store.owners(first), 2);
     store.release(first);
+    assert_eq!(rt; store.get(first), b"a".as_slice());
     assert_eq!(rt; store.distinct(), 2);
     store.release(first);
     assert_eq!(rt; store.distinct(), 1);
@@ -81,6 +82,20 @@ fn a_version_is_found_while_it_is_held(rt: HostRuntime) -> Result<(), Fail> {
 }
 
 #[test]
+fn a_version_stands_between_numbers(rt: HostRuntime) -> Result<(), Fail> {
+    let mut log = InodeLog::new(rt.alloc());
+    let mut meter = Meter::new();
+    assert!(rt; log.append(version(rt.alloc(), 3, moment(0)?)).is_ok());
+    assert_eq!(rt; log.len(), 1);
+    assert!(rt; log.get(VersionNo(3), &mut meter).is_some());
+    let next = log.next_held(VersionNo(1), &mut meter);
+    assert_eq!(rt; next.map(|row| row.number), Some(VersionNo(3)));
+    let before = log.prev_held(VersionNo(4), &mut meter);
+    assert_eq!(rt; before.map(|row| row.number), Some(VersionNo(3)));
+    Ok(())
+}
+
+#[test]
 fn a_draft_that_was_written_and_cut_is_changed_beside_a_reader(
     rt: HostRuntime,
 ) -> Result<(), Fail> {
@@ -102,6 +117,19 @@ fn a_draft_that_was_written_and_cut_is_changed_beside_a_reader(
 }
 
 #[test]
+fn an_unchanged_draft_is_closed_clean(rt: HostRuntime) -> Result<(), Fail> {
+    let mut store = BlockStore::new(rt.alloc());
+    let map = BlockMap::new(rt.alloc());
+    let mut sessions = Sessions::new(rt.alloc());
+    let handle = sessions.open_write(&mut store, FileId(1), VersionNo(2), Moment::START, &map)?;
+    assert!(rt; sessions.draft(FileId(1)).is_some());
+    let closed = sessions.close(handle);
+    assert!(rt; matches!(closed, Some((Closing::Clean(FileId(1)), Some(_)))));
+    assert!(rt; sessions.draft(FileId(1)).is_none());
+    Ok(())
+}
+
+#[test]
 fn a_key_is_ripe_from_its_moment_on(rt: HostRuntime) -> Result<(), Fail> {
     let mut queue = DueQueue::new(rt.alloc());
     let key = Key {
@@ -112,32 +140,8 @@ fn a_key_is_ripe_from_its_moment_on(rt: HostRuntime) -> Result<(), Fail> {
     queue.insert(key)?;
     assert_eq!(rt; queue.until(moment(4)?)?.len(), 0);
     assert_eq!(rt; queue.until(moment(5)?)?.as_slice(), [key].as_slice());
-    Ok(())
-}
-
-#[test]
-fn moments_end_with_the_year_9999(rt: HostRuntime) {
-    assert!(rt; Moment::new(253_402_300_799).is_some());
-    assert!(rt; Moment::new(253_402_300_800).is_none());
-}
-
-#[test]
-fn moments_share_a_level_of_a_ladder(rt: HostRuntime) -> Result<(), Fail> {
-    let ladder = Ladder::standard();
-    assert_eq!(rt; ladder.shared_level(Moment::START, moment(3599)?), Some(1));
-    assert_eq!(rt; ladder.shared_level(Moment::START, moment(3600)?), Some(2));
-    let pairs = [
-        (1, 1),
-        (2, 1),
-        (3, 1),
-        (4, 1),
-        (5, 1),
-        (6, 1),
-        (7, 1),
-        (8, 1),
-        (9, 1),
-    ];
-    assert_eq!(rt; Ladder::new(&pairs), Err(BadLadder));
-    assert!(rt; Ladder::new(&pairs[..8]).is_ok());
+    assert_eq!(rt; (queue.first(), queue.holds(&key)), (Some(key), true));
+    assert!(rt; queue.remove(&key));
+    assert!(rt; !queue.remove(&key));
     Ok(())
 }

@@ -1,5 +1,5 @@
 //! Vaults, called with ample memory, and histories that are told and run again.
-use ele_model::{FileId, Limits, Reply};
+use ele_core::{FileId, Limits, Reply};
 use ele_script::{Line, Printer, put_history, read_event, read_line};
 use ele_vault::{PassEnd, Vault};
 use std::alloc::Global;
@@ -18,6 +18,7 @@ fn a_vault_is_cleaned_and_trimmed(rt: HostRuntime) -> Result<(), Fail> {
     let mut vault = Vault::new(rt.alloc(), Limits::largest())?;
     let told = make_and_trim(rt.alloc(), &mut vault)?;
     assert_eq!(rt; told, (Reply::File(FileId(1)), ends, 2));
+    assert_eq!(rt; (vault.folded(), vault.count()), (2, 2));
     Ok(())
 }
 

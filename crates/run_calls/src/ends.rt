@@ -55,10 +55,13 @@ pub enum Full {
     TakesNothing,
 }
 
-/// A writer that takes a byte at a time, is interrupted before each, and has room for so many.
+/// A writer that takes a byte at a time, is interrupted before each, and has room for so many. It
+/// counts the bytes that were flushed.
 #[derive(Drop)]
 pub struct SlowWriter {
     pub taken: Vec<u8>,
+    pub flushed: usize,
+    pub flush_fails: bool,
     room: usize,
     interrupted: u8,
     full: Full,
@@ -68,6 +71,8 @@ impl SlowWriter {
     pub fn new(alloc: Global, room: usize, full: Full) -> SlowWriter {
         SlowWriter {
             taken: Vec::new(alloc),
+            flushed: 0,
+            flush_fails: false,
             room,
             interrupted: 0,
             full,
@@ -96,6 +101,10 @@ impl Write for SlowWriter {
     }
 
     fn flush(&mut self) -> io::Result<()> {
+        if self.flush_fails {
+            return Err(Error::from(ErrorKind::Other));
+        }
+        self.flushed = self.taken.len();
         Ok(())
     }
 }

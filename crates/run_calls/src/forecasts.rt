@@ -1,16 +1,12 @@
 //! What the program tells of closings, and how it ends.
 use crate::ends::{Full, SlowReader, SlowWriter};
+use crate::program::{expect, expect_at};
 use ele_moment::Moment;
 use ele_outlook::{ForecastOptions, Form};
 use ele_policy::{Ladder, Policy};
-use ele_words::{Invocation, KeepsError, dispatch};
-use empty_world::EmptyWorld;
+use ele_words::Invocation;
 use std::alloc::Global;
-use std::io::{Read, Write};
-use std::sync::Wait;
 use std::test::Fail;
-use std::thread::Threads;
-use std::time::Clock;
 
 // Twelve closings. 2026-01-01 begins one of the spans of seven days, which are counted from 1970.
 const CLOSINGS: &[u8] = b"2026-01-01T08:00:00Z
@@ -30,7 +26,7 @@ const CLOSINGS: &[u8] = b"2026-01-01T08:00:00Z
 // What becomes of them under the standard ladder: a version is due a day after its end if the next
 // one closed in its hour, seven days after it if in its day, and thirty days after it if in its seven
 // days, and else never.
-const TABLE: &[u8] = b"version closed ended due why
+const TABLE: &str = "version closed ended due why
 1 2026-01-01T08:00:00Z 2026-01-01T08:30:00Z 2026-01-02T08:30:00Z version 2 closed in the same hour
 2 2026-01-01T08:30:00Z 2026-01-01T09:10:00Z 2026-01-08T09:10:00Z version 3 closed in the same day
 3 2026-01-01T09:10:00Z 2026-01-01T17:45:00Z 2026-01-08T17:45:00Z version 4 closed in the same day
@@ -61,83 +57,38 @@ fn ask_about(alloc: Global, policy: Policy, words: &[&[u8]]) -> Result<Invocatio
     }))
 }
 
-// What the program does, over a world that it doesn't ask.
-fn write_forecast<T: Threads + Wait + Clock + Sync, R: Read, W: Write>(
-    rt: &T,
-    alloc: Global,
-    invocation: &Invocation,
-    reader: &mut R,
-    writer: &mut W,
-    errors: &mut Vec<u8>,
-) -> u8 {
-    let mut reader = KeepsError::new(reader);
-    let mut writer = KeepsError::new(writer);
-    dispatch::<EmptyWorld, T, _, _, Vec<u8>>(
-        rt,
-        alloc,
-        invocation,
-        false,
-        &mut reader,
-        &mut writer,
-        errors,
-    )
-}
-
 #[test]
 fn twelve_closings_are_told_under_the_standard_ladder(rt: HostRuntime) -> Result<(), Fail> {
-    let invocation = ask_about(
-        rt.alloc(),
-        Policy::Landmarks(Ladder::standard()),
-        &[
-            b"2026-01-02T12:00:00Z",
-            b"2026-01-09T10:00:00Z",
-            b"1770703200",
-        ],
-    )?;
-    let mut reader = SlowReader::new(CLOSINGS, false);
-    let mut writer = SlowWriter::new(rt.alloc(), 2_000, Full::Fails);
-    let mut errors = Vec::new(rt.alloc());
-    let status = write_forecast(
-        &rt,
-        rt.alloc(),
-        &invocation,
-        &mut reader,
-        &mut writer,
-        &mut errors,
-    );
-    assert_eq!(rt; status, 0);
-    assert_eq!(rt; writer.taken.as_slice(), TABLE);
-    assert!(rt; errors.is_empty());
+    let moments: [&[u8]; 3] = [
+        b"2026-01-02T12:00:00Z",
+        b"2026-01-09T10:00:00Z",
+        b"1770703200",
+    ];
+    let invocation = ask_about(rt.alloc(), Policy::Landmarks(Ladder::standard()), &moments)?;
+    let closings = SlowReader::new(CLOSINGS, false);
+    expect(&rt, rt.alloc(), &invocation, closings, (TABLE, "", 0));
     Ok(())
 }
 
 #[test]
 fn the_first_bad_line_is_told(rt: HostRuntime) -> Result<(), Fail> {
-    let cases: [(&[u8], &[u8]); 4] = [
-        (
-            b"5\n5\n4\nx\n",
-            b"elephant: line 3 comes before the line ahead of it\n",
-        ),
-        (b"5\n\n", b"elephant: line 2 is not a moment\n"),
-        (b"05", b"elephant: line 1 is not a moment\n"),
-        (b"5\r\n", b"elephant: line 1 is not a moment\n"),
-    ];
     let invocation = ask_about(rt.alloc(), Policy::One, &[])?;
-    for (input, told) in cases {
-        let mut reader = input;
-        let mut writer = Vec::<u8>::new(rt.alloc());
-        let mut errors = Vec::new(rt.alloc());
-        let status = write_forecast(
+    for (input, told) in [
+        (
+            "5\n5\n4\nx\n",
+            "elephant: line 3 comes before the line ahead of it\n",
+        ),
+        ("5\n\n", "elephant: line 2 is not a moment\n"),
+        ("05", "elephant: line 1 is not a moment\n"),
+        ("5\r\n", "elephant: line 1 is not a moment\n"),
+    ] {
+        expect(
             &rt,
             rt.alloc(),
             &invocation,
-            &mut reader,
-            &mut writer,
-            &mut errors,
+            input.as_bytes(),
+            ("", told, 2),
         );
-        assert_eq!(rt; status, 2);
-        assert_eq!(rt; errors.as_slice(), told);
-        assert!(rt; writer.is_empty());
     }
     Ok(())
 }
@@ -145,37 +96,13 @@ fn the_first_bad_line_is_told(rt: HostRuntime) -> Result<(), Fail> {
 #[test]
 fn ends_that_fail_end_a_forecast(rt: HostRuntime) -> Result<(), Fail> {
     let invocation = ask_about(rt.alloc(), Policy::All, &[])?;
-    let mut reader = SlowReader::new(b"5\n", true);
-    let mut writer = Vec::<u8>::new(rt.alloc());
-    let mut errors = Vec::new(rt.alloc());
-    let unread = write_forecast(
-        &rt,
-        rt.alloc(),
-        &invocation,
-        &mut reader,
-        &mut writer,
-        &mut errors,
-    );
-    assert_eq!(rt; unread, 1);
-    assert!(rt; writer.is_empty());
-    let mut whole = SlowReader::new(b"5", false);
+    let failing = SlowReader::new(b"5\n", true);
+    let wanted = ("", "elephant: 34 ReadFault\n", 1);
+    expect(&rt, rt.alloc(), &invocation, failing, wanted);
     let mut full = SlowWriter::new(rt.alloc(), 30, Full::TakesNothing);
-    let unwritten = write_forecast(
-        &rt,
-        rt.alloc(),
-        &invocation,
-        &mut whole,
-        &mut full,
-        &mut errors,
-    );
-    assert_eq!(rt; unwritten, 1);
-    assert_eq!(rt;
-        full.taken.as_slice(),
-        b"version closed ended due why\n1".as_slice()
-    );
-    assert_eq!(rt;
-        errors.as_slice(),
-        b"elephant: 34 ReadFault\nelephant: 35 WriteFault\n".as_slice()
-    );
+    let front = "version closed ended due why\n1";
+    let wanted = (front, "elephant: 35 WriteFault\n", 1);
+    let whole = SlowReader::new(b"5", false);
+    expect_at(&rt, rt.alloc(), &invocation, whole, &mut full, wanted);
     Ok(())
 }

@@ -8,11 +8,11 @@ mod ends;
 #[cfg(test)]
 mod forecasts;
 #[cfg(test)]
-mod histories;
-#[cfg(test)]
 mod lines;
 #[cfg(test)]
 mod pieces;
+#[cfg(test)]
+mod program;
 #[cfg(test)]
 mod reasons;
 #[cfg(test)]
@@ -21,3 +21,5 @@ mod runs;
 mod statuses;
 #[cfg(test)]
 mod words;
+#[cfg(test)]
+mod workers;

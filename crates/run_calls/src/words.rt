@@ -6,85 +6,65 @@ use std::alloc::Global;
 use std::io;
 use std::test::Fail;
 
-fn asked_by(alloc: Global, texts: &[&str]) -> Result<Invocation, Fail> {
+// What the words of a line ask for.
+fn asked_by(alloc: Global, line: &str) -> Result<Invocation, Fail> {
     let mut given = Vec::new(alloc);
-    for text in texts {
-        given.push(String::from_str(alloc, text)?)?;
+    for word in line.split(' ') {
+        given.push(String::from_str(alloc, word)?)?;
     }
     Ok(words(alloc, given.as_slice()))
 }
 
-// The limit of events of a run that the words ask for.
-fn events_of(alloc: Global, texts: &[&str]) -> Result<Option<u64>, Fail> {
-    match asked_by(alloc, texts)? {
-        Invocation::Run(limits, _) => Ok(Some(limits.events())),
+// The limit of events of a run that the words ask for, and its manner.
+fn run_of(alloc: Global, line: &str) -> Result<Option<(u64, RunOptions)>, Fail> {
+    match asked_by(alloc, line)? {
+        Invocation::Run(limits, options) => Ok(Some((limits.events(), options))),
         _ => Ok(None),
     }
 }
 
 #[test]
 fn a_run_has_a_limit_of_events(rt: HostRuntime) -> Result<(), Fail> {
-    let alloc = rt.alloc();
-    assert_eq!(rt; events_of(alloc, &["elephant", "run"])?, Some(1_000_000));
-    assert_eq!(rt;
-        events_of(alloc, &["elephant", "run", "--events", "1"])?,
-        Some(1)
-    );
-    assert_eq!(rt;
-        events_of(alloc, &["elephant", "run", "--events=5"])?,
-        Some(5)
-    );
-    assert_eq!(rt;
-        events_of(alloc, &["elephant", "run", "--events", "1000000000"])?,
-        Some(1_000_000_000)
-    );
-    Ok(())
-}
-
-// The manner of a run that the words ask for.
-fn manner_of(alloc: Global, texts: &[&str]) -> Result<Option<RunOptions>, Fail> {
-    match asked_by(alloc, texts)? {
-        Invocation::Run(_, options) => Ok(Some(options)),
-        _ => Ok(None),
+    for (line, events) in [
+        ("elephant run", 1_000_000),
+        ("elephant run --events 1", 1),
+        ("elephant run --events=5", 5),
+        ("elephant run --events 1000000000", 1_000_000_000),
+    ] {
+        let run = run_of(rt.alloc(), line)?;
+        assert_eq!(rt; run, Some((events, RunOptions::plain())), "{line}");
     }
+    Ok(())
 }
 
 #[test]
 fn a_run_has_a_manner(rt: HostRuntime) -> Result<(), Fail> {
     let alloc = rt.alloc();
-    let plain = RunOptions::plain();
-    assert_eq!(rt; manner_of(alloc, &["elephant", "run"])?, Some(plain));
-    assert_eq!(rt;
-        manner_of(alloc, &["elephant", "run", "--strict"])?,
-        Some(RunOptions {
-            strict: true,
-            ..plain
-        })
-    );
-    assert_eq!(rt;
-        manner_of(alloc, &["elephant", "run", "--explain"])?,
-        Some(RunOptions {
-            explain: true,
-            ..plain
-        })
-    );
-    assert_eq!(rt;
-        manner_of(
-            alloc,
-            &["elephant", "run", "--numbers", "--events", "5", "--remarks"]
-        )?,
-        Some(RunOptions {
-            numbers: true,
-            remarks: true,
-            ..plain
-        })
-    );
+    let strict = RunOptions {
+        strict: true,
+        ..RunOptions::plain()
+    };
+    let explain = RunOptions {
+        explain: true,
+        ..RunOptions::plain()
+    };
+    let numbered = RunOptions {
+        numbers: true,
+        remarks: true,
+        ..RunOptions::plain()
+    };
+    let run = run_of(alloc, "elephant run --strict")?;
+    assert_eq!(rt; run, Some((1_000_000, strict)));
+    let run = run_of(alloc, "elephant run --explain")?;
+    assert_eq!(rt; run, Some((1_000_000, explain)));
+    let run = run_of(alloc, "elephant run --numbers --events 5 --remarks")?;
+    assert_eq!(rt; run, Some((5, numbered)));
     Ok(())
 }
 
 // The plan of a storm that the words ask for.
-fn plan_of(alloc: Global, texts: &[&str]) -> Result<Option<[u32; 3]>, Fail> {
-    match asked_by(alloc, texts)? {
+fn plan_of(alloc: Global, line: &str) -> Result<Option<[u32; 3]>, Fail> {
+    match asked_by(alloc, line)? {
         Invocation::Storm(plan) => Ok(Some([plan.writers, plan.historians, plan.rounds])),
         _ => Ok(None),
     }
@@ -92,25 +72,19 @@ fn plan_of(alloc: Global, texts: &[&str]) -> Result<Option<[u32; 3]>, Fail> {
 
 #[test]
 fn a_storm_has_a_plan(rt: HostRuntime) -> Result<(), Fail> {
-    let alloc = rt.alloc();
-    assert_eq!(rt; plan_of(alloc, &["elephant", "storm"])?, Some([2, 1, 10]));
-    assert_eq!(rt;
-        plan_of(
-            alloc,
-            &["elephant", "storm", "--writers", "16", "--rounds=1000"]
-        )?,
-        Some([16, 1, 1_000])
-    );
-    assert_eq!(rt;
-        plan_of(alloc, &["elephant", "storm", "--historians", "16"])?,
-        Some([2, 16, 10])
-    );
+    for (line, plan) in [
+        ("elephant storm", [2, 1, 10]),
+        ("elephant storm --writers 16 --rounds=1000", [16, 1, 1_000]),
+        ("elephant storm --historians 16", [2, 16, 10]),
+    ] {
+        assert_eq!(rt; plan_of(rt.alloc(), line)?, Some(plan), "{line}");
+    }
     Ok(())
 }
 
 // The policy and the moments of a forecast that the words ask for.
-fn ask_of(alloc: Global, texts: &[&str]) -> Result<Option<(Policy, [Option<u64>; 2])>, Fail> {
-    let Invocation::Forecast(ask) = asked_by(alloc, texts)? else {
+fn ask_of(alloc: Global, line: &str) -> Result<Option<(Policy, [Option<u64>; 2])>, Fail> {
+    let Invocation::Forecast(ask) = asked_by(alloc, line)? else {
         return Ok(None);
     };
     let moments = ask.moments.as_slice();
@@ -122,22 +96,11 @@ fn ask_of(alloc: Global, texts: &[&str]) -> Result<Option<(Policy, [Option<u64>;
 #[test]
 fn a_forecast_has_a_policy_and_moments(rt: HostRuntime) -> Result<(), Fail> {
     let alloc = rt.alloc();
+    let ask = ask_of(alloc, "elephant forecast --policy one")?;
+    assert_eq!(rt; ask, Some((Policy::One, [None, None])));
+    let line = "elephant forecast --at 5 --policy=all --at=1970-01-01T00:00:09Z";
     assert_eq!(rt;
-        ask_of(alloc, &["elephant", "forecast", "--policy", "one"])?,
-        Some((Policy::One, [None, None]))
-    );
-    assert_eq!(rt;
-        ask_of(
-            alloc,
-            &[
-                "elephant",
-                "forecast",
-                "--at",
-                "5",
-                "--policy=all",
-                "--at=1970-01-01T00:00:09Z"
-            ]
-        )?,
+        ask_of(alloc, line)?,
         Some((Policy::All, [Some(5), Some(9)]))
     );
     Ok(())
@@ -145,36 +108,35 @@ fn a_forecast_has_a_policy_and_moments(rt: HostRuntime) -> Result<(), Fail> {
 
 #[test]
 fn other_words_are_not_understood(rt: HostRuntime) -> Result<(), Fail> {
-    let wrong: [&[&str]; 24] = [
-        &["elephant"],
-        &["elephant", "storm", "now"],
-        &["elephant", "storm", "--events", "5"],
-        &["elephant", "storm", "--writers", "0"],
-        &["elephant", "storm", "--writers", "17"],
-        &["elephant", "storm", "--writers", "007"],
-        &["elephant", "storm", "--historians", "17"],
-        &["elephant", "storm", "--rounds", "1001"],
-        &["elephant", "storm", "--rounds="],
-        &["elephant", "forecast"],
-        &["elephant", "forecast", "--policy", "none"],
-        &["elephant", "forecast", "--policy", "safe:0"],
-        &["elephant", "forecast", "--policy", "one", "--at", "now"],
-        &["elephant", "forecast", "--policy", "one", "5"],
-        &["elephant", "run", "script"],
-        &["elephant", "run", "--events"],
-        &["elephant", "run", "--events", "0"],
-        &["elephant", "run", "--events", "1000000001"],
-        &["elephant", "run", "--events", "05"],
-        &["elephant", "run", "--events", "+5"],
-        &["elephant", "run", "--events="],
-        &["elephant", "run", "--rounds", "5"],
-        &["elephant", "run", "--strict", "--strict"],
-        &["elephant", "storm", "--strict"],
-    ];
-    for texts in wrong {
-        match asked_by(rt.alloc(), texts)? {
-            Invocation::NotUnderstood(text) => assert!(rt; !text.is_empty(), "{texts:?}"),
-            _ => assert!(rt; false, "{texts:?}"),
+    for line in [
+        "elephant",
+        "elephant storm now",
+        "elephant storm --events 5",
+        "elephant storm --writers 0",
+        "elephant storm --writers 17",
+        "elephant storm --writers 007",
+        "elephant storm --historians 17",
+        "elephant storm --rounds 1001",
+        "elephant storm --rounds=",
+        "elephant forecast",
+        "elephant forecast --policy none",
+        "elephant forecast --policy safe:0",
+        "elephant forecast --policy one --at now",
+        "elephant forecast --policy one 5",
+        "elephant run script",
+        "elephant run --events",
+        "elephant run --events 0",
+        "elephant run --events 1000000001",
+        "elephant run --events 05",
+        "elephant run --events +5",
+        "elephant run --events=",
+        "elephant run --rounds 5",
+        "elephant run --strict --strict",
+        "elephant storm --strict",
+    ] {
+        match asked_by(rt.alloc(), line)? {
+            Invocation::NotUnderstood(text) => assert!(rt; !text.is_empty(), "{line}"),
+            _ => assert!(rt; false, "{line}"),
         }
     }
     Ok(())
@@ -182,19 +144,18 @@ fn other_words_are_not_understood(rt: HostRuntime) -> Result<(), Fail> {
 
 #[test]
 fn help_is_given_to_those_who_ask(rt: HostRuntime) -> Result<(), Fail> {
-    let asking: [&[&str]; 4] = [
-        &["elephant", "--help"],
-        &["elephant", "help"],
-        &["elephant", "help", "script"],
-        &["elephant", "run", "--help"],
-    ];
-    for texts in asking {
-        match asked_by(rt.alloc(), texts)? {
+    for line in [
+        "elephant --help",
+        "elephant help",
+        "elephant help script",
+        "elephant run --help",
+    ] {
+        match asked_by(rt.alloc(), line)? {
             Invocation::Help(text) => assert!(rt;
                 text.as_str().contains("Usage: elephant"),
-                "{texts:?}"
+                "{line}"
             ),
-            _ => assert!(rt; false, "{texts:?}"),
+            _ => assert!(rt; false, "{line}"),
         }
     }
     Ok(())
@@ -210,7 +171,7 @@ fn words_that_cannot_be_had_are_told_as_such(rt: HostRuntime) {
 
 #[test]
 fn the_version_is_told_alone(rt: HostRuntime) -> Result<(), Fail> {
-    match asked_by(rt.alloc(), &["elephant", "--version"])? {
+    match asked_by(rt.alloc(), "elephant --version")? {
         Invocation::Help(text) => assert_eq!(rt; text.as_str(), "elephant 0.1.0\n"),
         _ => assert!(rt; false),
     }

@@ -1,4 +1,3 @@
-use Rattle.std.proofs.Common.{refl}
 use Rattle.std.proofs.KnownBytes.{Keeps-refl}
 use Rattle.ele_words.proofs.Flushed.{written_flushed}
 use Rattle.ele_words.proofs.program.dispatch.Goals as goal
@@ -34,7 +33,7 @@ returns-in-NotUnderstood g c =
       Keeps-refl _,
       Keeps-refl _,
       rw c.as_bytes.ensures.value at (written_flushed _ _ _ _ c.put.result c.put.ensures.ok c.put.ensures.err c.flush.ensures.bytes),
-      refl,
+      c.status.ensures,
     )
 
 pub returns-in-NoMemory : goal.returns-in-NoMemory

@@ -1,0 +1,52 @@
+//! An audit of answers that are given as plain slices.
+//! A contract sees them as lists, a name as a triple.
+ghost use Rattle.std.specs.Prelude.{◌≡◌, ◌↔◌, IfOk, IsTrue, map};
+ghost use Rattle.std.specs.List.{AllByRecursion};
+ghost use Rattle.ele_usage.specs.Sums.{Fits};
+ghost use Rattle.ele_model.specs.Restorable.{restorable};
+ghost use Rattle.ele_model.specs.Scan.{scan};
+ghost use Rattle.ele_model.specs.Usage.{usages};
+ghost use Rattle.ele_shell.specs.Audit.{row_of, triple_of};
+
+use ele_core::{DeadName, DirId, Flat, Key, Name, NoMemory, Target, Usage};
+use std::alloc::Global;
+
+// The row of a name that is given as a triple.
+fn row_of(given: &(DirId, Name, Target)) -> DeadName
+    ensures { result ≡ row_of given.now }
+{
+    DeadName {
+        directory: given.0,
+        name: given.1,
+        target: given.2,
+    }
+}
+
+// The rows of such names.
+fn rows_of(alloc: Global, names: &[(DirId, Name, Target)]) -> Result<Vec<DeadName>, NoMemory>
+    ensures { IfOk result (λ rows. rows.items ≡ map row_of names.now) }
+{
+    Ok(names.iter().map(row_of).collect(alloc)?)
+}
+
+/// Whether these are the keys of the versions that are due, the names that may come back, each a
+/// triple of its directory, its name and what it last stood for, and the usage of each kind of
+/// policy, as the three scans of the world give them. The caller knows that the sums of usage are
+/// within 64 bits, as in the world of each core (`laws::usage_fits` of `ele_core`).
+///
+/// `NoMemory` if memory for the scans or for rows of the names is refused.
+pub fn audit(
+    alloc: Global,
+    due: &[Key],
+    names: &[(DirId, Name, Target)],
+    usage: &[Usage; 4],
+    world: &Flat,
+) -> Result<bool, NoMemory>
+    requires { AllByRecursion Fits (usages world.now) }
+    ensures { IfOk result (λ equal. IsTrue equal ↔ ((due.now ≡ scan world.entry.now)
+        × (names.now ≡ map triple_of (restorable world.entry.now))
+        × (usage.now ≡ usages world.entry.now))) }
+{
+    let rows = rows_of(alloc, names)?;
+    ele_model::audit(due, rows.as_slice(), usage, world)
+}
