@@ -9,7 +9,6 @@ ghost use Rattle.ele_model.specs.Step.{clean_step};
 use crate::Core;
 use ele_model::{Key, PassEnd};
 use ele_policy::laws;
-use ele_state::Meter;
 
 impl Core {
     /// The first due version is removed; the answer is its key. It takes no memory.
@@ -18,7 +17,7 @@ impl Core {
         ensures step { (removed result, self.new.world) ≡ clean_step self.old.world }
         ensures read { CleanReads (removed result) self.new.rows_read }
     {
-        self.state.count_from(Meter::new());
+        self.state.reset_rows_read();
         let key = self.state.due_first()?;
         self.state.remove(&key);
         Some(key)

@@ -4,7 +4,6 @@ ghost use Rattle.ele_model.specs.Why.{IsWhy};
 use crate::Core;
 use crate::halt::check;
 use ele_model::{Explain, Fate, KeyList, Moment, NoMemory, Refusal, TaggedPath};
-use ele_state::Meter;
 
 impl Core {
     /// What becomes of the version that the path and its tag mean, and why, as `fate` tells it. It takes no memory. Refused:
@@ -13,7 +12,7 @@ impl Core {
     pub fn fate_at(&self, tagged: &TaggedPath) -> Result<Fate, Refusal>
         ensures { IsWhy self.now.world tagged.now result }
     {
-        let (file, stamps) = check!(self.state.version_at(tagged, &mut Meter::new()));
+        let (file, stamps) = check!(self.state.version_at(tagged));
         match self.state.fate(file, stamps.number) {
             Some(fate) => Ok(fate),
             None => unreachable!(),

@@ -1,4 +1,5 @@
-//! One world, which events change. A contract sees a core as its flat world, with a count of the rows that were read.
+//! One world, which events change. A contract sees a core as its flat world, with a count of the
+//! rows that the last clean read.
 #![tactic(auto)]
 
 ghost use Rattle.std.specs.Prelude.{◌≡◌, IfOk, OnErr, IsOk, true, false};
@@ -39,7 +40,7 @@ pub use ele_model::{
 pub use ele_moment::{BadMoment, BadName};
 pub use ele_path::{PathAtFault, PathFault};
 pub use ele_policy::{BadLadder, Floor, Interval};
-use ele_state::{Meter, State};
+use ele_state::State;
 use std::alloc::Global;
 use std::marker::Model;
 
@@ -87,7 +88,7 @@ impl Core {
         ensures event { IsEvent event.now }
         ensures read { IfOk result (λ reply. IsRead event.now reply self.new.rows_read) }
     {
-        self.state.count_from(Meter::new());
+        self.state.reset_rows_read();
         let halt = match self.answer(event) {
             Ok(reply) => return Ok(reply),
             Err(halt) => halt,
@@ -109,7 +110,8 @@ impl Core {
         self.state.now()
     }
 
-    /// How many version rows the last event read.
+    /// How many version rows the last clean read; 0 after `apply` of any other event, whose reads
+    /// aren't counted.
     pub fn rows_read(&self) -> u64
         ensures { result ≡ self.now.rows_read }
     {

@@ -6,7 +6,6 @@ ghost use Rattle.ele_model.specs.declared.reply.Reply.TheVariants.{File};
 use crate::Core;
 use crate::halt::{Halt, check, refuse_if};
 use ele_model::{FileId, Path, Refusal, Target, VersionNo, Which};
-use ele_state::Meter;
 
 impl Core {
     /// A file is made at the path, with an empty first version. Refused: `IsRoot`, `NoEntry`, `NotDirectory`, `Exists`, `Full`.
@@ -42,7 +41,6 @@ impl Core {
         let Target::File(file) = found.target() else {
             return Err(Halt::Refused(Refusal::IsDirectory));
         };
-        self.state.count_from(Meter::new());
         Ok(self.state.end_file_name(directory, &name, &found, file)?)
     }
 
@@ -81,7 +79,6 @@ impl Core {
         check!(refuse_if(self.state.has_draft(file), Refusal::Drafting));
         check!(self.room_for(Which::Names));
         check!(self.room_for(Which::Versions));
-        self.state.count_from(Meter::new());
         Ok(Some(self.state.revive(directory, name, file)?))
     }
 }

@@ -19,7 +19,7 @@ use ele_model::{
     NameList, NoMemory, PathAt, Reads, Refusal, Source, StampsList, Tag, TaggedPath, Target, Usage,
     VersionNo,
 };
-use ele_state::{Meter, directory_in, file_in};
+use ele_state::{directory_in, file_in};
 
 /// What a path and its tag mean.
 #[derive(Clone, Copy, Debug, PartialEq, Eq)]
@@ -37,7 +37,7 @@ impl Core {
             self.now.world (event.Read (source.Of handle)) result self.now.world }
     {
         let reads = check!(self.state.reads_by(handle));
-        Ok(self.state.bytes_of(reads, &mut Meter::new())?)
+        Ok(self.state.bytes_of(reads)?)
     }
 
     // The bytes of the version that the path and its tag mean.
@@ -45,9 +45,9 @@ impl Core {
         ensures { Does Bytes
             self.now.world (event.Read (source.Tagged tagged.now)) result self.now.world }
     {
-        let (file, stamps) = check!(self.state.version_at(tagged, &mut Meter::new()));
+        let (file, stamps) = check!(self.state.version_at(tagged));
         let reads = Reads::Version(file, stamps.number);
-        Ok(self.state.bytes_of(reads, &mut Meter::new())?)
+        Ok(self.state.bytes_of(reads)?)
     }
 
     /// The bytes of the version that the path and its tag mean, or of what the handle reads. Refused: `Future`, `NoEntry`,
@@ -70,7 +70,7 @@ impl Core {
         ensures refused { IfErr result
             (λ refusal. stat_of self.now.world (File file) tag ≡ Err refusal) }
     {
-        let stamps = check!(self.state.version_meant(file, tag, &mut Meter::new()));
+        let stamps = check!(self.state.version_meant(file, tag));
         let policy = self.state.policy_for(file);
         Ok(Stat::File(FileStat {
             file,

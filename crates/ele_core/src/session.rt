@@ -8,7 +8,6 @@ ghost use Rattle.ele_model.specs.declared.reply.Reply.TheVariants as reply;
 use crate::Core;
 use crate::halt::{Halt, check, refuse_if};
 use ele_model::{ByteList, Handle, Path, Refusal, TaggedPath, VersionNo, Which};
-use ele_state::Meter;
 
 /// How many bytes a content may have.
 const LONGEST_CONTENT: u64 = 1_048_576;
@@ -28,7 +27,6 @@ impl Core {
     {
         let file = check!(self.state.file_now(path));
         check!(self.room_for(Which::Handles));
-        self.state.count_from(Meter::new());
         if self.state.has_draft(file) {
             return Ok(self.state.open_write(file)?);
         }
@@ -41,10 +39,8 @@ impl Core {
     pub fn open_read(&mut self, tagged: &TaggedPath) -> Result<Handle, Halt>
         ensures { Does reply.Handle self.old.world (event.OpenRead tagged.now) result self.new.world }
     {
-        let mut meter = Meter::new();
-        let (file, stamps) = check!(self.state.version_at(tagged, &mut meter));
+        let (file, stamps) = check!(self.state.version_at(tagged));
         check!(self.room_for(Which::Handles));
-        self.state.count_from(meter);
         Ok(self.state.open_read(file, stamps.number)?)
     }
 
@@ -80,7 +76,6 @@ impl Core {
         ensures { Does reply.Closed self.old.world (event.Close handle) result self.new.world }
     {
         let reads = check!(self.state.reads_by(handle));
-        self.state.count_from(Meter::new());
         Ok(self.state.close(handle, reads)?)
     }
 }

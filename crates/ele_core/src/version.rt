@@ -7,7 +7,6 @@ ghost use Rattle.ele_model.specs.declared.reply.Reply.TheVariants.{Version};
 use crate::Core;
 use crate::halt::{Halt, check, refuse_if};
 use ele_model::{Path, Policy, Refusal, Tag, VersionNo, Which};
-use ele_state::Meter;
 
 impl Core {
     /// The file at the path gets a version more, with the content of the one with that number; the answer is the new one's
@@ -17,14 +16,9 @@ impl Core {
         ensures { Does Version self.old.world (event.Revert path.now number) result self.new.world }
     {
         let file = check!(self.state.file_now(path));
-        let mut meter = Meter::new();
-        check!(
-            self.state
-                .version_meant(file, Tag::Number(number), &mut meter)
-        );
+        check!(self.state.version_meant(file, Tag::Number(number)));
         check!(refuse_if(self.state.has_draft(file), Refusal::Drafting));
         check!(self.room_for(Which::Versions));
-        self.state.count_from(meter);
         Ok(self.state.revert_to(file, number)?)
     }
 

@@ -30,15 +30,13 @@ pub struct File {
 impl File {
     /// The version before the next one ends, unless it has ended.
     #[tactic(auto, using(std::proofs::lemmas::Bool::Decides::nat_tests, crate::proofs::Endings::can_end, crate::proofs::Endings::no_end, crate::proofs::Endings::last_row, crate::proofs::Words::update_first_same, crate::proofs::Words::update_first_unfound, crate::proofs::Words::all_not_found))]
-    pub fn end_before(&mut self, now: Moment, meter: &mut Meter)
+    pub fn end_before(&mut self, now: Moment)
         requires kept { IsFileKept self.old }
         requires past { AllByRecursion (IsRowPast now) self.old.log.rows }
-        requires meter { meter.old < 2 ^ 62 }
         ensures ended { HasRows self.old self.new (ended_rows self.old now) }
         ensures room { 1 ≤ self.old.log.spare → 1 ≤ self.new.log.spare }
-        ensures read { meter.new ≤ meter.old + 1 }
     {
-        if let Some(row) = self.log.get(self.next.before(), meter) {
+        if let Some(row) = self.log.get(self.next.before(), &mut Meter::new()) {
             if row.ended.is_none() {
                 self.log.end_last(now);
             }
@@ -53,20 +51,17 @@ impl File {
         now: Moment,
         is_live: bool,
         cells: BlockMap,
-        meter: &mut Meter,
     ) -> NewVersion
         requires kept { IsFileKept self.old }
         requires past { AllByRecursion (IsRowPast now) self.old.log.rows }
         requires numbered { self.old.next < 2 ^ 62 }
         requires room { 1 ≤ self.old.log.spare }
-        requires meter { meter.old < 2 ^ 62 }
         ensures number { result.number ≡ self.old.next }
         ensures length { result.length ≡ cells.size }
         ensures appended { HasAppended self.old self.new now
             (next_row self.old.next opened now is_live cells) }
-        ensures read { meter.new ≤ meter.old + 1 }
     {
-        self.end_before(now, meter);
+        self.end_before(now);
         let (number, length) = (self.next, cells.length());
         let ended = if is_live { None } else { Some(now) };
         let row = VersionRow {

@@ -80,13 +80,11 @@ fn file_of(files: &[BoxedFile], id: FileId) -> Option<&File>
 
 // The map that a new draft of the file begins with: that of the version before the next one, or the
 // empty one where that version isn't held.
-fn first_map<'a>(file: &'a File, empty: &'a BlockMap, meter: &mut Meter) -> &'a BlockMap
-    requires { meter.old < 2 ^ 63 }
-    ensures map { result.now ≡ option_map_or (λ row. row.cells)
+fn first_map<'a>(file: &'a File, empty: &'a BlockMap) -> &'a BlockMap
+    ensures { result.now ≡ option_map_or (λ row. row.cells)
         (find (has_number (file.now.next - 1)) file.now.log.rows) empty.now }
-    ensures read { meter.new ≤ meter.old + 1 }
 {
-    match file.log.get(file.next.before(), meter) {
+    match file.log.get(file.next.before(), &mut Meter::new()) {
         Some(row) => &row.cells,
         None => empty,
     }
@@ -125,7 +123,7 @@ impl Files {
             log,
         };
         let empty = BlockMap::new(self.alloc);
-        let _first = file.append(now, now, true, empty, &mut Meter::new());
+        let _first = file.append(now, now, true, empty);
         let boxed = BoxedFile::new(self.alloc, file)?;
         self.files.push_reserved(boxed);
         Ok(())
@@ -135,26 +133,19 @@ impl Files {
     /// none it starts one with the content of the version before the next. Where memory is refused,
     /// all is as it was.
     #[tactic(auto, using(std::proofs::lemmas::Bool::Decides::nat_tests, crate::proofs::Rows::next_found, crate::proofs::Openings::maps_seen, crate::proofs::Openings::first_lives))]
-    pub fn open_write(
-        &mut self,
-        file: FileId,
-        now: Moment,
-        meter: &mut Meter,
-    ) -> Result<Handle, NoMemory>
+    pub fn open_write(&mut self, file: FileId, now: Moment) -> Result<Handle, NoMemory>
         requires there { 0 < next_of self.old.files file }
         requires few { length self.old.versions + length self.old.drafts ≤ 2 ^ 50 }
         requires room { self.old.opened < 2 ^ 63 }
-        requires meter { meter.old < 2 ^ 62 }
         ensures handle { IfOk result (λ handle. handle ≡ self.old.opened + 1) }
         ensures ok { OnOk result (self.new ≡ opened_by self.old file now) }
         ensures err { OnErr result (self.new ≡ self.old) }
-        ensures read { meter.new ≤ meter.old + 1 }
     {
         let Some(held) = file_of(&self.files, file) else {
             unreachable!()
         };
         let empty = BlockMap::new(self.alloc);
-        let map = first_map(held, &empty, meter);
+        let map = first_map(held, &empty);
         self.sessions
             .open_write(&mut self.store, file, held.next, now, map)
     }

@@ -35,26 +35,22 @@ fn ends_after(row: &VersionRow, moment: Moment) -> bool
 impl File {
     // The version of that number. Refused: `Forgotten`, with the last number that is held from
     // before it.
-    fn numbered(&self, number: VersionNo, meter: &mut Meter) -> Result<Stamps, Refusal>
-        requires { meter.old < 2 ^ 62 }
-        ensures value { result ≡ row_numbered self.now number }
-        ensures read { meter.new ≤ meter.old + 1 }
+    fn numbered(&self, number: VersionNo) -> Result<Stamps, Refusal>
+        ensures { result ≡ row_numbered self.now number }
     {
-        if let Some(row) = self.log.get(number, meter) {
+        if let Some(row) = self.log.get(number, &mut Meter::new()) {
             return Ok(stamps_of(row));
         }
-        let before = self.log.prev_held(number, meter);
+        let before = self.log.prev_held(number, &mut Meter::new());
         Err(Refusal::Forgotten(before.map(|row| row.number)))
     }
 
     /// The version that lived at the moment. Refused: `Forgotten`, with the number of the last one
     /// that is held of those that had closed by then.
-    pub fn living(&self, moment: Moment, meter: &mut Meter) -> Result<Stamps, Refusal>
-        requires { meter.old < 2 ^ 62 }
-        ensures value { result ≡ row_living self.now moment }
-        ensures read { meter.new ≤ meter.old + 1 }
+    pub fn living(&self, moment: Moment) -> Result<Stamps, Refusal>
+        ensures { result ≡ row_living self.now moment }
     {
-        let Some(row) = self.log.closed_by(moment, meter) else {
+        let Some(row) = self.log.closed_by(moment, &mut Meter::new()) else {
             return Err(Refusal::Forgotten(None));
         };
         if ends_after(row, moment) {
@@ -66,19 +62,17 @@ impl File {
 
     /// The version that the tag means; without one it is the version before the next. Refused:
     /// `NoVersion` for a number that no version got, `Forgotten`.
-    pub fn meant(&self, tag: Tag, meter: &mut Meter) -> Result<Stamps, Refusal>
-        requires { meter.old < 2 ^ 62 }
-        ensures value { result ≡ row_meant self.now tag }
-        ensures read { meter.new ≤ meter.old + 1 }
+    pub fn meant(&self, tag: Tag) -> Result<Stamps, Refusal>
+        ensures { result ≡ row_meant self.now tag }
     {
         match tag {
-            Tag::Now => self.numbered(self.next.before(), meter),
-            Tag::At(moment) => self.living(moment, meter),
+            Tag::Now => self.numbered(self.next.before()),
+            Tag::At(moment) => self.living(moment),
             Tag::Number(number) => {
                 if number.0 == 0 || number.0 >= self.next.0 {
                     return Err(Refusal::NoVersion);
                 }
-                self.numbered(number, meter)
+                self.numbered(number)
             }
         }
     }

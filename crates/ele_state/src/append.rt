@@ -21,7 +21,7 @@ ghost use Rattle.ele_state.specs.Tracked.{IsBooked};
 use crate::book::{blocks, charge_blocks, one_version};
 use crate::keys::{KeyChange, floor_in, near_moment, new_key, put_changed, take_back};
 use crate::rows::Rows;
-use ele_files::{FileHead, Files, Meter, NewVersion};
+use ele_files::{FileHead, Files, NewVersion};
 use ele_groups::Groups;
 use ele_model::{FileId, Handle, Moment, NoMemory, Stamps, VersionNo};
 use ele_policy::Policy;
@@ -36,13 +36,11 @@ pub enum Source {
 
 // How the file stands, which is there.
 #[tactic(auto, using(crate::proofs::Words::nat_tests))]
-pub fn head(files: &Files, file: FileId, meter: &mut Meter) -> FileHead
-    requires there { 0 < next_of files.now.files file }
-    requires meter { meter.old < 2 ^ 60 }
-    ensures stands { Stands files.now file result }
-    ensures read { meter.new ≤ meter.old + 1 }
+pub fn head(files: &Files, file: FileId) -> FileHead
+    requires { 0 < next_of files.now.files file }
+    ensures { Stands files.now file result }
 {
-    let Some(head) = files.head(file, meter) else {
+    let Some(head) = files.head(file) else {
         unreachable!()
     };
     head
@@ -71,24 +69,15 @@ fn ripens_alone(
 // What is told of the held version of a file that stands so that with the next one has as many newer ones as the floor asks; of
 // the newest where there is none.
 #[tactic(auto, using(crate::proofs::Words::nat_tests, crate::proofs::Asked::newest_gains))]
-fn gaining(
-    files: &Files,
-    file: FileId,
-    head: &FileHead,
-    floor: u64,
-    meter: &mut Meter,
-) -> Option<Stamps>
+fn gaining(files: &Files, file: FileId, head: &FileHead, floor: u64) -> Option<Stamps>
     requires stands { Stands files.now file head.now }
     requires placed { AllLater ArePlaced files.now.versions }
-    requires meter { meter.old < 2 ^ 60 }
-    ensures value { result
-        ≡ option_map stamps_of (with_newer files.now.versions file (floor - 1)) }
-    ensures read { meter.new ≤ meter.old + 1 }
+    ensures { result ≡ option_map stamps_of (with_newer files.now.versions file (floor - 1)) }
 {
     if floor <= 1 {
         return head.newest;
     }
-    files.with_newer(file, floor - 1, meter)
+    files.with_newer(file, floor - 1)
 }
 
 // The ripe moment that the version gets, of which these are the stamps, as the next one closes now; none where a handle reads it, or
@@ -130,13 +119,10 @@ fn new_keys(
     now: Moment,
     again: bool,
     is_live: bool,
-    meter: &mut Meter,
 ) -> [KeyChange; 2]
     requires stands { Stands files.now file head.now }
     requires placed { AllLater ArePlaced files.now.versions }
-    requires meter { meter.old < 2 ^ 60 }
-    ensures keys { result ≡ new_keys groups.now files.now file now again is_live }
-    ensures read { meter.new ≤ meter.old + 1 }
+    ensures { result ≡ new_keys groups.now files.now file now again is_live }
 {
     let policy = &head.policy;
     let floor = floor_in(policy, is_live);
@@ -151,7 +137,7 @@ fn new_keys(
             new_key(file, head.next, own),
         ];
     }
-    let (number, former) = match &gaining(files, file, head, floor, meter) {
+    let (number, former) = match &gaining(files, file, head, floor) {
         Some(gaining) => {
             let former = former_moment(files, groups, file, policy, floor, gaining, now);
             (gaining.number, former)
@@ -168,10 +154,8 @@ fn put_version(
     source: Source,
     now: Moment,
     is_live: bool,
-    meter: &mut Meter,
 ) -> Result<NewVersion, NoMemory>
-    requires ready { IsReady files.old now file source }
-    requires meter { meter.old < 2 ^ 61 }
+    requires { IsReady files.old now file source }
     ensures number { IfOk result (λ made. made.number ≡ next_of files.old.files file) }
     ensures length { IfOk result
         (λ made. made.length ≡ length (content_of (source_cells files.old file source))) }
@@ -180,8 +164,8 @@ fn put_version(
     ensures err { OnErr result (files.new ≡ files.old) }
 {
     match source {
-        Source::Draft(handle, opened) => { files.finish(handle, file, opened, now, is_live, meter) }
-        Source::Version(number) => files.restore(file, number, now, is_live, meter),
+        Source::Draft(handle, opened) => files.finish(handle, file, opened, now, is_live),
+        Source::Version(number) => files.restore(file, number, now, is_live),
     }
 }
 
@@ -201,12 +185,10 @@ pub fn append(
     requires roomy { IsRoomy rows.old.made.versions rows.old.book }
     requires stands { Stands rows.old.files file head.now }
     requires ready { IsReady rows.old.files rows.old.moment file source }
-    requires meter { rows.old.meter < 2 ^ 60 }
     ensures number { IfOk result (λ number. number ≡ next_of rows.old.files.files file) }
     ensures ok { OnOk result (world_of rows.new ≡ after_changes (world_of rows.old)
         (appending rows.old.files rows.old.moment file source)) }
-    ensures err { OnErr result (rows.new
-        ≡ record rows.old { queue = rows.new.queue; meter = rows.new.meter }) }
+    ensures err { OnErr result (rows.new ≡ record rows.old { queue = rows.new.queue }) }
     ensures come { OnOk result ((k : Key) → has_key k rows.new.queue
         ≡ (comes (coming rows.old file again) k || has_key k rows.old.queue)) }
     ensures same { OnErr result
@@ -218,19 +200,10 @@ pub fn append(
     let now = rows.moment;
     let kind = head.policy.kind();
     let before = blocks(&rows.files);
-    let changes = new_keys(
-        &rows.files,
-        &rows.groups,
-        file,
-        head,
-        now,
-        again,
-        is_live,
-        &mut rows.meter,
-    );
+    let changes = new_keys(&rows.files, &rows.groups, file, head, now, again, is_live);
     // All keys come before the version does, so that one that is refused is still without trace.
     put_changed(&mut rows.queue, &changes)?;
-    let put = put_version(&mut rows.files, file, source, now, is_live, &mut rows.meter);
+    let put = put_version(&mut rows.files, file, source, now, is_live);
     let made = match put {
         Ok(made) => made,
         Err(refused) => {

@@ -7,7 +7,6 @@ ghost use Rattle.ele_model.specs.Usage.{usages};
 
 use crate::State;
 use crate::keys::free_moment;
-use ele_files::Meter;
 use ele_model::{FileId, Key, KeyList, ListOf, Moment, NoMemory, VersionNo};
 use ele_usage::Usage;
 
@@ -29,8 +28,7 @@ impl State {
             return false;
         }
         let is_live = rows.names.is_live(file);
-        let meter = &mut Meter::new();
-        match free_moment(&rows.files, &rows.groups, is_live, file, number, meter) {
+        match free_moment(&rows.files, &rows.groups, is_live, file, number) {
             Some(ripe) => {
                 let key = Key { ripe, file, number };
                 is_ripe(&key, rows.moment) && rows.queue.holds(&key)

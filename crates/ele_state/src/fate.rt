@@ -16,7 +16,6 @@ ghost use Rattle.ele_state.specs.Queued.{IsTold};
 use crate::State;
 use crate::keys::floor_in;
 use crate::rows::Rows;
-use ele_files::Meter;
 use ele_groups::Groups;
 use ele_model::{
     Cause, Cover, Fate, FileId, KeyList, ListOf, MarkRow, Moment, Name, NoMemory, Policy, Stamps,
@@ -197,9 +196,9 @@ fn fate_of(rows: &Rows, file: FileId, stamps: &Stamps) -> Fate
     let Some(policy) = rows.files.policy_of(file) else {
         unreachable!()
     };
-    let next = rows.files.next_held(file, number, &mut Meter::new());
+    let next = rows.files.next_held(file, number);
     let floor = floor_in(&policy, rows.names.is_live(file));
-    let floor_met = rows.files.has_newer(file, number, floor, &mut Meter::new());
+    let floor_met = rows.files.has_newer(file, number, floor);
     free_fate(cover, &policy, closed, ended, &next, floor_met, now)
 }
 
@@ -209,7 +208,7 @@ impl State {
         ensures some { IfSome result (HasFate self.now.world file number) }
         ensures none { IfNone result (is_held self.now.world file number ≡ false) }
     {
-        let stamps = self.rows.files.stamps(file, number, &mut Meter::new())?;
+        let stamps = self.rows.files.stamps(file, number)?;
         Some(fate_of(&self.rows, file, &stamps))
     }
 

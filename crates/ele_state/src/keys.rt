@@ -7,7 +7,7 @@ ghost use Rattle.ele_model.specs.Neighbours.{floor_in, free_moment, near_moment}
 ghost use Rattle.ele_state.specs.Queued.{IsRekeyed, comes, goes, if_changed, unmarked_moment};
 
 use ele_due::DueQueue;
-use ele_files::{Files, Meter};
+use ele_files::Files;
 use ele_groups::Groups;
 use ele_model::{FileId, Key, Moment, NoMemory, Stamps, VersionNo};
 use ele_policy::{Policy, ripe};
@@ -139,17 +139,14 @@ pub fn unmarked_moment(
     file: FileId,
     stamps: &Stamps,
     ended: Moment,
-    meter: &mut Meter,
 ) -> Option<Moment>
-    requires { meter.old < 2 ^ 60 - 1 }
-    ensures moment { result ≡ unmarked_moment files.now is_live file stamps.now.number
+    ensures { result ≡ unmarked_moment files.now is_live file stamps.now.number
         stamps.now.closed ended }
-    ensures read { meter.new ≤ meter.old + 2 }
 {
     let number = stamps.number;
     let policy = files.policy_of(file)?;
-    let floor_met = files.has_newer(file, number, floor_in(&policy, is_live), meter);
-    let next_closed = files.next_closing(file, number, meter);
+    let floor_met = files.has_newer(file, number, floor_in(&policy, is_live));
+    let next_closed = files.next_closing(file, number);
     ripe(&policy, stamps.closed, ended, next_closed, floor_met)
 }
 
@@ -161,16 +158,13 @@ pub fn free_moment(
     is_live: bool,
     file: FileId,
     number: VersionNo,
-    meter: &mut Meter,
 ) -> Option<Moment>
-    requires { meter.old < 2 ^ 59 }
-    ensures moment { result
+    ensures { result
         ≡ free_moment groups.now files.now.files is_live files.now.versions file number }
-    ensures read { meter.new ≤ meter.old + 3 }
 {
-    let stamps = files.stamps(file, number, meter)?;
+    let stamps = files.stamps(file, number)?;
     let ended = stamps.ended?;
-    let ripe = unmarked_moment(files, is_live, file, &stamps, ended, meter)?;
+    let ripe = unmarked_moment(files, is_live, file, &stamps, ended)?;
     let cover = groups.cover(file, stamps.closed, Some(ended));
     cover.ripe_past(ripe)
 }

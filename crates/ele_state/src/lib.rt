@@ -1,5 +1,5 @@
 //! One world, kept fast: its rows, and the queue of keys and the book of usage, which follow each change. A contract sees a
-//! state as its flat world, with a count of the rows that were read.
+//! state as its flat world, with a count of the rows that the last clean read.
 #![tactic(auto)]
 
 ghost use Rattle.std.specs.Prelude.{◌≡◌, ◌≤◌, IfOk};
@@ -31,8 +31,7 @@ mod version;
 pub use crate::path::{directory_in, file_in};
 use crate::rows::{Made, Rows};
 use ele_due::DueQueue;
-use ele_files::Files;
-pub use ele_files::Meter;
+use ele_files::{Files, Meter};
 use ele_groups::Groups;
 use ele_model::{
     Counts, DirId, DirectoryRow, Flat, Limits, ListOf, Moment, NoMemory, Policy, Which,
@@ -142,18 +141,19 @@ impl State {
         }
     }
 
-    /// How many version rows were read since the count began.
+    /// How many version rows `remove` read after the last `reset_rows_read`. Other calls count none
+    /// of the rows that they read.
     pub fn rows_read(&self) -> u64
         ensures { result ≡ self.now.rows_read }
     {
         self.rows.meter.rows()
     }
 
-    /// The count of the rows read goes on from that of the meter.
-    pub fn count_from(&mut self, meter: Meter)
-        ensures { self.new ≡ record self.old { rows_read = meter } }
+    /// The count of the rows read begins again at zero.
+    pub fn reset_rows_read(&mut self)
+        ensures { self.new ≡ record self.old { rows_read = 0 } }
     {
-        self.rows.meter = meter;
+        self.rows.meter = Meter::new();
     }
 
     /// A plain copy of all rows and counts.

@@ -20,7 +20,6 @@ use crate::keys::{
     KeyChange, add_change, put_changed, remove_old_keys, take_back, unmarked_moment,
 };
 use crate::rows::Rows;
-use ele_files::Meter;
 use ele_groups::Groups;
 use ele_model::{Cover, FileId, MarkRow, Moment, Name, NoMemory};
 
@@ -104,14 +103,13 @@ fn change_at(
         (moments_by (world_of rows.now) (cover_after change.now rows.now.groups))
         (if_changed result) }
 {
-    let stamps = rows.files.version_at(file, mark, &mut Meter::new())?;
+    let stamps = rows.files.version_at(file, mark)?;
     let ended = stamps.ended?;
     let covers = &covers(&rows.groups, change, file, stamps.closed, ended);
     if covers.0 == covers.1 || rows.files.is_open(file, stamps.number) {
         return None;
     }
-    let meter = &mut Meter::new();
-    let ripe = unmarked_moment(&rows.files, live, file, &stamps, ended, meter)?;
+    let ripe = unmarked_moment(&rows.files, live, file, &stamps, ended)?;
     Some(KeyChange {
         file,
         number: stamps.number,

@@ -114,8 +114,7 @@ impl State {
         found: &Found,
         file: FileId,
     ) -> Result<(), NoMemory>
-        requires stands { live_target self.old.world.names directory name.now ≡ Some (File file) }
-        requires meter { self.old.rows_read ≡ 0 }
+        requires { live_target self.old.world.names directory name.now ≡ Some (File file) }
         ensures ok { OnOk result (self.new.world
             ≡ after_change self.old.world (EndFileName directory name.now file)) }
         ensures err { OnErr result (self.new.world ≡ self.old.world) }
@@ -141,7 +140,6 @@ fn end_last_name(
     file: FileId,
 ) -> Result<(), NoMemory>
     requires sound { IsSound rows.old }
-    requires meter { rows.old.meter ≡ 0 }
     requires stands { live_target rows.old.names directory name.now ≡ Some (File file) }
     requires last { count_by (is_live_name_of file) rows.old.names ≡ 1 }
     ensures ok { OnOk result (world_of rows.new
@@ -157,6 +155,6 @@ fn end_last_name(
     let changes = freed(rows, file, &policy, floor.max(1))?;
     put_changed(&mut rows.queue, &changes)?;
     rows.names.kill(directory, name, found, rows.moment);
-    rows.files.end_current(file, rows.moment, &mut rows.meter);
+    rows.files.end_current(file, rows.moment);
     Ok(())
 }

@@ -16,7 +16,6 @@ use crate::keys::{
     KeyChange, add_change, floor_in, near_moment, new_key, put_changed, remove_old_keys,
 };
 use crate::rows::Rows;
-use ele_files::Meter;
 use ele_model::{FileId, Moment, NoMemory, Stamps};
 use ele_policy::Policy;
 
@@ -62,8 +61,8 @@ fn moment_under(
         (nat_le (floor_in (Some policy.now) is_live) (newer_held rows.now.files.versions file
         stamps.now.number)) stamps.now.closed ended }
 {
-    let (floor, meter) = (floor_in(policy, is_live), &mut Meter::new());
-    let floor_met = rows.files.has_newer(file, stamps.number, floor, meter);
+    let floor = floor_in(policy, is_live);
+    let floor_met = rows.files.has_newer(file, stamps.number, floor);
     near_moment(
         &rows.groups,
         file,
@@ -96,7 +95,7 @@ fn change_under(
         return None;
     }
     let ended = stamps.ended?;
-    let next = rows.files.next_closing(file, number, &mut Meter::new());
+    let next = rows.files.next_closing(file, number);
     Some(KeyChange {
         file,
         number,
@@ -139,7 +138,7 @@ fn freed_key(rows: &Rows, file: FileId, policy: &Policy, newer: u64) -> Option<K
         (newer + 1) k ≡ (is_freed rows.now.groups rows.now.files file policy.now rows.now.moment
         newer k || comes (if_changed result) k) }
 {
-    let stamps = rows.files.with_newer(file, newer, &mut Meter::new())?;
+    let stamps = rows.files.with_newer(file, newer)?;
     if rows.files.is_open(file, stamps.number) {
         return None;
     }

@@ -6,7 +6,6 @@ ghost use Rattle.ele_state.specs.Inside.{world_of, IsSound};
 
 use crate::State;
 use crate::rows::Rows;
-use ele_files::Meter;
 use ele_model::{DeadName, DeadNameList, DirId, FileId, ListOf, Name, NoMemory, Target};
 
 // Whether the file's last version is held.
@@ -18,9 +17,7 @@ fn has_last_version(rows: &Rows, file: FileId) -> bool
     let Some(next) = rows.files.next_of(file) else {
         return false;
     };
-    rows.files
-        .stamps(file, next.before(), &mut Meter::new())
-        .is_some()
+    rows.files.stamps(file, next.before()).is_some()
 }
 
 impl State {

@@ -20,7 +20,7 @@ pub struct Made {
     pub marks: u64,
 }
 
-// All rows and counts. The meter counts the version rows that the last event read.
+// All rows and counts. The meter has counted the version rows that the last clean read.
 #[derive(Drop)]
 pub struct Rows {
     pub moment: Moment,

@@ -16,7 +16,6 @@ use crate::book::{blocks, follow_blocks};
 use crate::file::drop_idle;
 use crate::keys::{free_moment, put, take};
 use crate::rows::Rows;
-use ele_files::Meter;
 use ele_model::{ByteList, FileId, Handle, Moment, NoMemory, Reads, Refusal, VersionNo};
 
 impl State {
@@ -37,13 +36,12 @@ impl State {
     /// The bytes of the draft or the version.
     ///
     /// `NoMemory` where memory is refused.
-    pub fn bytes_of(&self, reads: Reads, meter: &mut Meter) -> Result<ByteList, NoMemory>
-        requires { meter.old < 2 ^ 60 }
+    pub fn bytes_of(&self, reads: Reads) -> Result<ByteList, NoMemory>
         ensures { IfOk result (λ bytes. bytes ≡ content_of (cells_read self.now.world reads)) }
     {
         match reads {
             Reads::Draft(file) => self.rows.files.draft_content(file),
-            Reads::Version(file, number) => self.rows.files.version_content(file, number, meter),
+            Reads::Version(file, number) => self.rows.files.version_content(file, number),
         }
     }
 
@@ -55,7 +53,6 @@ impl State {
         requires handles { self.old.world.made.handles < self.old.world.limits.handles }
         requires versions { has_draft self.old.world file ≡ false
             → versions_made self.old.world < self.old.world.limits.versions }
-        requires meter { self.old.rows_read ≡ 0 }
         ensures number { IfOk result (λ number. number ≡ self.old.world.made.handles + 1) }
         ensures first { has_draft self.old.world file ≡ false → IfOk result (λ number.
             self.new.world ≡ after_changes self.old.world
@@ -65,10 +62,7 @@ impl State {
         ensures err { OnErr result (self.new.world ≡ self.old.world) }
     {
         let before = blocks(&self.rows.files);
-        let number = self
-            .rows
-            .files
-            .open_write(file, self.rows.moment, &mut self.rows.meter)?;
+        let number = self.rows.files.open_write(file, self.rows.moment)?;
         follow_blocks(&mut self.rows.book, &self.rows.files, file, before);
         Ok(number)
     }
@@ -80,21 +74,13 @@ impl State {
     pub fn open_read(&mut self, file: FileId, number: VersionNo) -> Result<Handle, NoMemory>
         requires held { is_held self.old.world file number ≡ true }
         requires room { self.old.world.made.handles < self.old.world.limits.handles }
-        requires meter { self.old.rows_read < 2 ^ 59 }
         ensures number { IfOk result (λ handle. handle ≡ self.old.world.made.handles + 1) }
         ensures ok { IfOk result (λ handle. self.new.world
             ≡ after_change self.old.world (OpenHandle handle (Version file number))) }
         ensures err { OnErr result (self.new.world ≡ self.old.world) }
     {
         let is_live = self.rows.names.is_live(file);
-        let moment = free_moment(
-            &self.rows.files,
-            &self.rows.groups,
-            is_live,
-            file,
-            number,
-            &mut self.rows.meter,
-        );
+        let moment = free_moment(&self.rows.files, &self.rows.groups, is_live, file, number);
         let handle = self.rows.files.open_read(file, number)?;
         take(&mut self.rows.queue, file, number, moment);
         Ok(handle)
@@ -149,8 +135,7 @@ impl State {
     ///
     /// `NoMemory` where memory is refused; the world stays.
     pub fn close(&mut self, handle: Handle, reads: Reads) -> Result<Option<VersionNo>, NoMemory>
-        requires reads { reads_by self.old.world.handles handle ≡ Ok reads }
-        requires meter { self.old.rows_read ≡ 0 }
+        requires { reads_by self.old.world.handles handle ≡ Ok reads }
         ensures ok { IfOk result (λ number.
             (Closed number, self.new.world) ≡ step self.old.world (event.Close handle)) }
         ensures err { OnErr result (self.new.world ≡ self.old.world) }
@@ -171,7 +156,6 @@ fn finish(
     opened: Moment,
 ) -> Result<Option<VersionNo>, NoMemory>
     requires sound { IsSound rows.old }
-    requires meter { rows.old.meter ≡ 0 }
     requires reads { reads_by rows.old.files.handles handle ≡ Ok (Draft file) }
     requires changed { opening_by rows.old.files handle ≡ Some opened }
     ensures step { IfOk result
@@ -179,7 +163,7 @@ fn finish(
     ensures err { OnErr result (world_of rows.new ≡ world_of rows.old) }
     ensures tracked { IsTracked rows.new }
 {
-    let head = head(&rows.files, file, &mut rows.meter);
+    let head = head(&rows.files, file);
     let number = append(rows, file, &head, false, Source::Draft(handle, opened))?;
     Ok(Some(number))
 }
@@ -188,7 +172,6 @@ fn finish(
 #[tactic(auto, using(crate::proofs::Words::nat_tests, crate::proofs::Booked::fits, crate::proofs::ClosedSums::left_owed, crate::proofs::ClosedSums::left_answer))]
 fn leave(rows: &mut Rows, handle: Handle, file: FileId) -> Option<VersionNo>
     requires sound { IsSound rows.old }
-    requires meter { rows.old.meter ≡ 0 }
     requires reads { reads_by rows.old.files.handles handle ≡ Ok (Draft file) }
     requires unchanged { opening_by rows.old.files handle ≡ None }
     ensures step { (Closed result, world_of rows.new) ≡ step (world_of rows.old) (event.Close handle) }
@@ -211,7 +194,6 @@ fn unread(
     number: VersionNo,
 ) -> Result<Option<VersionNo>, NoMemory>
     requires sound { IsSound rows.old }
-    requires meter { rows.old.meter ≡ 0 }
     requires reads { reads_by rows.old.files.handles handle ≡ Ok (Version file number) }
     ensures step { IfOk result
         (λ number. (Closed number, world_of rows.new) ≡ step (world_of rows.old) (event.Close handle)) }
@@ -219,14 +201,7 @@ fn unread(
     ensures tracked { IsTracked rows.new }
 {
     let is_live = rows.names.is_live(file);
-    let moment = &free_moment(
-        &rows.files,
-        &rows.groups,
-        is_live,
-        file,
-        number,
-        &mut rows.meter,
-    );
+    let moment = &free_moment(&rows.files, &rows.groups, is_live, file, number);
     put(&mut rows.queue, file, number, *moment)?;
     rows.files.leave(handle);
     if !rows.files.is_open(file, number) {
@@ -239,7 +214,6 @@ fn unread(
 // A handle that writes a file is closed.
 fn unwrite(rows: &mut Rows, handle: Handle, file: FileId) -> Result<Option<VersionNo>, NoMemory>
     requires sound { IsSound rows.old }
-    requires meter { rows.old.meter ≡ 0 }
     requires reads { reads_by rows.old.files.handles handle ≡ Ok (Draft file) }
     ensures step { IfOk result
         (λ number. (Closed number, world_of rows.new) ≡ step (world_of rows.old) (event.Close handle)) }

@@ -19,7 +19,6 @@ use crate::file::drop_idle;
 use crate::keys::{take, take_back};
 use crate::path::file_in;
 use crate::policy::freed;
-use ele_files::Meter;
 use ele_model::{
     DirId, FileId, Key, Name, NoMemory, Refusal, Stamps, StampsList, Tag, TaggedPath, Target,
     VersionNo,
@@ -27,38 +26,25 @@ use ele_model::{
 
 impl State {
     /// The file's version that the tag means; without one it is the current one. Refused: `NoVersion`, `Forgotten`.
-    pub fn version_meant(
-        &self,
-        file: FileId,
-        tag: Tag,
-        meter: &mut Meter,
-    ) -> Result<Stamps, Refusal>
-        requires there { 0 < next_of self.now.world.files file }
-        requires meter { meter.old < 2 ^ 60 }
-        ensures value { result ≡ result_map_both stamps_of (λ refusal. refusal)
+    pub fn version_meant(&self, file: FileId, tag: Tag) -> Result<Stamps, Refusal>
+        requires { 0 < next_of self.now.world.files file }
+        ensures { result ≡ result_map_both stamps_of (λ refusal. refusal)
             (version_meant self.now.world.files self.now.world.versions file tag) }
-        ensures read { meter.new ≤ meter.old + 1 }
     {
-        self.rows.files.version_meant(file, tag, meter)
+        self.rows.files.version_meant(file, tag)
     }
 
     /// The file and the stamps of the version that the path and its tag mean. Refused: as `walk_meant`, `IsDirectory`, and as
     /// `version_meant`.
-    pub fn version_at(
-        &self,
-        tagged: &TaggedPath,
-        meter: &mut Meter,
-    ) -> Result<(FileId, Stamps), Refusal>
-        requires { meter.old < 2 ^ 60 }
+    pub fn version_at(&self, tagged: &TaggedPath) -> Result<(FileId, Stamps), Refusal>
         ensures value { result ≡ found_of (version_at self.now.world tagged.now) }
         ensures held { IfOk result (λ found. is_held self.now.world found.0 found.1.number ≡ true) }
         ensures cells { IfOk result (λ found. IfOk (version_at self.now.world tagged.now)
             (λ row. version_cells self.now.world found.0 found.1.number ≡ row.cells)) }
-        ensures read { meter.new ≤ meter.old + 1 }
     {
         let tag = tagged.tag();
         let file = file_in(self.walk_meant(tagged.path(), tag)?)?;
-        let stamps = self.rows.files.version_meant(file, tag, meter)?;
+        let stamps = self.rows.files.version_meant(file, tag)?;
         Ok((file, stamps))
     }
 
@@ -82,14 +68,13 @@ impl State {
         requires held { is_held self.old.world file number ≡ true }
         requires undrafted { has_draft self.old.world file ≡ false }
         requires room { versions_made self.old.world < self.old.world.limits.versions }
-        requires meter { self.old.rows_read < 2 ^ 59 }
         ensures number { IfOk result (λ number. number ≡ next_of self.old.world.files file) }
         ensures ok { OnOk result (self.new.world ≡ after_change self.old.world
             (Append file self.old.world.now
             (version_cells self.old.world file number))) }
         ensures err { OnErr result (self.new.world ≡ self.old.world) }
     {
-        let head = head(&self.rows.files, file, &mut self.rows.meter);
+        let head = head(&self.rows.files, file);
         let source = Source::Version(number);
         append(&mut self.rows, file, &head, false, source)
     }
@@ -112,13 +97,12 @@ impl State {
         requires dead { is_live self.old.world file ≡ false }
         requires held { is_held self.old.world file (next_of self.old.world.files file - 1) ≡ true }
         requires undrafted { has_draft self.old.world file ≡ false }
-        requires meter { self.old.rows_read ≡ 0 }
         ensures number { IfOk result (λ number. number ≡ next_of self.old.world.files file) }
         ensures ok { OnOk result (self.new.world
             ≡ after_change self.old.world (Revive directory name file)) }
         ensures err { OnErr result (self.new.world ≡ self.old.world) }
     {
-        let head = head(&self.rows.files, file, &mut self.rows.meter);
+        let head = head(&self.rows.files, file);
         let last = head.next.before();
         let floor = head.policy.floor().number();
         // With the name the floor is in force, and the new version counts.

@@ -13,7 +13,6 @@ ghost use Rattle.ele_model.specs.World.{next_of, file_by};
 use crate::file::NewVersion;
 use crate::files::{Files, place_of};
 use ele_blocks::{BlockMap, BlockStore};
-use ele_inode_log::Meter;
 use ele_moment::{FileId, Handle, Moment, NoMemory};
 use ele_sessions::Closing;
 
@@ -82,20 +81,17 @@ impl Files {
         opened: Moment,
         now: Moment,
         is_live: bool,
-        meter: &mut Meter,
     ) -> Result<NewVersion, NoMemory>
         requires file { file_by self.old.handles handle ≡ Ok file }
         requires changed { opening_by self.old handle ≡ Some opened }
         requires numbered { AllByRecursion (λ row. row.next < 2 ^ 62) self.old.files }
         requires past { AllByRecursion (IsPast now) self.old.versions }
-        requires meter { meter.old < 2 ^ 62 }
         ensures number { IfOk result (λ made. made.number ≡ next_of self.old.files file) }
         ensures length { IfOk result
             (λ made. made.length ≡ length (content_of (cells_of_draft self.old file))) }
         ensures ok { OnOk result (Became self.old now file is_live
             (finishing self.old handle file opened) self.new) }
         ensures err { OnErr result (self.new ≡ self.old) }
-        ensures read { meter.new ≤ meter.old + 1 }
     {
         let Some(at) = place_of(&self.files, file) else {
             unreachable!()
@@ -105,6 +101,6 @@ impl Files {
         let Some(map) = map_of(self.sessions.close(handle)) else {
             unreachable!()
         };
-        Ok(held.append(opened, now, is_live, map, meter))
+        Ok(held.append(opened, now, is_live, map))
     }
 }

@@ -23,30 +23,27 @@ pub struct FileHead {
 }
 
 impl Files {
-    /// When the file's next held version behind the number closed; none where there is none. It
-    /// reads at most one row.
+    /// When the file's next held version behind the number closed; none where there is none.
     #[tactic(auto, using(std::proofs::lemmas::Bool::Decides::nat_tests, crate::proofs::Tagged::closing_none, crate::proofs::Tagged::closing_shown))]
-    pub fn next_closing(&self, file: FileId, number: VersionNo, meter: &mut Meter) -> Option<Moment>
-        requires meter { meter.old < 2 ^ 60 }
-        ensures value { result ≡ next_closing self.now.versions file number }
-        ensures read { meter.new ≤ meter.old + 1 }
+    pub fn next_closing(&self, file: FileId, number: VersionNo) -> Option<Moment>
+        ensures { result ≡ next_closing self.now.versions file number }
     {
         let held = file_of(&self.files, file)?;
-        let row = held.log.next_held(number, meter)?;
+        let row = held.log.next_held(number, &mut Meter::new())?;
         Some(row.closed)
     }
 
-    /// How the file stands, by one look-up; none where there is no such file. It reads at most one
-    /// row.
+    /// How the file stands, by one look-up; none where there is no such file.
     #[tactic(auto, using(std::proofs::lemmas::Bool::Decides::nat_tests, crate::proofs::Rows::next_found, crate::proofs::Rows::file_row_found, crate::proofs::Tagged::newest_shown))]
-    pub fn head(&self, file: FileId, meter: &mut Meter) -> Option<FileHead>
-        requires meter { meter.old < 2 ^ 60 }
+    pub fn head(&self, file: FileId) -> Option<FileHead>
         ensures some { IfSome result (λ head. Stands self.now file head) }
         ensures none { IfNone result (next_of self.now.files file ≡ 0) }
-        ensures read { meter.new ≤ meter.old + 1 }
     {
         let held = file_of(&self.files, file)?;
-        let newest = held.log.prev_held(held.next, meter).map(stamps_of);
+        let newest = held
+            .log
+            .prev_held(held.next, &mut Meter::new())
+            .map(stamps_of);
         Some(FileHead {
             policy: held.policy,
             next: held.next,

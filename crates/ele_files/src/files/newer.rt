@@ -12,27 +12,21 @@ use ele_model::Stamps;
 use ele_moment::{FileId, VersionNo};
 
 impl Files {
-    /// What is told of the file's next held version behind the number; none where there is none. It
-    /// reads at most one row.
+    /// What is told of the file's next held version behind the number; none where there is none.
     #[tactic(auto, using(std::proofs::lemmas::Bool::Decides::nat_tests, crate::proofs::Newer::newer_none, crate::proofs::Newer::newer_shown))]
-    pub fn next_held(&self, file: FileId, number: VersionNo, meter: &mut Meter) -> Option<Stamps>
-        requires meter { meter.old < 2 ^ 60 }
-        ensures value { result
+    pub fn next_held(&self, file: FileId, number: VersionNo) -> Option<Stamps>
+        ensures { result
             ≡ option_map stamps_of (find (is_newer_of file number) self.now.versions) }
-        ensures read { meter.new ≤ meter.old + 1 }
     {
         let held = file_of(&self.files, file)?;
-        let row = held.log.next_held(number, meter)?;
+        let row = held.log.next_held(number, &mut Meter::new())?;
         Some(stamps_of(row))
     }
 
-    /// Whether the file holds at least so many versions with a greater number. It reads at most one
-    /// row.
+    /// Whether the file holds at least so many versions with a greater number.
     #[tactic(auto, using(std::proofs::lemmas::Bool::Decides::nat_tests))]
-    pub fn has_newer(&self, file: FileId, number: VersionNo, count: u64, meter: &mut Meter) -> bool
-        requires meter { meter.old < 2 ^ 60 }
-        ensures value { result ≡ nat_le count (newer_held self.now.versions file number) }
-        ensures read { meter.new ≤ meter.old + 1 }
+    pub fn has_newer(&self, file: FileId, number: VersionNo, count: u64) -> bool
+        ensures { result ≡ nat_le count (newer_held self.now.versions file number) }
     {
         if count == 0 {
             return true;
@@ -40,22 +34,20 @@ impl Files {
         let Some(held) = file_of(&self.files, file) else {
             return false;
         };
-        match held.log.with_newer(count - 1, meter) {
+        match held.log.with_newer(count - 1, &mut Meter::new()) {
             Some(row) => number.0 < row.number.0,
             None => false,
         }
     }
 
     /// What is told of the file's held version that has so many newer ones; none where there is
-    /// none. It reads at most one row.
+    /// none.
     #[tactic(auto, using(std::proofs::lemmas::Bool::Decides::nat_tests, crate::proofs::Newer::none_back, crate::proofs::Newer::back_shown))]
-    pub fn with_newer(&self, file: FileId, newer: u64, meter: &mut Meter) -> Option<Stamps>
-        requires meter { meter.old < 2 ^ 60 }
-        ensures value { result ≡ option_map stamps_of (with_newer self.now.versions file newer) }
-        ensures read { meter.new ≤ meter.old + 1 }
+    pub fn with_newer(&self, file: FileId, newer: u64) -> Option<Stamps>
+        ensures { result ≡ option_map stamps_of (with_newer self.now.versions file newer) }
     {
         let held = file_of(&self.files, file)?;
-        let row = held.log.with_newer(newer, meter)?;
+        let row = held.log.with_newer(newer, &mut Meter::new())?;
         Some(stamps_of(row))
     }
 }

@@ -17,15 +17,13 @@ impl Files {
     /// The version before the file's next one ends now, unless it has ended or isn't held. This
     /// takes no memory.
     #[tactic(auto, using(std::proofs::lemmas::Bool::Decides::nat_tests, crate::proofs::Words::update_first_unfound, crate::proofs::Words::all_not_found, crate::proofs::Rows::version_none, crate::proofs::Rows::no_file))]
-    pub fn end_current(&mut self, file: FileId, now: Moment, meter: &mut Meter)
-        requires past { AllByRecursion (IsPast now) self.old.versions }
-        requires meter { meter.old < 2 ^ 62 }
-        ensures rows { self.new ≡ current_ended self.old file now }
-        ensures read { meter.new ≤ meter.old + 1 }
+    pub fn end_current(&mut self, file: FileId, now: Moment)
+        requires { AllByRecursion (IsPast now) self.old.versions }
+        ensures { self.new ≡ current_ended self.old file now }
     {
         if let Some(at) = place_of(&self.files, file) {
             let held = self.files[at].get_mut();
-            held.end_before(now, meter);
+            held.end_before(now);
         }
     }
 
@@ -40,31 +38,28 @@ impl Files {
         number: VersionNo,
         now: Moment,
         is_live: bool,
-        meter: &mut Meter,
     ) -> Result<NewVersion, NoMemory>
         requires held { IsSome (find (is_version file number) self.old.versions) }
         requires undrafted { list_any (is_draft file) self.old.drafts ≡ false }
         requires few { length self.old.versions + length self.old.drafts ≤ 2 ^ 50 }
         requires numbered { AllByRecursion (λ row. row.next < 2 ^ 62) self.old.files }
         requires past { AllByRecursion (IsPast now) self.old.versions }
-        requires meter { meter.old < 2 ^ 61 }
         ensures number { IfOk result (λ made. made.number ≡ next_of self.old.files file) }
         ensures length { IfOk result
             (λ made. made.length ≡ length (content_of (cells_of_version self.old file number))) }
         ensures ok { OnOk result (Became self.old now file is_live
             (Append file now (cells_of_version self.old file number) ∷ []) self.new) }
         ensures err { OnErr result (self.new ≡ self.old) }
-        ensures read { meter.new ≤ meter.old + 2 }
     {
         let Some(at) = place_of(&self.files, file) else {
             unreachable!()
         };
         let held = self.files[at].get_mut();
         held.log.reserve()?;
-        let Some(row) = held.log.get(number, meter) else {
+        let Some(row) = held.log.get(number, &mut Meter::new()) else {
             unreachable!()
         };
         let map = row.cells.copy(&mut self.store)?;
-        Ok(held.append(now, now, is_live, map, meter))
+        Ok(held.append(now, now, is_live, map))
     }
 }

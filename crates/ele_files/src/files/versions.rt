@@ -23,14 +23,12 @@ use std::alloc::Global;
 impl Files {
     /// The version's number, its moments and its length; none where it isn't held.
     #[tactic(auto, using(std::proofs::lemmas::Bool::Decides::nat_tests, crate::proofs::Tagged::stamps_shown, crate::proofs::Rows::version_none))]
-    pub fn stamps(&self, file: FileId, number: VersionNo, meter: &mut Meter) -> Option<Stamps>
-        requires { meter.old < 2 ^ 62 }
-        ensures value { result
+    pub fn stamps(&self, file: FileId, number: VersionNo) -> Option<Stamps>
+        ensures { result
             ≡ option_map stamps_of (find (is_version file number) self.now.versions) }
-        ensures read { meter.new ≡ meter.old + (if is_some result then 1 else 0) }
     {
         let held = file_of(&self.files, file)?;
-        let row = held.log.get(number, meter)?;
+        let row = held.log.get(number, &mut Meter::new())?;
         Some(stamps_of(row))
     }
 
@@ -38,34 +36,25 @@ impl Files {
     /// `NoVersion` for a number that no version got, and `Forgotten` where it isn't held any more,
     /// with the last number that is held from before it.
     #[tactic(auto, using(std::proofs::lemmas::Bool::Decides::nat_tests, crate::proofs::Rows::next_found, crate::proofs::Tagged::meant_shown))]
-    pub fn version_meant(
-        &self,
-        file: FileId,
-        tag: Tag,
-        meter: &mut Meter,
-    ) -> Result<Stamps, Refusal>
-        requires there { 0 < next_of self.now.files file }
-        requires meter { meter.old < 2 ^ 62 }
-        ensures value { result ≡ result_map_both stamps_of (λ refusal. refusal)
+    pub fn version_meant(&self, file: FileId, tag: Tag) -> Result<Stamps, Refusal>
+        requires { 0 < next_of self.now.files file }
+        ensures { result ≡ result_map_both stamps_of (λ refusal. refusal)
             (version_meant self.now.files self.now.versions file tag) }
-        ensures read { meter.new ≤ meter.old + 1 }
     {
         let Some(held) = file_of(&self.files, file) else {
             unreachable!()
         };
-        held.meant(tag, meter)
+        held.meant(tag)
     }
 
     /// The file's version that lived at the moment; none where it isn't held.
     #[tactic(auto, using(std::proofs::lemmas::Bool::Decides::nat_tests, crate::proofs::Tagged::none_lived, crate::proofs::Tagged::at_shown, crate::proofs::Tagged::told_found, crate::proofs::Tagged::forgotten_none))]
-    pub fn version_at(&self, file: FileId, moment: Moment, meter: &mut Meter) -> Option<Stamps>
-        requires { meter.old < 2 ^ 62 }
-        ensures value { result
+    pub fn version_at(&self, file: FileId, moment: Moment) -> Option<Stamps>
+        ensures { result
             ≡ option_map stamps_of (find (had_life file moment) self.now.versions) }
-        ensures read { meter.new ≤ meter.old + 1 }
     {
         let held = file_of(&self.files, file)?;
-        match held.living(moment, meter) {
+        match held.living(moment) {
             Ok(stamps) => Some(stamps),
             Err(_refusal) => None,
         }
@@ -73,21 +62,14 @@ impl Files {
 
     /// The bytes of the version; none where it isn't held.
     #[tactic(auto, using(std::proofs::lemmas::Bool::Decides::nat_tests, crate::proofs::Tagged::cells_none, crate::proofs::Tagged::cells_some, crate::proofs::Rows::version_none, crate::proofs::Stock::row_lives))]
-    pub fn version_content(
-        &self,
-        file: FileId,
-        number: VersionNo,
-        meter: &mut Meter,
-    ) -> Result<ByteList, NoMemory>
-        requires { meter.old < 2 ^ 62 }
-        ensures bytes { IfOk result
+    pub fn version_content(&self, file: FileId, number: VersionNo) -> Result<ByteList, NoMemory>
+        ensures { IfOk result
             (λ bytes. bytes ≡ content_of (cells_of_version self.now file number)) }
-        ensures read { meter.new ≤ meter.old + 1 }
     {
         let Some(held) = file_of(&self.files, file) else {
             return Ok(ListOf::new(self.alloc));
         };
-        match held.log.get(number, meter) {
+        match held.log.get(number, &mut Meter::new()) {
             Some(row) => {
                 let bytes = row.cells.content(&self.store)?;
                 Ok(ListOf::from_vec(bytes))

@@ -6,8 +6,8 @@ use Rattle.std.proofs.lemmas.Result.{on_err_weaker}
 use Rattle.ele_state.specs.declared.append.Source.TheVariants.{Version}
 use Rattle.ele_state.proofs.State.revert_to.Goals as goal
 
-pub head-head-requires-clause-there : goal.head-head-requires-clause-there
-head-head-requires-clause-there c = held_there c.self.inside.rows c.args.file c.args.number c.self.invariant.sound (rw (← c.self.view_is) at c.requires.held)
+pub head-head-requires : goal.head-head-requires
+head-head-requires c = held_there c.self.inside.rows c.args.file c.args.number c.self.invariant.sound (rw (← c.self.view_is) at c.requires.held)
 
 pub append-requires-clause-absent : goal.append-requires-clause-absent
 append-requires-clause-absent c = none_new c.self.inside.rows c.args.file c.self.invariant.sound (held_there c.self.inside.rows c.args.file c.args.number c.self.invariant.sound (rw (← c.self.view_is) at c.requires.held))

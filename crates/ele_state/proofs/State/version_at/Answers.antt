@@ -2,8 +2,8 @@ use Rattle.ele_state.proofs.Words.{AllLater, ArePlaced, Shown, subst, arith, nat
 use Rattle.ele_state.proofs.ToldVersions.{found_cells, found_held, told_found}
 use Rattle.ele_state.proofs.State.version_at.Goals as goal
 
-pub version_meant-requires-clause-there : goal.version_meant-requires-clause-there
-version_meant-requires-clause-there c = grind (arith, nat_tests, file_of, c.self.view_is)
+pub version_meant-requires : goal.version_meant-requires
+version_meant-requires c = grind (arith, nat_tests, file_of, c.self.view_is)
 
 pub returns-clause-value : goal.returns-clause-value
 returns-clause-value c = rw (← c.self.view_is) (grind (arith, nat_tests, told_found (world_of c.self.inside.rows), rw (← c.self.view_is) at c.walk_meant.ensures.value))

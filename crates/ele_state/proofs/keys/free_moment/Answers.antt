@@ -2,12 +2,12 @@ use Rattle.ele_state.proofs.Words.{refl, sym, ◌∙◌}
 use Rattle.ele_state.proofs.Asked.{free_told}
 use Rattle.ele_state.proofs.keys.free_moment.Goals as goal
 
-pub returns-in_err-ripe-clause-moment : goal.returns-in_err-ripe-clause-moment
-returns-in_err-ripe-clause-moment c =
-    let ripe = sym c.unmarked_moment.ensures.moment ∙ c.in_err-ripe.was in
-    rw c.from_residual-in_err-ripe.ensures (sym (free_told c.args.groups.now c.args.files.now c.args.is_live c.args.file c.args.number c.in_ok-stamps.stamps c.in_ok-stamps.ensures.value ∙ rw (c.in_ok-ended.was, ripe) refl))
+pub returns-in_err-ripe : goal.returns-in_err-ripe
+returns-in_err-ripe c =
+    let ripe = sym c.unmarked_moment.ensures ∙ c.in_err-ripe.was in
+    rw c.from_residual-in_err-ripe.ensures (sym (free_told c.args.groups.now c.args.files.now c.args.is_live c.args.file c.args.number c.in_ok-stamps.stamps c.in_ok-stamps.ensures ∙ rw (c.in_ok-ended.was, ripe) refl))
 
-pub returns-clause-moment : goal.returns-clause-moment
-returns-clause-moment c =
-    let ripe = sym c.unmarked_moment.ensures.moment ∙ c.in_ok-ripe.was in
-    c.ripe_past.ensures ∙ sym (free_told c.args.groups.now c.args.files.now c.args.is_live c.args.file c.args.number c.in_ok-stamps.stamps c.in_ok-stamps.ensures.value ∙ rw (c.in_ok-ended.was, ripe, ← c.cover-cover.ensures) refl)
+pub returns : goal.returns
+returns c =
+    let ripe = sym c.unmarked_moment.ensures ∙ c.in_ok-ripe.was in
+    c.ripe_past.ensures ∙ sym (free_told c.args.groups.now c.args.files.now c.args.is_live c.args.file c.args.number c.in_ok-stamps.stamps c.in_ok-stamps.ensures ∙ rw (c.in_ok-ended.was, ripe, ← c.cover-cover.ensures) refl)

@@ -12,5 +12,5 @@ pub returns : goal.returns
 returns c =
     let unread = sym c.is_open.ensures ∙ c.if-is_open.false in
     changes_under c.args.rows.now.groups c.args.rows.now.files c.args.file (rule_in c.args.was.now c.args.is_live) (rule_in c.args.is.now c.args.is_live) c.args.stamps.now c.requires c.moment_under.result c.moment_under-2.result
-    (rw (unread, c.in_ok-ended.was, ← c.next_closing-next.ensures.value) (sym c.moment_under.ensures))
-    (rw (unread, c.in_ok-ended.was, ← c.next_closing-next.ensures.value) (sym c.moment_under-2.ensures))
+    (rw (unread, c.in_ok-ended.was, ← c.next_closing-next.ensures) (sym c.moment_under.ensures))
+    (rw (unread, c.in_ok-ended.was, ← c.next_closing-next.ensures) (sym c.moment_under-2.ensures))

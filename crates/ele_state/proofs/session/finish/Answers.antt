@@ -4,8 +4,8 @@ use Rattle.ele_state.proofs.Grown.{grown_tracked, none_new, ready, roomy}
 use Rattle.ele_state.proofs.session.finish.Goals as goal
 use Rattle.ele_state.specs.declared.append.Source.TheVariants.{Draft}
 
-pub head-head-requires-clause-there : goal.head-head-requires-clause-there
-head-head-requires-clause-there c = file_there (world_of c.args.rows.now) c.args.handle c.args.file c.requires.reads c.args.opened c.requires.changed c.requires.sound.formed
+pub head-head-requires : goal.head-head-requires
+head-head-requires c = file_there (world_of c.args.rows.now) c.args.handle c.args.file c.requires.reads c.args.opened c.requires.changed c.requires.sound.formed
 
 pub append-requires-clause-absent : goal.append-requires-clause-absent
 append-requires-clause-absent c = none_new c.args.rows.now c.args.file c.requires.sound (file_there (world_of c.args.rows.now) c.args.handle c.args.file c.requires.reads c.args.opened c.requires.changed c.requires.sound.formed)
