@@ -1,11 +1,12 @@
 -- The scan is in order, and has a key just where its version is due from then on.
 use Rattle.ele_model.proofs.Basics.{nat_tests, arith, ◌≡◌, ℕ, ◌==◌, ◌&&◌, ◌||◌, ◌∙◌, Bool, true, false, List, [], ◌∷◌, Option, Some, None, refl, cond, cons_option, option_map, find, fold, AllByRecursion, AllLater, all-weaker, not_found, filter_map, insert_key, option_map_or, IsTotalOrder, nat_cmp_total, then_total, on_total, Less}
-use Rattle.ele_model.proofs.Words.{World, Key, VersionRow, ArePlaced, Versions, has_key, is_key, is_version, key_cmp, key_of, HasParts}
+use Rattle.ele_model.proofs.Words.{World, Key, ArePlaced, Versions, has_key, is_key, is_version, key_cmp, key_of, HasParts}
 use Rattle.std.proofs.Math.Bool.{or-false}
 use Rattle.std.specs.List.Sorted.{IsStrictlySortedBy}
 use Rattle.ele_model.specs.Due.{is_due_at, ripe_of}
 use Rattle.ele_model.specs.Scan.{due_key, scan}
-use Rattle.ele_model.specs.ScanLists.{is_due_from, ListsDue}
+use Rattle.ele_world.specs.ScanLists.{is_due_from, ListsDue}
+use Rattle.ele_world.proofs.Words.{VersionRow}
 
 -- ---- keys in order
 
