@@ -27,8 +27,8 @@ fn plan() -> Result<StormPlan, Fail> {
 
 // Whether what the core tells is what the scans of its rows give.
 fn is_equal<C: Audit>(core: &C) -> Result<bool, NoMemory> {
-    let due = core.due()?;
-    let names = core.restorable()?;
+    let due = core.due_keys()?;
+    let names = core.dead_names()?;
     let usage = core.usage();
     let flat = core.flat()?;
     // Told for the proof: the world is well formed, so the sums of its usage are within 64 bits.

@@ -63,7 +63,7 @@ impl Core {
     {
         match event {
             Event::Clock(to) => return Ok(Reply::Now(self.clock(*to)?)),
-            Event::Due => return Ok(Reply::DueList(self.due()?)),
+            Event::Due => return Ok(Reply::DueList(self.due_keys()?)),
             _ => {}
         }
         self.answer_any(event)
@@ -108,8 +108,8 @@ impl Core {
             Event::Stat(tagged) => Ok(stat_told(self.stat(tagged)?)),
             Event::Versions(at) => self.versions(at).map(Reply::Rows),
             Event::List(at) => self.list(at).map(Reply::NameList),
-            Event::Restorable => Ok(Reply::RestoreList(self.restorable()?)),
-            Event::Due => Ok(Reply::DueList(self.due()?)),
+            Event::Restorable => Ok(Reply::RestoreList(self.dead_names()?)),
+            Event::Due => Ok(Reply::DueList(self.due_keys()?)),
             Event::UsageAll => Ok(Reply::UsageList(self.usage())),
             Event::GroupsAll => Ok(Reply::GroupList(self.groups()?)),
         }

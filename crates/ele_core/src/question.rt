@@ -1,8 +1,8 @@
 //! The events that ask, and what else is asked. None changes anything.
-ghost use Rattle.std.specs.Prelude.{◌≡◌, ◌<◌, Ok, Err, IfOk, IfErr};
+ghost use Rattle.std.specs.Prelude.{◌≡◌, ◌<◌, Ok, Err, IfOk, IfErr, map};
 ghost use Rattle.ele_core.specs.Does.{Does, DoesAtOnce, stat_told};
 ghost use Rattle.ele_model.specs.Due.{is_due};
-ghost use Rattle.ele_model.specs.Restorable.{restorable};
+ghost use Rattle.ele_model.specs.Restorable.{restorable, triple_of};
 ghost use Rattle.ele_model.specs.Scan.{scan, first_due};
 ghost use Rattle.ele_model.specs.Usage.{usages};
 ghost use Rattle.ele_model.specs.declared.event.Event.TheVariants as event;
@@ -16,8 +16,8 @@ use crate::Core;
 use crate::halt::{Halt, check};
 use ele_model::{
     ByteList, DeadNameList, DirId, DirectoryRow, FileId, FileStat, GroupList, Handle, Key, KeyList,
-    NameList, NoMemory, PathAt, Reads, Refusal, Source, StampsList, Tag, TaggedPath, Target, Usage,
-    VersionNo,
+    Name, NameList, NoMemory, PathAt, Reads, Refusal, Source, StampsList, Tag, TaggedPath, Target,
+    Usage, VersionNo, triples_of,
 };
 use ele_state::{directory_in, file_in};
 
@@ -145,11 +145,21 @@ impl Core {
         self.state.usage()
     }
 
-    /// The names that may come back, by directory and then by the bytes of the name.
+    /// The names that may come back, by directory and then by the bytes of the name: of each its
+    /// directory, the name and what it last meant.
     ///
-    /// `NoMemory` where memory is refused.
+    /// `NoMemory` if memory is refused.
+    pub fn restorable(&self) -> Result<Vec<(DirId, Name, Target)>, NoMemory>
+        ensures { IfOk result (λ names. names.items ≡ map triple_of (restorable self.now.world)) }
+    {
+        triples_of(&self.dead_names()?)
+    }
+
+    /// The names that `restorable` returns, as the list that its reply holds.
+    ///
+    /// `NoMemory` if memory is refused.
     #[inline(never)]
-    pub fn restorable(&self) -> Result<DeadNameList, NoMemory>
+    pub fn dead_names(&self) -> Result<DeadNameList, NoMemory>
         ensures { IfOk result (λ names. names ≡ restorable self.now.world) }
     {
         self.state.restorable()
@@ -164,8 +174,17 @@ impl Core {
 
     /// The keys of the versions that are due now, in the order in which they are removed.
     ///
-    /// `NoMemory` where memory is refused.
-    pub fn due(&self) -> Result<KeyList, NoMemory>
+    /// `NoMemory` if memory is refused.
+    pub fn due(&self) -> Result<Vec<Key>, NoMemory>
+        ensures { IfOk result (λ keys. keys.items ≡ scan self.now.world) }
+    {
+        Ok(self.due_keys()?.into_vec())
+    }
+
+    /// The keys that `due` returns, as the list that its reply holds.
+    ///
+    /// `NoMemory` if memory is refused.
+    pub fn due_keys(&self) -> Result<KeyList, NoMemory>
         ensures { IfOk result (λ keys. keys ≡ scan self.now.world) }
     {
         self.state.due()

@@ -26,12 +26,12 @@ impl Step for Core {
 }
 
 impl Audit for Core {
-    fn due(&self) -> Result<KeyList, NoMemory> {
-        Core::due(self)
+    fn due_keys(&self) -> Result<KeyList, NoMemory> {
+        Core::due_keys(self)
     }
 
-    fn restorable(&self) -> Result<DeadNameList, NoMemory> {
-        Core::restorable(self)
+    fn dead_names(&self) -> Result<DeadNameList, NoMemory> {
+        Core::dead_names(self)
     }
 
     fn usage(&self) -> [Usage; 4] {

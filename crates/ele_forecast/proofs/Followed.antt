@@ -1,8 +1,14 @@
--- A version with newer ones behind it: when it ripens, and what displaces it.
-use Rattle.ele_forecast.proofs.Words.{◌≡◌, ℕ, ◌-◌, ◌&&◌, ◌||◌, Bool, true, false, not, List, [], ◌∷◌, ◌++◌, append-nil, Option, Some, None, refl, ap, sym, subst, ◌∙◌, IsSome, arith, nat_tests, nat_le, ◌==◌, find, option_map, option_map_or, option_and_then, list_any}
-use Rattle.ele_forecast.proofs.Words.{find-filter_both, Policy, Landmarks, Rung, level_of, rung_at, shares, IsRipe, alone, candidates, earliest_of, is_due_by, VersionRow, FileView, beside, MarkRow, ends_over, keeps_at, due_in, is_newer, ripe_in, IsFollowed, IsDisplaced, IsWhy, TellsOf, Forecast, Why, displacing}
+-- A version with newer ones behind it: when it ripens, and why it goes then.
+use Rattle.ele_forecast.proofs.Words.{◌≡◌, ℕ, ◌&&◌, ◌||◌, Bool, true, false, not, List, [], ◌++◌, append-nil, Option, Some, refl, ap, sym, subst, ◌∙◌, IsSome, arith, nat_tests, nat_le, ◌==◌, option_map_or, option_and_then, list_any}
+use Rattle.ele_forecast.proofs.Words.{Policy, Landmarks, IsRipe, alone, candidates, earliest_of, is_due_by, VersionRow, FileView, beside, MarkRow, ends_over, keeps_at, due_in, ripe_in, IsFollowed, IsWhy, TellsOf, Forecast, Why}
 use Rattle.ele_forecast.proofs.Words.{One, All, Safe, IsLawful, last_moment, ◌≤◌, length, meets_floor, ripe_near}
+use Rattle.ele_forecast.proofs.Words.{map, slice_get}
+use Rattle.ele_forecast.specs.Tells.{GoesFor}
+use Rattle.ele_model.specs.Fate.{newer_version, newer_versions}
+use Rattle.ele_policy.specs.Cause.{IsCause}
 use Rattle.ele_policy.specs.Ripe.{ripe_by}
+use Rattle.ele_policy.specs.declared.cause.Cause.{Cause}
+use Rattle.ele_policy.specs.declared.cause.Newer.{Newer}
 
 -- ---- of a file that is unread and unmarked
 
@@ -43,41 +49,34 @@ told_alone One closed ended m nearest met is = is
 told_alone All closed ended m nearest met is = is
 told_alone (Landmarks rungs) closed ended m nearest met is = is
 
--- ---- what displaces it
+-- so the policy lets it go then, beside that one alone
+pub due_alone : (policy : Policy) (closed ended ripe : ℕ) → IsLawful policy → ripe ≤ last_moment → ripe_by policy closed (alone (Some ended)) ended ≡ Some ripe → is_due_by policy closed (alone (Some ended)) ended ripe ≡ true
+due_alone policy closed ended ripe lawful fits is =
+    lawful.due_from closed ended ripe (alone (Some ended)) fits ∙ ap (λ (o : Option ℕ). option_map_or (λ m. nat_le m ripe) o false) is ∙ grind (arith, nat_tests)
 
--- a ladder lets it go beside a newer one with which it shares the span of its level
-shared_in : (closed ended : ℕ) (after : Bool) (o : Option Rung) → (after && option_map_or (λ rung. list_any (λ newer. shares closed newer rung) (ended ∷ [])) o false) ≡ true → (rung : Rung) × (o ≡ Some rung) × (shares closed ended rung ≡ true)
-shared_in closed ended after None h = absurd (grind (arith, nat_tests))
-shared_in closed ended after (Some rung) h = (rung, refl, grind (arith, nat_tests))
+-- ---- the next one
 
 module _ (policy : Policy) (v : FileView) (row next : VersionRow) (newer : ℕ) (is : IsFollowed policy v row next newer) where
   -- the nearest newer version is the next one
-  by_next : (rung : Rung) → shares row.closed next.closed rung ≡ true → displacing v.rows row rung ≡ Some next.number
-  by_next rung same =
-      let test : VersionRow → Bool = λ other. shares row.closed other.closed rung in
-      let first : find test (next ∷ is.later) ≡ Some next = grind (arith, nat_tests, same) in
-      ap (option_map (λ (other : VersionRow). other.number)) (sym (find-filter_both test (is_newer row) v.rows) ∙ ap (find test) is.behind ∙ first)
+  by_next : (closed number : ℕ) → next.closed ≡ closed → next.number ≡ number → slice_get (newer_versions v row) 0 ≡ Some (record { number = number; closed = closed })
+  by_next closed number ends numbered = rw (← ends, ← numbered) (ap (λ (rows : List VersionRow). slice_get (map newer_version rows) 0) is.behind)
 
-  module _ (rungs : List Rung) (closed ended ripe level by : ℕ) (ladder : policy ≡ Landmarks rungs) (closes : row.closed ≡ closed) (ends : next.closed ≡ ended) (numbered : next.number ≡ by) where
-    pub displaced : IsLawful policy → ripe ≤ last_moment → ripe_in v row ≡ Some ripe → ripe_by policy closed (alone (Some ended)) ended ≡ Some ripe → level ≡ level_of rungs (ripe - ended) → IsDisplaced v row level by
-    displaced lawful fits ripens told level_is =
-        let due : is_due_by policy closed (alone (Some ended)) ended ripe ≡ true =
-        lawful.due_from closed ended ripe (alone (Some ended)) fits ∙ ap (λ (x : Option ℕ). option_map_or (λ m. nat_le m ripe) x false) told ∙ grind (arith, nat_tests) in
-        let under : Policy → Type 0 = λ p. is_due_by p closed (alone (Some ended)) ended ripe ≡ true in
-        let found = shared_in closed ended (nat_le ended ripe) (rung_at rungs (level_of rungs (ripe - ended))) (subst under ladder due) in
-        let same : shares row.closed next.closed found.0 ≡ true = ap (λ (x : ℕ). shares x next.closed found.0) closes ∙ ap (λ (x : ℕ). shares closed x found.0) ends ∙ found.2 in
-        record {
-          rungs = rungs;
-          ladder = is.policy_is ∙ ap Some ladder;
+  -- so a cause that holds beside it is the version's
+  pub goes_for : (closed ended ripe number : ℕ) (cause : Cause) → row.closed ≡ closed → next.closed ≡ ended → next.number ≡ number → ripe_in v row ≡ Some ripe
+      → ((others : List Newer) → slice_get others 0 ≡ Some (record { number = number; closed = ended }) → IsCause policy closed ended others ripe cause) → GoesFor v row cause
+  goes_for closed ended ripe number cause closes ends numbered ripens told =
+      let own : ℕ → Type 0 = λ at. IsCause policy at ended (newer_versions v row) ripe cause in
+      record {
+        ripe = ripe;
+        ripens = ripens;
+        why = record {
+          policy = policy;
+          policy_is = is.policy_is;
           ended = ended;
           has_ended = is.ended ∙ ap Some ends;
-          ripe = ripe;
-          ripens = ripens;
-          level_is = level_is;
-          rung = found.0;
-          at_level = ap (rung_at rungs) level_is ∙ found.1;
-          by_is = by_next found.0 same ∙ ap Some numbered;
-        }
+          why = subst own (sym closes) (told (newer_versions v row) (by_next ended number ends numbered));
+        };
+      }
 
   -- and if it has no ripe moment, it has ended all the same
   pub has_ended : IsSome row.ended

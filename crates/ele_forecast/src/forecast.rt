@@ -1,17 +1,19 @@
 //! What is told of one version. A contract sees it as plain data, beside the version's row and the
 //! file that holds it.
-ghost use Rattle.std.specs.Prelude.{◌≡◌, ◌≤◌, ℕ, ◌<◌, ◌+◌, ◌^◌, ◌++◌, ◌∷◌, [], Some, None, OnOk, true, not};
+ghost use Rattle.std.specs.Prelude.{◌≡◌, ◌≤◌, ℕ, ◌<◌, ◌+◌, ◌^◌, ◌++◌, ◌∷◌, List, [], Some, None, OnOk, slice_get, true, not};
 ghost use Rattle.ele_lists.specs.Lists.{AllLater};
+ghost use Rattle.ele_policy.specs.Cause.{IsCause};
 ghost use Rattle.ele_policy.specs.FloorOf.{meets_floor};
 ghost use Rattle.ele_policy.specs.Ripe.{alone, ripe_by};
-ghost use Rattle.ele_model.specs.FileView.{FileView, ripe_in};
+ghost use Rattle.ele_policy.specs.declared.cause.Newer.{Newer};
+ghost use Rattle.ele_model.specs.FileView.{FileView};
 ghost use Rattle.ele_model.specs.declared.rows.VersionRow.{VersionRow};
 ghost use Rattle.ele_forecast.specs.Followed.{IsFollowed};
 ghost use Rattle.ele_forecast.specs.StaysBehind.{goes};
-ghost use Rattle.ele_forecast.specs.Tells.{IsWhy, TellsOf};
+ghost use Rattle.ele_forecast.specs.Tells.{TellsOf};
 
 use ele_moment::{Moment, NoMemory, VersionNo};
-use ele_policy::{Interval, Policy, ripe};
+use ele_policy::{Cause, Newer, Policy, cause_of, ripe};
 
 /// Why a version may be forgotten from a moment on, or why from none.
 #[derive(Clone, Copy, Debug, PartialEq, Eq)]
@@ -20,13 +22,8 @@ pub enum Why {
     Current,
     /// Its policy never lets it go, not before the last moment, or not beside so few newer ones.
     Never,
-    /// Its policy keeps no version that has ended.
-    AtOnce,
-    /// It has been ended for that long, beside as many newer ones as the floor says.
-    Age(Interval),
-    /// At the level of the ladder that it has reached by then, the first of which is 1, that newer
-    /// version closed in the same span: the nearest one that did.
-    Displaced { level: usize, by: VersionNo },
+    /// Its policy lets it go from its ripe moment on.
+    Goes(Cause),
 }
 
 /// A version of a file: when it closed and ended, and the moment from which it may be forgotten.
@@ -40,24 +37,22 @@ pub struct Forecast {
     pub why: Why,
 }
 
-// Why the policy lets a version go from its ripe moment on, behind which that one closed as it ended.
-fn reason(policy: &Policy, closed: Moment, ended: Moment, ripe: Moment, by: VersionNo) -> Why
+// Why the policy lets a version go from its ripe moment on that ended as the next one closed, which
+// has that number.
+#[tactic(auto, using(crate::proofs::Followed::due_alone))]
+fn cause(policy: &Policy, closed: Moment, ended: Moment, ripe: Moment, next: VersionNo) -> Cause
     requires { ripe_by policy.now closed (alone (Some ended)) ended ≡ Some ripe }
-    ensures { (v : FileView) (row next : VersionRow) (newer : ℕ)
-        → IsFollowed policy.now v row next newer → row.closed ≡ closed → next.closed ≡ ended → next.number ≡ by
-        → ripe_in v row ≡ Some ripe → IsWhy v row result }
+    ensures { (newer : List Newer)
+        → slice_get newer 0 ≡ Some (record { number = next; closed = ended })
+        → IsCause policy.now closed ended newer ripe result }
 {
     policy.lemma_valid();
-    match policy {
-        Policy::One => Why::AtOnce,
-        Policy::All => Why::Never,
-        Policy::Safe(interval, _) => Why::Age(*interval),
-        Policy::Landmarks(ladder) => {
-            let age = ripe.seconds().saturating_sub(ended.seconds());
-            let level = ladder.level(age);
-            Why::Displaced { level, by }
-        }
-    }
+    let _within = ripe.seconds();
+    let next = Newer {
+        number: next,
+        closed: ended,
+    };
+    cause_of(policy, closed, ended, Some(next), ripe)
 }
 
 // A forecast of these parts.
@@ -89,6 +84,8 @@ fn told(
 pub(crate) fn add(forecasts: &mut Vec<Forecast>, forecast: Forecast) -> Result<(), NoMemory>
     ensures { OnOk result (forecasts.new.items ≡ forecasts.old.items ++ forecast ∷ []) }
 {
+    // The borrow checker's proof of `push` wants a local of each type that a forecast holds.
+    let _cause: Option<Cause> = None;
     let Forecast {
         number,
         closed,
@@ -138,8 +135,8 @@ pub(crate) fn followed(
     let floor_met = meets_floor(policy, newer);
     match ripe(policy, closed, ended, Some(ended), floor_met) {
         Some(moment) => {
-            let why = reason(policy, closed, ended, moment, number.after());
-            told(number, closed, Some(ended), Some(moment), why)
+            let cause = cause(policy, closed, ended, moment, number.after());
+            told(number, closed, Some(ended), Some(moment), Why::Goes(cause))
         }
         None => told(number, closed, Some(ended), None, Why::Never),
     }

@@ -10,7 +10,7 @@ use Rattle.std.proofs.Common.{zero-add}
 use Rattle.std.specs.List.{count_by}
 use Rattle.ele_lists.proofs.Cuts.{any-found as first_passing}
 use Rattle.ele_lists.proofs.Sums.{any-count, sum_by-insert_before}
-use Rattle.ele_model.proofs.Closes.{new_found, none_next}
+use Rattle.ele_model.proofs.NextVersion.{new_found, none_next}
 use Rattle.ele_model.proofs.Files.{policies-numbered}
 use Rattle.ele_model.proofs.Elements.{any_none}
 use Rattle.ele_model.proofs.KeptVersions.{behind_too, ended_versions, next_placed}

@@ -1,145 +1,26 @@
--- The fates of held versions: each has one, and those that are due are in the scan.
-use Rattle.ele_model.proofs.Basics.{◌≡◌, ℕ, ◌&&◌, ◌||◌, Bool, true, false, List, [], ◌∷◌, Option, Some, None, IsSome, refl, ap, sym, subst, ◌∙◌, arith, find, list_any, nat_tests, find-filter_both}
-use Rattle.ele_model.proofs.Words.{Key, has_key, GroupRow, MarkRow, VersionRow, FileView, file_view, is_newer, is_newer_of, is_protected, is_version_of, has_covering, keeps_at, is_member, is_marked, HasParts, World, is_open}
-use Rattle.ele_policy.specs.Ladder.{Rung, shares}
+-- What the fate of a held version depends on: what protects it, and its next newer version.
+use Rattle.ele_model.proofs.Basics.{◌≡◌, ℕ, ◌||◌, List, [], ◌∷◌, refl, ap, sym, ◌∙◌, arith, find, nat_tests, find-filter_both}
+use Rattle.ele_model.proofs.Words.{VersionRow, file_view, is_newer, is_newer_of, is_protected, is_version_of, is_marked, World, is_open}
+use Rattle.std.specs.Prelude.{filter, map, slice_get}
+use Rattle.std.specs.Option.{option_map}
 use Rattle.ele_model.proofs.GroupMarks.{marks_tell}
 use Rattle.ele_model.proofs.Readers.{numbers_are}
-use Rattle.ele_model.proofs.ScanOrder.{scan_lists}
-use Rattle.ele_model.specs.Due.{is_due_at}
-use Rattle.ele_model.specs.Fate.{HasFate, IsCause, IsFate, IsMarkedBy, displacing, says_due}
-use Rattle.ele_model.specs.Scan.{scan}
-use Rattle.ele_model.specs.ScanLists.{is_due_from}
-use Rattle.ele_model.specs.declared.fate.Cause.{Cause}
-use Rattle.ele_model.specs.declared.fate.Cause.TheVariants.{AtOnce, Age, Displaced}
-use Rattle.ele_model.specs.declared.fate.Fate.{Fate}
-use Rattle.ele_model.specs.declared.fate.Fate.TheVariants.{Current, Open, Marked, Kept, Due}
+use Rattle.ele_model.specs.Fate.{newer_version, newer_versions}
 
--- ---- what the conditions say of each other
-
-any_found : {X : Type 0} (p : X → Bool) (xs : List X) (x : X) → find p xs ≡ Some x → list_any p xs ≡ true
-any_found p [] x found = absurd (cc)
-any_found p (y ∷ ys) x found = grind (arith, nat_tests, any_found p ys x)
-
-module _ (w : World) (row : VersionRow) where
-  -- it is protected where a handle reads it, or a mark covers it
-  pub protected_told : (at : ℕ) → is_protected (file_view w row.file) row at ≡ (is_open w.handles row.file row.number || is_marked w.groups row.file row.closed row.ended at)
-  protected_told at = rw (numbers_are w.handles row.file row.number, marks_tell w.groups row.file row.closed row.ended at) refl
-
-  pub marked_told : (at : ℕ) (name : List ℕ) (mark : MarkRow) → IsMarkedBy w.groups row.file row.closed row.ended at name mark → is_marked w.groups row.file row.closed row.ended at ≡ true
-  marked_told at name mark is = any_found (λ g. is_member row.file g && has_covering row.closed row.ended at g) w.groups is.group is.first_group
-
-  open_protected : (at : ℕ) → is_open w.handles row.file row.number ≡ true → is_protected (file_view w row.file) row at ≡ true
-  open_protected at is = grind (arith, nat_tests, protected_told at)
-
-  marked_protected : (at : ℕ) (name : List ℕ) (mark : MarkRow) → IsMarkedBy w.groups row.file row.closed row.ended at name mark → is_protected (file_view w row.file) row at ≡ true
-  marked_protected at name mark is = grind (arith, nat_tests, protected_told at, marked_told at name mark is)
-
-  due_unprotected : (at : ℕ) → is_due_at w row at ≡ true → is_protected (file_view w row.file) row at ≡ false
-  unfolding is_due_at
-  due_unprotected at due = grind (arith, nat_tests)
-
-  protected_not_due : (at : ℕ) → is_protected (file_view w row.file) row at ≡ true → is_due_at w row at ≡ false
-  unfolding is_due_at
-  protected_not_due at is = grind (arith, nat_tests)
-
-  due_ended : (at : ℕ) → is_due_at w row at ≡ true → IsSome row.ended
-  unfolding is_due_at
-  due_ended at due = grind (arith, nat_tests)
-
-  unended_not_due : (at : ℕ) → row.ended ≡ None → is_due_at w row at ≡ false
-  unfolding is_due_at
-  unended_not_due at none = grind (arith, nat_tests)
-
-  -- ---- a version is due by its fate just where it is due
-
-  fate_due : (fate : Fate) → IsFate w row fate → (key : Key) → is_due_from w key row ≡ says_due key.ripe (Some fate)
-  fate_due Current is key = rw (unended_not_due w.now is) refl
-  fate_due Open is key = rw (protected_not_due w.now (open_protected w.now is.1)) refl
-  fate_due (Marked name mark) is key = rw (protected_not_due w.now (marked_protected w.now name mark is.2)) refl
-  fate_due (Kept until level) is key = rw is.not_due refl
-  fate_due (Due since cause) is key = rw (is.due, is.ripe) refl
-
-pub due_fate : (w : World) → HasParts w → (file number : ℕ) (fate : Fate) → HasFate w file number fate
-    → (ripe : ℕ) → has_key (record { ripe = ripe; file = file; number = number }) (scan w) ≡ says_due ripe (Some fate)
-due_fate w k file number fate has ripe =
-    let key : Key = record { ripe = ripe; file = file; number = number } in
-    (scan_lists w k).each key ∙ rw has.held (fate_due w has.row fate has.is key)
-
--- ---- no version has two
-
-none_some : {X : Type 0} (o : Option X) → o ≡ None → IsSome o → ⊥
-none_some o is some = grind (arith, nat_tests)
-
-true_false : (b : Bool) → b ≡ true → b ≡ false → ⊥
-true_false b is isn't = grind (arith, nat_tests)
-
-module _ (w : World) (row : VersionRow) where
-  one_mark : (name other : List ℕ) (mark made : MarkRow) → IsMarkedBy w.groups row.file row.closed row.ended w.now name mark → IsMarkedBy w.groups row.file row.closed row.ended w.now other made → (name ≡ other) × (mark ≡ made)
-  one_mark name other mark made a b =
-      let group : a.group ≡ b.group = cc (a.first_group, b.first_group) in
-      let named : name ≡ other = sym a.named ∙ ap (λ (g : GroupRow). g.name) group ∙ b.named in
-      let same : Some mark ≡ Some made = sym a.first_mark ∙ ap (λ (g : GroupRow). find (keeps_at row.closed row.ended w.now) g.marks) group ∙ b.first_mark in
-      (named, cc same)
-
-  one_cause : (v : FileView) (since : ℕ) (a b : Cause) → IsCause v row since a → IsCause v row since b → a ≡ b
-  one_cause v since AtOnce AtOnce p q = refl
-  one_cause v since AtOnce (Age n) p q = absurd (cc (p, q.safe))
-  one_cause v since AtOnce (Displaced l n) p q = absurd (cc (p, q.ladder))
-  one_cause v since (Age n) AtOnce p q = absurd (cc (p.safe, q))
-  one_cause v since (Age n) (Age m) p q = let same : n ≡ m = cc (p.safe, q.safe) in ap Age same
-  one_cause v since (Age n) (Displaced l m) p q = absurd (cc (p.safe, q.ladder))
-  one_cause v since (Displaced l n) AtOnce p q = absurd (cc (p.ladder, q))
-  one_cause v since (Displaced l n) (Age m) p q = absurd (cc (p.ladder, q.safe))
-  one_cause v since (Displaced l n) (Displaced k m) p q =
-      let level : l ≡ k = cc (p.reached, q.reached) in
-      let rungs : p.rungs ≡ q.rungs = cc (p.ladder, q.ladder) in
-      let rung : p.rung ≡ q.rung = cc (p.at_level, q.at_level) in
-      let by : n ≡ m = cc (p.by_is, q.by_is) in
-      cc
-
-  one_fate_of : (a b : Fate) → IsFate w row a → IsFate w row b → a ≡ b
-  one_fate_of Current Current p q = refl
-  one_fate_of Current Open p q = absurd (none_some row.ended p q.0)
-  one_fate_of Current (Marked g m) p q = absurd (none_some row.ended p q.0)
-  one_fate_of Current (Kept u l) p q = absurd (none_some row.ended p q.has_ended)
-  one_fate_of Current (Due s c) p q = absurd (none_some row.ended p (due_ended w row w.now q.due))
-  one_fate_of Open Current p q = absurd (none_some row.ended q p.0)
-  one_fate_of Open Open p q = refl
-  one_fate_of Open (Marked g m) p q = absurd (true_false (is_open w.handles row.file row.number) p.1 q.1)
-  one_fate_of Open (Kept u l) p q = absurd (true_false (is_protected (file_view w row.file) row w.now) (open_protected w row w.now p.1) q.unprotected)
-  one_fate_of Open (Due s c) p q = absurd (true_false (is_protected (file_view w row.file) row w.now) (open_protected w row w.now p.1) (due_unprotected w row w.now q.due))
-  one_fate_of (Marked g m) Current p q = absurd (none_some row.ended q p.0)
-  one_fate_of (Marked g m) Open p q = absurd (true_false (is_open w.handles row.file row.number) q.1 p.1)
-  one_fate_of (Marked g m) (Marked h n) p q = let one = one_mark g h m n p.2 q.2 in cc (one.0, one.1)
-  one_fate_of (Marked g m) (Kept u l) p q = absurd (true_false (is_protected (file_view w row.file) row w.now) (marked_protected w row w.now g m p.2) q.unprotected)
-  one_fate_of (Marked g m) (Due s c) p q = absurd (true_false (is_protected (file_view w row.file) row w.now) (marked_protected w row w.now g m p.2) (due_unprotected w row w.now q.due))
-  one_fate_of (Kept u l) Current p q = absurd (none_some row.ended q p.has_ended)
-  one_fate_of (Kept u l) Open p q = absurd (true_false (is_protected (file_view w row.file) row w.now) (open_protected w row w.now q.1) p.unprotected)
-  one_fate_of (Kept u l) (Marked g m) p q = absurd (true_false (is_protected (file_view w row.file) row w.now) (marked_protected w row w.now g m q.2) p.unprotected)
-  one_fate_of (Kept u l) (Kept t k) p q = cc (p.until_is, q.until_is, p.level_is, q.level_is)
-  one_fate_of (Kept u l) (Due s c) p q = absurd (true_false (is_due_at w row w.now) q.due p.not_due)
-  one_fate_of (Due s c) Current p q = absurd (none_some row.ended q (due_ended w row w.now p.due))
-  one_fate_of (Due s c) Open p q = absurd (true_false (is_protected (file_view w row.file) row w.now) (open_protected w row w.now q.1) (due_unprotected w row w.now p.due))
-  one_fate_of (Due s c) (Marked g m) p q = absurd (true_false (is_protected (file_view w row.file) row w.now) (marked_protected w row w.now g m q.2) (due_unprotected w row w.now p.due))
-  one_fate_of (Due s c) (Kept t k) p q = absurd (true_false (is_due_at w row w.now) p.due q.not_due)
-  one_fate_of (Due s c) (Due t d) p q =
-      let since : s ≡ t = cc (p.ripe, q.ripe) in
-      let why = let P : ℕ → Type 0 = λ n. IsCause (file_view w row.file) row n c in subst P since p.why in
-      let cause : c ≡ d = one_cause (file_view w row.file) t c d why q.why in
-      cc
-
-pub one_fate : (w : World) (file number : ℕ) (one other : Fate) → HasFate w file number one → HasFate w file number other → one ≡ other
-one_fate w file number one other a b =
-    let row : a.row ≡ b.row = cc (a.held, b.held) in
-    one_fate_of w b.row one other (let P : VersionRow → Type 0 = λ r. IsFate w r one in subst P row a.is) b.is
+-- it is protected where a handle reads it, or a mark covers it
+pub protected_told : (w : World) (row : VersionRow) (at : ℕ) → is_protected (file_view w row.file) row at ≡ (is_open w.handles row.file row.number || is_marked w.groups row.file row.closed row.ended at)
+protected_told w row at = rw (numbers_are w.handles row.file row.number, marks_tell w.groups row.file row.closed row.ended at) refl
 
 -- ---- the next held version of a held one
 
 -- it is the file's next row behind the number
-pub newer_found : (w : World) (row : VersionRow) → find (is_newer_of row.file row.number) w.versions ≡ find (is_newer row) (file_view w row.file).rows
+newer_found : (w : World) (row : VersionRow) → find (is_newer_of row.file row.number) w.versions ≡ find (is_newer row) (file_view w row.file).rows
 newer_found w row = sym (find-filter_both (is_newer row) (is_version_of row.file) w.versions)
 
--- where it shares the span, it is the one that displaces
-pub displaced_by : (rows : List VersionRow) (row next : VersionRow) (rung : Rung) → find (is_newer row) rows ≡ Some next → shares row.closed next.closed rung ≡ true → displacing rows row rung ≡ Some next.number
-displaced_by [] row next rung found same = absurd (cc)
-displaced_by (x ∷ xs) row next rung found same = grind (arith, nat_tests, displaced_by xs row next rung)
+-- and the first of the newer versions
+first_newer : (rows : List VersionRow) (row : VersionRow) → slice_get (map newer_version (filter (is_newer row) rows)) 0 ≡ option_map newer_version (find (is_newer row) rows)
+first_newer [] row = refl
+first_newer (x ∷ xs) row = grind (arith, nat_tests, first_newer xs row)
+
+pub nearest_newer : (w : World) (row : VersionRow) → slice_get (newer_versions (file_view w row.file) row) 0 ≡ option_map newer_version (find (is_newer_of row.file row.number) w.versions)
+nearest_newer w row = first_newer (file_view w row.file).rows row ∙ ap (option_map newer_version) (sym (newer_found w row))

@@ -1,6 +1,6 @@
 -- Each change that may be made keeps a world well formed, and so do all changes of a plan.
 use Rattle.ele_model.proofs.Basics.{nat_tests, arith, ◌≡◌, List, [], ◌∷◌, refl}
-use Rattle.ele_model.proofs.Words.{Change, Time, Govern, PutUnder, Revive, Append, Take, WriteDraft, TruncateDraft, EndDraft, after_change, after_changes, Plan, outcome, IsEvent, PoliciesAreLawful, HasParts, World, Event}
+use Rattle.ele_model.proofs.Words.{Change, Time, Govern, PutUnder, Revive, Append, Take, WriteDraft, TruncateDraft, EndDraft, after_change, after_changes, Plan, outcome, IsEvent, HasParts, World, Event}
 use Rattle.ele_model.proofs.KeptDrafts.{start_keeps, write_keeps, truncate_keeps, end_keeps, open_keeps, shut_keeps}
 use Rattle.ele_model.proofs.KeptDirectories.{make_directory_keeps, end_name_keeps, add_name_keeps, end_file_name_keeps, move_name_keeps}
 use Rattle.ele_model.proofs.KeptNames.{time_keeps, govern_keeps, put_under_keeps, make_keeps}
@@ -10,8 +10,6 @@ use Rattle.ele_model.proofs.KeptRevived.{revive_keeps}
 use Rattle.ele_model.proofs.KeptVersions.{append_keeps, take_keeps}
 use Rattle.ele_model.proofs.May.{May, MayBy, MayAll, MayPlan}
 use Rattle.ele_model.proofs.Outcomes.{outcome_of}
-use Rattle.ele_model.proofs.Formed.{in_parts, well_formed}
-use Rattle.ele_model.specs.ChangeKeeps.{ChangeKeepsWellFormed}
 
 pub change_keeps : (w : World) (change : Change) → May w change → HasParts w → HasParts (after_change w change)
 change_keeps w (Take file number) may k = take_keeps w file number may.ended may.unread k
@@ -45,7 +43,3 @@ pub record IsReached (event : Event) (w after : World) : Type 0 where
 
 pub reached : (event : Event) (w : World) (plan : Plan) → MayPlan event w plan → IsReached event w ((outcome w plan).1)
 reached event w = outcome_of w (λ reply changes. MayAll event w w changes) (λ answer. IsReached event w (answer.1)) (λ reply changes may. record { changes = changes; may = may; is = refl }) (λ refusal. record { changes = []; may = tt; is = refl })
-
--- the law of one change
-pub change_keeps_well_formed : PoliciesAreLawful → ChangeKeepsWellFormed
-change_keeps_well_formed law w change may k = well_formed (after_change w change) (change_keeps w change may (in_parts law w k))

@@ -39,10 +39,7 @@ pub mod PolicyUsage
 pub mod Meant
 pub mod Allowed
 pub mod StepKeeps
-pub mod Moves
-pub mod Stays
-pub mod OpenStays
-pub mod Closes
+pub mod NextVersion
 pub mod Outcomes
 pub mod Cleans
 pub mod CleanKeepsKeys
@@ -61,7 +58,5 @@ pub mod DropViews
 pub mod DropUsage
 pub mod NoIdle
 pub mod MadeMoments
-pub mod NameRowsKept
 pub mod Rising
-pub mod ScanOrder
 pub mod Fates

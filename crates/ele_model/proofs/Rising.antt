@@ -1,16 +1,21 @@
 -- The time, the counts and the files' numbers rise with each event.
-use Rattle.ele_model.proofs.Basics.{arith, ◌≡◌, ℕ, ◌+◌, ◌<◌, ◌≤◌, true, false, List, [], ◌∷◌, ◌++◌, refl, ◌⊎◌, inl, AllLater, list_any, update_first, remove_first, list_any-append, list_any-update_first, nat_tests}
+use Rattle.ele_model.proofs.Basics.{arith, ◌≡◌, ℕ, ◌+◌, ◌<◌, ◌≤◌, true, false, List, [], ◌∷◌, ◌++◌, refl, ◌⊎◌, inl, AllLater, list_any, update_first, remove_first, list_any-append, list_any-update_first, nat_tests, ◌==◌, ◌&&◌, not, all-weaker}
 use Rattle.ele_model.proofs.Words.{World, Event, Close, CleanOne, Create, Undelete, Revert, SetPolicy, default_of, Read, FileRow, Policy, HasParts, Files, DropIdle, EndDraft, ShutHandle, Take, MakeFile, after_change, is_file, next_of, numbered_on, put_under, plan, Counts, without_file, step}
 use Rattle.ele_model.specs.NumbersRise.{CountsOn, GoesOn}
 use Rattle.ele_model.proofs.Dropped.{dropped, next_of-removed}
 use Rattle.ele_model.proofs.Files.{next_of-numbered_le, next_of-put_under, next_of-push}
+use Rattle.ele_model.proofs.Elements.{any_none}
 use Rattle.ele_model.proofs.Outcomes.{AfterAll, in_all}
-use Rattle.ele_model.proofs.NameRowsKept.{removed_any}
 
 counts_stay : (made : Counts) → CountsOn made made
 counts_stay made = record { files = omega arith; directories = omega arith; names = omega arith; versions = omega arith; handles = omega arith; groups = omega arith; members = omega arith; marks = omega arith }
 
 -- ---- file rows
+
+-- without a file that goes
+pub removed_any : (files : List FileRow) (file other : ℕ) → AllLater (λ earlier later. earlier.id < later.id) files → list_any (is_file other) (remove_first (is_file file) files) ≡ (not (other == file) && list_any (is_file other) files)
+removed_any [] file other placed = grind (arith, nat_tests)
+removed_any (x ∷ xs) file other placed = grind (arith, nat_tests, any_none, all-weaker, removed_any xs file other placed.1)
 
 -- each numbers on or goes, and any other is new
 record AreOn (made : ℕ) (files after : List FileRow) : Type 0 where

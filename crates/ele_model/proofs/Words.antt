@@ -22,26 +22,21 @@ pub use Rattle.ele_usage.specs.declared.usage.Usage.{Usage}
 pub use Rattle.ele_model.specs.Bounds.{AreBounds, Bounds}
 pub use Rattle.ele_model.specs.Change.{AddMark, AddMember, AddName, Append, Change, DropGroup, DropIdle, EndDraft, EndFileName, EndName, Govern, MakeDirectory, MakeFile, MakeGroup, MoveName, OpenHandle, PutUnder, RemoveMark, RemoveMember, Revive, ShutHandle, StartDraft, Take, Time, TruncateDraft, WriteDraft, after_change, after_changes, changed_by, current_cells, ended_at, fitted_by, governed_by, is_idle, new_draft, next_version, numbered_on, put_under, with_end, with_file, with_name, with_version, without_file, without_name}
 pub use Rattle.ele_model.specs.CleanKeepsKeys.{CleanKeepsKeys, TakesOneKey}
-pub use Rattle.ele_model.specs.CloseKeeps.{KeepsDraft}
 pub use Rattle.ele_model.specs.Due.{is_due_at, kept_rows, ripe_at, ripe_of}
 pub use Rattle.ele_model.specs.FileUsage.{file_usage}
 pub use Rattle.ele_model.specs.FileView.{FileView, beside, closings, due_in, ends_over, is_newer, is_numbered, is_protected, is_version_of, numbers_read, ripe_in, ripe_numbered, file_view}
 pub use Rattle.ele_model.specs.GroupRows.{adds, covers_moment, forgets, forgotten, group_named, has_covering, has_group, has_mark, has_member, is_group, is_in_force, is_mark, is_marked, is_marked_at, is_member, keeps_at, mark_at, marks, marks_over, new_group, removes, unmarks, with_mark, with_member, without_group, without_mark, without_member}
 pub use Rattle.ele_model.specs.Cover.{cover_by, cover_of, cover_until, lasts, longer, ripe_past}
 pub use Rattle.ele_model.specs.GroupsAsked.{cover_with, cover_without, is_left_out, marks_left, marks_of, members_of}
-pub use Rattle.ele_model.specs.HeldStays.{IsSameVersion, StaysSame}
-pub use Rattle.ele_model.specs.MarkedStays.{IsMarkedHeld, MarkedStays}
 pub use Rattle.ele_model.specs.NameRows.{born_row, covers, dies, is_live_directory, is_live_in, is_name_of_directory, is_named, is_target_directory, last_dead, target_at}
 pub use Rattle.ele_model.specs.Neighbours.{floor_in, free_moment, is_moment, is_newer_of, moment_under, near_moment, newer_held, newest_of, next_closing, with_newer}
 pub use Rattle.ele_model.specs.NewPlaces.{different_of, has_slot, is_among, new_places}
 pub use Rattle.ele_model.specs.NoIdleStays.{HasNoIdle, NoIdleStays}
 pub use Rattle.ele_model.specs.NothingChanges.{asks}
-pub use Rattle.ele_model.specs.OnlyDueLeave.{StaysOrWasDue}
 pub use Rattle.ele_model.specs.Pass.{HasRemoved, IsCleaned, IsFinished, IsPass, after_cleans}
 pub use Rattle.ele_model.specs.Plan.{IfFound, Make, Need, Plan, Tell, Unless, When, outcome, refused}
 pub use Rattle.ele_model.specs.RemovalOrder.{LeavesDue, RemovalOrder}
 pub use Rattle.ele_model.specs.Restorable.{last_target, may_return, name_cmp, nameless, newest_rows, returning, returning_name}
-pub use Rattle.ele_model.specs.RevertKeeps.{CopiesVersion, RevertKeeps}
 pub use Rattle.ele_model.specs.RipeMoments.{DueFromRipe, IsDueFromRipe, RipeIsAnswer, RipeIsAnswered}
 pub use Rattle.ele_model.specs.Run.{IsEvent, run_of}
 pub use Rattle.ele_model.specs.Scan.{due_key, first_due, in_order, key_cmp, key_of}

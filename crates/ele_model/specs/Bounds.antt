@@ -1,16 +1,11 @@
 -- The numbers of a world's limits.
 use Rattle.std.specs.Prelude.{ℕ, ◌≤◌, List, slice_index}
+use Rattle.ele_model.specs.declared.limits.LimitNumbers.{LimitNumbers}
+use Rattle.ele_model.specs.declared.refusal.Which.{Which}
+use Rattle.ele_model.specs.declared.refusal.Which.TheVariants.{Files, Directories, Names, Versions, Handles, Groups, Members, Marks}
 
-pub record Bounds : Type 0 where
-  pub events : ℕ
-  pub files : ℕ
-  pub directories : ℕ
-  pub names : ℕ
-  pub versions : ℕ
-  pub handles : ℕ
-  pub groups : ℕ
-  pub members : ℕ
-  pub marks : ℕ
+abbrev pub Bounds : Type 0
+Bounds = LimitNumbers
 
 -- the largest limits
 abbrev pub largest_bounds : Bounds
@@ -51,3 +46,14 @@ bounds_of ns = record {
   members = slice_index ns 7;
   marks = slice_index ns 8;
 }
+
+-- the limit of what a refusal may name as full
+abbrev pub limit_of : Bounds → Which → ℕ
+limit_of b Files = b.files
+limit_of b Directories = b.directories
+limit_of b Names = b.names
+limit_of b Versions = b.versions
+limit_of b Handles = b.handles
+limit_of b Groups = b.groups
+limit_of b Members = b.members
+limit_of b Marks = b.marks

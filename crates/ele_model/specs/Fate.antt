@@ -1,11 +1,11 @@
 -- What becomes of a held version, and why.
-use Rattle.std.specs.Prelude.{◌≡◌, ℕ, ◌-◌, ◌==◌, Bool, true, false, ◌&&◌, List, Option, Some, None, IsSome, find}
-use Rattle.std.specs.Option.{option_map}
-use Rattle.ele_policy.specs.Ladder.{Rung, level_of, rung_at, shares}
+use Rattle.std.specs.Prelude.{◌≡◌, ℕ, ◌-◌, ◌==◌, Bool, true, false, ◌&&◌, List, Option, Some, None, IsSome, filter, find, map}
+use Rattle.ele_policy.specs.Cause.{IsCause}
+use Rattle.ele_policy.specs.Ladder.{level_of}
+use Rattle.ele_policy.specs.declared.cause.Cause.{Cause}
+use Rattle.ele_policy.specs.declared.cause.Newer.{Newer}
 use Rattle.ele_policy.specs.declared.policy.Policy.{Policy}
-use Rattle.ele_policy.specs.declared.policy.Policy.TheVariants.{One, Safe, Landmarks}
-use Rattle.ele_model.specs.declared.fate.Cause.{Cause}
-use Rattle.ele_model.specs.declared.fate.Cause.TheVariants.{AtOnce, Age, Displaced}
+use Rattle.ele_policy.specs.declared.policy.Policy.TheVariants.{Landmarks}
 use Rattle.ele_model.specs.declared.fate.Fate.{Fate}
 use Rattle.ele_model.specs.declared.fate.Fate.TheVariants.{Current, Open, Marked, Kept, Due}
 use Rattle.ele_model.specs.declared.rows.GroupRow.{GroupRow}
@@ -35,28 +35,20 @@ level_reached policy ended at = None
 
 -- ---- why it is due
 
--- the number of the nearest newer of the versions that closed in the span of the rung in which this one closed
-abbrev pub displacing : List VersionRow → VersionRow → Rung → Option ℕ
-displacing rows row rung = option_map (λ other. other.number) (find (λ other. is_newer row other && shares row.closed other.closed rung) rows)
+abbrev pub newer_version : VersionRow → Newer
+newer_version row = record { number = row.number; closed = row.closed }
 
--- as it became due, its age had reached the level of the ladder, and in its span of that level that version displaces it
-pub record IsDisplaced (v : FileView) (row : VersionRow) (since level by : ℕ) : Type 0 where
-  pub rungs : List Rung
-  pub ladder : v.policy ≡ Some (Landmarks rungs)
-  pub reached : level_reached v.policy row.ended since ≡ Some level
-  pub rung : Rung
-  pub at_level : rung_at rungs level ≡ Some rung
-  pub by_is : displacing v.rows row rung ≡ Some by
+-- the newer versions of the file, in order
+abbrev pub newer_versions : FileView → VersionRow → List Newer
+newer_versions v row = map newer_version (filter (is_newer row) v.rows)
 
--- the file is kept safe for so many seconds, with whatever floor
-pub record IsSafeFor (v : FileView) (seconds : ℕ) : Type 0 where
-  pub floor : ℕ
-  pub safe : v.policy ≡ Some (Safe seconds floor)
-
-abbrev pub IsCause : FileView → VersionRow → ℕ → Cause → Type 0
-IsCause v row since AtOnce = v.policy ≡ Some One
-IsCause v row since (Age seconds) = IsSafeFor v seconds
-IsCause v row since (Displaced level by) = IsDisplaced v row since level by
+-- this is why the file's policy lets the version go at the moment, beside its newer ones
+pub record HasCause (v : FileView) (row : VersionRow) (at : ℕ) (cause : Cause) : Type 0 where
+  pub policy : Policy
+  pub policy_is : v.policy ≡ Some policy
+  pub ended : ℕ
+  pub has_ended : row.ended ≡ Some ended
+  pub why : IsCause policy row.closed ended (newer_versions v row) at cause
 
 -- ---- what becomes of it
 
@@ -72,7 +64,7 @@ pub record IsKept (w : World) (row : VersionRow) (until level : Option ℕ) : Ty
 pub record IsDueSince (w : World) (row : VersionRow) (since : ℕ) (cause : Cause) : Type 0 where
   pub due : is_due_at w row w.now ≡ true
   pub ripe : ripe_of w row ≡ Some since
-  pub why : IsCause (file_view w row.file) row since cause
+  pub why : HasCause (file_view w row.file) row since cause
 
 abbrev pub IsFate : World → VersionRow → Fate → Type 0
 IsFate w row Current = row.ended ≡ None

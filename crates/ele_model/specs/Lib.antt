@@ -1,6 +1,4 @@
 pub mod Bounds
-pub mod Limits
-pub mod LimitNumbers
 pub mod Answers
 pub mod AnswerText
 pub mod World
@@ -26,7 +24,6 @@ pub mod Plan
 pub mod Step
 pub mod WellFormed
 pub mod May
-pub mod ChangeKeeps
 pub mod Parts
 pub mod Run
 pub mod Ready
@@ -34,11 +31,6 @@ pub mod AlwaysWellFormed
 pub mod NothingChanges
 pub mod ReadersStay
 pub mod NoIdleStays
-pub mod CloseKeeps
-pub mod OnlyDueLeave
-pub mod HeldStays
-pub mod MarkedStays
-pub mod RevertKeeps
 pub mod UsageFits
 pub mod RipeMoments
 pub mod RemovalOrder
@@ -47,6 +39,4 @@ pub mod Pass
 pub mod NewPlaces
 pub mod Whole
 pub mod Why
-pub mod NameRowsStay
 pub mod NumbersRise
-pub mod ScanLists

@@ -48,3 +48,7 @@ returning w row = if is_some row.death then returning_name w (row.directory, row
 -- the names that may come back
 unfoldable pub restorable : World → List DeadName
 restorable w = filter_map (λ (entry : (ℕ × List ℕ) × NameRow). returning w entry.1) (newest_rows w.names)
+
+-- a dead name as a triple of its directory, its name and what it last stood for
+abbrev pub triple_of : DeadName → ℕ × List ℕ × Target
+triple_of row = (row.directory, row.name, row.target)

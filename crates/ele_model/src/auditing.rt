@@ -15,13 +15,13 @@ pub trait Audit: Step {
     /// The keys of the versions that are due now, in the order in which they are removed.
     ///
     /// `NoMemory` where memory is refused.
-    fn due(&self) -> Result<KeyList, NoMemory>
+    fn due_keys(&self) -> Result<KeyList, NoMemory>
         ensures { IfOk result (λ keys. keys ≡ scan (Self.world self.now)) };
 
     /// The names that may come back, by directory and then by the bytes of the name.
     ///
     /// `NoMemory` where memory is refused.
-    fn restorable(&self) -> Result<DeadNameList, NoMemory>
+    fn dead_names(&self) -> Result<DeadNameList, NoMemory>
         ensures { IfOk result (λ names. names ≡ restorable (Self.world self.now)) };
 
     /// What the files of each kind of policy use, in the order of `Kind`.

@@ -48,8 +48,8 @@ pub fn audit(
     ensures { IfOk result (λ equal. IsTrue equal ↔ ((due.now ≡ scan world.entry.now)
         × (names.now ≡ restorable world.entry.now) × (usage.now ≡ usages world.entry.now))) }
 {
-    let keys = world.due()?;
-    let dead = world.restorable()?;
+    let keys = world.due_keys()?;
+    let dead = world.dead_names()?;
     Ok(
         are_same_keys(due, keys.as_slice())
             && are_same_names(names, dead.as_slice())

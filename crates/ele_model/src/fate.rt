@@ -1,19 +1,7 @@
 //! What becomes of a held version, and why. A contract sees plain data.
 use crate::rows::MarkRow;
-use ele_moment::{Moment, Name, VersionNo};
-use ele_policy::Interval;
-
-/// Why a version is due.
-#[derive(Clone, Copy, Debug, PartialEq, Eq)]
-pub enum Cause {
-    /// Its policy keeps no version that has ended.
-    AtOnce,
-    /// It has been ended for that long.
-    Age(Interval),
-    /// At that level of the ladder, the first of which is 1, that newer version closed in the same span: the nearest held one
-    /// that did. The level is the one that the version had reached as it became due.
-    Displaced { level: usize, by: VersionNo },
-}
+use ele_moment::{Moment, Name};
+use ele_policy::Cause;
 
 /// What becomes of a version that is held: why it stays, or from when on it may be removed. The first line that fits is the
 /// answer.

@@ -1,17 +1,20 @@
 //! The world as flat rows, which is what contracts speak of.
-ghost use Rattle.std.specs.Prelude.{◌≡◌, IfOk};
+ghost use Rattle.std.specs.Prelude.{◌≡◌, IfOk, map};
 ghost use Rattle.std.specs.List.{AllByRecursion};
 ghost use Rattle.ele_usage.specs.Sums.{Fits};
-ghost use Rattle.ele_model.specs.Restorable.{restorable};
+ghost use Rattle.ele_model.specs.Restorable.{restorable, triple_of};
 ghost use Rattle.ele_model.specs.Scan.{scan};
 ghost use Rattle.ele_model.specs.Usage.{usages};
 
 use crate::limits::{Counts, Limits};
-use crate::list::{DeadNameList, KeyList};
-use crate::rows::{DirectoryRow, DraftRow, FileRow, GroupRow, HandleRow, NameRow, VersionRow};
+use crate::list::{DeadNameList, KeyList, triples_of};
+use crate::rows::{
+    DirectoryRow, DraftRow, FileRow, GroupRow, HandleRow, NameRow, Target, VersionRow,
+};
 use crate::{returning, scan, sums};
+use ele_due::Key;
 use ele_lists::ListOf;
-use ele_moment::{Moment, NoMemory};
+use ele_moment::{DirId, Moment, Name, NoMemory};
 use ele_policy::Kind;
 use ele_usage::Usage;
 
@@ -33,14 +36,37 @@ pub struct Flat {
 
 impl Flat {
     /// The keys of the versions that are due now, in order.
-    pub fn due(&self) -> Result<KeyList, NoMemory>
+    ///
+    /// `NoMemory` if memory is refused.
+    pub fn due(&self) -> Result<Vec<Key>, NoMemory>
+        ensures { IfOk result (λ keys. keys.items ≡ scan self.entry.now) }
+    {
+        Ok(self.due_keys()?.into_vec())
+    }
+
+    /// The keys that `due` returns, as the list that a reply holds.
+    ///
+    /// `NoMemory` if memory is refused.
+    pub fn due_keys(&self) -> Result<KeyList, NoMemory>
         ensures { IfOk result (λ keys. keys ≡ scan self.entry.now) }
     {
         scan::due(self)
     }
 
-    /// The names that may come back, by directory and then by the bytes of the name.
-    pub fn restorable(&self) -> Result<DeadNameList, NoMemory>
+    /// The names that may come back, by directory and then by the bytes of the name: of each its
+    /// directory, the name and what it last meant.
+    ///
+    /// `NoMemory` if memory is refused.
+    pub fn restorable(&self) -> Result<Vec<(DirId, Name, Target)>, NoMemory>
+        ensures { IfOk result (λ names. names.items ≡ map triple_of (restorable self.entry.now)) }
+    {
+        triples_of(&self.dead_names()?)
+    }
+
+    /// The names that `restorable` returns, as the list that a reply holds.
+    ///
+    /// `NoMemory` if memory is refused.
+    pub fn dead_names(&self) -> Result<DeadNameList, NoMemory>
         ensures { IfOk result (λ names. names ≡ restorable self.entry.now) }
     {
         returning::restorable(self)

@@ -1,56 +1,9 @@
-//! How much may ever be made.
-ghost use Rattle.std.specs.Prelude.{◌≡◌, ◌≤◌, ◌↔◌, IsSome, IfSome};
-ghost use Rattle.ele_model.specs.Bounds.{Bounds, AreBounds, bounds_of, largest_bounds};
-ghost use Rattle.ele_model.specs.LimitNumbers.{bounds_in};
+//! How much may ever be made. A contract sees limits as their numbers.
+ghost use Rattle.std.specs.Prelude.{◌≡◌, ◌≤◌, ◌↔◌, IsSome, IsTrue, IfSome};
+ghost use Rattle.ele_model.specs.Bounds.{AreBounds, bounds_of, largest_bounds, limit_of};
 
+use crate::refusal::Which;
 use std::marker::Model;
-
-// The largest limits.
-const MOST_EVENTS: u64 = 1_000_000_000;
-
-const MOST_FILES: u64 = 100_000;
-
-const MOST_DIRECTORIES: u64 = 10_000;
-
-const MOST_NAMES: u64 = 200_000;
-
-const MOST_VERSIONS: u64 = 1_000_000;
-
-const MOST_HANDLES: u64 = 1_000_000;
-
-const MOST_GROUPS: u64 = 1_000;
-
-const MOST_MEMBERS: u64 = 100_000;
-
-const MOST_MARKS: u64 = 10_000;
-
-/// How much may ever be made, each limit at most its largest.
-#[derive(Clone, Copy, Debug, PartialEq, Eq)]
-pub struct Limits {
-    events: u64,
-    files: u64,
-    directories: u64,
-    names: u64,
-    versions: u64,
-    handles: u64,
-    groups: u64,
-    members: u64,
-    marks: u64,
-}
-
-impl Model for Limits {
-    ghost use Rattle.ele_model.specs.Bounds.{Bounds, AreBounds};
-
-    ghost Value = { Bounds };
-
-    ghost use Rattle.ele_model.specs.Limits.{view_of, fields_of};
-
-    ghost view = { view_of };
-
-    ghost invariant = { λ l. AreBounds (view_of l) };
-
-    ghost inverse = { fields_of };
-}
 
 /// The numbers of limits by their names, of which `Limits::of` makes limits. None of the kinds of things gives its number back
 /// when it goes.
@@ -79,16 +32,51 @@ pub struct LimitNumbers {
 impl LimitNumbers {
     /// The largest of each.
     pub const LARGEST: LimitNumbers = LimitNumbers {
-        events: MOST_EVENTS,
-        files: MOST_FILES,
-        directories: MOST_DIRECTORIES,
-        names: MOST_NAMES,
-        versions: MOST_VERSIONS,
-        handles: MOST_HANDLES,
-        groups: MOST_GROUPS,
-        members: MOST_MEMBERS,
-        marks: MOST_MARKS,
+        events: 1_000_000_000,
+        files: 100_000,
+        directories: 10_000,
+        names: 200_000,
+        versions: 1_000_000,
+        handles: 1_000_000,
+        groups: 1_000,
+        members: 100_000,
+        marks: 10_000,
     };
+
+    // Whether none is above its largest.
+    fn is_within_largest(&self) -> bool
+        ensures { IsTrue result ↔ AreBounds self.now }
+    {
+        let most = LimitNumbers::LARGEST;
+        self.events <= most.events
+            && self.files <= most.files
+            && self.directories <= most.directories
+            && self.names <= most.names
+            && self.versions <= most.versions
+            && self.handles <= most.handles
+            && self.groups <= most.groups
+            && self.members <= most.members
+            && self.marks <= most.marks
+    }
+}
+
+/// How much may ever be made, each number at most its largest.
+#[derive(Clone, Copy, Debug, PartialEq, Eq)]
+pub struct Limits {
+    numbers: LimitNumbers,
+}
+
+impl Model for Limits {
+    ghost use Rattle.ele_model.specs.Bounds.{AreBounds};
+    ghost use Rattle.ele_model.specs.declared.limits.LimitNumbers.{LimitNumbers};
+
+    ghost Value = { LimitNumbers };
+
+    ghost view = { λ limits. limits.numbers };
+
+    ghost invariant = { λ limits. AreBounds limits.numbers };
+
+    ghost inverse = { λ numbers. record { numbers = numbers } };
 }
 
 /// How much was ever made.
@@ -125,19 +113,7 @@ impl Limits {
             members,
             marks,
         ] = numbers;
-        let is_within = events <= MOST_EVENTS
-            && files <= MOST_FILES
-            && directories <= MOST_DIRECTORIES
-            && names <= MOST_NAMES
-            && versions <= MOST_VERSIONS
-            && handles <= MOST_HANDLES
-            && groups <= MOST_GROUPS
-            && members <= MOST_MEMBERS
-            && marks <= MOST_MARKS;
-        if !is_within {
-            return None;
-        }
-        Some(Limits {
+        Limits::of(LimitNumbers {
             events,
             files,
             directories,
@@ -152,20 +128,13 @@ impl Limits {
 
     /// The limits of these numbers; none where one is above its largest.
     pub fn of(numbers: LimitNumbers) -> Option<Limits>
-        ensures valid { IsSome result ↔ AreBounds (bounds_in numbers) }
-        ensures value { IfSome result (λ limits. limits ≡ bounds_in numbers) }
+        ensures valid { IsSome result ↔ AreBounds numbers }
+        ensures value { IfSome result (λ limits. limits ≡ numbers) }
     {
-        Limits::new([
-            numbers.events,
-            numbers.files,
-            numbers.directories,
-            numbers.names,
-            numbers.versions,
-            numbers.handles,
-            numbers.groups,
-            numbers.members,
-            numbers.marks,
-        ])
+        if !numbers.is_within_largest() {
+            return None;
+        }
+        Some(Limits { numbers })
     }
 
     /// The largest limits.
@@ -173,15 +142,7 @@ impl Limits {
         ensures { result ≡ largest_bounds }
     {
         Limits {
-            events: MOST_EVENTS,
-            files: MOST_FILES,
-            directories: MOST_DIRECTORIES,
-            names: MOST_NAMES,
-            versions: MOST_VERSIONS,
-            handles: MOST_HANDLES,
-            groups: MOST_GROUPS,
-            members: MOST_MEMBERS,
-            marks: MOST_MARKS,
+            numbers: LimitNumbers::LARGEST,
         }
     }
 
@@ -192,12 +153,14 @@ impl Limits {
         ensures value { IfSome result
             (λ limits. limits ≡ record largest_bounds { events = events }) }
     {
-        if events > MOST_EVENTS {
+        if events > LimitNumbers::LARGEST.events {
             return None;
         }
         Some(Limits {
-            events,
-            ..Limits::largest()
+            numbers: LimitNumbers {
+                events,
+                ..LimitNumbers::LARGEST
+            },
         })
     }
 
@@ -205,7 +168,7 @@ impl Limits {
     pub fn lemma_within(&self)
         ensures { AreBounds self.now }
     {
-        let _events = self.events();
+        let _numbers = self.numbers;
     }
 
     /// How many replies may ever be given.
@@ -213,70 +176,24 @@ impl Limits {
         ensures value { result ≡ self.now.events }
         ensures valid { AreBounds self.now }
     {
-        self.events
+        self.numbers.events
     }
 
-    /// How many files may ever be made.
-    pub fn files(&self) -> u64
-        ensures value { result ≡ self.now.files }
+    /// How many of these may ever be made.
+    pub fn limit(&self, which: Which) -> u64
+        ensures value { result ≡ limit_of self.now which }
         ensures valid { AreBounds self.now }
     {
-        self.files
-    }
-
-    /// How many directories may ever be made, without the root.
-    pub fn directories(&self) -> u64
-        ensures value { result ≡ self.now.directories }
-        ensures valid { AreBounds self.now }
-    {
-        self.directories
-    }
-
-    /// How many name rows may ever be made.
-    pub fn names(&self) -> u64
-        ensures value { result ≡ self.now.names }
-        ensures valid { AreBounds self.now }
-    {
-        self.names
-    }
-
-    /// How many versions may ever be made, with the drafts that are open.
-    pub fn versions(&self) -> u64
-        ensures value { result ≡ self.now.versions }
-        ensures valid { AreBounds self.now }
-    {
-        self.versions
-    }
-
-    /// How many handles may ever be opened.
-    pub fn handles(&self) -> u64
-        ensures value { result ≡ self.now.handles }
-        ensures valid { AreBounds self.now }
-    {
-        self.handles
-    }
-
-    /// How many groups may ever be made.
-    pub fn groups(&self) -> u64
-        ensures value { result ≡ self.now.groups }
-        ensures valid { AreBounds self.now }
-    {
-        self.groups
-    }
-
-    /// How many times files may ever be added to groups.
-    pub fn members(&self) -> u64
-        ensures value { result ≡ self.now.members }
-        ensures valid { AreBounds self.now }
-    {
-        self.members
-    }
-
-    /// How many marks may ever be made.
-    pub fn marks(&self) -> u64
-        ensures value { result ≡ self.now.marks }
-        ensures valid { AreBounds self.now }
-    {
-        self.marks
+        let numbers = &self.numbers;
+        match which {
+            Which::Files => numbers.files,
+            Which::Directories => numbers.directories,
+            Which::Names => numbers.names,
+            Which::Versions => numbers.versions,
+            Which::Handles => numbers.handles,
+            Which::Groups => numbers.groups,
+            Which::Members => numbers.members,
+            Which::Marks => numbers.marks,
+        }
     }
 }

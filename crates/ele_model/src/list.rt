@@ -1,8 +1,11 @@
 //! The lists that replies hold.
+ghost use Rattle.std.specs.Prelude.{◌≡◌, IfOk, map};
+ghost use Rattle.ele_model.specs.Restorable.{triple_of};
+
 use crate::rows::{DeadName, GroupRow, Stamps, Target};
 use ele_due::Key;
 use ele_lists::ListOf;
-use ele_moment::Name;
+use ele_moment::{DirId, Name, NoMemory};
 
 /// Keys of versions, in order.
 pub type KeyList = ListOf<Key>;
@@ -13,8 +16,26 @@ pub type DeadNameList = ListOf<DeadName>;
 /// Versions of one file, by number.
 pub type StampsList = ListOf<Stamps>;
 
+/// The same, by the name of the reply that holds it.
+pub type Rows = StampsList;
+
 /// Groups in order of making.
 pub type GroupList = ListOf<GroupRow>;
 
 /// What the names of a directory stand for, by the bytes of the names.
 pub type NameList = ListOf<(Name, Target)>;
+
+/// The names as triples of a directory, a name in it and what that name last meant.
+///
+/// `NoMemory` if memory is refused.
+pub fn triples_of(names: &DeadNameList) -> Result<Vec<(DirId, Name, Target)>, NoMemory>
+    ensures { IfOk result (λ triples. triples.items ≡ map triple_of names.now) }
+{
+    Ok(
+        names
+            .as_slice()
+            .iter()
+            .map(|row| (row.directory, row.name, row.target))
+            .collect(names.allocator())?,
+    )
+}

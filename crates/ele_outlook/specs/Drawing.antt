@@ -2,6 +2,8 @@
 use Rattle.std.specs.Prelude.{ℕ, zero, suc, ◌+◌, ◌-◌, ◌*◌, ◌/◌, ◌<◌, ◌^◌, max, min, nat_lt, Bool, true, false, List, [], ◌∷◌, ◌++◌, codes, decimal, length, Option, Some, None, slice_get, if◌then◌else◌}
 use Rattle.std.specs.List.{flat_map, join_with_byte, range_with_len}
 use Rattle.ele_policy.specs.Ladder.{Rung, level_of}
+use Rattle.ele_policy.specs.declared.cause.Cause.{Cause}
+use Rattle.ele_policy.specs.declared.cause.Cause.TheVariants as cause
 use Rattle.ele_policy.specs.declared.policy.Policy.{Policy}
 use Rattle.ele_policy.specs.declared.policy.Policy.TheVariants as policy
 use Rattle.ele_forecast.specs.declared.forecast.Forecast.{Forecast}
@@ -35,13 +37,17 @@ square_of page x y filled = Rect (x - page.row / 4) (y - page.row / 4) (page.row
 abbrev pub beside_of : Page → ℕ → ℕ → Side → Words → Mark
 beside_of page x y side words = Text x (y + page.row / 6) (page.row / 2 + 1) side words
 
--- what is said where the bar of a version ends
+-- what is said where the bar of a version ends: that it is due, and by which version
+abbrev pub cause_end : Cause → Words
+cause_end cause.AtOnce = words.Due
+cause_end (cause.Age seconds) = words.Due
+cause_end (cause.Displaced level by) = words.DueBy by
+
+-- or why there is no such end
 abbrev pub end_words : Why → Words
 end_words why.Current = words.Current
 end_words why.Never = words.Kept
-end_words why.AtOnce = words.Due
-end_words (why.Age seconds) = words.Due
-end_words (why.Displaced level by) = words.DueBy by
+end_words (why.Goes cause) = cause_end cause
 
 -- a version: a bar from its closing to the moment from which it may be forgotten, filled up to its end, a square where it closed,
 -- its number and why the bar ends
@@ -72,7 +78,7 @@ tie_from page number None other = []
 
 -- a version that another one displaces is tied to that one, whose number tells its place
 abbrev pub ties_of : Page → List Forecast → Forecast → Why → List Mark
-ties_of page forecasts told (why.Displaced level by) = tie_from page told.number told.ripe (slice_get forecasts (by - 1))
+ties_of page forecasts told (why.Goes (cause.Displaced level by)) = tie_from page told.number told.ripe (slice_get forecasts (by - 1))
 ties_of page forecasts told other = []
 
 abbrev pub version_tied : Page → List Forecast → Forecast → List ℕ

@@ -4,10 +4,12 @@ use Rattle.std.specs.List.{flat_map}
 use Rattle.std.specs.Option.{option_map_or}
 use Rattle.ele_moment.specs.Last.{last_moment}
 use Rattle.ele_policy.specs.Ladder.{Rung, rung_at}
+use Rattle.ele_policy.specs.declared.cause.Cause.{Cause}
+use Rattle.ele_policy.specs.declared.cause.Cause.TheVariants.{AtOnce, Age, Displaced}
 use Rattle.ele_policy.specs.declared.policy.Policy.{Policy}
 use Rattle.ele_policy.specs.declared.policy.Policy.TheVariants as policy
 use Rattle.ele_forecast.specs.declared.forecast.Why.{Why}
-use Rattle.ele_forecast.specs.declared.forecast.Why.TheVariants.{Current, Never, AtOnce, Age, Displaced}
+use Rattle.ele_forecast.specs.declared.forecast.Why.TheVariants.{Current, Never, Goes}
 use Rattle.ele_outlook.specs.declared.unit.TimeUnit.{TimeUnit}
 use Rattle.ele_outlook.specs.declared.unit.TimeUnit.TheVariants.{Day, Hour, Minute, Second}
 
@@ -67,13 +69,17 @@ never_word (policy.Landmarks rungs) ended = codes "kept as a landmark"
 never_word (policy.Safe seconds floor) ended = if is_in_time ended seconds then codes "kept by the floor" else codes "not before the year 10000"
 never_word policy.One ended = codes "not before the year 10000"
 
+-- why a policy lets a version go
+abbrev pub cause_words : Policy → Cause → List (List ℕ)
+cause_words policy AtOnce = codes "only the current one is kept" ∷ []
+cause_words policy (Age seconds) = codes "ended for" ∷ length_words seconds
+cause_words policy (Displaced level by) =
+    codes "version" ∷ decimal by ∷ codes "closed in the same" ∷ span_words (width_at policy level)
+
 abbrev pub why_words : Policy → Option ℕ → Why → List (List ℕ)
 why_words policy ended Current = codes "current" ∷ []
 why_words policy ended Never = never_word policy ended ∷ []
-why_words policy ended AtOnce = codes "only the current one is kept" ∷ []
-why_words policy ended (Age seconds) = codes "ended for" ∷ length_words seconds
-why_words policy ended (Displaced level by) =
-    codes "version" ∷ decimal by ∷ codes "closed in the same" ∷ span_words (width_at policy level)
+why_words policy ended (Goes cause) = cause_words policy cause
 
 -- each word with a space (32) in front
 abbrev pub spaced : List (List ℕ) → List ℕ

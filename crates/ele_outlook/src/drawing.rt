@@ -19,7 +19,7 @@ use crate::staying::Staying;
 use crate::why::put_length;
 use ele_forecast::{Forecast, Why};
 use ele_moment::{Moment, VersionNo};
-use ele_policy::{Floor, Policy};
+use ele_policy::{Cause, Floor, Policy};
 use ele_printer::{Printer, WriteFault, put_words};
 use itoa::Buffer;
 use std::io::Write;
@@ -304,8 +304,10 @@ fn put_tie<W: Write>(
         (version_tied page.now forecasts.now forecast.now) result }
 {
     match forecast.why {
-        Why::Displaced { by, .. } => put_tie_to(page, forecasts, forecast, by, printer),
-        Why::Current | Why::Never | Why::AtOnce | Why::Age(_) => Ok(()),
+        Why::Goes(Cause::Displaced { by, .. }) => {
+            put_tie_to(page, forecasts, forecast, by, printer)
+        }
+        Why::Current | Why::Never | Why::Goes(_) => Ok(()),
     }
 }
 

@@ -1,11 +1,12 @@
 //! The marks of a version and of a moment. A contract sees a mark as plain data.
 ghost use Rattle.std.specs.Prelude.{◌≡◌, ◌<◌, ◌^◌};
-ghost use Rattle.ele_outlook.specs.Drawing.{asked_marks, band_marks, band_top, bar_of, beside_of, border_marks, end_words, foot_marks, kept_marks, moment_words, square_of, tie_marks, version_marks};
+ghost use Rattle.ele_outlook.specs.Drawing.{asked_marks, band_marks, band_top, bar_of, beside_of, border_marks, cause_end, end_words, foot_marks, kept_marks, moment_words, square_of, tie_marks, version_marks};
 
 use crate::mark::{Mark, Side, Stroke, Words};
 use crate::page::Page;
 use ele_forecast::{Forecast, Why};
 use ele_moment::{Moment, VersionNo};
+use ele_policy::Cause;
 
 // A bar from one place to another.
 fn bar(page: &Page, y: u64, from: u64, to: u64, filled: bool) -> Mark
@@ -50,6 +51,16 @@ fn beside(page: &Page, x: u64, y: u64, side: Side, words: Words) -> Mark
     }
 }
 
+// What is said where the bar of a version ends that its policy lets go.
+fn cause_end(cause: Cause) -> Words
+    ensures { result ≡ cause_end cause }
+{
+    match cause {
+        Cause::AtOnce | Cause::Age(_) => Words::Due,
+        Cause::Displaced { by, .. } => Words::DueBy(by),
+    }
+}
+
 // What is said where the bar of a version ends.
 fn end_words(why: Why) -> Words
     ensures { result ≡ end_words why }
@@ -57,8 +68,7 @@ fn end_words(why: Why) -> Words
     match why {
         Why::Current => Words::Current,
         Why::Never => Words::Kept,
-        Why::AtOnce | Why::Age(_) => Words::Due,
-        Why::Displaced { by, .. } => Words::DueBy(by),
+        Why::Goes(cause) => cause_end(cause),
     }
 }
 

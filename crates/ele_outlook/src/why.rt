@@ -3,12 +3,12 @@
 ghost use Rattle.std.specs.Prelude.{◌≡◌, ◌∷◌, codes, decimal};
 ghost use Rattle.std.specs.List.{join_with_byte};
 ghost use Rattle.ele_printer.specs.Prints.{Prints};
-ghost use Rattle.ele_outlook.specs.Why.{is_in_time, length_words, never_word, spaced, span_words, width_at, width_of, why_words};
+ghost use Rattle.ele_outlook.specs.Why.{cause_words, is_in_time, length_words, never_word, spaced, span_words, width_at, width_of, why_words};
 
 use crate::unit::{count_of, unit_of};
 use ele_forecast::Why;
 use ele_moment::Moment;
-use ele_policy::Policy;
+use ele_policy::{Cause, Policy};
 use ele_printer::{Printer, WriteFault, put_word, put_words};
 use itoa::Buffer;
 use std::io::Write;
@@ -26,9 +26,23 @@ pub(crate) fn put_why<W: Write>(
     match why {
         Why::Current => put_word(b"current", printer),
         Why::Never => put_word(never_word(policy, ended), printer),
-        Why::AtOnce => put_word(b"only the current one is kept", printer),
-        Why::Age(interval) => put_length(b" ended for", interval.seconds(), printer),
-        Why::Displaced { level, by } => put_displaced(by.0, width_at(policy, level), printer),
+        Why::Goes(cause) => put_cause(policy, cause, printer),
+    }
+}
+
+// Puts why a policy lets a version go.
+fn put_cause<W: Write>(
+    policy: &Policy,
+    cause: Cause,
+    printer: &mut Printer<'_, W>,
+) -> Result<(), WriteFault>
+    ensures { Prints W.contents printer.old printer.new (spaced (cause_words policy.now cause))
+        result }
+{
+    match cause {
+        Cause::AtOnce => put_word(b"only the current one is kept", printer),
+        Cause::Age(interval) => put_length(b" ended for", interval.seconds(), printer),
+        Cause::Displaced { level, by } => put_displaced(by.0, width_at(policy, level), printer),
     }
 }
 

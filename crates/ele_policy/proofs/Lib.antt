@@ -8,3 +8,5 @@ mod Nesting
 mod Rungs
 -- the text of a ladder
 mod Pairs
+-- why a version goes
+mod Causes

@@ -7,6 +7,7 @@ pub mod PolicyText
 pub mod Ripe
 pub mod Lawful
 pub mod LetsGoFrom
+pub mod Cause
 pub mod SharesNest
 pub mod Places
 pub mod Wait

@@ -2,6 +2,7 @@
 //! plain data, an interval as its seconds, and a ladder as the list of its pairs.
 #![tactic(auto)]
 
+mod cause;
 mod floor;
 mod interval;
 mod ladder;
@@ -9,6 +10,7 @@ pub mod laws;
 mod policy;
 mod ripening;
 
+pub use cause::{Cause, Newer, cause_of};
 pub use floor::Floor;
 pub use interval::{BadLadder, Interval};
 pub use ladder::Ladder;

@@ -5,19 +5,19 @@ use Rattle.ele_lists.proofs.Taken.{all-at, find-first_at}
 use Rattle.ele_model.proofs.Basics.{zero, suc}
 use Rattle.ele_model.proofs.Words.{IsVersion, Now}
 use Rattle.std.specs.Str.{bytes_eq}
-use Rattle.ele_policy.specs.Ladder.{shares}
+use Rattle.ele_policy.specs.Cause.{closing_of}
+use Rattle.ele_policy.specs.declared.cause.Cause.{Cause}
+use Rattle.ele_policy.specs.declared.cause.Newer.{Newer}
 use Rattle.ele_moment.specs.Last.{last_moment}
 use Rattle.ele_policy.specs.Ripe.{alone, is_due_by, ripe_by, ripe_near}
 use Rattle.ele_groups.specs.Rows.{row_of}
-use Rattle.ele_state.specs.Fated.{IsFreeCause, IsFreeFate, MarksAt, closing_of}
-use Rattle.ele_model.proofs.Fates.{displaced_by, newer_found, protected_told}
+use Rattle.ele_state.specs.Fated.{IsCauseBy, IsFreeFate, MarksAt, newer_of}
+use Rattle.ele_model.proofs.Fates.{nearest_newer, protected_told}
 use Rattle.ele_model.proofs.RipeMoments.{ripens}
 use Rattle.ele_model.specs.Due.{is_due_at, ripe_of}
-use Rattle.ele_model.specs.Fate.{HasFate, IsCause, IsFate, IsMarkedBy}
+use Rattle.ele_model.specs.Fate.{HasCause, HasFate, IsFate, IsMarkedBy, newer_version, newer_versions}
 use Rattle.ele_model.specs.GroupRows.{group_named, has_covering, has_member, is_marked, is_member, keeps_at}
 use Rattle.ele_model.specs.Neighbours.{is_newer_of}
-use Rattle.ele_model.specs.declared.fate.Cause.{Cause}
-use Rattle.ele_model.specs.declared.fate.Cause.TheVariants.{AtOnce, Age, Displaced}
 use Rattle.ele_model.specs.declared.fate.Fate.{Fate}
 use Rattle.ele_model.specs.declared.fate.Fate.TheVariants.{Current, Open, Marked, Kept, Due}
 
@@ -74,7 +74,7 @@ pub record IsFree (rows : Rows) (file : ℕ) (stamps : Stamps) : Type 0 where
 
 -- what that policy alone makes of it, beside its next one, as it has its cover and the floor is met or not
 abbrev pub IsMade : (rows : Rows) (file : ℕ) (stamps : Stamps) → IsFree rows file stamps → Fate → Type 0
-IsMade rows file stamps free fate = IsFreeFate (cover_of rows.groups file stamps.closed (Some free.ended)) free.policy stamps.closed free.ended (option_map stamps_of (find (is_newer_of file stamps.number) rows.files.versions))
+IsMade rows file stamps free fate = IsFreeFate (cover_of rows.groups file stamps.closed (Some free.ended)) free.policy stamps.closed free.ended (option_map newer_of (option_map stamps_of (find (is_newer_of file stamps.number) rows.files.versions)))
     (nat_le (floor_in (Some free.policy) (is_live (world_of rows) file)) (newer_held rows.files.versions file stamps.number)) rows.moment fate
 
 module _ (rows : Rows) (sound : IsSound rows) (row : VersionRow) (found : find (is_version row.file row.number) rows.files.versions ≡ Some row) where
@@ -91,36 +91,35 @@ module _ (rows : Rows) (sound : IsSound rows) (row : VersionRow) (found : find (
     abbrev next_row : Option VersionRow
     next_row = find (is_newer_of row.file row.number) w.versions
 
+    abbrev next_newer : Option Newer
+    next_newer = option_map newer_of (option_map stamps_of next_row)
+
     abbrev ripe_beside : Option ℕ → Option ℕ
     ripe_beside closing = option_and_then (ripe_past (cover_of w.groups row.file row.closed (Some free.ended))) (ripe_near free.policy row.closed closing (nat_le (floor_in (Some free.policy) (is_live w row.file)) (newer_held w.versions row.file row.number)) free.ended)
 
-    ripe_told : ripe_of w row ≡ ripe_beside (closing_of (option_map stamps_of next_row))
+    ripe_told : ripe_of w row ≡ ripe_beside (closing_of next_newer)
     ripe_told = sym (ripe_at_is w row.file row.number ∙ rw found refl) ∙ ripe_at_near w row.file row.number (in_order_of w sound.formed) ∙ rw (free.unread, found, free.ends, free.filed) (ap ripe_beside (by next_row)) where
-      by : (o : Option VersionRow) → option_map (λ (r : VersionRow). r.closed) o ≡ closing_of (option_map stamps_of o)
+      by : (o : Option VersionRow) → option_map (λ (r : VersionRow). r.closed) o ≡ closing_of (option_map newer_of (option_map stamps_of o))
       by None = refl
       by (Some next) = refl
 
     due_told : (ripe : Option ℕ) → ripe_of w row ≡ ripe → is_due_at w row w.now ≡ option_map_or (λ m. nat_le m w.now) ripe false
     due_told ripe is = ripens w sound.formed row w.now (sound.formed.holds Now) ∙ ap (λ (o : Option ℕ). option_map_or (λ m. nat_le m w.now) o false) is
 
-    stamps_found : (o : Option VersionRow) (stamps : Stamps) → option_map stamps_of o ≡ Some stamps → (next : VersionRow) × (o ≡ Some next) × (stamps_of next ≡ stamps)
-    stamps_found None stamps is = absurd (cc)
-    stamps_found (Some next) stamps is = (next, refl, cc)
+    next_is : slice_get (newer_versions (file_view w row.file) row) 0 ≡ next_newer
+    next_is = nearest_newer w row ∙ by next_row where
+      by : (o : Option VersionRow) → option_map newer_version o ≡ option_map newer_of (option_map stamps_of o)
+      by None = refl
+      by (Some next) = refl
 
-    cause_is : (since : ℕ) (cause : Cause) → IsFreeCause free.policy row.closed free.ended (option_map stamps_of next_row) since cause → IsCause (file_view w row.file) row since cause
-    cause_is since AtOnce is = free.filed ∙ ap Some is
-    cause_is since (Age seconds) is = record { floor = is.floor; safe = free.filed ∙ ap Some is.safe }
-    cause_is since (Displaced level by) is =
-        let next = stamps_found next_row is.stamps is.next_is in
-        let same : shares row.closed next.0.closed is.rung ≡ true = rw (ap (λ (s : Stamps). s.closed) next.2) is.same_span in
-        record {
-          rungs = is.rungs;
-          ladder = free.filed ∙ ap Some is.ladder;
-          reached = rw (free.filed, is.ladder, free.ends) (ap Some (sym is.level_is));
-          rung = is.rung;
-          at_level = is.at_level;
-          by_is = displaced_by (file_view w row.file).rows row next.0 is.rung (sym (newer_found w row) ∙ next.1) same ∙ ap Some (ap (λ (s : Stamps). s.number) next.2 ∙ is.by_is);
-        }
+    cause_is : (since : ℕ) (cause : Cause) → IsCauseBy free.policy row.closed free.ended next_newer since cause → HasCause (file_view w row.file) row since cause
+    cause_is since cause is = record {
+      policy = free.policy;
+      policy_is = free.filed;
+      ended = free.ended;
+      has_ended = free.ends;
+      why = is (newer_versions (file_view w row.file) row) next_is;
+    }
 
     made_fate : (fate : Fate) → IsMade rows row.file (stamps_of row) free fate → IsFate w row fate
     made_fate Current is = absurd is

@@ -35,7 +35,7 @@ pub use Rattle.ele_model.proofs.NameMoments.{ended_in_order, ended_moment, momen
 pub use Rattle.ele_model.proofs.Neighbours.{AreInOrder, floor_for, in_order_of, near_floored, near_unmet, no_floor, ripe_at_near}
 pub use Rattle.ele_model.proofs.NoIdle.{LeavesRows, change_settles, no_idle_stays}
 pub use Rattle.ele_model.proofs.OpenMoments.{open_still, opened_others, opened_own, read_moment, shut_others, shut_own}
-pub use Rattle.ele_model.proofs.OpenStays.{has_row}
+pub use Rattle.ele_model.proofs.Readers.{has_row}
 pub use Rattle.ele_model.proofs.Others.{drafts-removed, files-numbered, kinds-numbered, versions-finished}
 pub use Rattle.ele_model.proofs.RipeAt.{is_due_is, ripe_at_is, scan_members}
 pub use Rattle.ele_model.proofs.Formed.{in_parts, well_formed}

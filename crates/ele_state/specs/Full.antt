@@ -1,16 +1,21 @@
 -- Whether as much of a kind was made as may be.
-use Rattle.std.specs.Prelude.{nat_le, Bool}
+use Rattle.std.specs.Prelude.{ℕ, nat_le, Bool}
+use Rattle.ele_model.specs.Bounds.{limit_of}
 use Rattle.ele_model.specs.declared.refusal.Which.{Which}
 use Rattle.ele_model.specs.declared.refusal.Which.TheVariants.{Files, Directories, Names, Versions, Handles, Groups, Members, Marks}
 use Rattle.ele_model.specs.Step.{versions_made}
 use Rattle.ele_model.specs.World.{World}
 
+-- how much of it was ever made; with the versions count the drafts that are open
+abbrev pub made_of : World → Which → ℕ
+made_of w Files = w.made.files
+made_of w Directories = w.made.directories
+made_of w Names = w.made.names
+made_of w Versions = versions_made w
+made_of w Handles = w.made.handles
+made_of w Groups = w.made.groups
+made_of w Members = w.made.members
+made_of w Marks = w.made.marks
+
 abbrev pub is_full : World → Which → Bool
-is_full w Files = nat_le w.limits.files w.made.files
-is_full w Directories = nat_le w.limits.directories w.made.directories
-is_full w Names = nat_le w.limits.names w.made.names
-is_full w Versions = nat_le w.limits.versions (versions_made w)
-is_full w Handles = nat_le w.limits.handles w.made.handles
-is_full w Groups = nat_le w.limits.groups w.made.groups
-is_full w Members = nat_le w.limits.members w.made.members
-is_full w Marks = nat_le w.limits.marks w.made.marks
+is_full w which = nat_le (limit_of w.limits which) (made_of w which)

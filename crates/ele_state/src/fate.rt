@@ -1,15 +1,15 @@
 //! What becomes of a held version, and which versions will be due.
 ghost use Rattle.std.specs.Prelude.{◌≡◌, ◌&&◌, true, false, Some, IfOk, IfSome, IfNone, find, option_and_then, slice_get};
+ghost use Rattle.std.specs.Option.{option_map};
 ghost use Rattle.std.specs.Str.{bytes_eq};
 ghost use Rattle.ele_lists.specs.Lists.{AllLater};
-ghost use Rattle.ele_policy.specs.Ripe.{alone, is_due_by};
 ghost use Rattle.ele_model.specs.Change.{Time, after_change};
 ghost use Rattle.ele_model.specs.Fate.{HasFate, IsMarkedBy, level_reached};
 ghost use Rattle.ele_model.specs.Cover.{ripe_past};
 ghost use Rattle.ele_model.specs.GroupRows.{has_covering, is_marked, is_member, keeps_at};
 ghost use Rattle.ele_model.specs.Scan.{scan};
 ghost use Rattle.ele_model.specs.World.{is_held};
-ghost use Rattle.ele_state.specs.Fated.{IsFreeCause, IsFreeFate, MarksAt, closing_of};
+ghost use Rattle.ele_state.specs.Fated.{IsFreeFate, MarksAt, newer_of};
 ghost use Rattle.ele_state.specs.Inside.{world_of, IsSound};
 ghost use Rattle.ele_state.specs.Queued.{IsTold};
 
@@ -18,10 +18,10 @@ use crate::keys::floor_in;
 use crate::rows::Rows;
 use ele_groups::Groups;
 use ele_model::{
-    Cause, Cover, Fate, FileId, KeyList, ListOf, MarkRow, Moment, Name, NoMemory, Policy, Stamps,
+    Cover, Fate, FileId, KeyList, ListOf, MarkRow, Moment, Name, NoMemory, Policy, Stamps,
     VersionNo,
 };
-use ele_policy::ripe;
+use ele_policy::{Newer, cause_of, ripe};
 
 // Whether the mark covers what was current from the one moment until the other, and is in force.
 fn keeps_at(closed: Moment, ended: Moment, now: Moment, mark: &MarkRow) -> bool
@@ -92,14 +92,14 @@ fn first_mark(
     None
 }
 
-// When the version of these stamps closed.
-fn closing_of(next: &Option<Stamps>) -> Option<Moment>
-    ensures { result ≡ closing_of next.now }
+// The next held version, by its stamps, as a newer one of its file.
+fn newer_of(next: Option<Stamps>) -> Option<Newer>
+    ensures { result ≡ option_map newer_of next }
 {
-    match next {
-        Some(stamps) => Some(stamps.closed),
-        None => None,
-    }
+    next.map(|stamps| Newer {
+        number: stamps.number,
+        closed: stamps.closed,
+    })
 }
 
 // The level that a version has reached at the moment which ended then; none without a ladder.
@@ -111,30 +111,6 @@ fn level_reached(policy: &Policy, ended: Moment, at: Moment) -> Option<usize>
             Some(ladder.level(at.seconds().saturating_sub(ended.seconds())))
         }
         _ => None,
-    }
-}
-
-// Why the policy lets a version go at the moment, beside that next one.
-fn cause(
-    policy: &Policy,
-    closed: Moment,
-    ended: Moment,
-    next: &Option<Stamps>,
-    since: Moment,
-) -> Cause
-    requires { is_due_by policy.now closed (alone (closing_of next.now)) ended since ≡ true }
-    ensures { IsFreeCause policy.now closed ended next.now since result }
-{
-    match policy {
-        Policy::One => Cause::AtOnce,
-        Policy::All => unreachable!(),
-        Policy::Safe(interval, _) => Cause::Age(*interval),
-        Policy::Landmarks(ladder) => {
-            let Some(next) = next else { unreachable!() };
-            let level = ladder.level(since.seconds().saturating_sub(ended.seconds()));
-            let by = next.number;
-            Cause::Displaced { level, by }
-        }
     }
 }
 
@@ -153,21 +129,19 @@ fn free_fate(
     policy: &Policy,
     closed: Moment,
     ended: Moment,
-    next: &Option<Stamps>,
+    next: Option<Newer>,
     floor_met: bool,
     now: Moment,
 ) -> Fate
-    ensures { IsFreeFate cover policy.now closed ended next.now floor_met now result }
+    ensures { IsFreeFate cover policy.now closed ended next floor_met now result }
 {
     policy.lemma_valid();
-    let until = ripe_past(
-        cover,
-        ripe(policy, closed, ended, closing_of(next), floor_met),
-    );
+    let next_closed = next.map(|newer| newer.closed);
+    let until = ripe_past(cover, ripe(policy, closed, ended, next_closed, floor_met));
     if let Some(since) = until {
         if since <= now {
             let _within = since.seconds();
-            let cause = cause(policy, closed, ended, next, since);
+            let cause = cause_of(policy, closed, ended, next, since);
             return Fate::Due { since, cause };
         }
     }
@@ -199,7 +173,15 @@ fn fate_of(rows: &Rows, file: FileId, stamps: &Stamps) -> Fate
     let next = rows.files.next_held(file, number);
     let floor = floor_in(&policy, rows.names.is_live(file));
     let floor_met = rows.files.has_newer(file, number, floor);
-    free_fate(cover, &policy, closed, ended, &next, floor_met, now)
+    free_fate(
+        cover,
+        &policy,
+        closed,
+        ended,
+        newer_of(next),
+        floor_met,
+        now,
+    )
 }
 
 impl State {

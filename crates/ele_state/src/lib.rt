@@ -9,7 +9,7 @@ ghost use Rattle.ele_model.specs.Change.{Time, after_change};
 ghost use Rattle.ele_model.specs.NoIdleStays.{HasNoIdle};
 ghost use Rattle.ele_model.specs.WellFormed.{IsWellFormed};
 ghost use Rattle.ele_model.specs.World.{fresh_world};
-ghost use Rattle.ele_state.specs.Full.{is_full};
+ghost use Rattle.ele_state.specs.Full.{is_full, made_of};
 
 mod append;
 mod book;
@@ -121,23 +121,27 @@ impl State {
     }
 
     /// Whether as many were made as may be; with the versions count the drafts that are open.
-    #[tactic(auto, using(crate::proofs::Bounded::versions_few))]
     pub fn is_full(&self, which: Which) -> bool
         ensures { result ≡ is_full self.now.world which }
     {
+        self.made(which) >= self.rows.limits.limit(which)
+    }
+
+    // How many were ever made; with the versions count the drafts that are open.
+    #[tactic(auto, using(crate::proofs::Bounded::versions_few))]
+    fn made(&self, which: Which) -> u64
+        ensures { result ≡ made_of self.now.world which }
+    {
         let made = &self.rows.made;
-        let limits = &self.rows.limits;
         match which {
-            Which::Files => made.files >= limits.files(),
-            Which::Directories => made.directories >= limits.directories(),
-            Which::Names => made.names >= limits.names(),
-            Which::Versions => {
-                made.versions + self.rows.files.drafts_open() as u64 >= limits.versions()
-            }
-            Which::Handles => self.rows.files.handles_opened() >= limits.handles(),
-            Which::Groups => made.groups >= limits.groups(),
-            Which::Members => made.members >= limits.members(),
-            Which::Marks => made.marks >= limits.marks(),
+            Which::Files => made.files,
+            Which::Directories => made.directories,
+            Which::Names => made.names,
+            Which::Versions => made.versions + self.rows.files.drafts_open() as u64,
+            Which::Handles => self.rows.files.handles_opened(),
+            Which::Groups => made.groups,
+            Which::Members => made.members,
+            Which::Marks => made.marks,
         }
     }
 

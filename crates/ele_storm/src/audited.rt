@@ -66,8 +66,8 @@ pub fn close_and_audit<C: Audit>(shared: Shared<C>, seat: Seat<C>) -> Result<boo
 fn is_equal<C: Audit>(core: &C) -> Result<bool, NoMemory>
     ensures { IfOk result (λ equal. IsTrue equal) }
 {
-    let due = core.due()?;
-    let names = core.restorable()?;
+    let due = core.due_keys()?;
+    let names = core.dead_names()?;
     let usage = core.usage();
     let flat = core.flat()?;
     // Told for the proof: the world is well formed, so the sums of its usage are within 64 bits.

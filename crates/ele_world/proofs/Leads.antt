@@ -11,7 +11,7 @@ use Rattle.ele_model.proofs.Walks.{new_leads}
 use Rattle.ele_model.proofs.Elements.{any_none}
 use Rattle.ele_model.proofs.Homes.{parent_home, directory_given}
 use Rattle.ele_model.proofs.Allowed.{may_name, may_revive}
-use Rattle.ele_model.proofs.Closes.{new_found}
+use Rattle.ele_model.proofs.NextVersion.{new_found}
 use Rattle.ele_model.proofs.KeptRevived.{again}
 use Rattle.ele_model.proofs.May.{MayRevive}
 

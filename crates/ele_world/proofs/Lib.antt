@@ -1,4 +1,12 @@
 pub mod Words
+pub mod ChangeKeeps
+pub mod Moves
+pub mod Stays
+pub mod OpenStays
+pub mod Closes
+pub mod NameRowsKept
+pub mod ScanOrder
+pub mod Fates
 pub mod NameEnds
 pub mod Leads
 pub mod ReadsBack

@@ -13,7 +13,7 @@ use Rattle.ele_model.proofs.Currents.{has_current}
 use Rattle.ele_model.proofs.Dropped.{dropped}
 use Rattle.ele_model.proofs.Elements.{find-updated}
 use Rattle.ele_model.proofs.KeptDrafts.{same_file}
-use Rattle.ele_model.proofs.OpenStays.{has_row}
+use Rattle.ele_model.proofs.Readers.{has_row}
 use Rattle.ele_model.proofs.Outcomes.{AfterAll, in_all}
 use Rattle.ele_model.proofs.Walks.{file_live}
 use Rattle.ele_model.specs.declared.reply.Reply.TheVariants as told

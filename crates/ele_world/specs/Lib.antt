@@ -45,3 +45,11 @@ pub mod MarkGoes
 pub mod ReadsPast
 pub mod DraftsWritten
 pub mod OneTree
+pub mod HeldStays
+pub mod MarkedStays
+pub mod OnlyDueLeave
+pub mod ScanLists
+pub mod NameRowsStay
+pub mod ChangeKeeps
+pub mod CloseKeeps
+pub mod RevertKeeps

@@ -1,25 +1,25 @@
 //! What every event does to a well-formed world, and so what is true of every run: each law is the contract of a function that
 //! does nothing.
 ghost use Rattle.ele_model.specs.CleanKeepsKeys.{CleanKeepsKeys};
-ghost use Rattle.ele_model.specs.ChangeKeeps.{ChangeKeepsWellFormed};
-ghost use Rattle.ele_model.specs.CloseKeeps.{CloseKeeps};
+ghost use Rattle.ele_world.specs.ChangeKeeps.{ChangeKeepsWellFormed};
+ghost use Rattle.ele_world.specs.CloseKeeps.{CloseKeeps};
 ghost use Rattle.ele_world.specs.CreateLeads.{CreateLeads};
 ghost use Rattle.ele_world.specs.LinkLeads.{LinkLeads};
 ghost use Rattle.ele_world.specs.MakeDirLeads.{MakeDirLeads};
 ghost use Rattle.ele_model.specs.NoIdleStays.{NoIdleStays, NoIdleStaysInRuns};
 ghost use Rattle.ele_world.specs.RemoveDirEnds.{RemoveDirEnds};
-ghost use Rattle.ele_model.specs.HeldStays.{HeldStays};
+ghost use Rattle.ele_world.specs.HeldStays.{HeldStays};
 ghost use Rattle.ele_model.specs.NothingChanges.{RefusedStays, AskingStays};
-ghost use Rattle.ele_model.specs.MarkedStays.{MarkedStays};
+ghost use Rattle.ele_world.specs.MarkedStays.{MarkedStays};
 ghost use Rattle.ele_world.specs.OneLife.{OneLife};
 ghost use Rattle.ele_world.specs.OneLifeFrom.{OneLifeFrom};
 ghost use Rattle.ele_world.specs.OpenStays.{OpenStays};
-ghost use Rattle.ele_model.specs.OnlyDueLeave.{OnlyDueLeave};
+ghost use Rattle.ele_world.specs.OnlyDueLeave.{OnlyDueLeave};
 ghost use Rattle.ele_world.specs.PassLeavesKept.{PassLeavesKept};
 ghost use Rattle.ele_world.specs.ReadsAsClosed.{ReadsAsClosed, ReadsAsClosedInRuns};
 ghost use Rattle.ele_model.specs.RemovalOrder.{RemovalOrder};
 ghost use Rattle.ele_world.specs.RenameLeads.{RenameLeads};
-ghost use Rattle.ele_model.specs.RevertKeeps.{RevertKeeps};
+ghost use Rattle.ele_world.specs.RevertKeeps.{RevertKeeps};
 ghost use Rattle.ele_world.specs.UndeleteLeads.{UndeleteLeads};
 ghost use Rattle.ele_world.specs.UnlinkEnds.{UnlinkEnds};
 ghost use Rattle.ele_model.specs.RipeMoments.{DueFromRipe, RipeIsAnswered};
@@ -37,7 +37,7 @@ pub use ele_model::laws::{
 use ele_policy::laws;
 
 /// A change that may be made leaves a well-formed world well formed.
-#[tactic(auto, using(ele_model::proofs::Keeps::change_keeps_well_formed))]
+#[tactic(auto, using(crate::proofs::ChangeKeeps::change_keeps_well_formed))]
 pub fn change_keeps_well_formed()
     ensures { ChangeKeepsWellFormed }
 {

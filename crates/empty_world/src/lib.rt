@@ -209,13 +209,13 @@ impl Step for EmptyWorld {
 
 impl Audit for EmptyWorld {
     #[tactic(auto, using(crate::proofs::Nothing::nothing_due))]
-    fn due(&self) -> Result<KeyList, NoMemory> {
+    fn due_keys(&self) -> Result<KeyList, NoMemory> {
         self.lemma_empty();
         Ok(ListOf::new(self.alloc))
     }
 
     #[tactic(auto, using(crate::proofs::Nothing::nothing_returns))]
-    fn restorable(&self) -> Result<DeadNameList, NoMemory> {
+    fn dead_names(&self) -> Result<DeadNameList, NoMemory> {
         self.lemma_empty();
         Ok(ListOf::new(self.alloc))
     }

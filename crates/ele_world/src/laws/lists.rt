@@ -1,7 +1,7 @@
 //! What the lists hold that are told of a world: each law is the contract of a function that does nothing.
 ghost use Rattle.ele_world.specs.CountsPlaces.{CountsPlaces};
 ghost use Rattle.ele_world.specs.RestorableLists.{RestorableLists};
-ghost use Rattle.ele_model.specs.ScanLists.{ScanLists};
+ghost use Rattle.ele_world.specs.ScanLists.{ScanLists};
 ghost use Rattle.ele_world.specs.UndeleteTakes.{UndeleteTakes};
 
 use ele_policy::laws;

@@ -2,7 +2,7 @@
 //! that does nothing.
 ghost use Rattle.ele_world.specs.DraftsWritten.{DraftsWritten, DraftsWrittenInRuns};
 ghost use Rattle.ele_world.specs.LifeStays.{LifeStays};
-ghost use Rattle.ele_model.specs.NameRowsStay.{NameRowsStay};
+ghost use Rattle.ele_world.specs.NameRowsStay.{NameRowsStay};
 ghost use Rattle.ele_world.specs.OneContent.{OneContentStays, OneContentInRuns};
 ghost use Rattle.ele_world.specs.OtherNamesStay.{OtherNamesStay};
 ghost use Rattle.ele_world.specs.PastStays.{PastStays};

@@ -1,5 +1,5 @@
 use Rattle.ele_model.proofs.Formed.{in_parts}
-use Rattle.ele_model.proofs.Closes.{close_keeps}
+use Rattle.ele_world.proofs.Closes.{close_keeps}
 use Rattle.ele_world.proofs.laws.close_keeps.Goals as goal
 
 pub returns : goal.returns

@@ -1,5 +1,5 @@
 use Rattle.ele_model.proofs.Formed.{in_parts}
-use Rattle.ele_model.proofs.OpenStays.{marked_stays}
+use Rattle.ele_world.proofs.OpenStays.{marked_stays}
 use Rattle.ele_world.proofs.laws.marked_stays.Goals as goal
 
 pub returns : goal.returns

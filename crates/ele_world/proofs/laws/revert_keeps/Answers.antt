@@ -1,5 +1,5 @@
 use Rattle.ele_model.proofs.Formed.{in_parts}
-use Rattle.ele_model.proofs.Closes.{revert_keeps}
+use Rattle.ele_world.proofs.Closes.{revert_keeps}
 use Rattle.ele_world.proofs.laws.revert_keeps.Goals as goal
 
 pub returns : goal.returns

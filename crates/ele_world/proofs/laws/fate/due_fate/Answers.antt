@@ -1,4 +1,4 @@
-use Rattle.ele_model.proofs.Fates.{due_fate}
+use Rattle.ele_world.proofs.Fates.{due_fate}
 use Rattle.ele_model.proofs.Formed.{in_parts}
 use Rattle.ele_world.proofs.laws.fate.due_fate.Goals as goal
 

@@ -1,4 +1,4 @@
-use Rattle.ele_model.proofs.Fates.{one_fate}
+use Rattle.ele_world.proofs.Fates.{one_fate}
 use Rattle.ele_world.proofs.laws.fate.one_fate.Goals as goal
 
 pub returns : goal.returns

@@ -1,5 +1,5 @@
 use Rattle.ele_model.proofs.Formed.{in_parts}
-use Rattle.ele_model.proofs.ScanOrder.{scan_lists}
+use Rattle.ele_world.proofs.ScanOrder.{scan_lists}
 use Rattle.ele_world.proofs.laws.lists.scan_lists.Goals as goal
 
 pub returns : goal.returns

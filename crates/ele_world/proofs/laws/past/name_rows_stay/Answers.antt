@@ -1,5 +1,5 @@
 use Rattle.ele_model.proofs.Formed.{in_parts}
-use Rattle.ele_model.proofs.NameRowsKept.{name_rows_stay}
+use Rattle.ele_world.proofs.NameRowsKept.{name_rows_stay}
 use Rattle.ele_world.proofs.laws.past.name_rows_stay.Goals as goal
 
 pub returns : goal.returns

@@ -1,12 +1,13 @@
 -- The scan is in order, and has a key just where its version is due from then on.
 use Rattle.ele_model.proofs.Basics.{nat_tests, arith, ◌≡◌, ℕ, ◌==◌, ◌&&◌, ◌||◌, ◌∙◌, Bool, true, false, List, [], ◌∷◌, Option, Some, None, refl, cond, cons_option, option_map, find, AllByRecursion, AllLater, all-weaker, not_found, filter_map, option_map_or}
-use Rattle.ele_model.proofs.Words.{World, Key, VersionRow, ArePlaced, Versions, has_key, is_key, is_version, key_of, HasParts}
+use Rattle.ele_model.proofs.Words.{World, Key, ArePlaced, Versions, has_key, is_key, is_version, key_of, HasParts}
 use Rattle.std.proofs.Math.Bool.{or-false}
 use Rattle.ele_model.specs.Due.{is_due_at, ripe_of}
 use Rattle.ele_model.specs.Scan.{due_key, scan}
-use Rattle.ele_model.specs.ScanLists.{is_due_from, ListsDue}
+use Rattle.ele_world.specs.ScanLists.{is_due_from, ListsDue}
 use Rattle.ele_due.proofs.Members.{has_key-in_order}
 use Rattle.ele_due.proofs.Ordered.{IsInOrder-in_order}
+use Rattle.ele_world.proofs.Words.{VersionRow}
 
 -- ---- the keys of rows that are due
 

@@ -2,9 +2,10 @@
 use Rattle.ele_model.proofs.Basics.{◌≡◌, ◌==◌, ◌&&◌, ℕ, ◌<◌, ◌≤◌, Bool, true, false, cond, List, [], ◌∷◌, Option, None, refl, ap, arith, ◌⊎◌, inl, find, AllByRecursion, option_map, false≢true, nat_tests, update_first, remove_first, all-weaker}
 use Rattle.ele_model.proofs.Basics.{not_found, find-insert_before, find-remove_first, all-push, all-update_first, all-remove_first, all-found, found_passes, AllLater}
 use Rattle.ele_model.proofs.Words.{Cell, Change, MakeFile, PutUnder, Append, Take, after_change, ended_at, next_version, with_end, with_file, with_name, with_version, EndFileName, Revive, DropIdle, without_name, current_cells, numbered_on, put_under}
-use Rattle.ele_model.proofs.Words.{ArePlaced, World, next_of, is_version, is_version_after, is_live, is_file, Event, FileRow, File, VersionRow}
+use Rattle.ele_model.proofs.Words.{ArePlaced, World, next_of, is_version, is_version_after, is_live, is_file}
 use Rattle.ele_model.proofs.Dropped.{dropped_versions}
 use Rattle.ele_model.proofs.May.{MayBy, MayClean}
+use Rattle.ele_world.proofs.Words.{Event, FileRow, File, VersionRow}
 
 -- ---- a number that was given isn't given again
 

@@ -1,13 +1,16 @@
 -- What an event does to the versions that are held before it.
 use Rattle.ele_model.proofs.Basics.{nat_tests, ◌≡◌, ℕ, true, List, [], ◌∷◌, Option, Some, None, arith, ◌⊎◌, find, AllByRecursion, all-weaker, all-both, any-found, found_passes, AllLater}
-use Rattle.ele_model.proofs.Words.{Change, after_change, after_changes, is_due_at, IsSameVersion, StaysSame, StaysOrWasDue, plan, step, ArePlaced, IsVersion, Files, Versions, HasParts, World, is_version, Event, CleanOne, VersionRow}
+use Rattle.ele_model.proofs.Words.{Change, after_change, after_changes, is_due_at, plan, step, ArePlaced, IsVersion, Files, Versions, HasParts, World, is_version}
 use Rattle.ele_model.proofs.DueRows.{due_is_unmarked, due_is_unread}
 use Rattle.ele_model.proofs.Allowed.{allowed}
 use Rattle.ele_model.proofs.Files.{next_of-given}
 use Rattle.ele_model.proofs.Keeps.{reached}
 use Rattle.ele_model.proofs.May.{MayAll}
-use Rattle.ele_model.proofs.Moves.{IsPast, all_behind, change_past, Moves, change_moves}
+use Rattle.ele_world.proofs.Moves.{IsPast, all_behind, change_past, Moves, change_moves}
 use Rattle.ele_model.proofs.Versions.{IsFound, all_found}
+use Rattle.ele_world.proofs.Words.{Event, CleanOne, VersionRow}
+use Rattle.ele_world.specs.HeldStays.{IsSameVersion, StaysSame}
+use Rattle.ele_world.specs.OnlyDueLeave.{StaysOrWasDue}
 
 -- ---- one version, from the first world on
 

@@ -1,21 +1,16 @@
 -- A close that tells of a version has made it of all that was written, and a revert of the version that was named.
-use Rattle.ele_model.proofs.Basics.{◌≡◌, ℕ, ◌-◌, false, List, [], ◌∷◌, Some, arith, find, Ok, AllByRecursion, nat_tests, all-update_first, find-inserted, refl}
-use Rattle.ele_model.proofs.Words.{after_changes, ShutHandle, EndDraft, Append, DraftRow, is_draft, ended_at, next_version, with_end, with_version, KeepsDraft, draft_read, step, IsVersion, Versions, HasParts, World, next_of, is_version, Revert}
-use Rattle.ele_model.proofs.Words.{is_version_after, reads_by, Close, FileRow, Reads, VersionRow, after_change, file_now, version_meant, CopiesVersion, Names}
+use Rattle.ele_model.proofs.Basics.{◌≡◌, ℕ, ◌-◌, List, [], ◌∷◌, Some, arith, find, Ok, nat_tests, refl}
+use Rattle.ele_model.proofs.Words.{after_changes, ShutHandle, EndDraft, Append, is_draft, next_version, draft_read, step, Versions, HasParts, World, next_of}
+use Rattle.ele_model.proofs.Words.{reads_by, after_change, file_now, version_meant, Names}
 use Rattle.ele_model.specs.declared.reply.Reply.TheVariants as reply
 use Rattle.ele_path.specs.declared.tagged.Tag.TheVariants as tag
 use Rattle.ele_model.proofs.Outcomes.{in_all}
 use Rattle.ele_model.proofs.Files.{next_of-numbered_on}
 use Rattle.ele_model.proofs.Walks.{file_there}
-
--- no version has the file's next number
-pub none_next : (files : List FileRow) (now file : ℕ) (row : VersionRow) → IsVersion files now row → is_version file (next_of files file) row ≡ false
-none_next files now file row h = grind (arith, nat_tests)
-
-module _ (w : World) (file : ℕ) (each : AllByRecursion (IsVersion w.files w.now) w.versions) where
-  pub new_found : (opened : ℕ) (cells : _) → find (is_version file (next_of w.files file)) (with_version w file opened cells).versions ≡ Some (next_version w file opened cells)
-  new_found opened cells = find-inserted (is_version_after file (next_of w.files file)) (is_version file (next_of w.files file)) (next_version w file opened cells) (with_end w file) (grind (arith, nat_tests))
-      (grind (arith, nat_tests, all-update_first (is_version file (next_of w.files file - 1)) (IsVersion w.files w.now) (λ row. is_version file (next_of w.files file) row ≡ false) (ended_at w.now) w.versions, none_next w.files w.now file))
+use Rattle.ele_model.proofs.NextVersion.{new_found}
+use Rattle.ele_world.proofs.Words.{DraftRow, Revert, Close, Reads, VersionRow}
+use Rattle.ele_world.specs.CloseKeeps.{KeepsDraft}
+use Rattle.ele_world.specs.RevertKeeps.{CopiesVersion}
 
 keeps : (w : World) (handle file : ℕ) (read : Reads) (draft : DraftRow) → HasParts w → reads_by w.handles handle ≡ Ok read → draft_read read ≡ Some file → find (is_draft file) w.drafts ≡ Some draft → KeepsDraft w handle (next_of w.files file) (after_changes w (ShutHandle handle ∷ EndDraft file ∷ Append file draft.opened draft.cells ∷ []))
 keeps w handle file read draft k reads its drafted = record { file = file; draft = draft; written = grind (arith, nat_tests); drafted = drafted; kept = grind (arith, nat_tests, new_found w file (k.holds Versions).each draft.opened draft.cells) }

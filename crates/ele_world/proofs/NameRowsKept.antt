@@ -1,10 +1,11 @@
 -- Name rows after an event: those before, in their order, but for those of a file that goes, and new ones behind.
-use Rattle.ele_model.proofs.Basics.{rules, nat_tests, arith, ◌≡◌, ℕ, ◌<◌, true, List, [], ◌∷◌, ◌++◌, ◌==◌, ◌&&◌, not, None, refl, inl, filter, list_any, AllByRecursion, AllLater, update_first, remove_first, all-push, all-weaker, filter-all, filter-same_all, list_any-append, list_any-update_first}
-use Rattle.ele_model.proofs.Words.{World, Event, Close, CleanOne, Revert, Read, NameRow, FileRow, Target, File, HasParts, Names, Files, DropIdle, EndDraft, ShutHandle, Take, Append, after_change, after_changes, MakeFile, PutUnder, Revive, Policy, numbered_on, put_under, IsThere, IsNameRow, born_row, dies, is_file, is_live_name, next_of, plan, step}
-use Rattle.ele_model.specs.NameRowsStay.{AreStillRows, is_there}
+use Rattle.ele_model.proofs.Basics.{rules, nat_tests, arith, ◌≡◌, ℕ, ◌<◌, true, List, [], ◌∷◌, ◌++◌, not, None, refl, inl, filter, list_any, AllByRecursion, AllLater, update_first, remove_first, all-push, all-weaker, filter-all, filter-same_all, list_any-append, list_any-update_first}
+use Rattle.ele_model.proofs.Words.{World, HasParts, Names, Files, DropIdle, EndDraft, ShutHandle, Take, Append, after_change, after_changes, MakeFile, PutUnder, Revive, Policy, numbered_on, put_under, IsThere, IsNameRow, born_row, dies, is_file, is_live_name, next_of, plan, step}
+use Rattle.ele_world.specs.NameRowsStay.{AreStillRows, is_there}
 use Rattle.ele_model.proofs.Dropped.{dropped, stays_named}
-use Rattle.ele_model.proofs.Elements.{any_none}
 use Rattle.ele_model.proofs.Outcomes.{AfterAll, in_all}
+use Rattle.ele_model.proofs.Rising.{removed_any}
+use Rattle.ele_world.proofs.Words.{Event, Close, CleanOne, Revert, Read, NameRow, FileRow, Target, File}
 
 module _ (now : ℕ) where
   unchanged : (rows : List NameRow) → AreStillRows now rows rows
@@ -39,10 +40,6 @@ more_there : (files more : List FileRow) (names : List NameRow) → ((file : ℕ
 more_there files more names wider = all-weaker (λ row. is_there files row.target ≡ true) (λ row. is_there more row.target ≡ true) names (λ row h. grind (arith, nat_tests, wider))
 
 -- without a file that goes
-pub removed_any : (files : List FileRow) (file other : ℕ) → AllLater (λ earlier later. earlier.id < later.id) files → list_any (is_file other) (remove_first (is_file file) files) ≡ (not (other == file) && list_any (is_file other) files)
-removed_any [] file other placed = grind (arith, nat_tests)
-removed_any (x ∷ xs) file other placed = grind (arith, nat_tests, any_none, all-weaker, removed_any xs file other placed.1)
-
 other_there : (files : List FileRow) (file : ℕ) (row : NameRow) → AllLater (λ earlier later. earlier.id < later.id) files → is_there files row.target ≡ true → is_there (remove_first (is_file file) files) row.target ≡ stays_named file row
 other_there files file row placed there = grind (arith, nat_tests, removed_any)
 

@@ -1,7 +1,7 @@
 use Rattle.std.specs.Prelude.{codes}
 use Rattle.ele_outlook.specs.Why.{length_words}
 use Rattle.ele_outlook.proofs.Known.{fronted, puts_as}
-use Rattle.ele_outlook.proofs.why.put_why.Goals as goal
+use Rattle.ele_outlook.proofs.why.put_cause.Goals as goal
 
 pub returns-in-AtOnce : goal.returns-in-AtOnce
 returns-in-AtOnce g c = rw c.in-AtOnce.is c.put_word-in-AtOnce.ensures

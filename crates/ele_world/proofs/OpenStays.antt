@@ -1,17 +1,12 @@
 -- A version that a handle reads, or that was current at a mark of a group with its file, is held after any event.
 use Rattle.ele_model.proofs.Basics.{AllByRecursion, ◌≡◌, inl, inr, ℕ, true, Some, sym, subst, ◌∙◌, arith, find, Ok, false≢true, nat_tests, all-found, found_passes, any-found, all-weaker}
-use Rattle.ele_model.proofs.Words.{StaysOrWasDue, step, IsHeldRead, Readers, World, is_handle, is_held, is_open, is_version, reads_by, reads_version, HandleRow, Reads, Version, VersionRow, IsMarkedHeld, Event, HasParts}
+use Rattle.ele_model.proofs.Words.{step, IsHeldRead, Readers, World, is_handle, is_held, is_open, is_version, reads_by, reads_version, HasParts}
 use Rattle.ele_lists.proofs.Cuts.{any-found as first_passing}
-use Rattle.ele_model.proofs.Stays.{only_due_leave}
-
--- the handle's row
-pub record HasRow (w : World) (handle : ℕ) (reads : Reads) : Type 0 where
-  pub row : HandleRow
-  pub found : find (is_handle handle) w.handles ≡ Some row
-  pub its : row.reads ≡ reads
-
-pub has_row : (w : World) (handle : ℕ) (reads : Reads) → reads_by w.handles handle ≡ Ok reads → HasRow w handle reads
-has_row w handle reads is = grind (arith, nat_tests)
+use Rattle.ele_world.proofs.Stays.{only_due_leave}
+use Rattle.ele_model.proofs.Readers.{HasRow, has_row}
+use Rattle.ele_world.proofs.Words.{Version, VersionRow, Event}
+use Rattle.ele_world.specs.OnlyDueLeave.{StaysOrWasDue}
+use Rattle.ele_world.specs.MarkedStays.{IsMarkedHeld}
 
 pub open_stays : (w : World) (event : Event) (handle file number : ℕ) → HasParts w → reads_by w.handles handle ≡ Ok (Version file number) → is_held ((step w event).1) file number ≡ true
 open_stays w event handle file number k is = by (all-found (is_version file number) (StaysOrWasDue w event) w.versions first.0 first.1 (only_due_leave w event k)) where
