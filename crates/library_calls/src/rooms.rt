@@ -7,7 +7,7 @@ use ele_due::{DueQueue, Key};
 use ele_inode_log::{InodeLog, Meter, VersionRow};
 use ele_moment::{FileId, Handle, Moment, VersionNo};
 use ele_policy::{BadLadder, Ladder};
-use ele_sessions::{Closing, Sessions};
+use ele_sessions::{Closing, Reads, SessionFault, Sessions};
 use std::alloc::Global;
 use std::test::Fail;
 
@@ -98,6 +98,21 @@ fn a_draft_that_was_written_and_cut_is_changed_beside_a_reader(
     );
     assert!(rt; sessions.pins(FileId(1), VersionNo(1)));
     assert!(rt; !sessions.pins(FileId(1), VersionNo(2)));
+    Ok(())
+}
+
+#[test]
+fn a_handle_that_reads_writes_nothing(rt: HostRuntime) -> Result<(), Fail> {
+    let mut store = BlockStore::new(rt.alloc());
+    let mut sessions = Sessions::new(rt.alloc());
+    let handle = sessions.open_read(FileId(1), VersionNo(1))?;
+    let reads = Reads::Version(FileId(1), VersionNo(1));
+    assert!(rt; sessions.read(handle) == Some(reads));
+    assert!(rt; sessions.handle_at(0) == Some((handle, reads)));
+    let written = sessions.write(&mut store, handle, 0, b"a");
+    assert!(rt; written == Err(SessionFault::NotWriter));
+    let cut = sessions.truncate(&mut store, Handle(2), 0);
+    assert!(rt; cut == Err(SessionFault::NoHandle));
     Ok(())
 }
 
