@@ -1,4 +1,8 @@
 //! Why groups refuse a change. A contract sees plain data.
+ghost use Rattle.std.specs.Prelude.{◌≡◌};
+ghost use Rattle.ele_groups.specs.declared.fault.GroupFault.TheVariants as fault;
+
+use ele_moment::NoMemory;
 use thiserror::Error;
 
 /// Why a change of groups is refused; all of them are as they were.
@@ -25,4 +29,12 @@ pub enum GroupFault {
     /// There is no memory for the change.
     #[error("out of memory")]
     NoMemory,
+}
+
+impl From<NoMemory> for GroupFault {
+    ghost from_gives = { λ _ made. made ≡ fault.NoMemory };
+
+    fn from(_refused: NoMemory) -> GroupFault {
+        GroupFault::NoMemory
+    }
 }

@@ -66,10 +66,8 @@ impl Groups {
         if self.has_group(name) {
             return Err(GroupFault::GroupExists);
         }
-        match self.add_group(name) {
-            Ok(()) => Ok(()),
-            Err(NoMemory) => Err(GroupFault::NoMemory),
-        }
+        self.add_group(name)?;
+        Ok(())
     }
 
     /// Drops a group with its marks. It takes no memory.
@@ -78,9 +76,7 @@ impl Groups {
         ensures dropped { OnOk result (self.new ≡ without_group name.now self.old) }
         ensures unchanged { OnErr result (self.new ≡ self.old) }
     {
-        if !self.has_group(name) {
-            return Err(GroupFault::NoGroup);
-        }
+        self.expect_group(name)?;
         self.take_group(name);
         Ok(())
     }
@@ -92,16 +88,12 @@ impl Groups {
         ensures fault { IfErr result (Fails (add_fault self.old name.now file)) }
         ensures unchanged { OnErr result (self.new ≡ self.old) }
     {
-        if !self.has_group(name) {
-            return Err(GroupFault::NoGroup);
-        }
+        self.expect_group(name)?;
         if self.is_member(name, file) {
             return Err(GroupFault::AlreadyMember);
         }
-        match self.add_member(name, file) {
-            Ok(()) => Ok(()),
-            Err(NoMemory) => Err(GroupFault::NoMemory),
-        }
+        self.add_member(name, file)?;
+        Ok(())
     }
 
     /// Takes a file out of a group. It takes no memory.
@@ -110,9 +102,7 @@ impl Groups {
         ensures removed { OnOk result (self.new ≡ without_member name.now file self.old) }
         ensures unchanged { OnErr result (self.new ≡ self.old) }
     {
-        if !self.has_group(name) {
-            return Err(GroupFault::NoGroup);
-        }
+        self.expect_group(name)?;
         if !self.is_member(name, file) {
             return Err(GroupFault::NotMember);
         }
@@ -133,17 +123,12 @@ impl Groups {
         ensures fault { IfErr result (Fails (mark_fault self.old name.now moment)) }
         ensures unchanged { OnErr result (self.new ≡ self.old) }
     {
-        if !self.has_group(name) {
-            return Err(GroupFault::NoGroup);
-        }
+        self.expect_group(name)?;
         if self.has_mark(name, moment) {
             return Err(GroupFault::MarkExists);
         }
-        let mark = MarkRow { at: moment, until };
-        match self.add_mark(name, &mark) {
-            Ok(()) => Ok(()),
-            Err(NoMemory) => Err(GroupFault::NoMemory),
-        }
+        self.add_mark(name, &MarkRow { at: moment, until })?;
+        Ok(())
     }
 
     /// Takes a mark out of a group. It takes no memory.
@@ -152,9 +137,7 @@ impl Groups {
         ensures unmarked { OnOk result (self.new ≡ without_mark name.now moment self.old) }
         ensures unchanged { OnErr result (self.new ≡ self.old) }
     {
-        if !self.has_group(name) {
-            return Err(GroupFault::NoGroup);
-        }
+        self.expect_group(name)?;
         if !self.has_mark(name, moment) {
             return Err(GroupFault::NoMark);
         }
@@ -288,6 +271,17 @@ impl Groups {
         match self.named(name) {
             Some(group) => group.moments(self.alloc),
             None => Ok(Vec::new(self.alloc)),
+        }
+    }
+
+    // Whether there is a group of that name. `NoGroup` if there is none.
+    fn expect_group(&self, name: &Name) -> Result<(), GroupFault>
+        ensures { result ≡ answer_of (drop_fault self.now name.now) }
+    {
+        if self.has_group(name) {
+            Ok(())
+        } else {
+            Err(GroupFault::NoGroup)
         }
     }
 

@@ -12,5 +12,6 @@ mod rows;
 mod span;
 mod taken;
 
+pub use ele_model::{Cover, MarkRow};
 pub use fault::GroupFault;
 pub use groups::Groups;

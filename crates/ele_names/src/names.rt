@@ -111,9 +111,22 @@ impl Names {
         self.live_names.leave(number, &row);
     }
 
-    /// Ends the live name at the moment, which was found before. It takes no memory.
+    /// Ends the live name at the moment: its row has that death, and no other row changes. It takes
+    /// no memory.
+    pub fn kill(&mut self, directory: DirId, name: &Name, moment: Moment)
+        requires { IsSome (live_target self.old directory name.now) }
+        ensures { self.new
+            ≡ update_first (is_live_name directory name.now) (dies moment) self.old }
+    {
+        let Some(found) = self.find(directory, name) else {
+            unreachable!()
+        };
+        self.kill_found(directory, name, &found, moment);
+    }
+
+    /// The same of a name that was found before, which spares a look-up. It takes no memory.
     #[tactic(auto, using(crate::proofs::Words::nat_tests, crate::proofs::Gone::found_known))]
-    pub fn kill(&mut self, directory: DirId, name: &Name, found: &Found, moment: Moment)
+    pub fn kill_found(&mut self, directory: DirId, name: &Name, found: &Found, moment: Moment)
         requires { IsSome (live_target self.old directory name.now) }
         ensures { self.new
             ≡ update_first (is_live_name directory name.now) (dies moment) self.old }

@@ -1,4 +1,5 @@
 pub mod Sessions
+pub mod Faults
 pub mod Changes
 pub mod Opening
 pub mod Closes

@@ -1,7 +1,8 @@
 //! The drafts by file id and the handles by number, each found by a binary search.
 //! A contract sees the lists of both.
-ghost use Rattle.std.specs.Prelude.{◌≡◌, ◌<◌, ◌+◌, ◌^◌, [], ◌∷◌, ◌++◌, Ok, IfOk, IfErr, vec_len, vec_capacity, if◌then◌else◌};
+ghost use Rattle.std.specs.Prelude.{◌≡◌, ◌<◌, ◌+◌, ◌^◌, [], ◌∷◌, ◌++◌, Ok, Some, IfOk, IfErr, IsErrAnd, vec_len, vec_capacity, if◌then◌else◌};
 ghost use Rattle.ele_rows.specs.Tally.{counted, room};
+ghost use Rattle.ele_sessions.specs.Faults.{refusal_of};
 ghost use Rattle.ele_sessions.specs.Inside.{IsAt, IsGap, file_in, number_in};
 ghost use Rattle.ele_sessions.specs.Kept.{reads_eq};
 ghost use Rattle.ele_sessions.specs.Order.{Rises};
@@ -10,6 +11,7 @@ ghost use Rattle.ele_model.specs.World.{is_handle, reads_by, file_written, file_
 ghost use Rattle.ele_model.specs.declared.rows.Reads.{Reads};
 
 use crate::draft::Draft;
+use crate::fault::SessionFault;
 use ele_lists::Keyed;
 use ele_model::{HandleRow, Reads, Refusal};
 use ele_moment::{FileId, Handle};
@@ -104,5 +106,19 @@ pub fn file_by(handles: &[HandleRow], number: Handle) -> Result<FileId, Refusal>
     match reads_by(handles, number) {
         Ok(reads) => file_written(reads),
         Err(refusal) => Err(refusal),
+    }
+}
+
+/// The file that is written through the handle, or the fault that the refusal is.
+pub fn written_by(handles: &[HandleRow], number: Handle) -> Result<FileId, SessionFault>
+    requires { Rises number_in handles.now }
+    ensures file { IfOk result (λ file. file_by handles.now number ≡ Ok file) }
+    ensures fault { IfErr result (λ fault. IsErrAnd (file_by handles.now number)
+        (λ refusal. refusal_of fault ≡ Some refusal)) }
+{
+    match file_by(handles, number) {
+        Ok(file) => Ok(file),
+        Err(Refusal::NoHandle) => Err(SessionFault::NoHandle),
+        Err(_) => Err(SessionFault::NotWriter),
     }
 }

@@ -13,5 +13,6 @@ mod opening;
 mod sessions;
 
 pub use closing::Closing;
+pub use ele_model::Reads;
 pub use fault::SessionFault;
 pub use sessions::Sessions;

@@ -1,6 +1,6 @@
 //! The sessions of all files.
 //! A contract sees them as drafts, handles and the count of handles ever opened.
-ghost use Rattle.std.specs.Prelude.{◌≡◌, ◌<◌, ◌≤◌, ◌+◌, ◌^◌, [], ◌∷◌, OnOk, OnErr, IfOk, IfErr, IfNone, IsOkUnless, IsErrOf, IsOk, IsSome, IsTrue, length, not, nat_lt, true};
+ghost use Rattle.std.specs.Prelude.{◌≡◌, ◌<◌, ◌≤◌, ◌+◌, ◌^◌, [], ◌∷◌, None, OnOk, OnErr, IfOk, IfErr, IsOk, IsSome, IsTrue, length, not, nat_lt, true};
 ghost use Rattle.std.specs.Option.{ForSome};
 ghost use Rattle.ele_content.specs.Content.{longest_content};
 ghost use Rattle.ele_blocks.specs.LivesIn.{LivesIn};
@@ -8,20 +8,20 @@ ghost use Rattle.ele_blocks.specs.Owes.{IsUncrowded};
 ghost use Rattle.ele_sessions.specs.Orderly.{AreOrderly};
 ghost use Rattle.ele_sessions.specs.Changes.{write_refusal, truncate_refusal, Writes, Truncates, Stays, has_length};
 ghost use Rattle.ele_sessions.specs.Closes.{closing, closed};
+ghost use Rattle.ele_sessions.specs.Faults.{refusal_of};
 ghost use Rattle.ele_sessions.specs.Opening.{new_draft, opened_by, reader_opened, Opens};
 ghost use Rattle.ele_sessions.specs.Sessions.{handle_file, draft_by};
-ghost use Rattle.ele_sessions.specs.declared.fault.SessionFault.TheVariants as fault;
 
 mod asking;
 
 use crate::changing::{truncate_draft, write_draft};
 use crate::closing::Closing;
-use crate::entries::{Entry, enter, file_by, take_handle};
+use crate::entries::{Entry, enter, take_handle, written_by};
 use crate::fault::SessionFault;
 use crate::leaving::leave;
 use crate::opening::{DraftSpec, join};
 use ele_blocks::{BlockMap, BlockStore};
-use ele_model::{HandleRow, Reads, Refusal};
+use ele_model::{HandleRow, Reads};
 use ele_moment::{FileId, Handle, Moment, NoMemory, VersionNo};
 use ele_rows::Tally;
 use std::alloc::Global;
@@ -135,9 +135,11 @@ impl Sessions {
 
     /// Writes the bytes from the offset on into the draft under the handle; zeros fill it up to the
     /// offset where it ends before. Even equal bytes mark the draft changed. No bytes change
-    /// nothing, whatever the offset. Refused, in this order: `NoHandle` where no open handle has
-    /// that number, `NotWriter` where it reads a version, `TooBig` where the bytes would end past
-    /// 1,048,576. A fault leaves all as it was.
+    /// nothing, whatever the offset.
+    ///
+    /// In this order: `NoHandle` if no open handle has that number, `NotWriter` if it reads a
+    /// version, `TooBig` if the bytes would end past 1,048,576, `NoMemory` if memory is refused. A
+    /// fault leaves all as it was.
     #[tactic(auto, using(crate::proofs::Found::rises_in))]
     pub fn write(
         &mut self,
@@ -147,10 +149,10 @@ impl Sessions {
         bytes: &[u8],
     ) -> Result<(), SessionFault>
         requires { ForSome (draft_by self.old handle) (λ draft. LivesIn store.old draft.layout) }
-        ensures refused { ForSome (write_refusal self.old.handles handle offset bytes.now)
-            (λ refusal. IsErrOf result (fault.Refused refusal)) }
-        ensures otherwise { IfNone (write_refusal self.old.handles handle offset bytes.now)
-            (IsOkUnless result fault.NoMemory) }
+        ensures allowed { OnOk result
+            (write_refusal self.old.handles handle offset bytes.now ≡ None) }
+        ensures fault { IfErr result (λ fault. refusal_of fault
+            ≡ write_refusal self.old.handles handle offset bytes.now) }
         ensures idle { IsSome (handle_file self.old.handles handle)
             → bytes.now ≡ [] → IsOk result }
         ensures writes { OnOk result
@@ -158,21 +160,23 @@ impl Sessions {
         ensures orderly { AreOrderly self.old }
         ensures err { OnErr result (Stays store.old store.new self.old self.new) }
     {
-        let file = file_by(&self.handles, handle)?;
+        let file = written_by(&self.handles, handle)?;
         if bytes.is_empty() {
             return Ok(());
         }
         if !fits(offset, bytes.len()) {
-            return Err(SessionFault::Refused(Refusal::TooBig));
+            return Err(SessionFault::TooBig);
         }
         write_draft(&mut self.drafts, store, file, offset, bytes)?;
         Ok(())
     }
 
     /// Makes the content of the draft under the handle so many bytes long, and marks it changed;
-    /// where it has that length, nothing is changed. Refused, in this order: `NoHandle` where no
-    /// open handle has that number, `NotWriter` where it reads a version, `TooBig` for more than
-    /// 1,048,576 bytes. A fault leaves all as it was.
+    /// where it has that length, nothing is changed.
+    ///
+    /// In this order: `NoHandle` if no open handle has that number, `NotWriter` if it reads a
+    /// version, `TooBig` for more than 1,048,576 bytes, `NoMemory` if memory is refused. A fault
+    /// leaves all as it was.
     #[tactic(auto, using(crate::proofs::Found::rises_in))]
     pub fn truncate(
         &mut self,
@@ -181,10 +185,10 @@ impl Sessions {
         size: u64,
     ) -> Result<(), SessionFault>
         requires { ForSome (draft_by self.old handle) (λ draft. LivesIn store.old draft.layout) }
-        ensures refused { ForSome (truncate_refusal self.old.handles handle size)
-            (λ refusal. IsErrOf result (fault.Refused refusal)) }
-        ensures otherwise { IfNone (truncate_refusal self.old.handles handle size)
-            (IsOkUnless result fault.NoMemory) }
+        ensures allowed { OnOk result
+            (truncate_refusal self.old.handles handle size ≡ None) }
+        ensures fault { IfErr result (λ fault. refusal_of fault
+            ≡ truncate_refusal self.old.handles handle size) }
         ensures idle { IsTrue (has_length size (draft_by self.old handle))
             → size ≤ longest_content → IsOk result }
         ensures truncates { OnOk result
@@ -192,9 +196,9 @@ impl Sessions {
         ensures orderly { AreOrderly self.old }
         ensures err { OnErr result (Stays store.old store.new self.old self.new) }
     {
-        let file = file_by(&self.handles, handle)?;
+        let file = written_by(&self.handles, handle)?;
         if size > LONGEST_CONTENT {
-            return Err(SessionFault::Refused(Refusal::TooBig));
+            return Err(SessionFault::TooBig);
         }
         truncate_draft(&mut self.drafts, store, file, size)?;
         Ok(())

@@ -115,6 +115,6 @@ impl State {
     {
         self.rows
             .names
-            .kill(directory, name, found, self.rows.moment);
+            .kill_found(directory, name, found, self.rows.moment);
     }
 }

@@ -98,7 +98,7 @@ impl State {
             .add(to.0, to.1, found.target(), self.rows.moment)?;
         self.rows
             .names
-            .kill(from.0, &from.1, found, self.rows.moment);
+            .kill_found(from.0, &from.1, found, self.rows.moment);
         self.rows.made.names += 1;
         Ok(())
     }
@@ -124,7 +124,7 @@ impl State {
         }
         self.rows
             .names
-            .kill(directory, name, found, self.rows.moment);
+            .kill_found(directory, name, found, self.rows.moment);
         Ok(())
     }
 }
@@ -154,7 +154,7 @@ fn end_last_name(
     // The newest version ends, and is the current one.
     let changes = freed(rows, file, &policy, floor.max(1))?;
     put_changed(&mut rows.queue, &changes)?;
-    rows.names.kill(directory, name, found, rows.moment);
+    rows.names.kill_found(directory, name, found, rows.moment);
     rows.files.end_current(file, rows.moment);
     Ok(())
 }

@@ -1,8 +1,11 @@
-//! Names and paths, called with ample memory.
+//! Names, paths and walks, called with ample memory.
 use crate::rooms::moment;
-use ele_moment::{DirId, FileId, Moment, Name, VersionNo};
-use ele_names::{Names, Target};
-use ele_path::{Path, PathFault, Tag, TaggedPath};
+use ele_model::{DirId, Target};
+use ele_moment::{FileId, Moment, Name, VersionNo};
+use ele_names::Names;
+use ele_time_path::{
+    Path, PathFault, Tag, TaggedPath, WalkFault, parent_now, resolve_at, resolve_now,
+};
 use std::test::Fail;
 
 #[test]
@@ -13,8 +16,8 @@ fn a_name_lives_from_its_birth_to_its_death(rt: HostRuntime) -> Result<(), Fail>
     let mut names = Names::new(rt.alloc());
     names.add(root, name, file, Moment::START)?;
     assert_eq!(rt; names.list(root, Moment::START)?.len(), 1);
-    if let Some(found) = names.find(root, &name) {
-        names.kill(root, &name, &found, moment(3)?);
+    if names.live(root, &name).is_some() {
+        names.kill(root, &name, moment(3)?);
     }
     assert!(rt; names.at(root, &name, moment(2)?) == Some(file));
     assert!(rt; names.at(root, &name, moment(3)?).is_none());
@@ -43,6 +46,33 @@ fn a_path_is_its_names(rt: HostRuntime) -> Result<(), Fail> {
     let path = Path::read(rt.alloc(), b"/a/b")?;
     let names = [Name::new(b"a")?, Name::new(b"b")?];
     assert_eq!(rt; path.names(), names.as_slice());
+    Ok(())
+}
+
+#[test]
+fn a_path_leads_from_a_birth_on(rt: HostRuntime) -> Result<(), Fail> {
+    let file = Target::File(FileId(1));
+    let mut names = Names::new(rt.alloc());
+    names.add(DirId(0), Name::new(b"f")?, file, moment(3)?)?;
+    let path = Path::read(rt.alloc(), b"/f")?;
+    assert!(rt; resolve_now(&names, &path) == Ok(file));
+    assert!(rt; resolve_at(&names, &path, moment(3)?, moment(3)?) == Ok(file));
+    let before = resolve_at(&names, &path, moment(2)?, moment(3)?);
+    assert!(rt; before == Err(WalkFault::NoEntry));
+    Ok(())
+}
+
+#[test]
+fn a_walk_has_one_of_four_faults(rt: HostRuntime) -> Result<(), Fail> {
+    let mut names = Names::new(rt.alloc());
+    let file = Target::File(FileId(1));
+    names.add(DirId(0), Name::new(b"f")?, file, Moment::START)?;
+    let path = Path::read(rt.alloc(), b"/f/g")?;
+    assert!(rt; resolve_now(&names, &path) == Err(WalkFault::NotDirectory));
+    let later = resolve_at(&names, &path, moment(2)?, moment(1)?);
+    assert!(rt; later == Err(WalkFault::Future));
+    let root = parent_now(&names, &Path::root(rt.alloc()));
+    assert!(rt; root.is_err_and(|fault| fault == WalkFault::IsRoot));
     Ok(())
 }
 

@@ -6,7 +6,7 @@ use ele_blocks::{BlockMap, BlockStore, laws};
 use ele_due::{DueQueue, Key};
 use ele_inode_log::{InodeLog, Meter, VersionRow};
 use ele_moment::{FileId, Handle, Moment, VersionNo};
-use ele_sessions::{Closing, Sessions};
+use ele_sessions::{Closing, Reads, SessionFault, Sessions};
 use std::alloc::Global;
 use std::test::Fail;
 
@@ -126,6 +126,21 @@ fn an_unchanged_draft_is_closed_clean(rt: HostRuntime) -> Result<(), Fail> {
     let closed = sessions.close(handle);
     assert!(rt; matches!(closed, Some((Closing::Clean(FileId(1)), Some(_)))));
     assert!(rt; sessions.draft(FileId(1)).is_none());
+    Ok(())
+}
+
+#[test]
+fn a_handle_that_reads_writes_nothing(rt: HostRuntime) -> Result<(), Fail> {
+    let mut store = BlockStore::new(rt.alloc());
+    let mut sessions = Sessions::new(rt.alloc());
+    let handle = sessions.open_read(FileId(1), VersionNo(1))?;
+    let reads = Reads::Version(FileId(1), VersionNo(1));
+    assert!(rt; sessions.read(handle) == Some(reads));
+    assert!(rt; sessions.handle_at(0) == Some((handle, reads)));
+    let written = sessions.write(&mut store, handle, 0, b"a");
+    assert!(rt; written == Err(SessionFault::NotWriter));
+    let cut = sessions.truncate(&mut store, Handle(2), 0);
+    assert!(rt; cut == Err(SessionFault::NoHandle));
     Ok(())
 }
 

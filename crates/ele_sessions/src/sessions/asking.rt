@@ -2,6 +2,7 @@
 //! A contract sees each answer as a look-up in drafts or handles.
 ghost use Rattle.std.specs.Prelude.{◌≡◌, length, slice_get};
 ghost use Rattle.std.specs.Option.{option_map, option_copied};
+ghost use Rattle.std.specs.Result.{result_ok};
 ghost use Rattle.ele_sessions.specs.Closes.{closing};
 ghost use Rattle.ele_sessions.specs.Orderly.{AreOrderly};
 ghost use Rattle.ele_sessions.specs.Sessions.{draft_of};
@@ -49,6 +50,13 @@ impl Sessions {
         }
     }
 
+    /// What is read through the handle; none if no open handle has that number.
+    pub fn read(&self, handle: Handle) -> Option<Reads>
+        ensures { result ≡ result_ok (reads_by self.now.handles handle) }
+    {
+        self.reads_by(handle).ok()
+    }
+
     /// What is read through the handle. Refused: `NoHandle`.
     pub fn reads_by(&self, handle: Handle) -> Result<Reads, Refusal>
         ensures { result ≡ reads_by self.now.handles handle }
@@ -93,6 +101,16 @@ impl Sessions {
     {
         let entry = self.drafts.get(place)?;
         Some((entry.file, entry.draft.opened, entry.draft.changed))
+    }
+
+    /// The number of an open handle, and what is read through it, by the handle's place among
+    /// those that are open; none past the last one.
+    pub fn handle_at(&self, place: usize) -> Option<(Handle, Reads)>
+        ensures { result ≡ option_map (λ handle. (handle.number, handle.reads))
+            (slice_get self.now.handles place) }
+    {
+        let handle = self.handles.get(place)?;
+        Some((handle.number, handle.reads))
     }
 
     /// The open handles, by number.

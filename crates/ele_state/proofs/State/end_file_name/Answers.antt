@@ -9,4 +9,4 @@ invariant_of-self c = settled_or c.self.inside.rows _ c.self.view_is c.self.inva
 pub invariant_of-self-2 : goal.invariant_of-self-2
 invariant_of-self-2 c =
     let live : is_live (without_name (world_of c.self.inside.rows) c.args.directory c.args.name.now) c.args.file ≡ true = grind (arith, nat_tests, others_live c.self.inside.rows c.args.directory c.args.name.now c.args.file c.self.invariant.sound (rw (← c.self.view_is) at c.requires)) in
-    settled_by c.self.inside.rows _ c.self.view_is c.self.invariant (EndFileName c.args.directory c.args.name.now c.args.file) c.requires tt _ (rw (c.kill.ensures, live) refl) (record { queue = rw c.kill.ensures (unlinked_queue c.self.inside.rows c.args.directory c.args.name.now c.args.file c.self.invariant.sound (rw (← c.self.view_is) at c.requires) live); book = c.self.invariant.sound.tracked.book; bounds = c.self.invariant.sound.tracked.bounds })
+    settled_by c.self.inside.rows _ c.self.view_is c.self.invariant (EndFileName c.args.directory c.args.name.now c.args.file) c.requires tt _ (rw (c.kill_found.ensures, live) refl) (record { queue = rw c.kill_found.ensures (unlinked_queue c.self.inside.rows c.args.directory c.args.name.now c.args.file c.self.invariant.sound (rw (← c.self.view_is) at c.requires) live); book = c.self.invariant.sound.tracked.book; bounds = c.self.invariant.sound.tracked.bounds })

@@ -27,7 +27,7 @@ pub returns-clause-tracked : goal.returns-clause-tracked
 returns-clause-tracked c =
     let rows = c.args.rows.now in
     let newest : c.max.result ≡ max (floor_of c.in-Some.policy) 1 = c.max.ensures ∙ ap (λ n. max n 1) (c.number-floor.ensures.value ∙ c.floor.ensures) in
-    rw (c.kill.ensures, c.end_current.ensures) (record {
+    rw (c.kill_found.ensures, c.end_current.ensures) (record {
       queue = ended_queue rows c.args.directory c.args.name.now c.args.file c.requires.sound c.requires.stands c.requires.last c.in-Some.policy (sym c.policy_of.ensures ∙ c.in-Some.is) c.max.result newest c.put_changed.new.queue
           (λ k. c.in_ok-put_changed.ensures.ok k ∙ ap (λ b. b || has_key k rows.queue) (ap (λ changes. comes changes k) c.deref.ensures.value ∙ c.in_ok-changes.ensures k));
       book = ended_book rows.files c.args.file rows.moment rows.book c.requires.sound.tracked.book;

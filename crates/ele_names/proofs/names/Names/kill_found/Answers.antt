@@ -1,5 +1,5 @@
 use Rattle.ele_names.proofs.Lemmas.{◌≡◌, ℕ, List, Some, ap, refl, sym, ◌∙◌, exact, found, found_target, its_name, kept_dead, killed, live_at, named_place, names_of}
-use Rattle.ele_names.proofs.names.Names.kill.Goals as goal
+use Rattle.ele_names.proofs.names.Names.kill_found.Goals as goal
 
 live_is : (c : goal.After-end-arg-1) → live_at c.self.inside.live_names c.args.directory c.args.name.now ≡ Some c.in-Some-live_of.live
 live_is c = sym (c.live_of.ensures c.args.directory c.args.name.now (sym c.in-Some.ensures.some.0)) ∙ c.in-Some-live_of.is

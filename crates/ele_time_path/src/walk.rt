@@ -1,0 +1,62 @@
+//! Where a path leads, now or at an earlier moment.
+//! A contract sees the names as their rows, and a walk as the world's words say it.
+ghost use Rattle.std.specs.Prelude.{◌≡◌};
+ghost use Rattle.std.specs.Result.{ForErr, result_map_both};
+ghost use Rattle.ele_model.specs.Walk.{parent_now, walk_now};
+ghost use Rattle.ele_model.specs.WalkAt.{walk_at};
+ghost use Rattle.ele_time_path.specs.Faults.{IsOfWalk, refusal_of};
+
+use crate::fault::WalkFault;
+use ele_model::{Refusal, Target};
+use ele_moment::{DirId, Moment, Name};
+use ele_names::Names;
+use ele_path::Path;
+
+/// What the path leads to by the live names.
+///
+/// `NoEntry` if one of its names isn't live, `NotDirectory` if a name follows a file.
+#[tactic(auto, using(crate::proofs::Walks::walk_refuses))]
+pub fn resolve_now(names: &Names, path: &Path) -> Result<Target, WalkFault>
+    ensures { result_map_both (λ target. target) refusal_of result
+        ≡ walk_now names.now path.now }
+{
+    with_fault(ele_names::resolve_now(names, path))
+}
+
+/// What the path led to at the moment `t`.
+///
+/// `Future` if `t` is later than `now`; `NoEntry` if one of its names stood for nothing then,
+/// `NotDirectory` if a name follows a file.
+#[tactic(auto, using(crate::proofs::Walks::walk_at_refuses))]
+pub fn resolve_at(names: &Names, path: &Path, t: Moment, now: Moment) -> Result<Target, WalkFault>
+    ensures { result_map_both (λ target. target) refusal_of result
+        ≡ walk_at names.now t now path.now }
+{
+    with_fault(ele_names::resolve_at(names, path, t, now))
+}
+
+/// The directory of the path's last name, and that name, which may be free.
+///
+/// `IsRoot` if the path has no name; `NoEntry` if one of the names before the last isn't live,
+/// `NotDirectory` if one of them is a file's.
+#[tactic(auto, using(crate::proofs::Walks::parent_refuses))]
+pub fn parent_now(names: &Names, path: &Path) -> Result<(DirId, Name), WalkFault>
+    ensures { result_map_both (λ at. at) refusal_of result ≡ parent_now names.now path.now }
+{
+    with_fault(ele_names::parent_now(names, path))
+}
+
+// The same result, with the fault that the refusal is.
+fn with_fault<T>(walked: Result<T, Refusal>) -> Result<T, WalkFault>
+    requires { ForErr walked IsOfWalk }
+    ensures { result_map_both (λ value. value) refusal_of result ≡ walked }
+{
+    match walked {
+        Ok(value) => Ok(value),
+        Err(Refusal::Future) => Err(WalkFault::Future),
+        Err(Refusal::IsRoot) => Err(WalkFault::IsRoot),
+        Err(Refusal::NoEntry) => Err(WalkFault::NoEntry),
+        Err(Refusal::NotDirectory) => Err(WalkFault::NotDirectory),
+        Err(_) => unreachable!(),
+    }
+}
