@@ -167,7 +167,7 @@ fn free_fate(
     );
     if let Some(since) = until {
         if since <= now {
-            let _within = since.seconds();
+            since.lemma_in_range();
             let cause = cause(policy, closed, ended, next, since);
             return Fate::Due { since, cause };
         }
