@@ -61,8 +61,9 @@ impl Cover {
         match self {
             Cover::Free => Some(ripe),
             Cover::Until(end) => {
-                let _within = end.max(ripe).seconds();
-                Some(end.max(ripe))
+                let later = end.max(ripe);
+                later.lemma_in_range();
+                Some(later)
             }
             Cover::Always => None,
         }

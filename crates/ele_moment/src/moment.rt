@@ -63,6 +63,11 @@ impl Moment {
         self.seconds
     }
 
+    /// Brings a proof the fact that the moment isn't past the last one.
+    pub fn lemma_in_range(self)
+        ensures { self ≤ last_moment }
+    {}
+
     /// The moment that many seconds later. None past the last moment.
     pub fn plus(self, seconds: u64) -> Option<Moment>
         ensures some { IsSome result ↔ (self + seconds ≤ last_moment) }

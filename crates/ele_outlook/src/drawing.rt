@@ -200,7 +200,7 @@ fn multiple(page: &Page, step: u64, k: u64) -> Moment
     requires within { k ≤ page.now.last / step }
     ensures { result ≡ k * step }
 {
-    page.last.seconds();
+    page.last.lemma_in_range();
     match Moment::new(k * step) {
         Some(moment) => moment,
         None => page.last,

@@ -18,7 +18,7 @@ use std::io::Write;
 pub(crate) fn stamp_of(moment: Moment) -> [u8; 20]
     ensures { result ≡ stamp_of moment }
 {
-    moment.seconds();
+    moment.lemma_in_range();
     moment.text()
 }
 

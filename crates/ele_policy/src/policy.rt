@@ -61,8 +61,8 @@ impl Policy {
         }
     }
 
-    // Says of the policy that its numbers are such as can be given.
-    fn is_policy(&self)
+    // Brings a proof the fact that the numbers of the policy are such as can be given.
+    fn lemma_policy(&self)
         ensures { IsPolicy self.now }
     {
         match self {
@@ -83,7 +83,7 @@ impl Policy {
         ensures given { IsPolicy self.now }
         ensures lawful { IsLawful self.now }
     {
-        self.is_policy();
+        self.lemma_policy();
     }
 }
 

@@ -66,7 +66,7 @@ pub(crate) fn lemma_tag(tag: Tag)
 {
     match tag {
         Tag::At(moment) => {
-            moment.seconds();
+            moment.lemma_in_range();
         }
         Tag::Now | Tag::Number(_) => {}
     }

@@ -70,7 +70,7 @@ impl Word for Moment {
     ghost value = { of.Moment };
 
     fn lemma_value(&self) {
-        self.seconds();
+        self.lemma_in_range();
     }
 
     fn put_value<W: Write>(&self, printer: &mut Printer<'_, W>) -> Result<(), WriteFault> {

@@ -140,7 +140,7 @@ fn free_fate(
     let until = ripe_past(cover, ripe(policy, closed, ended, next_closed, floor_met));
     if let Some(since) = until {
         if since <= now {
-            let _within = since.seconds();
+            since.lemma_in_range();
             let cause = cause_of(policy, closed, ended, next, since);
             return Fate::Due { since, cause };
         }

@@ -116,7 +116,7 @@ impl State {
         ensures world { self.new.world ≡ after_change self.old.world (Time to) }
         ensures valid { to ≤ last_moment }
     {
-        let _within = to.seconds();
+        to.lemma_in_range();
         self.rows.moment = to;
     }
 

@@ -202,7 +202,7 @@ impl Step for EmptyWorld {
         laws::step_keeps_well_formed();
         self.limits.lemma_within();
         self.default.lemma_valid();
-        let _within = self.now.seconds();
+        self.now.lemma_in_range();
         self.now
     }
 }

@@ -3,4 +3,4 @@ use Rattle.ele_outlook.proofs.Dates.{stamps}
 use Rattle.ele_outlook.proofs.row.stamp_of.Goals as goal
 
 pub returns : goal.returns
-returns c = sym (c.text.ensures.only _ (stamps c.args.moment (rw c.seconds.ensures.value at c.seconds.ensures.bound)))
+returns c = sym (c.text.ensures.only _ (stamps c.args.moment c.lemma_in_range.ensures))
