@@ -1,4 +1,4 @@
--- The version that a question or a revert means, by its stamps.
+-- The version that a question or a revert means, by its info.
 use Rattle.ele_state.specs.Told.{found_of}
 use Rattle.ele_path.specs.declared.tagged.TaggedPath.{TaggedPath}
 use Rattle.ele_model.proofs.Basics.{◌≡◌, ℕ, Result, Ok, Err, true, refl, Some, subst, find, any-found, found_passes}
@@ -7,19 +7,19 @@ use Rattle.ele_path.specs.declared.tagged.Tag.{Tag}
 use Rattle.ele_path.specs.declared.tagged.Tag.TheVariants as tag
 use Rattle.ele_model.specs.Fate.{HasFate}
 use Rattle.ele_model.specs.Tagged.{version_at, version_meant}
-use Rattle.ele_model.specs.Told.{file_stat, stamps_of}
+use Rattle.ele_model.specs.Told.{file_stat, info_of}
 use Rattle.ele_model.specs.World.{World, is_held, is_version, policy_for}
 use Rattle.ele_model.specs.Why.{MeansFate}
 use Rattle.ele_model.specs.declared.fate.Fate.{Fate}
 use Rattle.ele_model.specs.declared.refusal.Refusal.{Refusal}
 use Rattle.ele_model.specs.declared.reply.Reply.TheVariants.{FileStat}
-use Rattle.ele_model.specs.declared.rows.Stamps.{Stamps}
+use Rattle.ele_model.specs.declared.rows.VersionInfo.{VersionInfo}
 use Rattle.ele_model.specs.declared.rows.VersionRow.{VersionRow}
 use Rattle.std.specs.Result.{result_map_both}
 
-pub stat_is : (w : World) (t : Tag) (file : ℕ) (stamps : Stamps) → Ok stamps ≡ result_map_both stamps_of (λ (refusal : Refusal). refusal) (version_meant w.files w.versions file t) → file_stat w (version_meant w.files w.versions file t) ≡ Ok (FileStat (record { file = file; stamps = stamps; policy = policy_for w.files file }))
-stat_is w t file stamps told = by (version_meant w.files w.versions file t) refl told where
-  by : (r : Result VersionRow Refusal) → version_meant w.files w.versions file t ≡ r → Ok stamps ≡ result_map_both stamps_of (λ (refusal : Refusal). refusal) r → file_stat w r ≡ Ok (FileStat (record { file = file; stamps = stamps; policy = policy_for w.files file }))
+pub stat_is : (w : World) (t : Tag) (file : ℕ) (info : VersionInfo) → Ok info ≡ result_map_both info_of (λ (refusal : Refusal). refusal) (version_meant w.files w.versions file t) → file_stat w (version_meant w.files w.versions file t) ≡ Ok (FileStat (record { file = file; info = info; policy = policy_for w.files file }))
+stat_is w t file info told = by (version_meant w.files w.versions file t) refl told where
+  by : (r : Result VersionRow Refusal) → version_meant w.files w.versions file t ≡ r → Ok info ≡ result_map_both info_of (λ (refusal : Refusal). refusal) r → file_stat w r ≡ Ok (FileStat (record { file = file; info = info; policy = policy_for w.files file }))
   by (Ok row) meant h = let own = (is_meant w.files w.versions file t row meant).own in cc
   by (Err refusal) meant h = absurd cc
 
@@ -34,8 +34,8 @@ numbered_held w file number row meant = let found = numbered w file number row m
 -- ---- the version that a tagged path means
 
 -- what becomes of it is its fate
-pub fate_is : (w : World) (tagged : TaggedPath) (found : ℕ × Stamps) (fate : Fate) → Ok found ≡ found_of (version_at w tagged) → HasFate w found.0 found.1.number fate → MeansFate w tagged fate
+pub fate_is : (w : World) (tagged : TaggedPath) (found : ℕ × VersionInfo) (fate : Fate) → Ok found ≡ found_of (version_at w tagged) → HasFate w found.0 found.1.number fate → MeansFate w tagged fate
 fate_is w tagged found fate h has = by (version_at w tagged) refl h where
   by : (r : Result VersionRow Refusal) → version_at w tagged ≡ r → Ok found ≡ found_of r → MeansFate w tagged fate
-  by (Ok row) is h = let same : found ≡ (row.file, stamps_of row) = cc in record { row = row; means = is; has = subst (λ (f : ℕ × Stamps). HasFate w f.0 f.1.number fate) same has }
+  by (Ok row) is h = let same : found ≡ (row.file, info_of row) = cc in record { row = row; means = is; has = subst (λ (f : ℕ × VersionInfo). HasFate w f.0 f.1.number fate) same has }
   by (Err refusal) is h = absurd cc

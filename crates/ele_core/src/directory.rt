@@ -44,7 +44,7 @@ impl Core {
     {
         policy.lemma_valid();
         let directory = check!(self.state.directory_now(path));
-        self.state.govern(directory, policy);
+        self.state.set_default(directory, policy);
         Ok(())
     }
 }

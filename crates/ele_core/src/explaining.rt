@@ -12,8 +12,8 @@ impl Core {
     pub fn fate_at(&self, tagged: &TaggedPath) -> Result<Fate, Refusal>
         ensures { IsWhy self.now.world tagged.now result }
     {
-        let (file, stamps) = check!(self.state.version_at(tagged));
-        match self.state.fate(file, stamps.number) {
+        let (file, info) = check!(self.state.version_at(tagged));
+        match self.state.fate(file, info.number) {
             Some(fate) => Ok(fate),
             None => unreachable!(),
         }

@@ -34,8 +34,8 @@ pub use ele_model::{
     ByteList, Cause, Cell, Counts, DeadName, DeadNameList, DirId, DirectoryRow, DraftRow, Event,
     Fate, FileId, FileRow, FileStat, Flat, GroupList, GroupRow, Handle, HandleRow, Key, KeyList,
     Kind, Ladder, LimitNumbers, Limits, ListOf, MarkRow, Moment, Name, NameList, NameRow, NoMemory,
-    PassEnd, Path, PathAt, Policy, Reads, Refusal, Reply, Rows, Source, Stamps, StampsList, Stop,
-    Tag, TaggedPath, Target, Usage, VersionNo, VersionRow, Which, laws,
+    PassEnd, Path, PathAt, Policy, Reads, Refusal, Reply, Rows, Source, StampsList, Stop, Tag,
+    TaggedPath, Target, Usage, VersionInfo, VersionNo, VersionRow, Which, laws,
 };
 pub use ele_moment::{BadMoment, BadName};
 pub use ele_path::{PathAtFault, PathFault};

@@ -45,8 +45,8 @@ impl Core {
         ensures { Does Bytes
             self.now.world (event.Read (source.Tagged tagged.now)) result self.now.world }
     {
-        let (file, stamps) = check!(self.state.version_at(tagged));
-        let reads = Reads::Version(file, stamps.number);
+        let (file, info) = check!(self.state.version_at(tagged));
+        let reads = Reads::Version(file, info.number);
         Ok(self.state.bytes_of(reads)?)
     }
 
@@ -70,13 +70,9 @@ impl Core {
         ensures refused { IfErr result
             (λ refusal. stat_of self.now.world (File file) tag ≡ Err refusal) }
     {
-        let stamps = check!(self.state.version_meant(file, tag));
+        let info = check!(self.state.version_meant(file, tag));
         let policy = self.state.policy_for(file);
-        Ok(Stat::File(FileStat {
-            file,
-            stamps,
-            policy,
-        }))
+        Ok(Stat::File(FileStat { file, info, policy }))
     }
 
     // What is told of the directory, which has no numbered versions.

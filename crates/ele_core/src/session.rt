@@ -39,9 +39,9 @@ impl Core {
     pub fn open_read(&mut self, tagged: &TaggedPath) -> Result<Handle, Halt>
         ensures { Does reply.Handle self.old.world (event.OpenRead tagged.now) result self.new.world }
     {
-        let (file, stamps) = check!(self.state.version_at(tagged));
+        let (file, info) = check!(self.state.version_at(tagged));
         check!(self.room_for(Which::Handles));
-        Ok(self.state.open_read(file, stamps.number)?)
+        Ok(self.state.open_read(file, info.number)?)
     }
 
     /// The bytes are written through the handle, from that offset on. Refused: `NoHandle`, `NotWriter`, `TooBig`.

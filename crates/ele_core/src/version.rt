@@ -31,6 +31,6 @@ impl Core {
     {
         policy.lemma_valid();
         let file = check!(self.state.file_now(path));
-        Ok(self.state.put_under(file, policy)?)
+        Ok(self.state.set_policy(file, policy)?)
     }
 }

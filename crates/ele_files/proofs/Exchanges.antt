@@ -1,5 +1,5 @@
 -- One file has other rows, as many or one fewer, or another policy.
-use Rattle.ele_files.proofs.Words.{find_position, AllByRecursion, AllLater, AllSessions, Bool, Draft, EndsInTime, File, FileRow, HeldRows, IsDraftKept, IsFileKept, IsRowOf, IsStocked, Keeps, List, LivesIn, LogRow, Moves, None, Precedes, Some, Stays, Store, VersionRow, [], all_found, all_not_found, all-remove_first, all-update_first, all-weaker, ap, arith, bucket_changes, content_of, file_row, filter, find, flat_map, get_or, held_in, is_file, is_id, has_number, is_other, is_version, later-remove_first, later-update_first, length, local-remove_first, map, nat_tests, option_map, position, refl, remove_first, remove_first-map, remove_first_unfound, row_in, row_stock, rows_in, set, set-first, stock_of, sym, update_first, update_first-map, update_first_same, without, ℕ, ◌<◌, ◌∙◌, ◌∷◌, ◌≡◌, remove_first-key, later-weaker, Policy, PutUnder, changed_at, file_stock, next_of}
+use Rattle.ele_files.proofs.Words.{find_position, AllByRecursion, AllLater, AllSessions, Bool, Draft, EndsInTime, File, FileRow, HeldRows, IsDraftKept, IsFileKept, IsRowOf, IsStocked, Keeps, List, LivesIn, LogRow, Moves, None, Precedes, Some, Stays, Store, VersionRow, [], all_found, all_not_found, all-remove_first, all-update_first, all-weaker, ap, arith, bucket_changes, content_of, file_row, filter, find, flat_map, get_or, held_in, is_file, is_id, has_number, is_other, is_version, later-remove_first, later-update_first, length, local-remove_first, map, nat_tests, option_map, position, refl, remove_first, remove_first-map, remove_first_unfound, row_in, row_stock, rows_in, set, set-first, stock_of, sym, update_first, update_first-map, update_first_same, without, ℕ, ◌<◌, ◌∙◌, ◌∷◌, ◌≡◌, remove_first-key, later-weaker, Policy, SetFilePolicy, changed_at, file_stock, next_of}
 use Rattle.ele_files.proofs.Rows.{file_row_found, file_of, tagged, its_id, own_version, same_number, version_of}
 use Rattle.ele_files.proofs.Stock.{over, rows_stay, row_apart, row_lives, IsSeen, held_stays}
 use Rattle.ele_model.specs.Change as world
@@ -130,15 +130,15 @@ module _ (s : Store) (files : List File) (a : AllSessions) (kept : Keeps s files
   abbrev with_policy : List File → List File
   with_policy files = update_first (is_id id) (governed policy) files
 
-  pub rows_after : map file_row (with_policy files) ≡ update_first (is_file id) (world.put_under policy) (map file_row files)
-  rows_after = sym (update_first-map file_row (is_file id) (is_id id) (λ x. refl) (world.put_under policy) (governed policy) (λ x. refl) files)
+  pub rows_after : map file_row (with_policy files) ≡ update_first (is_file id) (world.set_policy policy) (map file_row files)
+  rows_after = sym (update_first-map file_row (is_file id) (is_id id) (λ x. refl) (world.set_policy policy) (governed policy) (λ x. refl) files)
 
   pub next_stays : (files : List File) (file : ℕ) → next_of (map file_row (with_policy files)) file ≡ next_of (map file_row files) file
   next_stays [] file = refl
   next_stays (x ∷ xs) file = grind (arith, nat_tests, is_file, next_stays xs file)
 
   module _ (i : ℕ) (f : File) (place : Some i ≡ position (is_id id) files) (is : f ≡ get_or files i f) where
-    pub governs : IsSeen s (set files i (governed policy f)) a (changed_at (held_in s files a) 0 (PutUnder id policy ∷ []))
+    pub governs : IsSeen s (set files i (governed policy f)) a (changed_at (held_in s files a) 0 (SetFilePolicy id policy ∷ []))
     governs = rw (set-first (is_id id) (governed policy) files i f (governed policy f) (sym place) is refl) (record {
       keeps =
           let stocked : IsStocked s (stock_of (with_policy files) a.drafts) = rw (flat_map-same file_stock (is_id id) (governed policy) files (λ f. refl)) kept.stocked in

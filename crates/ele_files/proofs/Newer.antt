@@ -1,5 +1,5 @@
 -- What is told of versions behind one, and how many they are, as the log of their file shows it.
-use Rattle.ele_files.proofs.Words.{AllLater, AllSessions, File, IsFileKept, Keeps, List, LogRow, None, Option, Precedes, Some, Store, VersionRow, all_found, ap, arith, back-map, enough_newer, false, filter, find, find-filter, find-map, flat_map, is_after, is_id, is_newer_of, is_version_of, later-map, later-weaker, nat_lt, nat_tests, newer_held, newer_own, option_map, option_map_or, refl, reverse, row_in, rows_in, slice_get, stamps_in, stamps_of, sym, with_newer, with_newer_own, ℕ, ◌-◌, ◌<◌, ◌∙◌, ◌≡◌, ◌≢◌}
+use Rattle.ele_files.proofs.Words.{AllLater, AllSessions, File, IsFileKept, Keeps, List, LogRow, None, Option, Precedes, Some, Store, VersionRow, all_found, ap, arith, back-map, enough_newer, false, filter, find, find-filter, find-map, flat_map, is_after, is_id, is_newer_of, is_version_of, later-map, later-weaker, nat_lt, nat_tests, newer_held, newer_own, option_map, option_map_or, refl, reverse, row_in, rows_in, slice_get, stamps_in, info_of, sym, with_newer, with_newer_own, ℕ, ◌-◌, ◌<◌, ◌∙◌, ◌≡◌, ◌≢◌}
 use Rattle.ele_files.proofs.Stock.{row_lives}
 use Rattle.ele_files.proofs.Tagged.{list_shown, none_shown, own, own_rows}
 use Rattle.std.specs.Prelude.{nat_le}
@@ -9,24 +9,24 @@ module _ (s : Store) (files : List File) (a : AllSessions) (kept : Keeps s files
   versions = flat_map (rows_in s) files
 
   -- a file that isn't there has none
-  pub newer_none : (number : ℕ) → find (is_id file) files ≡ None → option_map stamps_of (find (is_newer_of file number) versions) ≡ None
-  newer_none number none = ap (option_map stamps_of) (sym (find-filter (is_newer_of file number) (is_version_of file) versions (λ row e. grind (arith, nat_tests))) ∙ ap (find (is_newer_of file number)) (none_shown s files a kept file none))
+  pub newer_none : (number : ℕ) → find (is_id file) files ≡ None → option_map info_of (find (is_newer_of file number) versions) ≡ None
+  newer_none number none = ap (option_map info_of) (sym (find-filter (is_newer_of file number) (is_version_of file) versions (λ row e. grind (arith, nat_tests))) ∙ ap (find (is_newer_of file number)) (none_shown s files a kept file none))
 
   module _ (f : File) (found : find (is_id file) files ≡ Some f) where
     row_shown : (number : ℕ) → find (is_newer_of file number) versions ≡ option_map (row_in s f.id) (find (is_after number) f.log.rows)
     row_shown number = grind (arith, nat_tests, own s files a kept file f found, find-filter (is_newer_of file number) (is_version_of file) versions, own_rows s files a kept file f found, find-map (row_in s f.id) (is_newer_of file number) f.log.rows)
 
-    pub newer_shown : (number : ℕ) (o : Option LogRow) → o ≡ find (is_after number) f.log.rows → option_map stamps_of (find (is_newer_of file number) versions) ≡ option_map stamps_in o
+    pub newer_shown : (number : ℕ) (o : Option LogRow) → o ≡ find (is_after number) f.log.rows → option_map info_of (find (is_newer_of file number) versions) ≡ option_map stamps_in o
     newer_shown number o is = rw (is, row_shown number) (grind (arith, nat_tests, row_lives s files a kept))
 
   -- a file that isn't there has no newer versions either
   pub none_newer : (number count : ℕ) → count ≢ 0 → find (is_id file) files ≡ None → nat_le count (newer_held versions file number) ≡ false
   none_newer number count some none = rw (newer_own versions file number, none_shown s files a kept file none) (grind (arith, nat_tests))
 
-  pub none_back : (newer : ℕ) → find (is_id file) files ≡ None → option_map stamps_of (with_newer versions file newer) ≡ None
+  pub none_back : (newer : ℕ) → find (is_id file) files ≡ None → option_map info_of (with_newer versions file newer) ≡ None
   none_back newer none =
       let bare = none_shown s files a kept file none in
-      ap (option_map stamps_of) (with_newer_own versions file (rw bare tt) newer ∙ ap (λ rows. slice_get (reverse rows) newer) bare)
+      ap (option_map info_of) (with_newer_own versions file (rw bare tt) newer ∙ ap (λ rows. slice_get (reverse rows) newer) bare)
 
   module _ (f : File) (found : find (is_id file) files ≡ Some f) where
     rise : AllLater (λ (x y : VersionRow). x.number < y.number) (filter (is_version_of file) versions)
@@ -37,10 +37,10 @@ module _ (s : Store) (files : List File) (a : AllSessions) (kept : Keeps s files
     back_own : (newer : ℕ) → with_newer versions file newer ≡ slice_get (reverse (filter (is_version_of file) versions)) newer
     back_own newer = with_newer_own versions file rise newer
 
-    pub back_shown : (newer : ℕ) (o : Option LogRow) → o ≡ slice_get (reverse f.log.rows) newer → option_map stamps_of (with_newer versions file newer) ≡ option_map stamps_in o
+    pub back_shown : (newer : ℕ) (o : Option LogRow) → o ≡ slice_get (reverse f.log.rows) newer → option_map info_of (with_newer versions file newer) ≡ option_map stamps_in o
     back_shown newer o is =
-        ap (option_map stamps_of) (back_own newer)
-        ∙ sym (back-map stamps_of (filter (is_version_of file) versions) newer)
+        ap (option_map info_of) (back_own newer)
+        ∙ sym (back-map info_of (filter (is_version_of file) versions) newer)
         ∙ ap (λ told. slice_get (reverse told) newer) (list_shown s files a kept file f found)
         ∙ back-map stamps_in f.log.rows newer
         ∙ ap (option_map stamps_in) (sym is)

@@ -44,13 +44,13 @@ pub use Rattle.ele_path.specs.declared.tagged.Tag.{Tag}
 pub use Rattle.ele_model.proofs.Created.{named_live}
 pub use Rattle.ele_model.proofs.Files.{next_of-numbered_other, next_of-push}
 pub use Rattle.ele_model.proofs.Newer.{enough_newer, newer_own, with_newer_own}
-pub use Rattle.ele_model.specs.Change.{Append, EndDraft, OpenHandle, PutUnder, ShutHandle, after_change, after_changes, changed_by, ended_at, fitted_by, numbered_on, with_file, with_name}
+pub use Rattle.ele_model.specs.Change.{Append, EndDraft, OpenHandle, SetFilePolicy, ShutHandle, after_change, after_changes, changed_by, ended_at, fitted_by, numbered_on, with_file, with_name}
 pub use Rattle.ele_model.specs.FileUsage.{file_usage}
 pub use Rattle.ele_model.specs.FileView.{is_version_of}
 pub use Rattle.ele_model.specs.Neighbours.{is_newer_of, newer_held, newest_of, next_closing, with_newer}
 pub use Rattle.ele_model.specs.NewPlaces.{is_among}
 pub use Rattle.ele_model.specs.Tagged.{had_closed, had_life, held_or_forgotten, last_number, version_living, version_meant, version_numbered}
-pub use Rattle.ele_model.specs.Told.{stamps_of}
+pub use Rattle.ele_model.specs.Told.{info_of}
 pub use Rattle.ele_model.specs.Usage.{bytes_in, places, places_from}
 pub use Rattle.ele_model.specs.World.{World, file_by, file_written, is_file, is_handle, is_live, is_open, is_version, is_version_after, is_writer, next_of, policy_of, reads_by, reads_version, writes}
 pub use Rattle.ele_model.specs.declared.Usage.{Usage}
@@ -60,7 +60,7 @@ pub use Rattle.ele_model.specs.declared.rows.DraftRow.{DraftRow}
 pub use Rattle.ele_model.specs.declared.rows.FileRow.{FileRow}
 pub use Rattle.ele_model.specs.declared.rows.HandleRow.{HandleRow}
 pub use Rattle.ele_model.specs.declared.rows.Reads.{Reads}
-pub use Rattle.ele_model.specs.declared.rows.Stamps.{Stamps}
+pub use Rattle.ele_model.specs.declared.rows.VersionInfo.{VersionInfo}
 pub use Rattle.ele_model.specs.declared.rows.VersionRow.{VersionRow}
 pub use Rattle.std.proofs.Common.{Bool, Err, List, None, Ok, Option, Result, Some, [], ap, append-nil as append_nil, append_assoc, arith, cond, eqb, false, filter, find, flat_map, get_or, is_some, length, length-append, ltb, map, nat_lt, not, refl, reverse, subst, suc, sym, take, true, zero, ℕ, ◌&&◌, ◌*◌, ◌++◌, ◌+◌, ◌-◌, ◌<◌, ◌^◌, ◌||◌, ◌∙◌, ◌∷◌, ◌≡◌, ◌≢◌, ◌≤◌}
 pub use Rattle.std.proofs.Math.ListN.{set}

@@ -9,10 +9,10 @@ use Rattle.ele_path.specs.declared.tagged.Tag.{Tag}
 use Rattle.ele_path.specs.declared.tagged.Tag.TheVariants as tag
 use Rattle.ele_model.specs.declared.refusal.Refusal.{Refusal}
 use Rattle.ele_model.specs.declared.refusal.Refusal.TheVariants.{Forgotten, NoVersion}
-use Rattle.ele_model.specs.declared.rows.Stamps.{Stamps}
+use Rattle.ele_model.specs.declared.rows.VersionInfo.{VersionInfo}
 
 -- the row's number, its moments, and how many bytes it has
-abbrev pub stamps_in : log.VersionRow → Stamps
+abbrev pub stamps_in : log.VersionRow → VersionInfo
 stamps_in row = record {
   number = row.number;
   opened = row.opened;
@@ -22,19 +22,19 @@ stamps_in row = record {
 }
 
 -- what the row tells, or where it isn't there, which one is held from before it
-abbrev pub told_or_forgotten : Option log.VersionRow → Option log.VersionRow → Result Stamps Refusal
+abbrev pub told_or_forgotten : Option log.VersionRow → Option log.VersionRow → Result VersionInfo Refusal
 told_or_forgotten found before =
     option_map_or (λ row. Ok (stamps_in row)) found (Err (Forgotten (option_map (λ row. row.number) before)))
 
-abbrev pub row_numbered : File → ℕ → Result Stamps Refusal
+abbrev pub row_numbered : File → ℕ → Result VersionInfo Refusal
 row_numbered f number =
     told_or_forgotten (find (has_number number) f.log.rows) (last_passing (is_before number) f.log.rows)
 
-abbrev pub row_living : File → ℕ → Result Stamps Refusal
+abbrev pub row_living : File → ℕ → Result VersionInfo Refusal
 row_living f moment =
     told_or_forgotten (find (lives_at moment) f.log.rows) (last_passing (has_closed_by moment) f.log.rows)
 
-abbrev pub row_meant : File → Tag → Result Stamps Refusal
+abbrev pub row_meant : File → Tag → Result VersionInfo Refusal
 row_meant f tag.Now = row_numbered f (f.next - 1)
 row_meant f (tag.At moment) = row_living f moment
 row_meant f (tag.Number number) =

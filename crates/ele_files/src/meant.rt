@@ -6,14 +6,14 @@ ghost use Rattle.ele_files.specs.Meant.{stamps_in, row_numbered, row_living, row
 
 use crate::file::File;
 use ele_inode_log::{Meter, VersionRow};
-use ele_model::{Refusal, Stamps, Tag};
+use ele_model::{Refusal, Tag, VersionInfo};
 use ele_moment::{Moment, VersionNo};
 
 /// The row's number, its moments, and how many bytes it has.
-pub fn stamps_of(row: &VersionRow) -> Stamps
+pub fn info_of(row: &VersionRow) -> VersionInfo
     ensures { result ≡ stamps_in row.now }
 {
-    Stamps {
+    VersionInfo {
         number: row.number,
         opened: row.opened,
         closed: row.closed,
@@ -35,11 +35,11 @@ fn ends_after(row: &VersionRow, moment: Moment) -> bool
 impl File {
     // The version of that number. Refused: `Forgotten`, with the last number that is held from
     // before it.
-    fn numbered(&self, number: VersionNo) -> Result<Stamps, Refusal>
+    fn numbered(&self, number: VersionNo) -> Result<VersionInfo, Refusal>
         ensures { result ≡ row_numbered self.now number }
     {
         if let Some(row) = self.log.get(number, &mut Meter::new()) {
-            return Ok(stamps_of(row));
+            return Ok(info_of(row));
         }
         let before = self.log.prev_held(number, &mut Meter::new());
         Err(Refusal::Forgotten(before.map(|row| row.number)))
@@ -47,14 +47,14 @@ impl File {
 
     /// The version that lived at the moment. Refused: `Forgotten`, with the number of the last one
     /// that is held of those that had closed by then.
-    pub fn living(&self, moment: Moment) -> Result<Stamps, Refusal>
+    pub fn living(&self, moment: Moment) -> Result<VersionInfo, Refusal>
         ensures { result ≡ row_living self.now moment }
     {
         let Some(row) = self.log.closed_by(moment, &mut Meter::new()) else {
             return Err(Refusal::Forgotten(None));
         };
         if ends_after(row, moment) {
-            Ok(stamps_of(row))
+            Ok(info_of(row))
         } else {
             Err(Refusal::Forgotten(Some(row.number)))
         }
@@ -62,7 +62,7 @@ impl File {
 
     /// The version that the tag means; without one it is the version before the next. Refused:
     /// `NoVersion` for a number that no version got, `Forgotten`.
-    pub fn meant(&self, tag: Tag) -> Result<Stamps, Refusal>
+    pub fn meant(&self, tag: Tag) -> Result<VersionInfo, Refusal>
         ensures { result ≡ row_meant self.now tag }
     {
         match tag {

@@ -1,9 +1,9 @@
 -- A version with newer ones behind it: when it ripens, and why it goes then.
 use Rattle.ele_forecast.proofs.Words.{◌≡◌, ℕ, ◌&&◌, ◌||◌, Bool, true, false, not, List, [], ◌++◌, append-nil, Option, Some, refl, ap, sym, subst, ◌∙◌, IsSome, arith, nat_tests, nat_le, ◌==◌, option_map_or, option_and_then, list_any}
-use Rattle.ele_forecast.proofs.Words.{Policy, Landmarks, IsRipe, alone, candidates, earliest_of, is_due_by, VersionRow, FileView, beside, MarkRow, ends_over, keeps_at, due_in, ripe_in, IsFollowed, IsWhy, TellsOf, Forecast, Why}
+use Rattle.ele_forecast.proofs.Words.{Policy, Landmarks, IsRipe, alone, candidates, earliest_of, is_due_by, VersionRow, FileView, beside, MarkRow, ends_over, keeps_at, due_in, ripe_in, IsFollowed, IsReasonOf, TellsOf, Forecast, Why}
 use Rattle.ele_forecast.proofs.Words.{One, All, Safe, IsLawful, last_moment, ◌≤◌, length, meets_floor, ripe_near}
 use Rattle.ele_forecast.proofs.Words.{map, slice_get}
-use Rattle.ele_forecast.specs.Tells.{GoesFor}
+use Rattle.ele_forecast.specs.ForecastOf.{GoesFor}
 use Rattle.ele_model.specs.Fate.{newer_version, newer_versions}
 use Rattle.ele_policy.specs.Cause.{IsCause}
 use Rattle.ele_policy.specs.Ripe.{ripe_by}
@@ -95,7 +95,7 @@ module _ (policy : Policy) (v : FileView) (row next : VersionRow) (newer : ℕ) 
 
     -- and so a forecast of it tells of it
     pub tells_of : (number : ℕ) (why : Why) (forecast : Forecast) → forecast ≡ record { number = number; closed = closed; ended = Some ended; ripe = found; why = why }
-        → IsRipe policy closed ended (Some ended) (meets_floor policy true newer) found → (ripe_in v row ≡ found → IsWhy v row why) → TellsOf v row forecast
+        → IsRipe policy closed ended (Some ended) (meets_floor policy true newer) found → (ripe_in v row ≡ found → IsReasonOf v row why) → TellsOf v row forecast
     tells_of number why forecast parts is_ripe reason =
         let made : Forecast = record { number = number; closed = closed; ended = Some ended; ripe = found; why = why } in
         let own : TellsOf v row made = record {

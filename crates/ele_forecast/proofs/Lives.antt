@@ -1,6 +1,6 @@
 -- The version of a closing: where it stands among its file's rows, and what stands behind it.
 use Rattle.ele_forecast.proofs.Words.{◌≡◌, ℕ, zero, suc, ◌+◌, ◌<◌, ◌≤◌, false, List, [], ◌∷◌, ◌++◌, Option, Some, None, refl, ap, sym, subst, ◌∙◌, arith, nat_tests, filter, find, map, slice_get, AllByRecursion, AllLater, length}
-use Rattle.ele_forecast.proofs.Words.{all-weaker, later-around, find-at, Policy, IsNearest, VersionRow, FileView, beside, closings, is_newer, is_numbered, IsFileOf, IsFollowed, Life, life_of, lives_from, Tells, TellsOf, Forecast}
+use Rattle.ele_forecast.proofs.Words.{all-weaker, later-around, find-at, Policy, IsNearest, VersionRow, FileView, beside, closings, is_newer, is_numbered, IsFileOf, IsFollowed, Life, life_of, lives_from, IsForecastOf, TellsOf, Forecast}
 use Rattle.ele_model.proofs.Views.{Precedes, newer_is}
 
 -- ---- the rows of closings that never fall
@@ -124,7 +124,7 @@ module _ (policy : Policy) (cs : List ℕ) (v : FileView) (is : IsFileOf policy 
 
   -- a version without an end
   pub tells_current : (forecast : Forecast) → forecast.number ≡ place + 1 → slice_get cs (suc place) ≡ None
-      → ((row : VersionRow) → row.closed ≡ closed → row.ended ≡ None → TellsOf v row forecast) → Tells v forecast
+      → ((row : VersionRow) → row.closed ≡ closed → row.ended ≡ None → TellsOf v row forecast) → IsForecastOf v forecast
   tells_current forecast number last told = record {
     row = own.row;
     held = ap (λ (n : ℕ). find (is_numbered n) v.rows) number ∙ held;
@@ -170,7 +170,7 @@ module _ (policy : Policy) (cs : List ℕ) (v : FileView) (is : IsFileOf policy 
         }
 
     pub tells_followed : (forecast : Forecast) (newer : ℕ) → newer + suc place ≡ length cs → forecast.number ≡ place + 1
-        → ((row next : VersionRow) → IsFollowed policy v row next newer → row.closed ≡ closed → next.closed ≡ ended → next.number ≡ place + 1 + 1 → TellsOf v row forecast) → Tells v forecast
+        → ((row next : VersionRow) → IsFollowed policy v row next newer → row.closed ≡ closed → next.closed ≡ ended → next.number ≡ place + 1 + 1 → TellsOf v row forecast) → IsForecastOf v forecast
     tells_followed forecast newer are number told = record {
       row = own.row;
       held = ap (λ (n : ℕ). find (is_numbered n) v.rows) number ∙ held;

@@ -1,9 +1,9 @@
 -- What is told of one version after another.
 use Rattle.ele_forecast.proofs.Words.{◌≡◌, ℕ, zero, suc, ◌+◌, ◌≤◌, List, [], ◌∷◌, ◌++◌, Some, ap, sym, ◌∙◌, arith, append_assoc, append-nil, map, slice_get, AllByRecursion, length, drop}
-use Rattle.ele_forecast.proofs.Words.{Policy, FileView, IsFileOf, Life, lives_from, Tells, Forecast}
+use Rattle.ele_forecast.proofs.Words.{Policy, FileView, IsFileOf, Life, lives_from, IsForecastOf, Forecast}
 use Rattle.ele_lists.proofs.Alls.{all-append}
 use Rattle.std.proofs.lemmas.List.{drop_all, map-append}
-use Rattle.ele_forecast.specs.Tells.{AreForecasts, told_life}
+use Rattle.ele_forecast.specs.ForecastOf.{AreForecasts, told_life}
 
 -- the life at a place, and those behind it
 lives_step : (n : ℕ) (cs : List ℕ) (place c : ℕ) → slice_get cs place ≡ Some c → lives_from n (drop place cs) ≡ (n, c, slice_get cs (suc place)) ∷ lives_from (n + 1) (drop (suc place) cs)
@@ -14,11 +14,11 @@ lives_step n (x ∷ cs) (suc place) c e = lives_step n cs place c e
 -- so far it was told, and the lives from there on are left
 pub record ToldSoFar (policy : Policy) (closings : List ℕ) (place : ℕ) (forecasts : List Forecast) : Type 0 where
   pub lives : map told_life forecasts ++ lives_from (place + 1) (drop place closings) ≡ lives_from 1 closings
-  pub tell : (v : FileView) → IsFileOf policy closings v → AllByRecursion (Tells v) forecasts
+  pub tell : (v : FileView) → IsFileOf policy closings v → AllByRecursion (IsForecastOf v) forecasts
 
 pub told_one : {policy : Policy} {closings : List ℕ} {place : ℕ} {forecasts : List Forecast} (forecast : Forecast) → ToldSoFar policy closings place forecasts
     → forecast.number ≡ place + 1 → Some forecast.closed ≡ slice_get closings place → forecast.ended ≡ slice_get closings (place + 1)
-    → ((v : FileView) → IsFileOf policy closings v → Tells v forecast) → ToldSoFar policy closings (place + 1) (forecasts ++ forecast ∷ [])
+    → ((v : FileView) → IsFileOf policy closings v → IsForecastOf v forecast) → ToldSoFar policy closings (place + 1) (forecasts ++ forecast ∷ [])
 told_one {policy} {closings} {place} {forecasts} forecast far number closed ended tells =
     let same : suc place ≡ place + 1 = omega arith in
     let step = lives_step (place + 1) closings place forecast.closed (sym closed) in
@@ -29,7 +29,7 @@ told_one {policy} {closings} {place} {forecasts} forecast far number closed ende
     record {
       lives = ap (λ (ls : List Life). ls ++ behind) (map-append told_life forecasts (forecast ∷ [])) ∙ append_assoc (map told_life forecasts) (told_life forecast ∷ []) behind
           ∙ ap (λ (ls : List Life). map told_life forecasts ++ ls) (sym moved) ∙ far.lives;
-      tell = λ v is. all-append (Tells v) forecasts (forecast ∷ []) (far.tell v is) (tells v is, tt);
+      tell = λ v is. all-append (IsForecastOf v) forecasts (forecast ∷ []) (far.tell v is) (tells v is, tt);
     }
 
 pub told_all : {policy : Policy} {closings : List ℕ} {place : ℕ} {forecasts : List Forecast} → ToldSoFar policy closings place forecasts → length closings ≤ place → AreForecasts policy closings forecasts

@@ -10,7 +10,7 @@ pub use Rattle.ele_model.specs.declared.rows.VersionRow.{VersionRow}
 pub use Rattle.ele_model.specs.FileView.{FileView, beside, closings, due_in, is_newer, is_numbered, ripe_in}
 pub use Rattle.ele_forecast.specs.Followed.{IsFollowed}
 pub use Rattle.ele_forecast.specs.FileOf.{IsFileOf, Life, life_of, lives_from}
-pub use Rattle.ele_forecast.specs.Tells.{IsWhy, Tells, TellsOf}
+pub use Rattle.ele_forecast.specs.ForecastOf.{IsReasonOf, IsForecastOf, TellsOf}
 pub use Rattle.ele_forecast.specs.declared.forecast.Forecast.{Forecast}
 pub use Rattle.ele_model.specs.FileView.{ends_over}
 pub use Rattle.ele_model.specs.GroupRows.{keeps_at}

@@ -1,5 +1,5 @@
 pub mod FileOf
-pub mod Tells
+pub mod ForecastOf
 pub mod Stays
 pub mod Followed
 pub mod StaysBehind

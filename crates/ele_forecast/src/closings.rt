@@ -5,7 +5,7 @@ ghost use Rattle.ele_lists.specs.Lists.{AllLater};
 ghost use Rattle.ele_model.specs.FileView.{FileView};
 ghost use Rattle.ele_forecast.specs.FileOf.{IsFileOf};
 ghost use Rattle.ele_forecast.specs.Stays.{AreKept, come_by};
-ghost use Rattle.ele_forecast.specs.Tells.{AreForecasts, Tells};
+ghost use Rattle.ele_forecast.specs.ForecastOf.{AreForecasts, IsForecastOf};
 
 use crate::forecast::{Forecast, add, current, followed, stays};
 use ele_moment::{Moment, NoMemory, VersionNo};
@@ -97,7 +97,7 @@ impl Closings {
         ensures number { result.number ≡ place + 1 }
         ensures closed { Some result.closed ≡ slice_get self.now place }
         ensures ended { result.ended ≡ slice_get self.now (place + 1) }
-        ensures tells { (v : FileView) → IsFileOf policy.now self.now v → Tells v result }
+        ensures tells { (v : FileView) → IsFileOf policy.now self.now v → IsForecastOf v result }
     {
         self.lemma_sorted();
         let number = VersionNo(place as u64 + 1);

@@ -10,7 +10,7 @@ ghost use Rattle.ele_model.specs.FileView.{FileView};
 ghost use Rattle.ele_model.specs.declared.rows.VersionRow.{VersionRow};
 ghost use Rattle.ele_forecast.specs.Followed.{IsFollowed};
 ghost use Rattle.ele_forecast.specs.StaysBehind.{goes};
-ghost use Rattle.ele_forecast.specs.Tells.{TellsOf};
+ghost use Rattle.ele_forecast.specs.ForecastOf.{TellsOf};
 
 use ele_moment::{Moment, NoMemory, VersionNo};
 use ele_policy::{Cause, Newer, Policy, cause_of, ripe};

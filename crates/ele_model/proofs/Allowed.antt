@@ -5,7 +5,7 @@ use Rattle.ele_model.proofs.Words.{is_named, last_target, may_return, nameless, 
 use Rattle.ele_model.proofs.Words.{version_meant, live_target, parent_now, IsPolicy, default_of, DirectoryRow, Counted, Directories, Versions, Drafts, next_of, is_draft, is_draft_after, Event, MakeDir, Create, Undelete, OpenWrite, OpenRead, Close, Revert, CleanOne, Read, DraftRow, VersionRow}
 use Rattle.ele_path.specs.declared.tagged.Tag.TheVariants as tag
 use Rattle.ele_lists.proofs.Cuts.{any-found}
-use Rattle.ele_model.proofs.May.{HasRoom, MayName, MayAdd, MayRevive, MayAppend, MayClean, MayPlan}
+use Rattle.ele_model.proofs.May.{MayMakeVersion, MayName, MayAdd, MayRevive, MayAppend, MayClean, MayPlan}
 use Rattle.ele_model.proofs.DueRows.{first_is_due, due_has_ended, due_is_unread}
 use Rattle.ele_model.proofs.Homes.{parent_home}
 use Rattle.ele_model.proofs.Meant.{is_meant, meant_held, is_at}
@@ -23,7 +23,7 @@ pub may_add : (w : World) (at : ℕ × List ℕ) (lost : Target) → HasParts w 
 may_add w at lost k named last live returns = grind (arith, nat_tests, k.holds Names, k.holds Homes, lost_is (IsThere w.files) w.names at.0 at.1, all-weaker (IsNameRow w.files w.now), lost_is (IsDirectoryThere w.directories) w.names at.0 at.1, all-weaker (IsHoused w.directories w.names), false≢true)
 
 -- a file without a live name may be revived
-pub may_revive : (w : World) (at : ℕ × List ℕ) (lost : Target) (file : ℕ) → MayName w at.0 at.1 → nameless w lost ≡ Some file → not (may_return w lost) ≡ false → HasRoom w → MayRevive w at.0 at.1 file
+pub may_revive : (w : World) (at : ℕ × List ℕ) (lost : Target) (file : ℕ) → MayName w at.0 at.1 → nameless w lost ≡ Some file → not (may_return w lost) ≡ false → MayMakeVersion w → MayRevive w at.0 at.1 file
 may_revive w at lost file named none returns room = grind (arith, nat_tests, any-found, false≢true)
 
 -- ---- what the checks found
@@ -40,7 +40,7 @@ finishes : (w : World) (handle file : ℕ) (draft : DraftRow) → HasParts w →
 finishes w handle file draft k found = grind (arith, nat_tests, k.holds Drafts, k.holds Counted, all-found, found_passes, length-remove_first)
 
 -- a version that is held may come again
-reverts : (w : World) (file number : ℕ) (row : VersionRow) → HasParts w → 0 < next_of w.files file → version_meant w.files w.versions file (tag.Number number) ≡ Ok row → HasRoom w → MayAppend w file w.now row.cells
+reverts : (w : World) (file number : ℕ) (row : VersionRow) → HasParts w → 0 < next_of w.files file → version_meant w.files w.versions file (tag.Number number) ≡ Ok row → MayMakeVersion w → MayAppend w file w.now row.cells
 reverts w file number row k there meant room = grind (arith, nat_tests, k.holds Versions, is_meant w.files w.versions file (tag.Number number) row, all-found, written_more row.number (next_of w.files file) row.cells)
 
 -- a path's last name isn't live, and may be made

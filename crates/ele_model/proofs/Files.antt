@@ -1,7 +1,7 @@
 -- The next number and the policy of a file, after changes of the file rows.
 use Rattle.ele_model.proofs.Basics.{◌≡◌, ◌≢◌, ◌==◌, ℕ, ◌+◌, ◌<◌, ◌≤◌, false, List, [], ◌∷◌, ◌++◌, refl, arith, AllByRecursion, option_map, option_map_or, nat_tests, update_first, find-update_other, find-append, all-found, found_passes, all-weaker}
 use Rattle.ele_model.proofs.Basics.{not_found}
-use Rattle.ele_model.proofs.Words.{FileRow, Policy, numbered_on, put_under, IsFile, is_file, next_of, policy_of}
+use Rattle.ele_model.proofs.Words.{FileRow, Policy, numbered_on, set_policy, IsFile, is_file, next_of, policy_of}
 use Rattle.ele_model.proofs.Elements.{find-update_still, find-updated}
 
 -- a file that is there keeps its number when rows are added behind
@@ -32,9 +32,9 @@ next_of-numbered_le files file other = grind (arith, nat_tests, next_of-numbered
 pub policies-numbered : (files : List FileRow) (file id : ℕ) → policy_of (update_first (is_file file) numbered_on files) id ≡ policy_of files id
 policies-numbered files file id = find-update_still (is_file file) (is_file id) (option_map (λ row. row.policy)) numbered_on files (λ row. refl) (λ row. refl)
 
-pub next_of-put_under : (files : List FileRow) (file id : ℕ) (policy : Policy) → next_of (update_first (is_file file) (put_under policy) files) id ≡ next_of files id
-next_of-put_under files file id policy = find-update_still (is_file file) (is_file id) (λ o. option_map_or (λ row. row.next) o 0) (put_under policy) files (λ row. refl) (λ row. refl)
+pub next_of-set_policy : (files : List FileRow) (file id : ℕ) (policy : Policy) → next_of (update_first (is_file file) (set_policy policy) files) id ≡ next_of files id
+next_of-set_policy files file id policy = find-update_still (is_file file) (is_file id) (λ o. option_map_or (λ row. row.next) o 0) (set_policy policy) files (λ row. refl) (λ row. refl)
 
 -- each other file keeps its own
-pub policy_of-put_other : (files : List FileRow) (file other : ℕ) (policy : Policy) → (other == file) ≡ false → policy_of (update_first (is_file file) (put_under policy) files) other ≡ policy_of files other
-policy_of-put_other files file other policy apart = grind (arith, nat_tests, option_map, find-update_other, is_file, put_under)
+pub policy_of-put_other : (files : List FileRow) (file other : ℕ) (policy : Policy) → (other == file) ≡ false → policy_of (update_first (is_file file) (set_policy policy) files) other ≡ policy_of files other
+policy_of-put_other files file other policy apart = grind (arith, nat_tests, option_map, find-update_other, is_file, set_policy)

@@ -1,6 +1,6 @@
 -- Each change that may be made keeps a world well formed, and so do all changes of a plan.
 use Rattle.ele_model.proofs.Basics.{nat_tests, arith, ◌≡◌, List, [], ◌∷◌, refl}
-use Rattle.ele_model.proofs.Words.{Change, Time, Govern, PutUnder, Revive, Append, Take, WriteDraft, TruncateDraft, EndDraft, after_change, after_changes, Plan, outcome, IsEvent, HasParts, World, Event}
+use Rattle.ele_model.proofs.Words.{Change, Time, SetDirectoryDefault, SetFilePolicy, Revive, Append, Take, WriteDraft, TruncateDraft, EndDraft, after_change, after_changes, Plan, outcome, IsEvent, HasParts, World, Event}
 use Rattle.ele_model.proofs.KeptDrafts.{start_keeps, write_keeps, truncate_keeps, end_keeps, open_keeps, shut_keeps}
 use Rattle.ele_model.proofs.KeptDirectories.{make_directory_keeps, end_name_keeps, add_name_keeps, end_file_name_keeps, move_name_keeps}
 use Rattle.ele_model.proofs.KeptNames.{time_keeps, govern_keeps, put_under_keeps, make_keeps}
@@ -9,7 +9,7 @@ use Rattle.ele_model.proofs.KeptGroups.{make_group_keeps, drop_group_keeps, add_
 use Rattle.ele_model.proofs.KeptRevived.{revive_keeps}
 use Rattle.ele_model.proofs.KeptVersions.{append_keeps, take_keeps}
 use Rattle.ele_model.proofs.May.{May, MayBy, MayAll, MayPlan}
-use Rattle.ele_model.proofs.Outcomes.{outcome_of}
+use Rattle.ele_model.proofs.PlanOutcomes.{outcome_of}
 
 pub change_keeps : (w : World) (change : Change) → May w change → HasParts w → HasParts (after_change w change)
 change_keeps w (Take file number) may k = take_keeps w file number may.ended may.unread k
@@ -23,8 +23,8 @@ change_keeps w change may k = grind (arith, nat_tests, time_keeps, govern_keeps,
 -- what an event's types say of it makes up for what the world needn't know
 may_by : (event : Event) (first w : World) (change : Change) → IsEvent event → MayBy event first w change → May w change
 may_by event first w (Time to) is may = (may.0, may.1 is)
-may_by event first w (Govern directory policy) is may = may is
-may_by event first w (PutUnder file policy) is may = may is
+may_by event first w (SetDirectoryDefault directory policy) is may = may is
+may_by event first w (SetFilePolicy file policy) is may = may is
 may_by event first w (Take file number) is may = record { ended = λ row found. grind (arith, nat_tests); unread = may.unread }
 may_by event first w change is may = may
 

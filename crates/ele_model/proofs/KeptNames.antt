@@ -1,11 +1,11 @@
 -- The clock, policies and the making of a file keep a world well formed.
 use Rattle.ele_model.proofs.Basics.{◌≡◌, ℕ, ◌+◌, ◌≤◌, false, List, [], ◌∷◌, ◌++◌, length-append, sym, subst, arith, is_some, AllByRecursion, nat_tests, find-append, list_any-append, all-push, all-weaker, all-update_first, later-push}
 use Rattle.ele_model.proofs.Basics.{later-update_first, length-update_first, list_any-update_first}
-use Rattle.ele_model.proofs.Words.{last_moment, Policy, governed_by, put_under, after_change, Time, Govern, MakeFile, PutUnder, live_target, IsPolicy, IsHoused, IsFile, IsNameRow, AreApart, IsVersion, IsDraft, Part, Files, Names, Versions, Drafts}
+use Rattle.ele_model.proofs.Words.{last_moment, Policy, governed_by, set_policy, after_change, Time, SetDirectoryDefault, MakeFile, SetFilePolicy, live_target, IsPolicy, IsHoused, IsFile, IsNameRow, AreApart, IsVersion, IsDraft, Part, Files, Names, Versions, Drafts}
 use Rattle.ele_model.proofs.Words.{Readers, Current, Holds, HasParts, World, root, is_directory, is_file, next_of, FileRow, NameRow, File}
 use Rattle.ele_model.proofs.Readers.{read_on}
 use Rattle.ele_model.proofs.Created.{new_file, new_name, first_version, created, made_is}
-use Rattle.ele_model.proofs.Files.{next_of-push, next_of-given, next_of-new, next_of-put_under}
+use Rattle.ele_model.proofs.Files.{next_of-push, next_of-given, next_of-new, next_of-set_policy}
 use Rattle.ele_model.proofs.Homes.{homes_more, ended_more}
 use Rattle.ele_model.proofs.KeptGroups.{groups_on}
 use Rattle.ele_model.proofs.May.{MayMake}
@@ -19,15 +19,15 @@ time_keeps w to fits le k = record { holds = λ part. grind (arith, nat_tests, k
 
 -- ---- a directory or a file has another policy
 
-pub govern_keeps : (w : World) (directory : ℕ) (policy : Policy) → IsPolicy policy → HasParts w → HasParts (after_change w (Govern directory policy))
+pub govern_keeps : (w : World) (directory : ℕ) (policy : Policy) → IsPolicy policy → HasParts w → HasParts (after_change w (SetDirectoryDefault directory policy))
 govern_keeps w directory policy is k = record { holds = λ part. grind (arith, nat_tests, k.holds part, list_any-update_first (is_directory directory) (is_directory root) (governed_by policy) w.directories, all-update_first (is_directory directory), later-update_first (is_directory directory), length-update_first (is_directory directory) (governed_by policy) w.directories, all-weaker (IsHoused w.directories w.names), list_any-update_first (is_directory directory)) }
 
-pub put_under_keeps : (w : World) (file : ℕ) (policy : Policy) → IsPolicy policy → HasParts w → HasParts (after_change w (PutUnder file policy))
+pub put_under_keeps : (w : World) (file : ℕ) (policy : Policy) → IsPolicy policy → HasParts w → HasParts (after_change w (SetFilePolicy file policy))
 put_under_keeps w file policy is k = record { holds = by } where
-  by : (part : Part) → Holds (after_change w (PutUnder file policy)) part
-  by Files = grind (arith, nat_tests, k.holds Files, all-update_first (is_file file) (IsFile w.made.files w.made.versions) (IsFile w.made.files w.made.versions) (put_under policy) w.files, later-update_first (is_file file))
-  by Current = λ id live. rw (next_of-put_under w.files file id policy) (k.holds Current id live)
-  by part = grind (arith, nat_tests, k.holds part, all-weaker, next_of-put_under, groups_on, length-update_first (is_file file) (put_under policy) w.files)
+  by : (part : Part) → Holds (after_change w (SetFilePolicy file policy)) part
+  by Files = grind (arith, nat_tests, k.holds Files, all-update_first (is_file file) (IsFile w.made.files w.made.versions) (IsFile w.made.files w.made.versions) (set_policy policy) w.files, later-update_first (is_file file))
+  by Current = λ id live. rw (next_of-set_policy w.files file id policy) (k.holds Current id live)
+  by part = grind (arith, nat_tests, k.holds part, all-weaker, next_of-set_policy, groups_on, length-update_first (is_file file) (set_policy policy) w.files)
 
 -- ---- a file is made
 

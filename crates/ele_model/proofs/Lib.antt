@@ -40,7 +40,7 @@ pub mod Meant
 pub mod Allowed
 pub mod StepKeeps
 pub mod NextVersion
-pub mod Outcomes
+pub mod PlanOutcomes
 pub mod Cleans
 pub mod CleanKeepsKeys
 pub mod DueKeys
@@ -49,7 +49,7 @@ pub mod Newest
 pub mod Listed
 pub mod SlotPlaces
 pub mod Splits
-pub mod Others
+pub mod OtherFiles
 pub mod Usages
 pub mod EndUsage
 pub mod PassEnds

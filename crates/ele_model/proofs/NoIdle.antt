@@ -2,14 +2,14 @@
 -- each file has a version or a draft.
 use Rattle.ele_model.proofs.Basics.{rules, ◌≡◌, ◌==◌, ℕ, Bool, true, false, not, ◌||◌, List, [], ◌∷◌, arith, AllByRecursion, list_any, false≢true, not-true, nat_tests, update_first, remove_first, filter-passes, all-push, all-weaker, all-both}
 use Rattle.ele_model.proofs.Basics.{all-update_first, all-remove_first, found_passes, list_any-update_first, list_any-insert_before, list_any-remove_first, any-found, remove_first-key}
-use Rattle.ele_model.proofs.Words.{Change, Cell, Policy, Take, MakeFile, PutUnder, EndFileName, EndDraft, DropIdle, ShutHandle, StartDraft, after_change, is_idle, numbered_on, put_under, with_file, with_name, with_version, without_file, is_version_of, IsEvent}
+use Rattle.ele_model.proofs.Words.{Change, Cell, Policy, Take, MakeFile, SetFilePolicy, EndFileName, EndDraft, DropIdle, ShutHandle, StartDraft, after_change, is_idle, numbered_on, set_policy, with_file, with_name, with_version, without_file, is_version_of, IsEvent}
 use Rattle.ele_model.proofs.Words.{HasNoIdle, run_of, plan, step, Files, Current, HasParts, World, is_file, is_draft, has_draft, Event, Close, CleanOne, Read, DraftRow, FileRow, File}
 use Rattle.ele_lists.proofs.Cuts.{any-found as first_passing}
 use Rattle.ele_model.proofs.Allowed.{takes}
 use Rattle.ele_model.proofs.Dropped.{dropped}
 use Rattle.ele_model.proofs.Keeps.{event_keeps}
 use Rattle.ele_model.proofs.KeptDrafts.{same_file, end_keeps, shut_keeps}
-use Rattle.ele_model.proofs.Outcomes.{AfterAll, in_all}
+use Rattle.ele_model.proofs.PlanOutcomes.{AfterAll, in_all}
 use Rattle.ele_model.proofs.StepKeeps.{step_keeps}
 
 -- the file has a held version or a draft
@@ -36,8 +36,8 @@ grown w file opened cells all = versioned w file opened cells (all-weaker (λ ro
 made : (w : World) (directory : ℕ) (name : List ℕ) (id : ℕ) (policy : Policy) → AreBusy w → AreBusy (after_change w (MakeFile directory name id policy))
 made w directory name id policy all = versioned (with_name (with_file w id policy) directory name (File id)) id w.now [] (grind (arith, nat_tests, all-push (λ row. (row.id == id) ≡ false → has_rows w row.id ≡ true) w.files, all-weaker (λ row. has_rows w row.id ≡ true) (λ row. (row.id == id) ≡ false → has_rows w row.id ≡ true) w.files))
 
-put : (w : World) (file : ℕ) (policy : Policy) → AreBusy w → AreBusy (after_change w (PutUnder file policy))
-put w file policy = grind (arith, nat_tests, all-update_first (is_file file) (λ row. has_rows w row.id ≡ true) (λ row. has_rows w row.id ≡ true) (put_under policy) w.files)
+put : (w : World) (file : ℕ) (policy : Policy) → AreBusy w → AreBusy (after_change w (SetFilePolicy file policy))
+put w file policy = grind (arith, nat_tests, all-update_first (is_file file) (λ row. has_rows w row.id ≡ true) (λ row. has_rows w row.id ≡ true) (set_policy policy) w.files)
 
 nameless : (w : World) (directory : ℕ) (name : List ℕ) (file : ℕ) → AreBusy w → AreBusy (after_change w (EndFileName directory name file))
 nameless w directory name file all = grind (arith, nat_tests, all-weaker, list_any-update_first)

@@ -1,6 +1,6 @@
 -- What the files of each kind use where a file gets another policy: what it uses goes from the one kind to the other.
 use Rattle.ele_model.proofs.Basics.{nat_tests, ◌≡◌, ◌==◌, ℕ, ◌+◌, false, cond, List, length, Some, refl, arith, filter, find, length-filter, update_first, sum_by-update_first, sum_by-found}
-use Rattle.ele_model.proofs.Words.{Kind, Policy, kind_of, is_kind, only_at, plus, IsWithin, PutUnder, put_under, after_change, FileRow, file_usage, is_of, is_file_of, HasParts, World, is_file, policy_of}
+use Rattle.ele_model.proofs.Words.{Kind, Policy, kind_of, is_kind, only_at, plus, IsWithin, SetFilePolicy, set_policy, after_change, FileRow, file_usage, is_of, is_file_of, HasParts, World, is_file, policy_of}
 use Rattle.ele_model.specs.Usage.{usage_of}
 use Rattle.ele_model.proofs.Elements.{find-updated}
 use Rattle.ele_model.proofs.Files.{policy_of-put_other}
@@ -9,7 +9,7 @@ use Rattle.ele_model.proofs.Usages.{only_at_is}
 
 module _ (w : World) (file : ℕ) (was policy : Policy) (k : HasParts w) (filed : policy_of w.files file ≡ Some was) where
   abbrev files : List FileRow
-  files = update_first (is_file file) (put_under policy) w.files
+  files = update_first (is_file file) (set_policy policy) w.files
 
   its : (row : FileRow) × (find (is_file file) w.files ≡ Some row) × (row.policy ≡ was)
   its = grind (arith, nat_tests)
@@ -19,9 +19,9 @@ module _ (w : World) (file : ℕ) (was policy : Policy) (k : HasParts w) (filed 
   others_of kind id apart = grind (arith, policy_of-put_other w.files file id policy apart)
 
   files_move : (kind : Kind) → length (filter (is_of kind) files) + cond (is_kind kind (kind_of was)) 1 0 ≡ length (filter (is_of kind) w.files) + cond (is_kind kind (kind_of policy)) 1 0
-  files_move kind = rw (length-filter (is_of kind) files, length-filter (is_of kind) w.files, ← its.2) (sum_by-update_first (λ (row : FileRow). cond (is_of kind row) 1 0) (is_file file) (put_under policy) w.files its.0 its.1)
+  files_move kind = rw (length-filter (is_of kind) files, length-filter (is_of kind) w.files, ← its.2) (sum_by-update_first (λ (row : FileRow). cond (is_of kind row) 1 0) (is_file file) (set_policy policy) w.files its.0 its.1)
 
-  pub policy_usage : (kind : Kind) → plus (usage_of (after_change w (PutUnder file policy)) kind) (only_at (kind_of was) (file_usage w.versions w.drafts file) kind) ≡ plus (usage_of w kind) (only_at (kind_of policy) (file_usage w.versions w.drafts file) kind)
+  pub policy_usage : (kind : Kind) → plus (usage_of (after_change w (SetFilePolicy file policy)) kind) (only_at (kind_of was) (file_usage w.versions w.drafts file) kind) ≡ plus (usage_of w kind) (only_at (kind_of policy) (file_usage w.versions w.drafts file) kind)
   unfolding usage_of
   policy_usage kind =
       let moves = file_moves file (is_file_of w.files kind) (is_file_of files kind) (others_of kind) w.versions w.versions w.drafts w.drafts refl refl in

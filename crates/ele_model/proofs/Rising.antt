@@ -1,11 +1,11 @@
 -- The time, the counts and the files' numbers rise with each event.
 use Rattle.ele_model.proofs.Basics.{arith, ◌≡◌, ℕ, ◌+◌, ◌<◌, ◌≤◌, true, false, List, [], ◌∷◌, ◌++◌, refl, ◌⊎◌, inl, AllLater, list_any, update_first, remove_first, list_any-append, list_any-update_first, nat_tests, ◌==◌, ◌&&◌, not, all-weaker}
-use Rattle.ele_model.proofs.Words.{World, Event, Close, CleanOne, Create, Undelete, Revert, SetPolicy, default_of, Read, FileRow, Policy, HasParts, Files, DropIdle, EndDraft, ShutHandle, Take, MakeFile, after_change, is_file, next_of, numbered_on, put_under, plan, Counts, without_file, step}
+use Rattle.ele_model.proofs.Words.{World, Event, Close, CleanOne, Create, Undelete, Revert, SetPolicy, default_of, Read, FileRow, Policy, HasParts, Files, DropIdle, EndDraft, ShutHandle, Take, MakeFile, after_change, is_file, next_of, numbered_on, set_policy, plan, Counts, without_file, step}
 use Rattle.ele_model.specs.NumbersRise.{CountsOn, GoesOn}
 use Rattle.ele_model.proofs.Dropped.{dropped, next_of-removed}
-use Rattle.ele_model.proofs.Files.{next_of-numbered_le, next_of-put_under, next_of-push}
+use Rattle.ele_model.proofs.Files.{next_of-numbered_le, next_of-set_policy, next_of-push}
 use Rattle.ele_model.proofs.Elements.{any_none}
-use Rattle.ele_model.proofs.Outcomes.{AfterAll, in_all}
+use Rattle.ele_model.proofs.PlanOutcomes.{AfterAll, in_all}
 
 counts_stay : (made : Counts) → CountsOn made made
 counts_stay made = record { files = omega arith; directories = omega arith; names = omega arith; versions = omega arith; handles = omega arith; groups = omega arith; members = omega arith; marks = omega arith }
@@ -31,10 +31,10 @@ number_on made file files after on = record {
   fresh = λ other there. on.fresh other (grind (arith, nat_tests, there, list_any-update_first (is_file file) (is_file other) numbered_on after));
 }
 
-put_on : (made file : ℕ) (policy : Policy) (files : List FileRow) → AreOn made files (update_first (is_file file) (put_under policy) files)
+put_on : (made file : ℕ) (policy : Policy) (files : List FileRow) → AreOn made files (update_first (is_file file) (set_policy policy) files)
 put_on made file policy files = record {
-  next = λ other. grind (arith, nat_tests, next_of-put_under files file other policy);
-  fresh = λ other there. inl (grind (arith, nat_tests, there, list_any-update_first (is_file file) (is_file other) (put_under policy) files));
+  next = λ other. grind (arith, nat_tests, next_of-set_policy files file other policy);
+  fresh = λ other there. inl (grind (arith, nat_tests, there, list_any-update_first (is_file file) (is_file other) (set_policy policy) files));
 }
 
 one_more : (made : ℕ) (files : List FileRow) (row : FileRow) → made < row.id → AreOn made files (files ++ row ∷ [])

@@ -7,7 +7,7 @@ use Rattle.ele_policy.specs.declared.policy.Kind.TheVariants as kinds
 use Rattle.ele_model.specs.Usage.{usage_of}
 use Rattle.ele_model.proofs.Created.{new_file, created, versions_before}
 use Rattle.ele_model.proofs.Files.{next_of-given}
-use Rattle.ele_model.proofs.Others.{versions-removed}
+use Rattle.ele_model.proofs.OtherFiles.{versions-removed}
 use Rattle.ele_model.proofs.Splits.{bytes_in-cons, file_moves, split_usage}
 
 -- ---- a change of one file

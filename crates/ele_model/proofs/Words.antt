@@ -20,7 +20,7 @@ pub use Rattle.ele_usage.specs.OnlyAt.{only_at}
 pub use Rattle.ele_usage.specs.Sums.{Fits, IsWithin, nothing, plus}
 pub use Rattle.ele_usage.specs.declared.usage.Usage.{Usage}
 pub use Rattle.ele_model.specs.Bounds.{AreBounds, Bounds}
-pub use Rattle.ele_model.specs.Change.{AddMark, AddMember, AddName, Append, Change, DropGroup, DropIdle, EndDraft, EndFileName, EndName, Govern, MakeDirectory, MakeFile, MakeGroup, MoveName, OpenHandle, PutUnder, RemoveMark, RemoveMember, Revive, ShutHandle, StartDraft, Take, Time, TruncateDraft, WriteDraft, after_change, after_changes, changed_by, current_cells, ended_at, fitted_by, governed_by, is_idle, new_draft, next_version, numbered_on, put_under, with_end, with_file, with_name, with_version, without_file, without_name}
+pub use Rattle.ele_model.specs.Change.{AddMark, AddMember, AddName, Append, Change, DropGroup, DropIdle, EndDraft, EndFileName, EndName, SetDirectoryDefault, MakeDirectory, MakeFile, MakeGroup, MoveName, OpenHandle, SetFilePolicy, RemoveMark, RemoveMember, Revive, ShutHandle, StartDraft, Take, Time, TruncateDraft, WriteDraft, after_change, after_changes, changed_by, current_cells, ended_at, fitted_by, governed_by, is_idle, new_draft, next_version, numbered_on, set_policy, with_end, with_file, with_name, with_version, without_file, without_name}
 pub use Rattle.ele_model.specs.CleanKeepsKeys.{CleanKeepsKeys, TakesOneKey}
 pub use Rattle.ele_model.specs.Due.{is_due_at, kept_rows, ripe_at, ripe_of}
 pub use Rattle.ele_model.specs.FileUsage.{file_usage}

@@ -22,7 +22,7 @@ use Rattle.ele_model.specs.World.{World, is_directory, is_file, next_of, is_vers
 
 pub data Change : Type 0 where
   Time : (to : ℕ) → Change
-  Govern : (directory : ℕ) → (policy : Policy) → Change
+  SetDirectoryDefault : (directory : ℕ) → (policy : Policy) → Change
   MakeDirectory : (directory : ℕ) → (name : List ℕ) → (id : ℕ) → (policy : Policy) → Change
   EndName : (directory : ℕ) → (name : List ℕ) → Change
   AddName : (directory : ℕ) → (name : List ℕ) → (target : Target) → Change
@@ -30,7 +30,7 @@ pub data Change : Type 0 where
   EndFileName : (directory : ℕ) → (name : List ℕ) → (file : ℕ) → Change
   Revive : (directory : ℕ) → (name : List ℕ) → (file : ℕ) → Change
   MakeFile : (directory : ℕ) → (name : List ℕ) → (id : ℕ) → (policy : Policy) → Change
-  PutUnder : (file : ℕ) → (policy : Policy) → Change
+  SetFilePolicy : (file : ℕ) → (policy : Policy) → Change
   Append : (file opened : ℕ) → (cells : List Cell) → Change
   Take : (file number : ℕ) → Change
   StartDraft : (file : ℕ) → Change
@@ -67,8 +67,8 @@ with_file w id policy = record w {
 }
 
 -- the file has that policy, with all its versions
-abbrev pub put_under : Policy → FileRow → FileRow
-put_under policy row = record row { policy = policy }
+abbrev pub set_policy : Policy → FileRow → FileRow
+set_policy policy row = record row { policy = policy }
 
 -- a name of the target, from now on
 abbrev pub with_name : World → ℕ → List ℕ → Target → World
@@ -153,7 +153,7 @@ fitted_by number size draft =
 
 abbrev pub after_change : World → Change → World
 after_change w (Time to) = record w { now = to }
-after_change w (Govern directory policy) = record w { directories = update_first (is_directory directory) (governed_by policy) w.directories }
+after_change w (SetDirectoryDefault directory policy) = record w { directories = update_first (is_directory directory) (governed_by policy) w.directories }
 -- a new directory and its name
 after_change w (MakeDirectory directory name id policy) = with_name (with_directory w id policy) directory name (Directory id)
 -- a directory's live name dies now
@@ -168,7 +168,7 @@ after_change w (EndFileName directory name file) = ended_if_nameless (without_na
 after_change w (Revive directory name file) = with_version (with_name w directory name (File file)) file w.now (current_cells w file)
 -- a new file, its name, and its first version, which is empty
 after_change w (MakeFile directory name id policy) = with_version (with_name (with_file w id policy) directory name (File id)) id w.now []
-after_change w (PutUnder file policy) = record w { files = update_first (is_file file) (put_under policy) w.files }
+after_change w (SetFilePolicy file policy) = record w { files = update_first (is_file file) (set_policy policy) w.files }
 after_change w (Append file opened cells) = with_version w file opened cells
 after_change w (Take file number) = record w { versions = remove_first (is_version file number) w.versions }
 after_change w (StartDraft file) = record w { drafts = insert_before (is_draft_after file) (new_draft w file) w.drafts }

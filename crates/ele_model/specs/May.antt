@@ -12,7 +12,7 @@ use Rattle.ele_model.specs.declared.rows.Reads.{Reads}
 use Rattle.ele_model.specs.declared.rows.Target.{Target}
 use Rattle.ele_model.specs.declared.rows.Target.TheVariants.{File, Directory}
 use Rattle.ele_model.specs.declared.rows.VersionRow.{VersionRow}
-use Rattle.ele_model.specs.Change.{Change, Time, Govern, MakeDirectory, EndName, AddName, MoveName, EndFileName, Revive, MakeFile, PutUnder, Append, Take, StartDraft, WriteDraft, TruncateDraft, EndDraft, OpenHandle, MakeGroup, AddMember, AddMark}
+use Rattle.ele_model.specs.Change.{Change, Time, SetDirectoryDefault, MakeDirectory, EndName, AddName, MoveName, EndFileName, Revive, MakeFile, SetFilePolicy, Append, Take, StartDraft, WriteDraft, TruncateDraft, EndDraft, OpenHandle, MakeGroup, AddMember, AddMark}
 use Rattle.ele_model.specs.GroupRows.{has_group, has_member, is_marked_at}
 use Rattle.ele_model.specs.NameRows.{is_live_in, is_live_directory}
 use Rattle.ele_model.specs.Walk.{live_target}
@@ -20,8 +20,8 @@ use Rattle.ele_model.specs.WellFormed.{IsThere, IsDirectoryThere, has_directory,
 use Rattle.ele_model.specs.World.{World, next_of, is_version, is_live, current_of, is_open, has_draft, is_writer}
 
 -- a version more may be made
-abbrev pub HasRoom : World → Type 0
-HasRoom w = w.made.versions + length w.drafts < w.limits.versions
+abbrev pub MayMakeVersion : World → Type 0
+MayMakeVersion w = w.made.versions + length w.drafts < w.limits.versions
 
 -- a new name, in a directory that is there
 pub record MayName (w : World) (directory : ℕ) (name : List ℕ) : Type 0 where
@@ -64,19 +64,19 @@ pub record MayRevive (w : World) (directory : ℕ) (name : List ℕ) (file : ℕ
   pub nameless : is_live w file ≡ false
   pub last : VersionRow
   pub held : current_of w file ≡ Some last
-  pub room : HasRoom w
+  pub room : MayMakeVersion w
 
 pub record MayMake (w : World) (directory : ℕ) (name : List ℕ) (id : ℕ) (policy : Policy) : Type 0 where
   pub next : id ≡ w.made.files + 1
   pub files : w.made.files < w.limits.files
   pub named : MayName w directory name
-  pub room : HasRoom w
+  pub room : MayMakeVersion w
   pub valid : IsPolicy policy
 
 pub record MayAppend (w : World) (file opened : ℕ) (cells : List Cell) : Type 0 where
   pub there : 0 < next_of w.files file
   pub by_now : opened ≤ w.now
-  pub room : HasRoom w
+  pub room : MayMakeVersion w
   pub content : IsContent cells
   pub written : AreWrittenBy (next_of w.files file) cells
 
@@ -88,7 +88,7 @@ pub record MayTake (w : World) (file number : ℕ) : Type 0 where
 pub record MayStart (w : World) (file : ℕ) : Type 0 where
   pub there : 0 < next_of w.files file
   pub none : has_draft w file ≡ false
-  pub room : HasRoom w
+  pub room : MayMakeVersion w
 
 pub record MayOpen (w : World) (number : ℕ) (reads : Reads) : Type 0 where
   pub next : number ≡ w.made.handles + 1
@@ -117,7 +117,7 @@ pub record MayMark (w : World) (name : List ℕ) (mark : MarkRow) : Type 0 where
 -- the change
 abbrev pub May : World → Change → Type 0
 May w (Time to) = (w.now ≤ to) × (to ≤ last_moment)
-May w (Govern directory policy) = IsPolicy policy
+May w (SetDirectoryDefault directory policy) = IsPolicy policy
 May w (MakeDirectory directory name id policy) = MayMakeDirectory w directory name id policy
 May w (EndName directory name) = MayEnd w directory name
 May w (AddName directory name target) = MayAdd w directory name target
@@ -125,7 +125,7 @@ May w (MoveName from old to new target) = MayMove w from old to new target
 May w (EndFileName directory name file) = live_target w.names directory name ≡ Some (File file)
 May w (Revive directory name file) = MayRevive w directory name file
 May w (MakeFile directory name id policy) = MayMake w directory name id policy
-May w (PutUnder file policy) = IsPolicy policy
+May w (SetFilePolicy file policy) = IsPolicy policy
 May w (Append file opened cells) = MayAppend w file opened cells
 May w (Take file number) = MayTake w file number
 May w (StartDraft file) = MayStart w file

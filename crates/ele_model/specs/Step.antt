@@ -17,7 +17,7 @@ use Rattle.ele_model.specs.declared.reply.Reply.TheVariants.{Done, Nothing, Now,
 use Rattle.ele_model.specs.declared.rows.Reads.{Reads}
 use Rattle.ele_model.specs.declared.rows.Reads.TheVariants as reads
 use Rattle.ele_model.specs.declared.rows.Target.TheVariants as target
-use Rattle.ele_model.specs.Change.{Time, Govern, MakeDirectory, EndName, AddName, MoveName, EndFileName, Revive, MakeFile, PutUnder, Append, Take, StartDraft, WriteDraft, TruncateDraft, EndDraft, OpenHandle, ShutHandle, DropIdle, MakeGroup, DropGroup, AddMember, RemoveMember, AddMark, RemoveMark}
+use Rattle.ele_model.specs.Change.{Time, SetDirectoryDefault, MakeDirectory, EndName, AddName, MoveName, EndFileName, Revive, MakeFile, SetFilePolicy, Append, Take, StartDraft, WriteDraft, TruncateDraft, EndDraft, OpenHandle, ShutHandle, DropIdle, MakeGroup, DropGroup, AddMember, RemoveMember, AddMark, RemoveMark}
 use Rattle.ele_model.specs.FileView.{is_version_of}
 use Rattle.ele_model.specs.GroupRows.{has_group, has_member, is_marked_at}
 use Rattle.ele_model.specs.NameRows.{is_live_in}
@@ -25,7 +25,7 @@ use Rattle.ele_model.specs.Plan.{Plan, Tell, Make, Unless, When, Need, IfFound, 
 use Rattle.ele_model.specs.Restorable.{may_return, last_target, nameless, restorable}
 use Rattle.ele_model.specs.Scan.{scan, first_due}
 use Rattle.ele_model.specs.Tagged.{version_meant, version_at, walk_meant, walk_then, moment_of}
-use Rattle.ele_model.specs.Told.{stamps_of, stat_of, listing}
+use Rattle.ele_model.specs.Told.{info_of, stat_of, listing}
 use Rattle.ele_model.specs.Usage.{usages}
 use Rattle.ele_model.specs.Walk.{live_target, walk_now, file_at, file_now, directory_in, directory_now, parent_now, stands_in}
 use Rattle.ele_model.specs.World.{World, default_of, next_of, has_draft, is_draft, is_version, is_handle, is_writer, file_by, reads_by}
@@ -164,10 +164,10 @@ plan w (Revert path number) =
     (Make (Version (next_of w.files file)) (Append file w.now row.cells ∷ [])))))
 -- the file has the policy from now on, with all its versions
 plan w (SetPolicy path policy) =
-    Need (file_now w.names path) (λ file. Make Done (PutUnder file policy ∷ []))
+    Need (file_now w.names path) (λ file. Make Done (SetFilePolicy file policy ∷ []))
 -- files that are made in the directory from now on get the policy
 plan w (SetDefault path policy) =
-    Need (directory_now w.names path) (λ directory. Make Done (Govern directory policy ∷ []))
+    Need (directory_now w.names path) (λ directory. Make Done (SetDirectoryDefault directory policy ∷ []))
 -- a group of that name
 plan w (GroupMake name) =
     Unless (has_group w.groups name) GroupExists
@@ -212,7 +212,7 @@ plan w (Read (Tagged tagged)) = Need (version_at w tagged) (λ row. Tell (Bytes 
 plan w (Stat tagged) = Need (walk_meant w tagged.path tagged.tag) (λ target. Need (stat_of w target tagged.tag) Tell)
 -- the versions that are held of the file that the path named
 plan w (Versions at) =
-    Need (file_at (walk_then w at)) (λ file. Tell (Rows (map stamps_of (filter (is_version_of file) w.versions))))
+    Need (file_at (walk_then w at)) (λ file. Tell (Rows (map info_of (filter (is_version_of file) w.versions))))
 -- the names that stood in the directory that the path named
 plan w (ListNames at) =
     Need (directory_in (walk_then w at)) (λ directory. Tell (NameList (listing w.names directory (moment_of w at))))

@@ -11,7 +11,7 @@ use Rattle.ele_model.specs.declared.refusal.Refusal.TheVariants.{IsDirectory}
 use Rattle.ele_model.specs.declared.reply.Reply.{Reply}
 use Rattle.ele_model.specs.declared.reply.Reply.TheVariants.{FileStat, DirStat}
 use Rattle.ele_model.specs.declared.rows.NameRow.{NameRow}
-use Rattle.ele_model.specs.declared.rows.Stamps.{Stamps}
+use Rattle.ele_model.specs.declared.rows.VersionInfo.{VersionInfo}
 use Rattle.ele_model.specs.declared.rows.Target.{Target}
 use Rattle.ele_model.specs.declared.rows.Target.TheVariants.{File, Directory}
 use Rattle.ele_model.specs.declared.rows.VersionRow.{VersionRow}
@@ -20,8 +20,8 @@ use Rattle.ele_model.specs.Tagged.{version_meant}
 use Rattle.ele_model.specs.World.{World, default_of, policy_for}
 
 -- a version's number, its moments, and how many bytes it has
-abbrev pub stamps_of : VersionRow → Stamps
-stamps_of row = record {
+abbrev pub info_of : VersionRow → VersionInfo
+info_of row = record {
   number = row.number;
   opened = row.opened;
   closed = row.closed;
@@ -32,7 +32,7 @@ stamps_of row = record {
 -- the version, and the policy that governs its file now
 abbrev pub file_stat : World → Result VersionRow Refusal → Result Reply Refusal
 file_stat w (Err refusal) = Err refusal
-file_stat w (Ok row) = Ok (FileStat (record { file = row.file; stamps = stamps_of row; policy = policy_for w.files row.file }))
+file_stat w (Ok row) = Ok (FileStat (record { file = row.file; info = info_of row; policy = policy_for w.files row.file }))
 
 -- the directory, and the policy that it gives now; a directory has no numbered versions
 abbrev pub stat_of : World → Target → Tag → Result Reply Refusal

@@ -29,7 +29,7 @@ pub fn always_well_formed()
 }
 
 /// An event whose reply takes memory to copy changes nothing.
-#[tactic(auto, using(crate::proofs::Outcomes::readers_stay))]
+#[tactic(auto, using(crate::proofs::PlanOutcomes::readers_stay))]
 pub fn readers_stay()
     ensures { ReadersStay }
 {}

@@ -45,6 +45,6 @@ pub use refusal::{Refusal, Stop, Which};
 pub use reply::Reply;
 pub use rows::{
     DeadName, DirectoryRow, DraftRow, FileRow, FileStat, GroupRow, HandleRow, MarkRow, NameRow,
-    Reads, Stamps, Target, VersionRow,
+    Reads, Target, VersionInfo, VersionRow,
 };
 pub use step::Step;

@@ -2,7 +2,7 @@
 ghost use Rattle.std.specs.Prelude.{◌≡◌, IfOk, map};
 ghost use Rattle.ele_model.specs.Restorable.{triple_of};
 
-use crate::rows::{DeadName, GroupRow, Stamps, Target};
+use crate::rows::{DeadName, GroupRow, Target, VersionInfo};
 use ele_due::Key;
 use ele_lists::ListOf;
 use ele_moment::{DirId, Name, NoMemory};
@@ -14,7 +14,7 @@ pub type KeyList = ListOf<Key>;
 pub type DeadNameList = ListOf<DeadName>;
 
 /// Versions of one file, by number.
-pub type StampsList = ListOf<Stamps>;
+pub type StampsList = ListOf<VersionInfo>;
 
 /// The same, by the name of the reply that holds it.
 pub type Rows = StampsList;

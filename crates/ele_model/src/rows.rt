@@ -65,7 +65,7 @@ pub struct VersionRow {
 
 /// A version's number, its moments, and how many bytes it has.
 #[derive(Clone, Copy, Debug, PartialEq, Eq)]
-pub struct Stamps {
+pub struct VersionInfo {
     pub number: VersionNo,
     pub opened: Moment,
     pub closed: Moment,
@@ -77,7 +77,7 @@ pub struct Stamps {
 #[derive(Clone, Copy, Debug, PartialEq, Eq)]
 pub struct FileStat {
     pub file: FileId,
-    pub stamps: Stamps,
+    pub info: VersionInfo,
     pub policy: Policy,
 }
 

@@ -40,7 +40,7 @@ module _ {X : Type 0} (belongs : ℕ → X → Bool) (at : ℕ → Option X) whe
     pub older : (g s : ℕ) → is_member g s ≡ true → HasOlder (is_member g) row_lists.older.items s
 
 -- both tell the same
-pub record Tells (old new : RowLists) : Type 0 where
+pub record AreSame (old new : RowLists) : Type 0 where
   pub newest : (g : ℕ) → newest_in new g ≡ newest_in old g
   pub live : (g : ℕ) → live_in new g ≡ live_in old g
   pub older : new.older ≡ old.older

@@ -3,7 +3,7 @@
 ghost use Rattle.std.specs.Prelude.{◌≡◌, ◌+◌, ◌-◌, ◌<◌, ◌^◌, ℕ, Option, None, cond, OnOk, OnErr, IsSome, length, slice_get};
 ghost use Rattle.std.specs.Bool.{nat_eq};
 ghost use Rattle.std.specs.Option.{option_and_then};
-ghost use Rattle.ele_names.specs.Chained.{Gains, Keeps, Loses, Tells, live_in, newest_in};
+ghost use Rattle.ele_names.specs.Chained.{Gains, Keeps, Loses, AreSame, live_in, newest_in};
 
 use ele_moment::NoMemory;
 use std::alloc::Global;
@@ -67,7 +67,7 @@ impl RowLists {
 
     // Finds a place for the group. `NoMemory` where there is no room for it.
     fn know(&mut self, group: u64) -> Result<(), NoMemory>
-        ensures same { Tells self.old self.new }
+        ensures same { AreSame self.old self.new }
         ensures known { OnOk result (group < length self.new.groups.items) }
     {
         if self.groups.len() <= group as usize {

@@ -10,9 +10,9 @@ use Rattle.ele_printer.specs.Outlet.{HandsOver, Outlet, Puts, Takes, TakesFront}
 use Rattle.ele_printer.specs.Printed.{line_text}
 use Rattle.ele_outlook.specs.Drawing.{floor_words, tie_from}
 use Rattle.ele_outlook.specs.Mark.{mark_text}
-use Rattle.ele_outlook.specs.Reading.{Writes}
+use Rattle.ele_outlook.specs.Reading.{WritesText}
 use Rattle.ele_outlook.specs.Stamp.{stamp_of, stamp_or}
-use Rattle.ele_outlook.specs.Table.{version_line}
+use Rattle.ele_outlook.specs.Table.{table_line}
 use Rattle.ele_outlook.specs.Why.{spaced, why_words}
 use Rattle.ele_policy.specs.declared.policy.Policy.{Policy}
 use Rattle.ele_forecast.specs.declared.forecast.Forecast.{Forecast}
@@ -159,7 +159,7 @@ line_parts a b c d words =
     ∙ ap (λ (line : List ℕ). line ++ 10 ∷ []) (sym apart) ∙ append_assoc front s (10 ∷ [])
 
 -- the line of a version in its parts
-pub version_parts : (policy : Policy) (told : Forecast) → version_line policy told
+pub version_parts : (policy : Policy) (told : Forecast) → table_line policy told
     ≡ join_with_byte 32 (decimal told.number ∷ stamp_of told.closed ∷ stamp_or told.ended ∷ stamp_or told.ripe ∷ []) ++ (spaced (why_words policy told.ended told.why) ++ 10 ∷ [])
 version_parts policy told = line_parts (decimal told.number) (stamp_of told.closed) (stamp_or told.ended) (stamp_or told.ripe) (why_words policy told.ended told.why)
 
@@ -182,7 +182,7 @@ err_over a b c old new text (Err e) none p q was is =
     rw (parts, sym was, sym is) (front_behind a.known b.known c.known p.sent b.held p.written q.1)
 
 -- a text was written, and the writer flushed
-pub flushed : {A E : Type 0} (old mid new : Option (List ℕ)) (text : List ℕ) (r : Result A E) → Appends old mid text → Keeps mid new → Writes text old new r
+pub flushed : {A E : Type 0} (old mid new : Option (List ℕ)) (text : List ℕ) (r : Result A E) → Appends old mid text → Keeps mid new → WritesText text old new r
 flushed old mid new text (Ok x) is same = Appends-kept old mid new text is same
 flushed old mid new text (Err e) is same =
     record { front = text; back = []; parts = sym (append-nil text); written = Appends-kept old mid new text is same }

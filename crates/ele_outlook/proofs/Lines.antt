@@ -12,7 +12,7 @@ use Rattle.ele_lists.specs.Lists.{AllLater}
 use Rattle.ele_lists.proofs.Taken.{cut-at}
 use Rattle.ele_moment.specs.Spelled.{SpellsMoment}
 use Rattle.ele_outlook.specs.Input.{SpellClosings, lines_of, without_empty_last}
-use Rattle.ele_outlook.specs.Reading.{FailsToAdd, ReadSoFar, Reads}
+use Rattle.ele_outlook.specs.Reading.{FailsToAdd, ReadSoFar, ReadsClosings}
 use Rattle.ele_outlook.specs.declared.fault.ForecastFault.{ForecastFault}
 use Rattle.ele_outlook.specs.declared.fault.ForecastFault.TheVariants.{ReadFault, BadInput, TooMany, WriteFault, NoMemory}
 
@@ -89,7 +89,7 @@ not_empty (byte ∷ bytes) before line behind e = λ is. absurd cc
 
 -- the next line is bad, or there is no memory for it
 pub read_bad : {input rest closings : List ℕ} (line : List ℕ) (behind : List (List ℕ)) (fault : ForecastFault) → ReadSoFar input rest closings → lines_of rest ≡ line ∷ behind
-    → FailsToAdd line closings fault → Reads input (Err fault)
+    → FailsToAdd line closings fault → ReadsClosings input (Err fault)
 read_bad {input = input} {closings = closings} line behind (BadInput number why) far cut bad =
     record {
       before = far.done;

@@ -11,7 +11,7 @@ use Rattle.ele_forecast.specs.declared.forecast.Why.{Why}
 use Rattle.ele_forecast.specs.declared.forecast.Why.TheVariants as why
 use Rattle.ele_outlook.specs.Mark.{glued, mark_text}
 use Rattle.ele_outlook.specs.Page.{foot_of, height_of, page_of, rungs_of, span_of, step_of, top_of, x_of, x_or, y_of}
-use Rattle.ele_outlook.specs.Table.{version_line}
+use Rattle.ele_outlook.specs.Table.{table_line}
 use Rattle.ele_outlook.specs.Why.{length_words}
 use Rattle.ele_outlook.specs.declared.mark.Mark.{Mark}
 use Rattle.ele_outlook.specs.declared.mark.Mark.TheVariants.{Rect, Line, Text}
@@ -62,7 +62,7 @@ version_marks page told =
 -- and a title, which is the version's line of the table
 abbrev pub version_drawn : Policy → Page → Forecast → List ℕ
 version_drawn policy page told =
-    codes "<g><title>version " ++ (version_line policy told ++ (codes "</title>\n" ++ (flat_map mark_text (version_marks page told) ++ codes "</g>\n")))
+    codes "<g><title>version " ++ (table_line policy told ++ (codes "</title>\n" ++ (flat_map mark_text (version_marks page told) ++ codes "</g>\n")))
 
 -- from the place where a version's bar ends down to the row of the version that displaces it, and back to where that one closed
 abbrev pub tie_marks : Page → ℕ → ℕ → Forecast → List Mark

@@ -3,7 +3,7 @@ use Rattle.std.specs.Prelude.{◌≡◌, ◌≢◌, ℕ, true, length, List, [],
 use Rattle.std.specs.Io.KnownBytes.{Appends, Consumes, IsAtEnd, Keeps}
 use Rattle.ele_printer.specs.Front.{AppendsFront}
 use Rattle.ele_outlook.specs.Input.{IsFirstBad, SpellClosings, lines_of}
-use Rattle.ele_outlook.specs.Told.{IsTold, are_too_many}
+use Rattle.ele_outlook.specs.Told.{IsForecastText, are_too_many}
 use Rattle.ele_outlook.specs.declared.options.ForecastOptions.{ForecastOptions}
 use Rattle.ele_outlook.specs.declared.fault.ForecastFault.{ForecastFault}
 use Rattle.ele_outlook.specs.declared.fault.ForecastFault.TheVariants.{ReadFault, BadInput, TooMany, WriteFault, NoMemory}
@@ -12,22 +12,22 @@ use Rattle.ele_outlook.specs.declared.fault.ForecastFault.TheVariants.{ReadFault
 pub record IsToldOf (options : ForecastOptions) (input text : List ℕ) : Type 0 where
   pub closings : List ℕ
   pub spell : SpellClosings (lines_of input) closings
-  pub told : IsTold options.form options.policy closings options.moments.items text
+  pub told : IsForecastText options.form options.policy closings options.moments.items text
 
 -- what is told was written, all or a front of it, or nothing was; memory is asked for only where bytes were given or a moment is
 -- asked about
-abbrev pub Tells : {A : Type 0} → ForecastOptions → List ℕ → Option (List ℕ) → Option (List ℕ) → Result A ForecastFault → Type 0
-Tells options given old new (Ok _) = (text : List ℕ) × IsToldOf options given text × Appends old new text
-Tells options given old new (Err (BadInput number why)) = IsFirstBad given number why × Keeps old new
-Tells options given old new (Err TooMany) =
+abbrev pub TellsForecast : {A : Type 0} → ForecastOptions → List ℕ → Option (List ℕ) → Option (List ℕ) → Result A ForecastFault → Type 0
+TellsForecast options given old new (Ok _) = (text : List ℕ) × IsToldOf options given text × Appends old new text
+TellsForecast options given old new (Err (BadInput number why)) = IsFirstBad given number why × Keeps old new
+TellsForecast options given old new (Err TooMany) =
     (closings : List ℕ) × SpellClosings (lines_of given) closings × (are_too_many options.form (length closings) ≡ true) × Keeps old new
-Tells options given old new (Err WriteFault) = (text : List ℕ) × IsToldOf options given text × AppendsFront old new text
-Tells options given old new (Err ReadFault) = Keeps old new
-Tells options given old new (Err NoMemory) = ((given ≢ []) ⊎ (options.moments.items ≢ [])) × Keeps old new
+TellsForecast options given old new (Err WriteFault) = (text : List ℕ) × IsToldOf options given text × AppendsFront old new text
+TellsForecast options given old new (Err ReadFault) = Keeps old new
+TellsForecast options given old new (Err NoMemory) = ((given ≢ []) ⊎ (options.moments.items ≢ [])) × Keeps old new
 
 -- bytes were read, all that there were unless the reader failed or memory was wanting, and what they spell was told
 pub record Foretells {A : Type 0} (options : ForecastOptions) (input rest old new : Option (List ℕ)) (result : Result A ForecastFault) : Type 0 where
   pub given : List ℕ
   pub taken : Consumes input rest given
   pub at_end : result ≢ Err ReadFault → result ≢ Err NoMemory → IsAtEnd rest
-  pub told : Tells options given old new result
+  pub told : TellsForecast options given old new result

@@ -45,5 +45,5 @@ abbrev pub bad_word : BadLine → List ℕ
 bad_word NotMoment = codes "is not a moment"
 bad_word OutOfOrder = codes "comes before the line ahead of it"
 
-abbrev pub bad_text : ℕ → BadLine → List ℕ
-bad_text number why = line_text (codes "elephant: line" ∷ decimal number ∷ bad_word why ∷ [])
+abbrev pub bad_line_text : ℕ → BadLine → List ℕ
+bad_line_text number why = line_text (codes "elephant: line" ∷ decimal number ∷ bad_word why ∷ [])

@@ -32,8 +32,8 @@ stroke_words Dotted = codes "#000' stroke-width='0.6' stroke-dasharray='1.5 2.5"
 stroke_words Dashed = codes "#000' stroke-width='1.2' stroke-dasharray='6 3"
 
 -- from one place to another, each so many pixels from the left and from above
-abbrev pub line_text : ℕ × ℕ → ℕ × ℕ → Stroke → List ℕ
-line_text from to stroke =
+abbrev pub stroke_text : ℕ × ℕ → ℕ × ℕ → Stroke → List ℕ
+stroke_text from to stroke =
     glued (codes "<line x1='" ∷ decimal from.0 ∷ codes "' y1='" ∷ decimal from.1 ∷ codes "' x2='" ∷ decimal to.0 ∷ codes "' y2='" ∷ decimal to.1
     ∷ codes "' stroke='" ∷ stroke_words stroke ∷ codes "'/>\n" ∷ [])
 
@@ -43,15 +43,15 @@ side_word Before = codes "end"
 side_word Around = codes "middle"
 side_word Behind = codes "start"
 
-abbrev pub words_text : Words → List ℕ
-words_text (Number number) = glued (codes "v" ∷ decimal number ∷ [])
-words_text (DueBy number) = glued (codes "due by v" ∷ decimal number ∷ [])
-words_text Due = codes "due"
-words_text Kept = codes "kept"
-words_text Current = codes "current"
-words_text (Seconds moment) = decimal moment
-words_text (Stamp moment) = stamp_of moment
-words_text (Level age width) = join_with_byte 32 (codes "age" ∷ length_words age) ++ join_with_byte 32 (codes ", span" ∷ length_words width)
+abbrev pub label_text : Words → List ℕ
+label_text (Number number) = glued (codes "v" ∷ decimal number ∷ [])
+label_text (DueBy number) = glued (codes "due by v" ∷ decimal number ∷ [])
+label_text Due = codes "due"
+label_text Kept = codes "kept"
+label_text Current = codes "current"
+label_text (Seconds moment) = decimal moment
+label_text (Stamp moment) = stamp_of moment
+label_text (Level age width) = join_with_byte 32 (codes "age" ∷ length_words age) ++ join_with_byte 32 (codes ", span" ∷ length_words width)
 
 abbrev pub opening : ℕ → ℕ → ℕ → Side → List ℕ
 opening x y size side =
@@ -59,5 +59,5 @@ opening x y size side =
 
 abbrev pub mark_text : Mark → List ℕ
 mark_text (Rect x y width height filled) = rect_text x y width height filled
-mark_text (Line from to stroke) = line_text from to stroke
-mark_text (Text x y size side words) = opening x y size side ++ (words_text words ++ codes "</text>\n")
+mark_text (Line from to stroke) = stroke_text from to stroke
+mark_text (Text x y size side words) = opening x y size side ++ (label_text words ++ codes "</text>\n")

@@ -6,7 +6,7 @@ use Rattle.ele_lists.specs.Lists.{AllLater}
 use Rattle.ele_moment.specs.Spelled.{SpellsMoment}
 use Rattle.ele_printer.specs.Front.{AppendsFront}
 use Rattle.ele_outlook.specs.Input.{IsBad, IsFirstBad, SpellClosings, lines_of}
-use Rattle.ele_outlook.specs.Told.{IsTold, are_too_many}
+use Rattle.ele_outlook.specs.Told.{IsForecastText, are_too_many}
 use Rattle.ele_outlook.specs.declared.options.ForecastOptions.{ForecastOptions}
 use Rattle.ele_outlook.specs.declared.fault.ForecastFault.{ForecastFault}
 use Rattle.ele_outlook.specs.declared.fault.ForecastFault.TheVariants.{ReadFault, BadInput, TooMany, WriteFault, NoMemory}
@@ -34,30 +34,30 @@ FailsToAdd line closings TooMany = ⊥
 FailsToAdd line closings WriteFault = ⊥
 
 -- the closing of a line was added to those of the lines before
-abbrev pub Adds : {A : Type 0} → List ℕ → List ℕ → List ℕ → Result A ForecastFault → Type 0
-Adds line old new (Ok _) = (closing : ℕ) × SpellsMoment line closing × (new ≡ old ++ closing ∷ [])
-Adds line old new (Err fault) = FailsToAdd line old fault
+abbrev pub AddsClosing : {A : Type 0} → List ℕ → List ℕ → List ℕ → Result A ForecastFault → Type 0
+AddsClosing line old new (Ok _) = (closing : ℕ) × SpellsMoment line closing × (new ≡ old ++ closing ∷ [])
+AddsClosing line old new (Err fault) = FailsToAdd line old fault
 
 -- the closings of all lines, or the first bad one; memory is asked for only where there is one
-abbrev pub Reads : List ℕ → Result (List ℕ) ForecastFault → Type 0
-Reads input (Ok closings) = SpellClosings (lines_of input) closings
-Reads input (Err (BadInput number why)) = IsFirstBad input number why
-Reads input (Err NoMemory) = input ≢ []
-Reads input (Err ReadFault) = ⊥
-Reads input (Err TooMany) = ⊥
-Reads input (Err WriteFault) = ⊥
+abbrev pub ReadsClosings : List ℕ → Result (List ℕ) ForecastFault → Type 0
+ReadsClosings input (Ok closings) = SpellClosings (lines_of input) closings
+ReadsClosings input (Err (BadInput number why)) = IsFirstBad input number why
+ReadsClosings input (Err NoMemory) = input ≢ []
+ReadsClosings input (Err ReadFault) = ⊥
+ReadsClosings input (Err TooMany) = ⊥
+ReadsClosings input (Err WriteFault) = ⊥
 
 -- a text was written, or a front of it
-abbrev pub Writes : {A E : Type 0} → List ℕ → Option (List ℕ) → Option (List ℕ) → Result A E → Type 0
-Writes text old new (Ok _) = Appends old new text
-Writes text old new (Err _) = AppendsFront old new text
+abbrev pub WritesText : {A E : Type 0} → List ℕ → Option (List ℕ) → Option (List ℕ) → Result A E → Type 0
+WritesText text old new (Ok _) = Appends old new text
+WritesText text old new (Err _) = AppendsFront old new text
 
 -- what becomes of the versions of these closings was told
 abbrev pub TellsClosings : {A : Type 0} → ForecastOptions → List ℕ → Option (List ℕ) → Option (List ℕ) → Result A ForecastFault → Type 0
 TellsClosings options closings old new (Ok _) =
-    (text : List ℕ) × IsTold options.form options.policy closings options.moments.items text × Appends old new text
+    (text : List ℕ) × IsForecastText options.form options.policy closings options.moments.items text × Appends old new text
 TellsClosings options closings old new (Err WriteFault) =
-    (text : List ℕ) × IsTold options.form options.policy closings options.moments.items text × AppendsFront old new text
+    (text : List ℕ) × IsForecastText options.form options.policy closings options.moments.items text × AppendsFront old new text
 TellsClosings options closings old new (Err TooMany) = (are_too_many options.form (length closings) ≡ true) × Keeps old new
 TellsClosings options closings old new (Err NoMemory) = ((closings ≢ []) ⊎ (options.moments.items ≢ [])) × Keeps old new
 TellsClosings options closings old new (Err (BadInput number why)) = ⊥

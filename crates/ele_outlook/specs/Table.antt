@@ -13,8 +13,8 @@ abbrev pub heading : List ℕ
 heading = line_text (codes "version closed ended due why" ∷ [])
 
 -- the line of a version: its number, when it closed and ended, the moment from which it may be forgotten, and why
-abbrev pub version_line : Policy → Forecast → List ℕ
-version_line policy told =
+abbrev pub table_line : Policy → Forecast → List ℕ
+table_line policy told =
     line_text (decimal told.number ∷ stamp_of told.closed ∷ stamp_or told.ended ∷ stamp_or told.ripe ∷ why_words policy told.ended told.why)
 
 -- the line of a moment: how many versions stay, and the numbers of these
@@ -27,7 +27,7 @@ abbrev pub staying_line : Staying → List ℕ
 staying_line staying = numbered_line staying.at staying.numbers.items
 
 abbrev pub table_text : Policy → List Forecast → List Staying → List ℕ
-table_text policy forecasts stayings = heading ++ (flat_map (version_line policy) forecasts ++ flat_map staying_line stayings)
+table_text policy forecasts stayings = heading ++ (flat_map (table_line policy) forecasts ++ flat_map staying_line stayings)
 
 -- one for each of the moments, in their order: the versions that stay then
 pub record AreStayings (policy : Policy) (closings moments : List ℕ) (stayings : List Staying) : Type 0 where

@@ -1,7 +1,7 @@
 -- What is written of a forecast, in either form.
 use Rattle.std.specs.Prelude.{◌≡◌, ℕ, nat_lt, Bool, false, List, length}
 use Rattle.ele_policy.specs.declared.policy.Policy.{Policy}
-use Rattle.ele_forecast.specs.Tells.{AreForecasts}
+use Rattle.ele_forecast.specs.ForecastOf.{AreForecasts}
 use Rattle.ele_forecast.specs.declared.forecast.Forecast.{Forecast}
 use Rattle.ele_outlook.specs.Drawing.{drawing_text}
 use Rattle.ele_outlook.specs.Table.{AreStayings, table_text}
@@ -20,7 +20,7 @@ are_too_many Drawing count = nat_lt 2000 count
 
 -- the text tells, in that form, what becomes of the versions of a file under the policy that closed at these moments, and which
 -- stay at those
-pub record IsTold (form : Form) (policy : Policy) (closings moments text : List ℕ) : Type 0 where
+pub record IsForecastText (form : Form) (policy : Policy) (closings moments text : List ℕ) : Type 0 where
   pub fit : are_too_many form (length closings) ≡ false
   pub forecasts : List Forecast
   pub told : AreForecasts policy closings forecasts

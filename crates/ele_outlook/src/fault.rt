@@ -3,7 +3,7 @@ ghost use Rattle.std.specs.Prelude.{◌≡◌, OnOk, OnErr};
 ghost use Rattle.std.specs.Io.KnownBytes.{Appends};
 ghost use Rattle.ele_printer.specs.Front.{AppendsFront};
 ghost use Rattle.ele_printer.specs.Prints.{Prints};
-ghost use Rattle.ele_outlook.specs.Input.{bad_text, bad_word};
+ghost use Rattle.ele_outlook.specs.Input.{bad_line_text, bad_word};
 
 use ele_printer::{Printer, WriteFault, put_line};
 use itoa::Buffer;
@@ -67,9 +67,9 @@ impl BadLine {
 /// Writes the line that tells of a bad line. At a fault of the writer it took a front of that line.
 pub fn write_bad_line<W: Write>(number: u64, why: BadLine, writer: &mut W) -> Result<(), WriteFault>
     ensures ok { OnOk result (Appends (W.contents writer.old) (W.contents writer.new)
-        (bad_text number why)) }
+        (bad_line_text number why)) }
     ensures err { OnErr result (AppendsFront (W.contents writer.old) (W.contents writer.new)
-        (bad_text number why)) }
+        (bad_line_text number why)) }
 {
     let mut printer = Printer::new(writer);
     put_bad_line(number, why, &mut printer)?;
@@ -82,7 +82,7 @@ fn put_bad_line<W: Write>(
     why: BadLine,
     printer: &mut Printer<'_, W>,
 ) -> Result<(), WriteFault>
-    ensures { Prints W.contents printer.old printer.new (bad_text number why) result }
+    ensures { Prints W.contents printer.old printer.new (bad_line_text number why) result }
 {
     let mut digits = Buffer::new();
     let number = digits.format(number).as_bytes();

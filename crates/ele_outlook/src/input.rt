@@ -4,7 +4,7 @@ ghost use Rattle.std.specs.Prelude.{◌≡◌, ◌≤◌, ◌<◌, ◌+◌, ℕ,
 ghost use Rattle.std.specs.Io.KnownBytes.{Consumes, IsAtEnd};
 ghost use Rattle.memchr.specs.Find.{IsFirstByte, is_byte};
 ghost use Rattle.ele_lists.specs.Lists.{AllLater};
-ghost use Rattle.ele_outlook.specs.Reading.{Adds, GivesUp, ReadSoFar, Reads};
+ghost use Rattle.ele_outlook.specs.Reading.{AddsClosing, GivesUp, ReadSoFar, ReadsClosings};
 
 use crate::fault::{BadLine, ForecastFault};
 use ele_forecast::{Closings, NotClosed};
@@ -45,7 +45,7 @@ pub(crate) fn read_input<R: Read>(alloc: Global, reader: &mut R) -> Result<Vec<u
 
 /// The closings that the lines of an input spell, or the first line that is none.
 pub(crate) fn read_closings(alloc: Global, input: &[u8]) -> Result<Closings, ForecastFault>
-    ensures { Reads input.now result }
+    ensures { ReadsClosings input.now result }
 {
     let mut closings = Closings::new(alloc);
     let mut rest = input;
@@ -57,11 +57,11 @@ pub(crate) fn read_closings(alloc: Global, input: &[u8]) -> Result<Closings, For
     add_last(rest, closings)
 }
 
-// Adds the closing that the last line spells, which has no line feed; none stands there if no bytes
+// AddsClosing the closing that the last line spells, which has no line feed; none stands there if no bytes
 // do.
 fn add_last(rest: &[u8], mut closings: Closings) -> Result<Closings, ForecastFault>
     requires { IsFirstByte (is_byte 10) rest.now None }
-    ensures { (input : List ℕ) → ReadSoFar input rest.now closings → Reads input result }
+    ensures { (input : List ℕ) → ReadSoFar input rest.now closings → ReadsClosings input result }
 {
     if rest.is_empty() {
         closings.lemma_sorted();
@@ -89,9 +89,9 @@ fn cut_line(rest: &[u8], at: usize) -> (&[u8], &[u8])
     (line, behind.split_at(1).1)
 }
 
-// Adds the closing that the next line spells.
+// AddsClosing the closing that the next line spells.
 fn add_line(line: &[u8], closings: &mut Closings) -> Result<(), ForecastFault>
-    ensures { Adds line.now closings.old closings.new result }
+    ensures { AddsClosing line.now closings.old closings.new result }
 {
     let number = number_of_next(closings);
     let Ok(moment) = Moment::read(line) else {

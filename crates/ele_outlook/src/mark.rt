@@ -4,7 +4,7 @@ ghost use Rattle.std.specs.Prelude.{◌≡◌, ◌∷◌, ◌++◌, [], codes, d
 ghost use Rattle.std.specs.List.{flat_map, join_with_byte};
 ghost use Rattle.ele_printer.specs.Prints.{Prints};
 ghost use Rattle.ele_outlook.specs.Why.{length_words};
-ghost use Rattle.ele_outlook.specs.Mark.{fill_word, line_text, mark_text, opening, rect_text, side_word, stroke_words, words_text};
+ghost use Rattle.ele_outlook.specs.Mark.{fill_word, stroke_text, mark_text, opening, rect_text, side_word, stroke_words, label_text};
 
 use crate::row::stamp_of;
 use crate::why::put_length;
@@ -194,7 +194,7 @@ fn put_stroke<W: Write>(
     stroke: Stroke,
     printer: &mut Printer<'_, W>,
 ) -> Result<(), WriteFault>
-    ensures { Prints W.contents printer.old printer.new (line_text from to stroke) result }
+    ensures { Prints W.contents printer.old printer.new (stroke_text from to stroke) result }
 {
     let mut x1 = Buffer::new();
     let mut y1 = Buffer::new();
@@ -227,7 +227,7 @@ fn put_text<W: Write>(
     printer: &mut Printer<'_, W>,
 ) -> Result<(), WriteFault>
     ensures { Prints W.contents printer.old printer.new
-        (opening at.0 at.1 size side ++ (words_text words.now ++ codes "</text>\n")) result }
+        (opening at.0 at.1 size side ++ (label_text words.now ++ codes "</text>\n")) result }
 {
     put_opening(at, size, side, printer)?;
     put_said(words, printer)?;
@@ -264,7 +264,7 @@ fn put_opening<W: Write>(
 
 // Puts what a text says.
 fn put_said<W: Write>(words: &Words, printer: &mut Printer<'_, W>) -> Result<(), WriteFault>
-    ensures { Prints W.contents printer.old printer.new (words_text words.now) result }
+    ensures { Prints W.contents printer.old printer.new (label_text words.now) result }
 {
     match words {
         Words::Number(number) => put_numbered(b"v", *number, printer),

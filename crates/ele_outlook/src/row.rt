@@ -4,7 +4,7 @@ ghost use Rattle.std.specs.Prelude.{◌≡◌, ◌∷◌, [], decimal};
 ghost use Rattle.std.specs.List.{join_with_byte};
 ghost use Rattle.ele_printer.specs.Prints.{Prints};
 ghost use Rattle.ele_outlook.specs.Stamp.{stamp_of, stamp_or};
-ghost use Rattle.ele_outlook.specs.Table.{version_line};
+ghost use Rattle.ele_outlook.specs.Table.{table_line};
 
 use crate::why::put_why;
 use ele_forecast::Forecast;
@@ -41,7 +41,7 @@ pub(crate) fn put_version<W: Write>(
     forecast: &Forecast,
     printer: &mut Printer<'_, W>,
 ) -> Result<(), WriteFault>
-    ensures { Prints W.contents printer.old printer.new (version_line policy.now forecast.now)
+    ensures { Prints W.contents printer.old printer.new (table_line policy.now forecast.now)
         result }
 {
     put_moments(forecast, printer)?;

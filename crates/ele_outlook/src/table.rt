@@ -3,7 +3,7 @@ ghost use Rattle.std.specs.Prelude.{◌∷◌, [], codes, decimal, length};
 ghost use Rattle.std.specs.List.{flat_map, join_with_byte};
 ghost use Rattle.ele_printer.specs.Prints.{Prints};
 ghost use Rattle.ele_outlook.specs.Stamp.{stamp_of};
-ghost use Rattle.ele_outlook.specs.Table.{numbered_line, staying_line, table_text, version_line};
+ghost use Rattle.ele_outlook.specs.Table.{numbered_line, staying_line, table_text, table_line};
 
 use crate::row::{put_version, stamp_of};
 use crate::staying::Staying;
@@ -36,7 +36,7 @@ fn put_versions<W: Write>(
     printer: &mut Printer<'_, W>,
 ) -> Result<(), WriteFault>
     ensures { Prints W.contents printer.old printer.new
-        (flat_map (version_line policy.now) forecasts.now) result }
+        (flat_map (table_line policy.now) forecasts.now) result }
 {
     for forecast in forecasts {
         put_version(policy, forecast, printer)?;

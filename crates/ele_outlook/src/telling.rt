@@ -3,8 +3,8 @@ ghost use Rattle.std.specs.Prelude.{◌≡◌, OnOk, OnErr};
 ghost use Rattle.std.specs.Io.KnownBytes.{Appends, Keeps};
 ghost use Rattle.ele_printer.specs.Front.{AppendsFront};
 ghost use Rattle.ele_printer.specs.Prints.{Prints};
-ghost use Rattle.ele_outlook.specs.Foretold.{Foretells, Tells};
-ghost use Rattle.ele_outlook.specs.Reading.{TellsClosings, Writes};
+ghost use Rattle.ele_outlook.specs.Foretold.{Foretells, TellsForecast};
+ghost use Rattle.ele_outlook.specs.Reading.{TellsClosings, WritesText};
 ghost use Rattle.ele_outlook.specs.Told.{are_too_many, told_text};
 
 use crate::drawing::put_drawing;
@@ -42,20 +42,20 @@ pub fn write_forecast<R: Read, W: Write>(
     tell(alloc, options, input.as_slice(), writer)
 }
 
-// Writes what becomes of the versions of the closings that the input spells.
+// WritesText what becomes of the versions of the closings that the input spells.
 fn tell<W: Write>(
     alloc: Global,
     options: &ForecastOptions,
     input: &[u8],
     writer: &mut W,
 ) -> Result<(), ForecastFault>
-    ensures { Tells options.now input.now (W.contents writer.old) (W.contents writer.new) result }
+    ensures { TellsForecast options.now input.now (W.contents writer.old) (W.contents writer.new) result }
 {
     let closings = read_closings(alloc, input)?;
     tell_closings(alloc, options, &closings, writer)
 }
 
-// Writes what becomes of the versions of these closings.
+// WritesText what becomes of the versions of these closings.
 fn tell_closings<W: Write>(
     alloc: Global,
     options: &ForecastOptions,
@@ -85,7 +85,7 @@ fn tell_closings<W: Write>(
     Ok(())
 }
 
-// Writes what is told, and flushes it.
+// WritesText what is told, and flushes it.
 fn write_told<W: Write>(
     form: Form,
     policy: &Policy,
@@ -93,14 +93,14 @@ fn write_told<W: Write>(
     stayings: &[Staying],
     writer: &mut W,
 ) -> Result<(), WriteFault>
-    ensures { Writes (told_text form policy.now forecasts.now stayings.now) (W.contents writer.old)
+    ensures { WritesText (told_text form policy.now forecasts.now stayings.now) (W.contents writer.old)
         (W.contents writer.new) result }
 {
     put_whole(form, policy, forecasts, stayings, writer)?;
     flush(writer)
 }
 
-// Writes what is told.
+// WritesText what is told.
 fn put_whole<W: Write>(
     form: Form,
     policy: &Policy,

@@ -18,7 +18,7 @@ use Rattle.ele_model.specs.declared.rows.DirectoryRow.{DirectoryRow}
 use Rattle.ele_model.specs.declared.rows.FileStat.{FileStat as AnyFileStat}
 use Rattle.ele_model.specs.declared.rows.GroupRow.{GroupRow}
 use Rattle.ele_model.specs.declared.rows.MarkRow.{MarkRow}
-use Rattle.ele_model.specs.declared.rows.Stamps.{Stamps}
+use Rattle.ele_model.specs.declared.rows.VersionInfo.{VersionInfo}
 use Rattle.ele_model.specs.declared.rows.Target.{Target}
 use Rattle.ele_model.specs.declared.rows.Target.TheVariants as target
 use Rattle.ele_usage.specs.declared.usage.Usage.{Usage}
@@ -75,8 +75,8 @@ end_word (Some moment) = decimal moment
 -- the text of a file's version, with the policy of the file
 abbrev pub file_text : AnyFileStat → List ℕ
 file_text stat =
-    line_text (codes "ok file" ∷ decimal stat.file ∷ codes "version" ∷ decimal stat.stamps.number ∷ codes "opened" ∷ decimal stat.stamps.opened ∷ codes "closed" ∷ decimal stat.stamps.closed
-    ∷ codes "ended" ∷ end_word stat.stamps.ended ∷ codes "length" ∷ decimal stat.stamps.length ∷ codes "policy" ∷ policy_word stat.policy ∷ [])
+    line_text (codes "ok file" ∷ decimal stat.file ∷ codes "version" ∷ decimal stat.info.number ∷ codes "opened" ∷ decimal stat.info.opened ∷ codes "closed" ∷ decimal stat.info.closed
+    ∷ codes "ended" ∷ end_word stat.info.ended ∷ codes "length" ∷ decimal stat.info.length ∷ codes "policy" ∷ policy_word stat.policy ∷ [])
 
 -- the text of a directory, with the policy that it gives
 abbrev pub directory_text : DirectoryRow → List ℕ
@@ -84,12 +84,12 @@ directory_text row =
     line_text (codes "ok directory" ∷ decimal row.id ∷ codes "default" ∷ policy_word row.default ∷ [])
 
 -- the line of a version: its number, when it was opened, closed and ended, and its length
-abbrev pub version_line : Stamps → List ℕ
-version_line stamps =
-    line_text (codes "-" ∷ decimal stamps.number ∷ decimal stamps.opened ∷ decimal stamps.closed ∷ end_word stamps.ended ∷ decimal stamps.length ∷ [])
+abbrev pub version_line : VersionInfo → List ℕ
+version_line info =
+    line_text (codes "-" ∷ decimal info.number ∷ decimal info.opened ∷ decimal info.closed ∷ end_word info.ended ∷ decimal info.length ∷ [])
 
 -- the text of versions: how many, and a line for each
-abbrev pub versions_text : List Stamps → List ℕ
+abbrev pub versions_text : List VersionInfo → List ℕ
 versions_text versions =
     line_text (codes "ok versions" ∷ decimal (length versions) ∷ []) ++ flat_map version_line versions
 

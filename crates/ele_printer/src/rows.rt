@@ -8,7 +8,7 @@ ghost use Rattle.ele_printer.specs.Printed.{line_text, end_word, file_text, dire
 use crate::fault::WriteFault;
 use crate::printer::{Printer, put_line, put_words};
 use crate::row::{Row, put_rows};
-use ele_model::{DirectoryRow, FileStat, Stamps, Target};
+use ele_model::{DirectoryRow, FileStat, Target, VersionInfo};
 use ele_moment::{Moment, Name};
 use ele_policy::{Floor, Ladder, Policy};
 use itoa::Buffer;
@@ -21,7 +21,7 @@ pub(crate) fn put_file<W: Write>(
 ) -> Result<(), WriteFault>
     ensures { Prints W.contents printer.old printer.new (file_text stat.now) result }
 {
-    let stamps = stat.stamps;
+    let info = stat.info;
     let mut file = Buffer::new();
     let mut number = Buffer::new();
     let mut opened = Buffer::new();
@@ -29,11 +29,11 @@ pub(crate) fn put_file<W: Write>(
     let mut ended = Buffer::new();
     let mut length = Buffer::new();
     let file = file.format(stat.file.0).as_bytes();
-    let number = number.format(stamps.number.0).as_bytes();
-    let opened = opened.format(stamps.opened.seconds()).as_bytes();
-    let closed = closed.format(stamps.closed.seconds()).as_bytes();
-    let ended = end_digits(stamps.ended, &mut ended);
-    let length = length.format(stamps.length).as_bytes();
+    let number = number.format(info.number.0).as_bytes();
+    let opened = opened.format(info.opened.seconds()).as_bytes();
+    let closed = closed.format(info.closed.seconds()).as_bytes();
+    let ended = end_digits(info.ended, &mut ended);
+    let length = length.format(info.length).as_bytes();
     let words: [&[u8]; 12] = [
         file, b"version", number, b"opened", opened, b"closed", closed, b"ended", ended, b"length",
         length, b"policy",
@@ -174,7 +174,7 @@ fn end_digits<'d>(ended: Option<Moment>, digits: &'d mut Buffer) -> &'d [u8]
 
 /// Puts how many versions there are, and the line of each.
 pub(crate) fn put_versions<W: Write>(
-    versions: &[Stamps],
+    versions: &[VersionInfo],
     printer: &mut Printer<'_, W>,
 ) -> Result<(), WriteFault>
     ensures { Prints W.contents printer.old printer.new (versions_text versions.now) result }
@@ -182,7 +182,7 @@ pub(crate) fn put_versions<W: Write>(
     put_rows(b"ok versions", versions, printer)
 }
 
-impl Row for Stamps {
+impl Row for VersionInfo {
     ghost row_line = { version_line };
 
     fn put_row<W: Write>(&self, printer: &mut Printer<'_, W>) -> Result<(), WriteFault> {

@@ -1,6 +1,6 @@
 -- Replies that tell the time tell of a moment, and so each has a text.
 use Rattle.ele_runs.proofs.Basics.{nat_tests, ℕ, ◌≤◌, List, [], ◌∷◌, refl, arith}
-use Rattle.ele_runs.proofs.Stamps.{some_stamp}
+use Rattle.ele_runs.proofs.VersionInfo.{some_stamp}
 use Rattle.ele_runs.proofs.Words.{Reply}
 use Rattle.std.proofs.Common.{rules}
 use Rattle.ele_moment.specs.Last.{last_moment}
@@ -12,7 +12,7 @@ use Rattle.ele_model.specs.World.{World}
 use Rattle.ele_model.specs.declared.event.Event.{Event}
 use Rattle.ele_model.specs.declared.event.Event.TheVariants.{Clock, Tick}
 use Rattle.ele_model.specs.declared.reply.Reply.TheVariants.{Now}
-use Rattle.ele_model.proofs.Outcomes.{InAll, outcome_of}
+use Rattle.ele_model.proofs.PlanOutcomes.{InAll, outcome_of}
 
 -- a reply that tells the time tells of a moment
 abbrev pub IsInTime : Reply → Type 0

@@ -19,5 +19,5 @@ pub mod Ran
 pub mod SomeAnswer
 pub mod SomeOutput
 pub mod SomePass
-pub mod Stamps
+pub mod VersionInfo
 pub mod Within

@@ -56,9 +56,9 @@ pub record EndsCut (start : RunState) (given : List ℕ) (rest : Option (List �
   pub noted : Keeps run_state.notes notes
 
 -- the line that ended it is a last one without its line feed, or a whole one
-abbrev pub EndsBy : Bool → RunState → List ℕ → Option (List ℕ) → List (List ℕ) → List ℕ → List ℕ → Option (List ℕ) → Type 0
-EndsBy true start given rest lines line told notes = EndsCut start given rest lines line told notes
-EndsBy false start given rest lines line told notes = EndsWhole start given lines line told notes
+abbrev pub EndsAtLine : Bool → RunState → List ℕ → Option (List ℕ) → List (List ℕ) → List ℕ → List ℕ → Option (List ℕ) → Type 0
+EndsAtLine true start given rest lines line told notes = EndsCut start given rest lines line told notes
+EndsAtLine false start given rest lines line told notes = EndsWhole start given lines line told notes
 
 -- a strict run was ended by its n-th line, and what is told for the lines up to that one was written
 pub record ToldToAnEnd (start : RunState) (n : ℕ) (end : EndLine) (input rest old new notes : Option (List ℕ)) : Type 0 where
@@ -72,7 +72,7 @@ pub record ToldToAnEnd (start : RunState) (n : ℕ) (end : EndLine) (input rest 
   pub unbroken : IsUnbroken line
   pub count : n ≡ length lines + 1
   pub keeps : end.line ≡ line_unless_long line
-  pub by : EndsBy end.is_cut start given rest lines line text notes
+  pub by : EndsAtLine end.is_cut start given rest lines line text notes
   pub written : Appends old new text
 
 -- whole lines were read, and bytes of one more, all within the bounds; what is told for the whole lines was written

@@ -33,9 +33,9 @@ IsUntold options None = ⊥
 IsUntold options (Some line) = HasNone (asked_by options (Some line)) line
 
 -- so is what is told of why
-abbrev pub IsWhy : RunOptions → Option (List ℕ) → Option Reason → Type 0
-IsWhy options line None = IsUntold options line
-IsWhy options line (Some why) = IsToldReason options line why
+abbrev pub IsBadReason : RunOptions → Option (List ℕ) → Option Reason → Type 0
+IsBadReason options line None = IsUntold options line
+IsBadReason options line (Some why) = IsToldReason options line why
 
 -- why a last line without its line feed is never run, unless it is empty
 abbrev pub cut_reason : Option (List ℕ) → Option Reason

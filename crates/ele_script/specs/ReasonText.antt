@@ -82,14 +82,14 @@ byte_text byte =
     else codes "a byte stands in it that is none from space to ~"
 
 -- why, without the place
-abbrev pub why_text : Reason → List ℕ
-why_text TooLong = codes "a line has at most 8192 bytes"
-why_text Cut = codes "it has no line feed"
-why_text (Empty number) = codes "one space too many stands here"
-why_text (Byte number byte) = byte_text byte
-why_text (NoCommand number) = codes "there is no such command"
-why_text (Words command) = takes_text command
-why_text (Word number kind fault detail) = word_text kind fault detail
+abbrev pub cause_text : Reason → List ℕ
+cause_text TooLong = codes "a line has at most 8192 bytes"
+cause_text Cut = codes "it has no line feed"
+cause_text (Empty number) = codes "one space too many stands here"
+cause_text (Byte number byte) = byte_text byte
+cause_text (NoCommand number) = codes "there is no such command"
+cause_text (Words command) = takes_text command
+cause_text (Word number kind fault detail) = word_text kind fault detail
 
 abbrev pub place_text : Reason → List ℕ
 place_text TooLong = codes "length"
@@ -102,4 +102,4 @@ place_text (Word number kind fault detail) = codes "word " ++ decimal number
 
 -- the place and why
 abbrev pub reason_text : Reason → List ℕ
-reason_text reason = place_text reason ++ codes ": " ++ why_text reason
+reason_text reason = place_text reason ++ codes ": " ++ cause_text reason

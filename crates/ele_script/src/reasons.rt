@@ -1,6 +1,6 @@
 //! Why a line is no command. A contract sees a reason as itself, and its text.
 ghost use Rattle.std.specs.Prelude.{◌≡◌, Some};
-ghost use Rattle.ele_script.specs.ReasonText.{syntax_text, other_text, reason_text, takes_text, why_text, word_text};
+ghost use Rattle.ele_script.specs.ReasonText.{syntax_text, other_text, reason_text, takes_text, cause_text, word_text};
 
 use crate::kind::WordKind;
 use ele_printer::{Command, LineFault};
@@ -47,7 +47,7 @@ pub enum Reason {
 impl Reason {
     // Why, without the place.
     fn why(self) -> &'static str
-        ensures { result.now ≡ why_text self }
+        ensures { result.now ≡ cause_text self }
     {
         match self {
             Reason::TooLong => "a line has at most 8192 bytes",

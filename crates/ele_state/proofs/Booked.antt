@@ -1,6 +1,6 @@
 -- The book of usage, as the files change.
 use Rattle.ele_state.proofs.Words.{IsFew, IsOwedBy, of_file, TruncateDraft, WriteDraft, changed_at, nat_tests, ◌≡◌, ℕ, ◌+◌, ◌-◌, ◌<◌, ◌≤◌, ◌^◌, Bool, true, cond, List, ◌∷◌, length, Some, Ok, refl, ◌∙◌, arith, sum_by, world_of, IsSound, IsTracked, held_world, blocks_of, only_blocks, IsOwed, IsBooked, Rows, content_of, Held, rows_after, rows_of, opened_by, written_by, fitted, sum_by-map, Kind, Policy, kind_of, is_kind, Usage, Book, sums_of, only_at, nothing, plus, Fits, usage_of, is_file_of, bytes_in, ChangesOnly, World, VersionRow, MakeFile, created, made_is, policy_of, file_by, usage_changes, usage_same, within_files, within_versions, within_bytes, within_blocks, whole_files, whole_versions, whole_bytes, created_usage, only_at_is, []}
-use Rattle.ele_model.proofs.Others.{drafts-opened, drafts-updated, other_drafts}
+use Rattle.ele_model.proofs.OtherFiles.{drafts-opened, drafts-updated, other_drafts}
 
 pub booked : (rows : Rows) → IsTracked rows → (k : Kind) → sums_of rows.book k ≡ usage_of (world_of rows) k
 booked rows tracked k = tracked.book k ∙ usage_same (world_of rows) (held_world rows.files) refl refl refl k

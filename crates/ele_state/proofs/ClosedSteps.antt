@@ -1,7 +1,7 @@
 -- What closing a handle leaves, as the step of the world has it.
 use Rattle.ele_state.proofs.Words.{◌≡◌, ◌<◌, ◌^◌, ◌||◌, ℕ, List, Bool, true, false, cond, ◌∷◌, is_some, Option, Some, None, Ok, refl, ap, sym, ◌∙◌, arith, find, false≢true, AllByRecursion, option_map, option_map_or, nat_tests, IsSound, KeyChange, IsQueued, comes, new_keys, Rows, Key, has_key, cells_of_draft, is_live, may_grow, finishing, last_draft, leaving, left_by, opening_by, IsPast, Held, rows_of, with_rows, found_passes, all-found, all-weaker, Close, Closed, DraftRow, FileRow, Draft, EndDraft, ShutHandle, DropIdle, after_change, after_changes, has_other_writer, step, Counted, Drafts, Files, Handles, Versions, HasParts, dropped, all_keep, drafts-removed, World, file_by, file_written, has_draft, is_draft, next_of, reads_by, is_moment, in_order_of, open_still, shut_others, has_row, []}
 use Rattle.ele_state.proofs.Appended.{appended_queue}
-use Rattle.ele_model.proofs.Others.{other_drafts}
+use Rattle.ele_model.proofs.OtherFiles.{other_drafts}
 use Rattle.ele_model.specs.declared.rows.HandleRow.{HandleRow}
 
 -- one that reads a draft writes the file

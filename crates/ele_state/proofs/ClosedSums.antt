@@ -2,7 +2,7 @@
 use Rattle.ele_state.proofs.Words.{None, only_at, left_by, opening_by, with_rows, Closed, Close, DropIdle, IsBooked, after_change, step, nat_tests, ◌≡◌, ℕ, ◌+◌, ◌-◌, ◌≤◌, ◌<◌, ◌^◌, cond, List, length, Ok, refl, sym, arith, content_of, longest_content, world_of, IsSound, IsRoomy, held_world, blocks_of, one_version, IsOwed, Rows, Held, Source, source_cells, insert_before, update_first, DraftRow, all-found, length-update_first, length-insert_before, Kind, Book, sums_of, nothing, plus, Fits, VersionRow, ended_at, with_end, is_file_of, bytes_in, Drafts, Versions, ChangesOnly, Draft, World, reads_by, is_version, is_version_after, next_of, versions-finished, kinds-numbered, files-numbered, sum_by-insert_before, sum_by-update_same, Bool, Usage, usage_of, subst, ap, ◌∙◌, IsQueued, HasParts}
 use Rattle.ele_state.proofs.Booked.{few_blocks, owed, drafts_owed, and_nothing, size, bytes_are}
 use Rattle.ele_state.proofs.ClosedSteps.{leaves, left_keeps, left_queue, left_step, left_world}
-use Rattle.ele_model.proofs.Others.{other_drafts}
+use Rattle.ele_model.proofs.OtherFiles.{other_drafts}
 use Rattle.ele_model.specs.Change.{numbered_on}
 use Rattle.ele_model.specs.World.{is_file}
 use Rattle.ele_model.specs.declared.rows.HandleRow.{HandleRow}

@@ -1,5 +1,5 @@
 -- What becomes of a held version: by the groups that have its file, and by what its policy alone makes of it.
-use Rattle.ele_state.proofs.Words.{IsLawful, floor_in, is_live, newer_held, ◌≡◌, ℕ, ◌≤◌, ◌&&◌, Bool, true, false, List, [], ◌∷◌, Option, Some, None, IfSome, IsSome, refl, ap, sym, subst, ◌∙◌, arith, nat_tests, nat_le, find, slice_get, take, option_map, option_map_or, AllByRecursion, AllLater, all-found, any-found, found_passes, bytes_eq-Decides, IsSound, IsTold, Rows, world_of, Held, Policy, GroupRow, Stamps, VersionRow, Versions, World, Cover, MarkRow, cover_of, ripe_past, option_and_then, file_view, is_open, is_version, policy_of, stamps_of, in_order_of, ripe_at_is, ripe_at_near}
+use Rattle.ele_state.proofs.Words.{IsLawful, floor_in, is_live, newer_held, ◌≡◌, ℕ, ◌≤◌, ◌&&◌, Bool, true, false, List, [], ◌∷◌, Option, Some, None, IfSome, IsSome, refl, ap, sym, subst, ◌∙◌, arith, nat_tests, nat_le, find, slice_get, take, option_map, option_map_or, AllByRecursion, AllLater, all-found, any-found, found_passes, bytes_eq-Decides, IsSound, IsInfoOf, Rows, world_of, Held, Policy, GroupRow, VersionInfo, VersionRow, Versions, World, Cover, MarkRow, cover_of, ripe_past, option_and_then, file_view, is_open, is_version, policy_of, info_of, in_order_of, ripe_at_is, ripe_at_near}
 use Rattle.ele_state.proofs.Changes.{none_any}
 use Rattle.ele_lists.proofs.Taken.{all-at, find-first_at}
 use Rattle.ele_model.proofs.Basics.{zero, suc}
@@ -64,18 +64,18 @@ marked_first rows place file closed ended now name mark none its =
 -- ---- by its row
 
 -- a version that has ended, of which neither a handle nor a mark keeps it, and its policy
-pub record IsFree (rows : Rows) (file : ℕ) (stamps : Stamps) : Type 0 where
+pub record IsFree (rows : Rows) (file : ℕ) (info : VersionInfo) : Type 0 where
   pub ended : ℕ
-  pub ends : stamps.ended ≡ Some ended
-  pub unread : is_open rows.files.handles file stamps.number ≡ false
-  pub unmarked : is_marked rows.groups file stamps.closed (Some ended) rows.moment ≡ false
+  pub ends : info.ended ≡ Some ended
+  pub unread : is_open rows.files.handles file info.number ≡ false
+  pub unmarked : is_marked rows.groups file info.closed (Some ended) rows.moment ≡ false
   pub policy : Policy
   pub filed : policy_of rows.files.files file ≡ Some policy
 
 -- what that policy alone makes of it, beside its next one, as it has its cover and the floor is met or not
-abbrev pub IsMade : (rows : Rows) (file : ℕ) (stamps : Stamps) → IsFree rows file stamps → Fate → Type 0
-IsMade rows file stamps free fate = IsFreeFate (cover_of rows.groups file stamps.closed (Some free.ended)) free.policy stamps.closed free.ended (option_map newer_of (option_map stamps_of (find (is_newer_of file stamps.number) rows.files.versions)))
-    (nat_le (floor_in (Some free.policy) (is_live (world_of rows) file)) (newer_held rows.files.versions file stamps.number)) rows.moment fate
+abbrev pub IsMade : (rows : Rows) (file : ℕ) (info : VersionInfo) → IsFree rows file info → Fate → Type 0
+IsMade rows file info free fate = IsFreeFate (cover_of rows.groups file info.closed (Some free.ended)) free.policy info.closed free.ended (option_map newer_of (option_map info_of (find (is_newer_of file info.number) rows.files.versions)))
+    (nat_le (floor_in (Some free.policy) (is_live (world_of rows) file)) (newer_held rows.files.versions file info.number)) rows.moment fate
 
 module _ (rows : Rows) (sound : IsSound rows) (row : VersionRow) (found : find (is_version row.file row.number) rows.files.versions ≡ Some row) where
   abbrev w : World
@@ -87,19 +87,19 @@ module _ (rows : Rows) (sound : IsSound rows) (row : VersionRow) (found : find (
       let there = is.numbered in
       grind (arith, nat_tests)
 
-  module _ (free : IsFree rows row.file (stamps_of row)) where
+  module _ (free : IsFree rows row.file (info_of row)) where
     abbrev next_row : Option VersionRow
     next_row = find (is_newer_of row.file row.number) w.versions
 
     abbrev next_newer : Option Newer
-    next_newer = option_map newer_of (option_map stamps_of next_row)
+    next_newer = option_map newer_of (option_map info_of next_row)
 
     abbrev ripe_beside : Option ℕ → Option ℕ
     ripe_beside closing = option_and_then (ripe_past (cover_of w.groups row.file row.closed (Some free.ended))) (ripe_near free.policy row.closed closing (nat_le (floor_in (Some free.policy) (is_live w row.file)) (newer_held w.versions row.file row.number)) free.ended)
 
     ripe_told : ripe_of w row ≡ ripe_beside (closing_of next_newer)
     ripe_told = sym (ripe_at_is w row.file row.number ∙ rw found refl) ∙ ripe_at_near w row.file row.number (in_order_of w sound.formed) ∙ rw (free.unread, found, free.ends, free.filed) (ap ripe_beside (by next_row)) where
-      by : (o : Option VersionRow) → option_map (λ (r : VersionRow). r.closed) o ≡ closing_of (option_map newer_of (option_map stamps_of o))
+      by : (o : Option VersionRow) → option_map (λ (r : VersionRow). r.closed) o ≡ closing_of (option_map newer_of (option_map info_of o))
       by None = refl
       by (Some next) = refl
 
@@ -108,7 +108,7 @@ module _ (rows : Rows) (sound : IsSound rows) (row : VersionRow) (found : find (
 
     next_is : slice_get (newer_versions (file_view w row.file) row) 0 ≡ next_newer
     next_is = nearest_newer w row ∙ by next_row where
-      by : (o : Option VersionRow) → option_map newer_version o ≡ option_map newer_of (option_map stamps_of o)
+      by : (o : Option VersionRow) → option_map newer_version o ≡ option_map newer_of (option_map info_of o)
       by None = refl
       by (Some next) = refl
 
@@ -121,7 +121,7 @@ module _ (rows : Rows) (sound : IsSound rows) (row : VersionRow) (found : find (
       why = is (newer_versions (file_view w row.file) row) next_is;
     }
 
-    made_fate : (fate : Fate) → IsMade rows row.file (stamps_of row) free fate → IsFate w row fate
+    made_fate : (fate : Fate) → IsMade rows row.file (info_of row) free fate → IsFate w row fate
     made_fate Current is = absurd is
     made_fate Open is = absurd is
     made_fate (Marked name mark) is = absurd is
@@ -151,25 +151,25 @@ due_alone cover policy closed nearest met ended since given fits is = by (ripe_n
 
 -- ---- by what is told of it
 
--- what is so of the file and the stamps of each held row is so of what is told of one
-told_row : (h : Held) (P : ℕ → Stamps → Type 0) → ((row : VersionRow) → find (is_version row.file row.number) h.versions ≡ Some row → P row.file (stamps_of row)) → (file : ℕ) (stamps : Stamps) → IsTold h file stamps → P file stamps
-told_row h P each file stamps told = by (find (is_version file stamps.number) h.versions) refl told where
-  by : (o : Option VersionRow) → find (is_version file stamps.number) h.versions ≡ o → option_map stamps_of o ≡ Some stamps → P file stamps
+-- what is so of the file and the info of each held row is so of what is told of one
+told_row : (h : Held) (P : ℕ → VersionInfo → Type 0) → ((row : VersionRow) → find (is_version row.file row.number) h.versions ≡ Some row → P row.file (info_of row)) → (file : ℕ) (info : VersionInfo) → IsInfoOf h file info → P file info
+told_row h P each file info told = by (find (is_version file info.number) h.versions) refl told where
+  by : (o : Option VersionRow) → find (is_version file info.number) h.versions ≡ o → option_map info_of o ≡ Some info → P file info
   by None found is = absurd (cc)
   by (Some row) found is =
-      let own : find (is_version row.file row.number) h.versions ≡ Some row = grind (arith, nat_tests, found, is, found_passes (is_version file stamps.number) h.versions row found) in
-      let filed : row.file ≡ file = grind (arith, nat_tests, found_passes (is_version file stamps.number) h.versions row found) in
-      let same : stamps_of row ≡ stamps = cc in
-      subst (P file) same (subst (λ (f : ℕ). P f (stamps_of row)) filed (each row own))
+      let own : find (is_version row.file row.number) h.versions ≡ Some row = grind (arith, nat_tests, found, is, found_passes (is_version file info.number) h.versions row found) in
+      let filed : row.file ≡ file = grind (arith, nat_tests, found_passes (is_version file info.number) h.versions row found) in
+      let same : info_of row ≡ info = cc in
+      subst (P file) same (subst (λ (f : ℕ). P f (info_of row)) filed (each row own))
 
 -- where it has no end, a handle reads it, or a mark keeps it
-abbrev IsFateBy : Rows → ℕ → Stamps → Fate → Type 0
-IsFateBy rows file stamps Current = stamps.ended ≡ None
-IsFateBy rows file stamps Open = IsSome stamps.ended × (is_open rows.files.handles file stamps.number ≡ true)
-IsFateBy rows file stamps (Marked name mark) = IsSome stamps.ended × (is_open rows.files.handles file stamps.number ≡ false) × IsMarkedBy rows.groups file stamps.closed stamps.ended rows.moment name mark
-IsFateBy rows file stamps fate = ⊥
+abbrev IsFateBy : Rows → ℕ → VersionInfo → Fate → Type 0
+IsFateBy rows file info Current = info.ended ≡ None
+IsFateBy rows file info Open = IsSome info.ended × (is_open rows.files.handles file info.number ≡ true)
+IsFateBy rows file info (Marked name mark) = IsSome info.ended × (is_open rows.files.handles file info.number ≡ false) × IsMarkedBy rows.groups file info.closed info.ended rows.moment name mark
+IsFateBy rows file info fate = ⊥
 
-is_fate : (rows : Rows) (row : VersionRow) (fate : Fate) → IsFateBy rows row.file (stamps_of row) fate → IsFate (world_of rows) row fate
+is_fate : (rows : Rows) (row : VersionRow) (fate : Fate) → IsFateBy rows row.file (info_of row) fate → IsFate (world_of rows) row fate
 is_fate rows row Current is = is
 is_fate rows row Open is = is
 is_fate rows row (Marked name mark) is = is
@@ -177,11 +177,11 @@ is_fate rows row (Kept until level) is = absurd is
 is_fate rows row (Due since cause) is = absurd is
 
 module _ (rows : Rows) where
-  pub fate_told : (file : ℕ) (stamps : Stamps) → IsTold rows.files file stamps → (fate : Fate) → IsFateBy rows file stamps fate → HasFate (world_of rows) file stamps.number fate
-  fate_told = told_row rows.files (λ file stamps. (fate : Fate) → IsFateBy rows file stamps fate → HasFate (world_of rows) file stamps.number fate) (λ row found fate is. record { row = row; held = found; is = is_fate rows row fate is })
+  pub fate_told : (file : ℕ) (info : VersionInfo) → IsInfoOf rows.files file info → (fate : Fate) → IsFateBy rows file info fate → HasFate (world_of rows) file info.number fate
+  fate_told = told_row rows.files (λ file info. (fate : Fate) → IsFateBy rows file info fate → HasFate (world_of rows) file info.number fate) (λ row found fate is. record { row = row; held = found; is = is_fate rows row fate is })
 
-  pub fate_made : IsSound rows → (file : ℕ) (stamps : Stamps) → IsTold rows.files file stamps → (free : IsFree rows file stamps) (fate : Fate) → IsMade rows file stamps free fate → HasFate (world_of rows) file stamps.number fate
-  fate_made sound = told_row rows.files (λ file stamps. (free : IsFree rows file stamps) (fate : Fate) → IsMade rows file stamps free fate → HasFate (world_of rows) file stamps.number fate) (λ row found free fate is. record { row = row; held = found; is = made_fate rows sound row found free fate is })
+  pub fate_made : IsSound rows → (file : ℕ) (info : VersionInfo) → IsInfoOf rows.files file info → (free : IsFree rows file info) (fate : Fate) → IsMade rows file info free fate → HasFate (world_of rows) file info.number fate
+  fate_made sound = told_row rows.files (λ file info. (free : IsFree rows file info) (fate : Fate) → IsMade rows file info free fate → HasFate (world_of rows) file info.number fate) (λ row found free fate is. record { row = row; held = found; is = made_fate rows sound row found free fate is })
 
-  pub fate_ungoverned : IsSound rows → (file : ℕ) (stamps : Stamps) → IsTold rows.files file stamps → policy_of rows.files.files file ≡ None → ⊥
-  fate_ungoverned sound = told_row rows.files (λ file stamps. policy_of rows.files.files file ≡ None → ⊥) (λ row found. governed rows sound row found)
+  pub fate_ungoverned : IsSound rows → (file : ℕ) (info : VersionInfo) → IsInfoOf rows.files file info → policy_of rows.files.files file ≡ None → ⊥
+  fate_ungoverned sound = told_row rows.files (λ file info. policy_of rows.files.files file ≡ None → ⊥) (λ row found. governed rows sound row found)

@@ -1,5 +1,5 @@
 -- The moments of a file's newest versions, where no floor keeps them.
-use Rattle.ele_state.proofs.Words.{IsLawful, cond, cover_of, false≢true, floor_of, is_open, is_some, near_floored, near_moment, next_closing, unread_under, unwrap_or, ◌≤◌, comes, if_changed, sym, Held, has_newer, freed_moment, is_entry, is_freed, ◌∙◌, ap, refl, ◌≡◌, ℕ, ◌+◌, ◌==◌, nat_le, Bool, true, false, not, ◌&&◌, ◌||◌, List, Option, Some, None, find, option_and_then, option_map, arith, nat_tests, and-false, AllLater, ArePlaced, VersionRow, GroupRow, Stamps, Policy, Key, stamps_of, is_version, is_moment, found_passes, newer_held, no_floor, with_newer}
+use Rattle.ele_state.proofs.Words.{IsLawful, cond, cover_of, false≢true, floor_of, is_open, is_some, near_floored, near_moment, next_closing, unread_under, unwrap_or, ◌≤◌, comes, if_changed, sym, Held, has_newer, freed_moment, is_entry, is_freed, ◌∙◌, ap, refl, ◌≡◌, ℕ, ◌+◌, ◌==◌, nat_le, Bool, true, false, not, ◌&&◌, ◌||◌, List, Option, Some, None, find, option_and_then, option_map, arith, nat_tests, and-false, AllLater, ArePlaced, VersionRow, GroupRow, VersionInfo, Policy, Key, info_of, is_version, is_moment, found_passes, newer_held, no_floor, with_newer}
 use Rattle.ele_state.proofs.Changes.{any_is, brought}
 use Rattle.ele_state.proofs.Governed.{unheld}
 use Rattle.ele_state.proofs.Appended.{none_has, one_alone, one_has}
@@ -43,9 +43,9 @@ module _ (groups : List GroupRow) (h : Held) (file : ℕ) (policy : Policy) (now
     pub just_more : (row : VersionRow) → with_newer h.versions file newest ≡ Some row → one_more ≡ is_entry file row.number (its row) k
     just_more row e = let has = one_has h.versions file newest row placed e in held_more ∙ grind (arith, nat_tests, and-false, has.found, one_alone h.versions file newest row k.number has)
 
-    pub freed_same : None ≡ option_map stamps_of (with_newer h.versions file newest) → is_freed groups h file policy now (newest + 1) k ≡ (is_freed groups h file policy now newest k || false)
+    pub freed_same : None ≡ option_map info_of (with_newer h.versions file newest) → is_freed groups h file policy now (newest + 1) k ≡ (is_freed groups h file policy now newest k || false)
     freed_same told = grind (arith, nat_tests, step newest (newer_held h.versions file k.number) (k.file == file), none_more, told)
 
-    pub freed_more : (stamps : Stamps) (moment : Option ℕ) → Some stamps ≡ option_map stamps_of (with_newer h.versions file newest) → moment ≡ freed_moment groups h file policy now stamps.number stamps.closed stamps.ended
-        → is_freed groups h file policy now (newest + 1) k ≡ (is_freed groups h file policy now newest k || comes (if_changed (Some (record { file = file; number = stamps.number; was = None; is = moment }))) k)
-    freed_more stamps moment told is = grind (arith, nat_tests, step newest (newer_held h.versions file k.number) (k.file == file), just_more, told, is, brought k file stamps.number moment)
+    pub freed_more : (info : VersionInfo) (moment : Option ℕ) → Some info ≡ option_map info_of (with_newer h.versions file newest) → moment ≡ freed_moment groups h file policy now info.number info.closed info.ended
+        → is_freed groups h file policy now (newest + 1) k ≡ (is_freed groups h file policy now newest k || comes (if_changed (Some (record { file = file; number = info.number; was = None; is = moment }))) k)
+    freed_more info moment told is = grind (arith, nat_tests, step newest (newer_held h.versions file k.number) (k.file == file), just_more, told, is, brought k file info.number moment)

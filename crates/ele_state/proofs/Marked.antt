@@ -1,6 +1,6 @@
 -- The moments of versions that were current at marks: which change with the groups, and that the queue follows.
-use Rattle.ele_state.proofs.Words.{get_or, length, take, ◌+◌, ◌<◌, ◌≤◌, ◌||◌, HasParts, false≢true, is_live, option_and_then, ripe_past, unmarked_moment, AllByRecursion, AllLater, AreChanges, ArePlaced, Bool, Cover, Dropped, GroupChange, HasLeaving, IsQueued, IsSound, IsTold, Joined, Left, List, MakeGroup, Marked, MarksMove, None, Option, Rows, Some, Stamps, Unmarked, VersionRow, World, [], after_change, all-found, all_found, ap, append-nil, arith, change_of, cond, cover_after, cover_of, covers_moment, drop_moves, false, files_of, filter, filter-append, find, found_passes, had_life, if_changed, in_order_of, is_covered, is_moment, is_one, is_open, is_touched, is_version, leave_moves, list_any, lives_at, mark_moves, member_moves, moments_by, moments_of, nat_tests, option_map, option_map_or, placed_of, refl, ripe_at, ripe_at_near, stamps_of, sym, true, unmark_moves, world_of, ℕ, ◌&&◌, ◌==◌, ◌∙◌, ◌∷◌, ◌≡◌}
-use Rattle.ele_state.proofs.Asked.{covered_told}
+use Rattle.ele_state.proofs.Words.{get_or, length, take, ◌+◌, ◌<◌, ◌≤◌, ◌||◌, HasParts, false≢true, is_live, option_and_then, ripe_past, unmarked_moment, AllByRecursion, AllLater, AreChanges, ArePlaced, Bool, Cover, Dropped, GroupChange, HasLeaving, IsQueued, IsSound, IsInfoOf, Joined, Left, List, MakeGroup, Marked, MarksMove, None, Option, Rows, Some, VersionInfo, Unmarked, VersionRow, World, [], after_change, all-found, all_found, ap, append-nil, arith, change_of, cond, cover_after, cover_of, covers_moment, drop_moves, false, files_of, filter, filter-append, find, found_passes, had_life, if_changed, in_order_of, is_covered, is_moment, is_one, is_open, is_touched, is_version, leave_moves, list_any, lives_at, mark_moves, member_moves, moments_by, moments_of, nat_tests, option_map, option_map_or, placed_of, refl, ripe_at, ripe_at_near, info_of, sym, true, unmark_moves, world_of, ℕ, ◌&&◌, ◌==◌, ◌∙◌, ◌∷◌, ◌≡◌}
+use Rattle.ele_state.proofs.Questions.{covered_told}
 use Rattle.ele_state.proofs.Changes.{Move, found_is, passing, none_changes, one_changes, one_stays, same_change}
 use Rattle.ele_model.proofs.Versions.{IsFound}
 use Rattle.std.proofs.lemmas.List.{take_all}
@@ -32,40 +32,40 @@ module _ (rows : Rows) (file mark : ℕ) (sound : IsSound rows) where
   abbrev touched : ℕ → ℕ → Bool
   touched = is_touched (file ∷ []) (mark ∷ []) rows.files.versions
 
-  pub lived_none : None ≡ option_map stamps_of (find (had_life file mark) rows.files.versions) → (owner number : ℕ) → touched owner number ≡ false
+  pub lived_none : None ≡ option_map info_of (find (had_life file mark) rows.files.versions) → (owner number : ℕ) → touched owner number ≡ false
   lived_none none owner number = grind (arith, nat_tests, lived owner number mark rows.files.versions (placed_of w sound.formed))
 
-  pub lived_one : (stamps : Stamps) → Some stamps ≡ option_map stamps_of (find (had_life file mark) rows.files.versions) → (owner number : ℕ) → touched owner number ≡ is_one file stamps.number owner number
-  lived_one stamps told owner number = grind (arith, nat_tests, lived owner number mark rows.files.versions (placed_of w sound.formed))
+  pub lived_one : (info : VersionInfo) → Some info ≡ option_map info_of (find (had_life file mark) rows.files.versions) → (owner number : ℕ) → touched owner number ≡ is_one file info.number owner number
+  lived_one info told owner number = grind (arith, nat_tests, lived owner number mark rows.files.versions (placed_of w sound.formed))
 
-  pub lived_told : (stamps : Stamps) → Some stamps ≡ option_map stamps_of (find (had_life file mark) rows.files.versions) → IsTold rows.files file stamps
-  lived_told stamps told = grind (arith, nat_tests, told, passing (had_life file mark) rows.files.versions, found_is (had_life file mark) (IsFound rows.files.versions) rows.files.versions (all_found rows.files.versions (placed_of w sound.formed)))
+  pub lived_told : (info : VersionInfo) → Some info ≡ option_map info_of (find (had_life file mark) rows.files.versions) → IsInfoOf rows.files file info
+  lived_told info told = grind (arith, nat_tests, told, passing (had_life file mark) rows.files.versions, found_is (had_life file mark) (IsFound rows.files.versions) rows.files.versions (all_found rows.files.versions (placed_of w sound.formed)))
 
   module _ (change : GroupChange) where
     abbrev after : ℕ → ℕ → Option ℕ
     after = moments_by w (cover_after change rows.groups)
 
     -- where no version was current
-    pub none_lived : None ≡ option_map stamps_of (find (had_life file mark) rows.files.versions) → AreChanges touched (ripe_at w) after []
+    pub none_lived : None ≡ option_map info_of (find (had_life file mark) rows.files.versions) → AreChanges touched (ripe_at w) after []
     none_lived none = none_changes (ripe_at w) after touched (λ owner number h. absurd (false≢true (sym (lived_none none owner number) ∙ h)))
 
-    module _ (stamps : Stamps) (lives : Some stamps ≡ option_map stamps_of (find (had_life file mark) rows.files.versions)) where
+    module _ (info : VersionInfo) (lives : Some info ≡ option_map info_of (find (had_life file mark) rows.files.versions)) where
       -- the moment of the one that was by what is told of it
       abbrev told_by : (ℕ → ℕ → Option ℕ → Cover) → Option ℕ
-      told_by cover = cond (is_open rows.files.handles file stamps.number) None (option_and_then (λ ended. option_and_then (ripe_past (cover file stamps.closed (Some ended))) (unmarked_moment rows.files (is_live w file) file stamps.number stamps.closed ended)) stamps.ended)
+      told_by cover = cond (is_open rows.files.handles file info.number) None (option_and_then (λ ended. option_and_then (ripe_past (cover file info.closed (Some ended))) (unmarked_moment rows.files (is_live w file) file info.number info.closed ended)) info.ended)
 
-      told_moment : (cover : ℕ → ℕ → Option ℕ → Cover) → moments_by w cover file stamps.number ≡ told_by cover
-      told_moment cover = ap (cond (is_open rows.files.handles file stamps.number) None) (covered_told rows.files file stamps (lived_told stamps lives) (cover file) (is_live w file))
+      told_moment : (cover : ℕ → ℕ → Option ℕ → Cover) → moments_by w cover file info.number ≡ told_by cover
+      told_moment cover = ap (cond (is_open rows.files.handles file info.number) None) (covered_told rows.files file info (lived_told info lives) (cover file) (is_live w file))
 
-      had : ripe_at w file stamps.number ≡ told_by (cover_of rows.groups)
-      had = ripe_at_near w file stamps.number (in_order_of w sound.formed) ∙ told_moment (cover_of rows.groups)
+      had : ripe_at w file info.number ≡ told_by (cover_of rows.groups)
+      had = ripe_at_near w file info.number (in_order_of w sound.formed) ∙ told_moment (cover_of rows.groups)
 
       -- where it keeps it, and where it gets another
       pub stays : told_by (cover_after change rows.groups) ≡ told_by (cover_of rows.groups) → AreChanges touched (ripe_at w) after []
-      stays same = same_change (ripe_at w) after touched (is_one file stamps.number) [] (lived_one stamps lives) (one_stays (ripe_at w) after file stamps.number (told_moment (cover_after change rows.groups) ∙ same ∙ sym had))
+      stays same = same_change (ripe_at w) after touched (is_one file info.number) [] (lived_one info lives) (one_stays (ripe_at w) after file info.number (told_moment (cover_after change rows.groups) ∙ same ∙ sym had))
 
-      pub changes : (was is : Option ℕ) → told_by (cover_of rows.groups) ≡ was → told_by (cover_after change rows.groups) ≡ is → AreChanges touched (ripe_at w) after (if_changed (Some (record { file = file; number = stamps.number; was = was; is = is })))
-      changes was is before then = same_change (ripe_at w) after touched (is_one file stamps.number) _ (lived_one stamps lives) (one_changes (ripe_at w) after file stamps.number was is (had ∙ before) (told_moment (cover_after change rows.groups) ∙ then))
+      pub changes : (was is : Option ℕ) → told_by (cover_of rows.groups) ≡ was → told_by (cover_after change rows.groups) ≡ is → AreChanges touched (ripe_at w) after (if_changed (Some (record { file = file; number = info.number; was = was; is = is })))
+      changes was is before then = same_change (ripe_at w) after touched (is_one file info.number) _ (lived_one info lives) (one_changes (ripe_at w) after file info.number was is (had ∙ before) (told_moment (cover_after change rows.groups) ∙ then))
 
 -- ---- one mark after the other, and one file
 

@@ -1,8 +1,8 @@
 -- Which keys the versions have, once a handle was opened or closed.
 use Rattle.ele_state.proofs.Words.{◌≡◌, ◌<◌, ◌∷◌, [], sym, subst, list_any, Change, HasNoIdle, HasParts, IsSettled, IsTracked, StartDraft, change_keeps, change_settles, changed_at, has_draft, is_draft, next_of, shown_of, versions_made, ℕ, ◌+◌, Bool, true, false, cond, ◌&&◌, ◌==◌, List, Option, None, Ok, refl, ◌∙◌, arith, nat_tests, world_of, IsSound, IsQueued, IsRekeyed, Rows, Key, has_key, opened_by, with_rows, OpenHandle, ShutHandle, after_change, ripe_at, free_moment, AreInOrder, in_order_of, World, is_live, is_open, reads_by, Draft, Version, opened_others, opened_own, read_moment, shut_others, shut_own, has_row, any-found}
-use Rattle.ele_state.proofs.Asked.{ripe_told}
+use Rattle.ele_state.proofs.Questions.{ripe_told}
 use Rattle.ele_state.proofs.Following.{entry_follows}
-use Rattle.ele_state.proofs.Settled.{settled_by}
+use Rattle.ele_state.proofs.SoundAfter.{settled_by}
 use Rattle.ele_model.proofs.Basics.{list_any-insert_before}
 
 -- a handle that writes touches no key

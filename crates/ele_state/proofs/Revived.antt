@@ -1,11 +1,11 @@
 -- A file that has a name again, and a version like its last one.
-use Rattle.ele_state.proofs.Words.{File, IsLawful, IsReady, Key, MayGrow, Policy, and-false, Cell, cond, cover_of, false≢true, floor_for, floor_of, former_moment, has_key, in_order_of, freed_moment, is_freed, is_live_name_of, is_moment, comes, coming, list_any-append, moments_stay, nat_le, near_floored, near_moment, near_unmet, newer_held, not, option_and_then, or-false, policy_is, policy_of, ripe_at, ripe_at_near, unread_under, unwrap_or, with_newer, with_version, ◌&&◌, ◌==◌, ◌||◌, ◌+◌, ◌∙◌, ap, subst, sym, after_change, after_changes, Append, Revive, IsHome, IsQueued, Shown, live_target, shown_of, ◌≡◌, ℕ, ◌-◌, ◌<◌, ◌≤◌, ◌++◌, Bool, true, false, List, ◌∷◌, Option, None, Some, is_some, refl, arith, find, list_any, option_map, option_map_or, nat_tests, world_of, IsSound, MayAppend, MayRevive, Rows, stamps_of, cells_of_version, all-found, found_passes, born_row, is_draft, is_version, may_grow, Versions, World, is_held, is_live, next_of, version_cells, versions_made, FileRow, Stamps, VersionRow, is_entry, is_open, gained_moment, []}
+use Rattle.ele_state.proofs.Words.{File, IsLawful, IsReady, Key, MayGrow, Policy, and-false, Cell, cond, cover_of, false≢true, floor_for, floor_of, former_moment, has_key, in_order_of, freed_moment, is_freed, is_live_name_of, is_moment, comes, coming, list_any-append, moments_stay, nat_le, near_floored, near_moment, near_unmet, newer_held, not, option_and_then, or-false, policy_is, policy_of, ripe_at, ripe_at_near, unread_under, unwrap_or, with_newer, with_version, ◌&&◌, ◌==◌, ◌||◌, ◌+◌, ◌∙◌, ap, subst, sym, after_change, after_changes, Append, Revive, IsHome, IsQueued, Shown, live_target, shown_of, ◌≡◌, ℕ, ◌-◌, ◌<◌, ◌≤◌, ◌++◌, Bool, true, false, List, ◌∷◌, Option, None, Some, is_some, refl, arith, find, list_any, option_map, option_map_or, nat_tests, world_of, IsSound, MayAppend, MayRevive, Rows, info_of, cells_of_version, all-found, found_passes, born_row, is_draft, is_version, may_grow, Versions, World, is_held, is_live, next_of, version_cells, versions_made, FileRow, VersionInfo, VersionRow, is_entry, is_open, gained_moment, []}
 use Rattle.ele_state.proofs.Appended.{appended_keys, none_there}
 use Rattle.ele_state.proofs.Changes.{any_is}
 use Rattle.ele_state.proofs.Freed.{freed_is, just_more, none_freed, none_more, one_more}
 use Rattle.ele_state.proofs.Governed.{floored}
 use Rattle.ele_state.proofs.Grown.{ready}
-use Rattle.ele_state.proofs.Settled.{named as may_named}
+use Rattle.ele_state.proofs.SoundAfter.{named as may_named}
 use Rattle.ele_state.specs.declared.append.Source.TheVariants.{Version}
 use Rattle.ele_lists.proofs.Cuts.{any-found as first_passing}
 use Rattle.ele_model.proofs.Basics.{suc, zero}
@@ -22,11 +22,11 @@ unheld rows file number sound none = grind (arith, nat_tests, first_passing, all
 pub no_next : (o : Option FileRow) → None ≡ option_map (λ (row : FileRow). row.next) o → option_map_or (λ (row : FileRow). row.next) o 0 ≡ 0
 no_next x0 e = grind (arith, nat_tests)
 
-pub stamped : (p : VersionRow → Bool) (rows : List VersionRow) → is_some (option_map stamps_of (find p rows)) ≡ list_any p rows
+pub stamped : (p : VersionRow → Bool) (rows : List VersionRow) → is_some (option_map info_of (find p rows)) ≡ list_any p rows
 stamped p rows = grind (arith, nat_tests, any_is p rows)
 
-pub told_held : (w : World) (file number : ℕ) (stamps : Stamps) → option_map stamps_of (find (is_version file number) w.versions) ≡ Some stamps → is_held w file number ≡ true
-told_held w file number stamps told = sym (stamped (is_version file number) w.versions) ∙ ap is_some told
+pub told_held : (w : World) (file number : ℕ) (info : VersionInfo) → option_map info_of (find (is_version file number) w.versions) ≡ Some info → is_held w file number ≡ true
+told_held w file number info told = sym (stamped (is_version file number) w.versions) ∙ ap is_some told
 
 -- ---- a file gets a version again that is held
 
@@ -50,7 +50,7 @@ module _ (rows : Rows) (directory : ℕ) (name : List ℕ) (file : ℕ) (sound :
   w = world_of rows
 
   pub last_held : is_held w file (next_of w.files file - 1) ≡ true
-  last_held = told_held w file (next_of w.files file - 1) (stamps_of may.last) (ap (option_map stamps_of) may.held)
+  last_held = told_held w file (next_of w.files file - 1) (info_of may.last) (ap (option_map info_of) may.held)
 
   -- the name is there, and not yet counted
   abbrev named : Rows

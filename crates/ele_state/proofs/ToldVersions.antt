@@ -1,5 +1,5 @@
 -- Where a path leads by the names of any moment, and what is told of the version that its tag means.
-use Rattle.ele_state.proofs.Words.{Names, HasParts, is_held, meant_held, true, arith, nat_tests, ◌≡◌, ℕ, List, ◌∷◌, Option, Result, Ok, Err, refl, ap, subst, AllByRecursion, option_map_or, result_map_both, all-found, target_at, version_at, version_found, version_meant, walk_meant, stamps_of, file_at, walk_now, IsNameRow, IsThere, World, Refusal, Stamps, Target, File, Directory, VersionRow, is_at, is_meant, file_there, [], AllLater, ArePlaced, IfOk, Some, all_found, find, is_version, version_cells, sym, ◌∙◌}
+use Rattle.ele_state.proofs.Words.{Names, HasParts, is_held, meant_held, true, arith, nat_tests, ◌≡◌, ℕ, List, ◌∷◌, Option, Result, Ok, Err, refl, ap, subst, AllByRecursion, option_map_or, result_map_both, all-found, target_at, version_at, version_found, version_meant, walk_meant, info_of, file_at, walk_now, IsNameRow, IsThere, World, Refusal, VersionInfo, Target, File, Directory, VersionRow, is_at, is_meant, file_there, [], AllLater, ArePlaced, IfOk, Some, all_found, find, is_version, version_cells, sym, ◌∙◌}
 use Rattle.ele_state.specs.Told.{found_of}
 use Rattle.ele_path.specs.declared.tagged.Tag.{Tag}
 use Rattle.ele_path.specs.declared.tagged.TaggedPath.{TaggedPath}
@@ -28,31 +28,31 @@ module _ (w : World) (formed : HasParts w) where
   pub meant_there : (path : List (List ℕ)) (t : Tag) (target : Target) → walk_meant w path t ≡ Ok target → IsThere w.files target
   meant_there path x1 target h = grind (arith, nat_tests, now_there, walked_there)
 
--- ---- the version that is meant, by its stamps
+-- ---- the version that is meant, by its info
 
-pub told_found : (w : World) (found : Result ℕ Refusal) (t : Tag) (file : ℕ) (stamps : Stamps) → found ≡ Ok file → Ok stamps ≡ result_map_both stamps_of (λ refusal. refusal) (version_meant w.files w.versions file t) → Ok (file, stamps) ≡ found_of (version_found w found t)
-told_found w found t file stamps leads is = rw leads (by (version_meant w.files w.versions file t) refl is) where
-  by : (r : Result VersionRow Refusal) → version_meant w.files w.versions file t ≡ r → Ok stamps ≡ result_map_both stamps_of (λ (refusal : Refusal). refusal) r → Ok (file, stamps) ≡ found_of r
+pub told_found : (w : World) (found : Result ℕ Refusal) (t : Tag) (file : ℕ) (info : VersionInfo) → found ≡ Ok file → Ok info ≡ result_map_both info_of (λ refusal. refusal) (version_meant w.files w.versions file t) → Ok (file, info) ≡ found_of (version_found w found t)
+told_found w found t file info leads is = rw leads (by (version_meant w.files w.versions file t) refl is) where
+  by : (r : Result VersionRow Refusal) → version_meant w.files w.versions file t ≡ r → Ok info ≡ result_map_both info_of (λ (refusal : Refusal). refusal) r → Ok (file, info) ≡ found_of r
   by (Ok row) meant told = let own = (is_meant w.files w.versions file t row meant).own in cc
   by (Err refusal) meant told = absurd cc
 
-record IsTold (w : World) (tagged : TaggedPath) (found : ℕ × Stamps) : Type 0 where
+record IsTold (w : World) (tagged : TaggedPath) (found : ℕ × VersionInfo) : Type 0 where
   row : VersionRow
   meant : version_at w tagged ≡ Ok row
-  is : found ≡ (row.file, stamps_of row)
+  is : found ≡ (row.file, info_of row)
 
-told_row : (w : World) (tagged : TaggedPath) (found : ℕ × Stamps) → Ok found ≡ found_of (version_at w tagged) → IsTold w tagged found
+told_row : (w : World) (tagged : TaggedPath) (found : ℕ × VersionInfo) → Ok found ≡ found_of (version_at w tagged) → IsTold w tagged found
 told_row w tagged found h = grind (arith, nat_tests)
 
 -- so it is held
-pub found_held : (w : World) (tagged : TaggedPath) (found : ℕ × Stamps) → Ok found ≡ found_of (version_at w tagged) → is_held w found.0 found.1.number ≡ true
+pub found_held : (w : World) (tagged : TaggedPath) (found : ℕ × VersionInfo) → Ok found ≡ found_of (version_at w tagged) → is_held w found.0 found.1.number ≡ true
 found_held w tagged found h = let told = told_row w tagged found h in rw told.is (meant_held w told.row.file told.row (is_at w tagged told.row told.meant))
 
 -- it is the one that is found by its file and number, so what is read of it are its cells
-pub found_cells : (w : World) (tagged : TaggedPath) (found : ℕ × Stamps) → AllLater ArePlaced w.versions → Ok found ≡ found_of (version_at w tagged) → IfOk (version_at w tagged) (λ row. version_cells w found.0 found.1.number ≡ row.cells)
+pub found_cells : (w : World) (tagged : TaggedPath) (found : ℕ × VersionInfo) → AllLater ArePlaced w.versions → Ok found ≡ found_of (version_at w tagged) → IfOk (version_at w tagged) (λ row. version_cells w found.0 found.1.number ≡ row.cells)
 found_cells w tagged found placed h =
     let told = told_row w tagged found h in
     let meant = is_at w tagged told.row told.meant in
     let itself : find (is_version told.row.file told.row.number) w.versions ≡ Some told.row = all-found meant.passes (IsFound w.versions) w.versions told.row meant.found (all_found w.versions placed) in
-    let cells : version_cells w found.0 found.1.number ≡ told.row.cells = ap (λ (f : ℕ × Stamps). version_cells w f.0 f.1.number) told.is ∙ ap (λ o. option_map_or (λ (row : VersionRow). row.cells) o []) itself in
+    let cells : version_cells w found.0 found.1.number ≡ told.row.cells = ap (λ (f : ℕ × VersionInfo). version_cells w f.0 f.1.number) told.is ∙ ap (λ o. option_map_or (λ (row : VersionRow). row.cells) o []) itself in
     subst (λ (r : Result VersionRow Refusal). IfOk r (λ row. version_cells w found.0 found.1.number ≡ row.cells)) (sym told.meant) cells

@@ -12,7 +12,7 @@ use Rattle.ele_model.specs.declared.fate.Fate.{Fate}
 use Rattle.ele_model.specs.declared.fate.Fate.TheVariants.{Kept, Due}
 use Rattle.ele_model.specs.declared.rows.GroupRow.{GroupRow}
 use Rattle.ele_model.specs.declared.rows.MarkRow.{MarkRow}
-use Rattle.ele_model.specs.declared.rows.Stamps.{Stamps}
+use Rattle.ele_model.specs.declared.rows.VersionInfo.{VersionInfo}
 use Rattle.ele_model.specs.Fate.{level_reached}
 use Rattle.ele_model.specs.GroupRows.{is_member, keeps_at}
 
@@ -24,9 +24,9 @@ pub record MarksAt (groups : List GroupRow) (place file closed : ℕ) (ended : O
   pub named : group.name ≡ name
   pub first : find (keeps_at closed ended at) group.marks ≡ Some mark
 
--- a newer version, by its stamps
-abbrev pub newer_of : Stamps → Newer
-newer_of stamps = record { number = stamps.number; closed = stamps.closed }
+-- a newer version, by its info
+abbrev pub newer_of : VersionInfo → Newer
+newer_of info = record { number = info.number; closed = info.closed }
 
 -- this is the cause, whatever other newer versions are held behind that next one
 abbrev pub IsCauseBy : Policy → ℕ → ℕ → Option Newer → ℕ → Cause → Type 0

@@ -19,8 +19,8 @@ use Rattle.ele_model.specs.Cover.{cover_of, cover_until, longer}
 use Rattle.ele_model.specs.Change.{Change, AddMark, AddMember, DropGroup, RemoveMark, RemoveMember}
 use Rattle.ele_model.specs.GroupRows.{has_member, is_marked_at}
 use Rattle.ele_model.specs.GroupsAsked.{cover_with, cover_without, marks_of, members_of}
-use Rattle.ele_model.specs.Told.{stamps_of}
-use Rattle.ele_model.specs.declared.rows.Stamps.{Stamps}
+use Rattle.ele_model.specs.Told.{info_of}
+use Rattle.ele_model.specs.declared.rows.VersionInfo.{VersionInfo}
 use Rattle.ele_model.specs.declared.rows.VersionRow.{VersionRow}
 use Rattle.ele_model.specs.World.{World, policy_of, next_of, is_live, is_open, is_version}
 
@@ -114,9 +114,9 @@ abbrev pub unread_under : List GroupRow → Rule → Held → ℕ → ℕ → Op
 unread_under groups rule h file number =
     if is_open h.handles file number then None else moment_under (cover_of groups file) (Some rule.policy) rule.floor h.versions file number
 
--- the version of these stamps is held
-abbrev pub IsTold : Held → ℕ → Stamps → Type 0
-IsTold h file stamps = option_map stamps_of (find (is_version file stamps.number) h.versions) ≡ Some stamps
+-- the version of these info is held
+abbrev pub IsInfoOf : Held → ℕ → VersionInfo → Type 0
+IsInfoOf h file info = option_map info_of (find (is_version file info.number) h.versions) ≡ Some info
 
 -- the moment of a version of the file under the policy where no floor keeps it and none is newer, or newer ones don't matter; it
 -- ends now if it hasn't; none where a handle reads it

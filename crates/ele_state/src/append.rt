@@ -10,7 +10,7 @@ ghost use Rattle.ele_lists.specs.Lists.{AllLater};
 ghost use Rattle.ele_model.specs.Change.{after_changes};
 ghost use Rattle.ele_model.specs.Cover.{cover_of};
 ghost use Rattle.ele_model.specs.Neighbours.{near_moment, with_newer};
-ghost use Rattle.ele_model.specs.Told.{stamps_of};
+ghost use Rattle.ele_model.specs.Told.{info_of};
 ghost use Rattle.ele_model.specs.WellFormed.{ArePlaced};
 ghost use Rattle.ele_model.specs.World.{next_of, policy_of};
 ghost use Rattle.ele_state.specs.Inside.{world_of};
@@ -23,7 +23,7 @@ use crate::keys::{KeyChange, floor_in, near_moment, new_key, put_changed, take_b
 use crate::rows::Rows;
 use ele_files::{FileHead, Files, NewVersion};
 use ele_groups::Groups;
-use ele_model::{FileId, Handle, Moment, NoMemory, Stamps, VersionNo};
+use ele_model::{FileId, Handle, Moment, NoMemory, VersionInfo, VersionNo};
 use ele_policy::Policy;
 
 // Where the content of a file's next version comes from: the draft that was opened then, of which the handle is the last one;
@@ -52,15 +52,15 @@ fn ripens_alone(
     file: FileId,
     policy: &Policy,
     floor_met: bool,
-    stamps: &Stamps,
+    info: &VersionInfo,
 ) -> bool
     ensures { result ≡ is_some (option_and_then
-        (near_moment (cover_of groups.now file) (Some policy.now) None floor_met stamps.now.closed)
-        stamps.now.ended) }
+        (near_moment (cover_of groups.now file) (Some policy.now) None floor_met info.now.closed)
+        info.now.ended) }
 {
-    match stamps.ended {
+    match info.ended {
         Some(ended) => {
-            near_moment(groups, file, policy, &None, floor_met, stamps.closed, ended).is_some()
+            near_moment(groups, file, policy, &None, floor_met, info.closed, ended).is_some()
         }
         None => false,
     }
@@ -68,11 +68,11 @@ fn ripens_alone(
 
 // What is told of the held version of a file that stands so that with the next one has as many newer ones as the floor asks; of
 // the newest where there is none.
-#[tactic(auto, using(crate::proofs::Words::nat_tests, crate::proofs::Asked::newest_gains))]
-fn gaining(files: &Files, file: FileId, head: &FileHead, floor: u64) -> Option<Stamps>
+#[tactic(auto, using(crate::proofs::Words::nat_tests, crate::proofs::Questions::newest_gains))]
+fn gaining(files: &Files, file: FileId, head: &FileHead, floor: u64) -> Option<VersionInfo>
     requires stands { Stands files.now file head.now }
     requires placed { AllLater ArePlaced files.now.versions }
-    ensures { result ≡ option_map stamps_of (with_newer files.now.versions file (floor - 1)) }
+    ensures { result ≡ option_map info_of (with_newer files.now.versions file (floor - 1)) }
 {
     if floor <= 1 {
         return head.newest;
@@ -80,20 +80,20 @@ fn gaining(files: &Files, file: FileId, head: &FileHead, floor: u64) -> Option<S
     files.with_newer(file, floor - 1)
 }
 
-// The ripe moment that the version gets, of which these are the stamps, as the next one closes now; none where a handle reads it, or
+// The ripe moment that the version gets, of which these are the info, as the next one closes now; none where a handle reads it, or
 // where it keeps the one that it had alone, as it does without a floor under every policy that looks at no other version.
-#[tactic(auto, using(crate::proofs::Asked::former_told, crate::proofs::Asked::met_alone, crate::proofs::Words::nat_tests))]
+#[tactic(auto, using(crate::proofs::Questions::former_told, crate::proofs::Questions::met_alone, crate::proofs::Words::nat_tests))]
 fn former_moment(
     files: &Files,
     groups: &Groups,
     file: FileId,
     policy: &Policy,
     floor: u64,
-    gaining: &Stamps,
+    gaining: &VersionInfo,
     now: Moment,
 ) -> Option<Moment>
     requires policy { policy_of files.now.files file ≡ Some policy.now }
-    requires gaining { option_map stamps_of (with_newer files.now.versions file (floor - 1))
+    requires gaining { option_map info_of (with_newer files.now.versions file (floor - 1))
         ≡ Some gaining.now }
     ensures { result ≡ option_and_then (former_moment groups.now files.now file floor now)
         (with_newer files.now.versions file (floor - 1)) }

@@ -3,7 +3,7 @@ ghost use Rattle.std.specs.Prelude.{◌≡◌, ◌<◌, ◌+◌, IfOk, OnErr, fi
 ghost use Rattle.std.specs.Option.{option_copied};
 ghost use Rattle.ele_lists.specs.Lists.{update_first, AllLater};
 ghost use Rattle.ele_policy.specs.Policy.{IsPolicy};
-ghost use Rattle.ele_model.specs.Change.{EndName, Govern, MakeDirectory, after_change, governed_by};
+ghost use Rattle.ele_model.specs.Change.{EndName, SetDirectoryDefault, MakeDirectory, after_change, governed_by};
 ghost use Rattle.ele_model.specs.May.{MayEnd};
 ghost use Rattle.ele_model.specs.Walk.{live_target};
 ghost use Rattle.ele_model.specs.World.{default_of, is_directory};
@@ -71,8 +71,8 @@ impl State {
 
     /// Files that are made in the directory from now on get the policy.
     #[tactic(auto, using(crate::proofs::Words::nat_tests, crate::proofs::Bounded::directories_placed))]
-    pub fn govern(&mut self, directory: DirId, policy: Policy)
-        ensures world { self.new.world ≡ after_change self.old.world (Govern directory policy) }
+    pub fn set_default(&mut self, directory: DirId, policy: Policy)
+        ensures world { self.new.world ≡ after_change self.old.world (SetDirectoryDefault directory policy) }
         ensures valid { IsPolicy policy }
     {
         policy.lemma_valid();

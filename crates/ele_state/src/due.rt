@@ -19,7 +19,7 @@ fn is_ripe(key: &Key, now: Moment) -> bool
 
 impl State {
     /// Whether the version is held and due now.
-    #[tactic(auto, using(crate::proofs::Words::nat_tests, crate::proofs::Asked::due_by_key, crate::proofs::Asked::ripe_told))]
+    #[tactic(auto, using(crate::proofs::Words::nat_tests, crate::proofs::Questions::due_by_key, crate::proofs::Questions::ripe_told))]
     pub fn is_due(&self, file: FileId, number: VersionNo) -> bool
         ensures { result ≡ is_due self.now.world file number }
     {

@@ -11,14 +11,14 @@ ghost use Rattle.ele_model.specs.Scan.{scan};
 ghost use Rattle.ele_model.specs.World.{is_held};
 ghost use Rattle.ele_state.specs.Fated.{IsFreeFate, MarksAt, newer_of};
 ghost use Rattle.ele_state.specs.Inside.{world_of, IsSound};
-ghost use Rattle.ele_state.specs.Queued.{IsTold};
+ghost use Rattle.ele_state.specs.Queued.{IsInfoOf};
 
 use crate::State;
 use crate::keys::floor_in;
 use crate::rows::Rows;
 use ele_groups::Groups;
 use ele_model::{
-    Cover, Fate, FileId, KeyList, ListOf, MarkRow, Moment, Name, NoMemory, Policy, Stamps,
+    Cover, Fate, FileId, KeyList, ListOf, MarkRow, Moment, Name, NoMemory, Policy, VersionInfo,
     VersionNo,
 };
 use ele_policy::{Newer, cause_of, ripe};
@@ -92,13 +92,13 @@ fn first_mark(
     None
 }
 
-// The next held version, by its stamps, as a newer one of its file.
-fn newer_of(next: Option<Stamps>) -> Option<Newer>
+// The next held version, by its info, as a newer one of its file.
+fn newer_of(next: Option<VersionInfo>) -> Option<Newer>
     ensures { result ≡ option_map newer_of next }
 {
-    next.map(|stamps| Newer {
-        number: stamps.number,
-        closed: stamps.closed,
+    next.map(|info| Newer {
+        number: info.number,
+        closed: info.closed,
     })
 }
 
@@ -149,14 +149,14 @@ fn free_fate(
     Fate::Kept { until, level }
 }
 
-// What becomes of the file's held version of these stamps.
-fn fate_of(rows: &Rows, file: FileId, stamps: &Stamps) -> Fate
+// What becomes of the file's held version of these info.
+fn fate_of(rows: &Rows, file: FileId, info: &VersionInfo) -> Fate
     requires sound { IsSound rows.now }
-    requires held { IsTold rows.now.files file stamps.now }
-    ensures { HasFate (world_of rows.now) file stamps.now.number result }
+    requires held { IsInfoOf rows.now.files file info.now }
+    ensures { HasFate (world_of rows.now) file info.now.number result }
 {
-    let (number, closed) = (stamps.number, stamps.closed);
-    let Some(ended) = stamps.ended else {
+    let (number, closed) = (info.number, info.closed);
+    let Some(ended) = info.ended else {
         return Fate::Current;
     };
     if rows.files.is_open(file, number) {
@@ -190,8 +190,8 @@ impl State {
         ensures some { IfSome result (HasFate self.now.world file number) }
         ensures none { IfNone result (is_held self.now.world file number ≡ false) }
     {
-        let stamps = self.rows.files.stamps(file, number)?;
-        Some(fate_of(&self.rows, file, &stamps))
+        let info = self.rows.files.info(file, number)?;
+        Some(fate_of(&self.rows, file, &info))
     }
 
     /// The keys of the versions that are due at the moment if until then nothing comes but the clock, in the order in which they

@@ -9,7 +9,7 @@ ghost use Rattle.ele_state.specs.Queued.{IsRekeyed, comes, goes, if_changed, unm
 use ele_due::DueQueue;
 use ele_files::Files;
 use ele_groups::Groups;
-use ele_model::{FileId, Key, Moment, NoMemory, Stamps, VersionNo};
+use ele_model::{FileId, Key, Moment, NoMemory, VersionInfo, VersionNo};
 use ele_policy::{Policy, ripe};
 
 // Puts in the key of the version with that moment, if there is one.
@@ -131,23 +131,23 @@ pub fn near_moment(
     groups.cover(file, closed, Some(ended)).ripe_past(ripe)
 }
 
-// When the file's version of these stamps ripens, which ended then, in a file that is live or not, where no mark keeps it and no handle
+// When the file's version of these info ripens, which ended then, in a file that is live or not, where no mark keeps it and no handle
 // reads it; none where it has too few newer ones, or is never due.
 pub fn unmarked_moment(
     files: &Files,
     is_live: bool,
     file: FileId,
-    stamps: &Stamps,
+    info: &VersionInfo,
     ended: Moment,
 ) -> Option<Moment>
-    ensures { result ≡ unmarked_moment files.now is_live file stamps.now.number
-        stamps.now.closed ended }
+    ensures { result ≡ unmarked_moment files.now is_live file info.now.number
+        info.now.closed ended }
 {
-    let number = stamps.number;
+    let number = info.number;
     let policy = files.policy_of(file)?;
     let floor_met = files.has_newer(file, number, floor_in(&policy, is_live));
     let next_closed = files.next_closing(file, number);
-    ripe(&policy, stamps.closed, ended, next_closed, floor_met)
+    ripe(&policy, info.closed, ended, next_closed, floor_met)
 }
 
 // The ripe moment that the version has while no handle reads it, in a file that is live or not; none where it isn't held, has no
@@ -162,9 +162,9 @@ pub fn free_moment(
     ensures { result
         ≡ free_moment groups.now files.now.files is_live files.now.versions file number }
 {
-    let stamps = files.stamps(file, number)?;
-    let ended = stamps.ended?;
-    let ripe = unmarked_moment(files, is_live, file, &stamps, ended)?;
-    let cover = groups.cover(file, stamps.closed, Some(ended));
+    let info = files.info(file, number)?;
+    let ended = info.ended?;
+    let ripe = unmarked_moment(files, is_live, file, &info, ended)?;
+    let cover = groups.cover(file, info.closed, Some(ended));
     cover.ripe_past(ripe)
 }

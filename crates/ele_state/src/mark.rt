@@ -49,7 +49,7 @@ fn with_group(groups: &Groups, name: &Name, rest: &Cover, closed: Moment, ended:
 
 // For how long marks keep a version of the file that closed and ended then, as groups stand and once they have changed. Where some
 // leave, what the others keep is asked of all the file's groups, and what leaves of the group alone.
-#[tactic(auto, using(crate::proofs::Words::nat_tests, crate::proofs::Left::longer_again, crate::proofs::Left::members_have))]
+#[tactic(auto, using(crate::proofs::Words::nat_tests, crate::proofs::OtherGroups::longer_again, crate::proofs::OtherGroups::members_have))]
 fn covers(
     groups: &Groups,
     change: &GroupChange,
@@ -103,16 +103,16 @@ fn change_at(
         (moments_by (world_of rows.now) (cover_after change.now rows.now.groups))
         (if_changed result) }
 {
-    let stamps = rows.files.version_at(file, mark)?;
-    let ended = stamps.ended?;
-    let covers = &covers(&rows.groups, change, file, stamps.closed, ended);
-    if covers.0 == covers.1 || rows.files.is_open(file, stamps.number) {
+    let info = rows.files.version_at(file, mark)?;
+    let ended = info.ended?;
+    let covers = &covers(&rows.groups, change, file, info.closed, ended);
+    if covers.0 == covers.1 || rows.files.is_open(file, info.number) {
         return None;
     }
-    let ripe = unmarked_moment(&rows.files, live, file, &stamps, ended)?;
+    let ripe = unmarked_moment(&rows.files, live, file, &info, ended)?;
     Some(KeyChange {
         file,
-        number: stamps.number,
+        number: info.number,
         was: covers.0.ripe_past(ripe),
         is: covers.1.ripe_past(ripe),
     })

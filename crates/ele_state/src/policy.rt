@@ -3,20 +3,20 @@ ghost use Rattle.std.specs.Prelude.{◌≡◌, ◌<◌, ◌+◌, ◌||◌, nat_l
 ghost use Rattle.ele_due.specs.declared.key.Key.{Key};
 ghost use Rattle.ele_lists.specs.Lists.{AllLater};
 ghost use Rattle.ele_policy.specs.Policy.{IsPolicy};
-ghost use Rattle.ele_model.specs.Change.{PutUnder, after_change};
+ghost use Rattle.ele_model.specs.Change.{SetFilePolicy, after_change};
 ghost use Rattle.ele_model.specs.Cover.{cover_of};
 ghost use Rattle.ele_model.specs.Neighbours.{floor_in, near_moment, newer_held};
 ghost use Rattle.ele_model.specs.WellFormed.{ArePlaced};
 ghost use Rattle.ele_model.specs.World.{is_live, next_of};
 ghost use Rattle.ele_state.specs.Inside.{world_of, IsSound};
-ghost use Rattle.ele_state.specs.Queued.{AreChanges, IsTold, comes, if_changed, is_freed, is_one, is_own, rule_in, unread_under};
+ghost use Rattle.ele_state.specs.Queued.{AreChanges, IsInfoOf, comes, if_changed, is_freed, is_one, is_own, rule_in, unread_under};
 
 use crate::State;
 use crate::keys::{
     KeyChange, add_change, floor_in, near_moment, new_key, put_changed, remove_old_keys,
 };
 use crate::rows::Rows;
-use ele_model::{FileId, Moment, NoMemory, Stamps};
+use ele_model::{FileId, Moment, NoMemory, VersionInfo};
 use ele_policy::Policy;
 
 impl State {
@@ -24,10 +24,10 @@ impl State {
     ///
     /// `NoMemory` where memory is refused; the world stays.
     #[tactic(auto, using(crate::proofs::Words::nat_tests, crate::proofs::Bounded::rows_few, crate::proofs::Governed::uses_within, crate::proofs::Governed::uses_fit))]
-    pub fn put_under(&mut self, file: FileId, policy: Policy) -> Result<(), NoMemory>
+    pub fn set_policy(&mut self, file: FileId, policy: Policy) -> Result<(), NoMemory>
         requires { 0 < next_of self.old.world.files file }
         ensures ok { OnOk result
-            (self.new.world ≡ after_change self.old.world (PutUnder file policy)) }
+            (self.new.world ≡ after_change self.old.world (SetFilePolicy file policy)) }
         ensures err { OnErr result (self.new.world ≡ self.old.world) }
         ensures valid { IsPolicy policy }
     {
@@ -40,41 +40,41 @@ impl State {
         // All keys come before one goes, so that one that is refused is still without trace.
         put_changed(&mut self.rows.queue, &changes)?;
         remove_old_keys(&mut self.rows.queue, &changes);
-        self.rows.files.put_under(file, policy);
+        self.rows.files.set_policy(file, policy);
         self.rows.book.move_file(was.kind(), policy.kind(), usage);
         Ok(())
     }
 }
 
-// The ripe moment under the policy of the file's version of these stamps, which ended then, beside which the next one closed at that
+// The ripe moment under the policy of the file's version of these info, which ended then, beside which the next one closed at that
 // moment, while no handle reads it, in a file that is live or not.
 fn moment_under(
     rows: &Rows,
     file: FileId,
     is_live: bool,
     policy: &Policy,
-    stamps: &Stamps,
+    info: &VersionInfo,
     next_closed: &Option<Moment>,
     ended: Moment,
 ) -> Option<Moment>
     ensures { result ≡ near_moment (cover_of rows.now.groups file) (Some policy.now) next_closed.now
         (nat_le (floor_in (Some policy.now) is_live) (newer_held rows.now.files.versions file
-        stamps.now.number)) stamps.now.closed ended }
+        info.now.number)) info.now.closed ended }
 {
     let floor = floor_in(policy, is_live);
-    let floor_met = rows.files.has_newer(file, stamps.number, floor);
+    let floor_met = rows.files.has_newer(file, info.number, floor);
     near_moment(
         &rows.groups,
         file,
         policy,
         next_closed,
         floor_met,
-        stamps.closed,
+        info.closed,
         ended,
     )
 }
 
-// How the moment of the file's version of these stamps changes, which comes from under the one policy under the other, in a file that
+// How the moment of the file's version of these info changes, which comes from under the one policy under the other, in a file that
 // is live or not; none where a handle reads it.
 fn change_under(
     rows: &Rows,
@@ -82,25 +82,25 @@ fn change_under(
     is_live: bool,
     was: &Policy,
     is: &Policy,
-    stamps: &Stamps,
+    info: &VersionInfo,
 ) -> Option<KeyChange>
-    requires { IsTold rows.now.files file stamps.now }
-    ensures { AreChanges (is_one file stamps.now.number)
+    requires { IsInfoOf rows.now.files file info.now }
+    ensures { AreChanges (is_one file info.now.number)
         (unread_under rows.now.groups (rule_in was.now is_live) rows.now.files)
         (unread_under rows.now.groups (rule_in is.now is_live) rows.now.files)
         (if_changed result) }
 {
-    let number = stamps.number;
+    let number = info.number;
     if rows.files.is_open(file, number) {
         return None;
     }
-    let ended = stamps.ended?;
+    let ended = info.ended?;
     let next = rows.files.next_closing(file, number);
     Some(KeyChange {
         file,
         number,
-        was: moment_under(rows, file, is_live, was, stamps, &next, ended),
-        is: moment_under(rows, file, is_live, is, stamps, &next, ended),
+        was: moment_under(rows, file, is_live, was, info, &next, ended),
+        is: moment_under(rows, file, is_live, is, info, &next, ended),
     })
 }
 
@@ -121,10 +121,10 @@ fn changes_under(
     let is_live = rows.names.is_live(file);
     let held = rows.files.stamps_of_file(file)?;
     let mut changes = Vec::new(rows.alloc);
-    for stamps in held.as_slice() {
+    for info in held.as_slice() {
         add_change(
             &mut changes,
-            change_under(rows, file, is_live, was, is, stamps),
+            change_under(rows, file, is_live, was, is, info),
         )?;
     }
     Ok(changes)
@@ -138,21 +138,13 @@ fn freed_key(rows: &Rows, file: FileId, policy: &Policy, newer: u64) -> Option<K
         (newer + 1) k ≡ (is_freed rows.now.groups rows.now.files file policy.now rows.now.moment
         newer k || comes (if_changed result) k) }
 {
-    let stamps = rows.files.with_newer(file, newer)?;
-    if rows.files.is_open(file, stamps.number) {
+    let info = rows.files.with_newer(file, newer)?;
+    if rows.files.is_open(file, info.number) {
         return None;
     }
-    let ended = stamps.ended.unwrap_or(rows.moment);
-    let moment = near_moment(
-        &rows.groups,
-        file,
-        policy,
-        &None,
-        true,
-        stamps.closed,
-        ended,
-    );
-    Some(new_key(file, stamps.number, moment))
+    let ended = info.ended.unwrap_or(rows.moment);
+    let moment = near_moment(&rows.groups, file, policy, &None, true, info.closed, ended);
+    Some(new_key(file, info.number, moment))
 }
 
 // The keys of the file's newest versions, so many, as they come where no floor keeps these: under a policy with a floor no other

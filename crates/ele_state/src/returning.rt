@@ -17,7 +17,7 @@ fn has_last_version(rows: &Rows, file: FileId) -> bool
     let Some(next) = rows.files.next_of(file) else {
         return false;
     };
-    rows.files.stamps(file, next.before()).is_some()
+    rows.files.info(file, next.before()).is_some()
 }
 
 impl State {

@@ -6,7 +6,7 @@ ghost use Rattle.ele_model.specs.FileView.{is_version_of};
 ghost use Rattle.ele_model.specs.Scan.{first_due};
 ghost use Rattle.ele_model.specs.Step.{version_cells, versions_made};
 ghost use Rattle.ele_model.specs.Tagged.{version_at, version_meant};
-ghost use Rattle.ele_model.specs.Told.{stamps_of};
+ghost use Rattle.ele_model.specs.Told.{info_of};
 ghost use Rattle.ele_model.specs.Walk.{live_target};
 ghost use Rattle.ele_model.specs.World.{has_draft, is_held, is_live, next_of};
 ghost use Rattle.ele_state.specs.Home.{IsHome};
@@ -20,23 +20,23 @@ use crate::keys::{take, take_back};
 use crate::path::file_in;
 use crate::policy::freed;
 use ele_model::{
-    DirId, FileId, Key, Name, NoMemory, Refusal, Stamps, StampsList, Tag, TaggedPath, Target,
+    DirId, FileId, Key, Name, NoMemory, Refusal, StampsList, Tag, TaggedPath, Target, VersionInfo,
     VersionNo,
 };
 
 impl State {
     /// The file's version that the tag means; without one it is the current one. Refused: `NoVersion`, `Forgotten`.
-    pub fn version_meant(&self, file: FileId, tag: Tag) -> Result<Stamps, Refusal>
+    pub fn version_meant(&self, file: FileId, tag: Tag) -> Result<VersionInfo, Refusal>
         requires { 0 < next_of self.now.world.files file }
-        ensures { result ≡ result_map_both stamps_of (λ refusal. refusal)
+        ensures { result ≡ result_map_both info_of (λ refusal. refusal)
             (version_meant self.now.world.files self.now.world.versions file tag) }
     {
         self.rows.files.version_meant(file, tag)
     }
 
-    /// The file and the stamps of the version that the path and its tag mean. Refused: as `walk_meant`, `IsDirectory`, and as
+    /// The file and the info of the version that the path and its tag mean. Refused: as `walk_meant`, `IsDirectory`, and as
     /// `version_meant`.
-    pub fn version_at(&self, tagged: &TaggedPath) -> Result<(FileId, Stamps), Refusal>
+    pub fn version_at(&self, tagged: &TaggedPath) -> Result<(FileId, VersionInfo), Refusal>
         ensures value { result ≡ found_of (version_at self.now.world tagged.now) }
         ensures held { IfOk result (λ found. is_held self.now.world found.0 found.1.number ≡ true) }
         ensures cells { IfOk result (λ found. IfOk (version_at self.now.world tagged.now)
@@ -44,8 +44,8 @@ impl State {
     {
         let tag = tagged.tag();
         let file = file_in(self.walk_meant(tagged.path(), tag)?)?;
-        let stamps = self.rows.files.version_meant(file, tag)?;
-        Ok((file, stamps))
+        let info = self.rows.files.version_meant(file, tag)?;
+        Ok((file, info))
     }
 
     /// The versions that are held of the file, by number.
@@ -53,7 +53,7 @@ impl State {
     /// `NoMemory` where memory is refused.
     pub fn versions(&self, file: FileId) -> Result<StampsList, NoMemory>
         ensures { IfOk result (λ rows. rows
-            ≡ map stamps_of (filter (is_version_of file) self.now.world.versions)) }
+            ≡ map info_of (filter (is_version_of file) self.now.world.versions)) }
     {
         self.rows.files.stamps_of_file(file)
     }

@@ -9,21 +9,21 @@ use Rattle.ele_shared_history.proofs.Histories.{length-entries_of}
 use Rattle.ele_model.specs.declared.entry.Entry.{Entry}
 use Rattle.ele_storm.specs.declared.fault.StormFault.{StormFault}
 use Rattle.ele_storm.specs.declared.plan.StormPlan.{StormPlan}
-use Rattle.ele_storm.specs.Halves.{Runs, size_before}
+use Rattle.ele_storm.specs.Halves.{RunsWorkers, size_before}
 use Rattle.ele_storm.specs.Plan.{AreRounds, round_size, storm_events, task_of, workers_of}
-use Rattle.ele_storm.specs.Work.{Adds, GoesOn, MakesOne, RunsRounds, Works}
+use Rattle.ele_storm.specs.Work.{AddsCalls, SeesMore, MakesOne, RunsRounds, Works}
 use Rattle.ele_storm.specs.declared.plan.Task.{Task}
 use Rattle.ele_storm.proofs.Counts.{calls_of_both}
 use Rattle.ele_storm.proofs.Sizes.{events_next, events_of_all, length-rounds, none_before}
 use Rattle.ele_storm.proofs.Works.{starts_trans}
 
 -- as many calls as entries
-pub length-added : (a b : Knowledge) (entries : List Entry) → Adds a entries b → length b.own ≡ length a.own + length entries
+pub length-added : (a b : Knowledge) (entries : List Entry) → AddsCalls a entries b → length b.own ≡ length a.own + length entries
 length-added a b entries (calls, own, are) =
     ap length own ∙ (length-append a.own calls ∙ ap (λ n. length a.own + n) (sym (length-entries_of calls) ∙ ap length are))
 
-pub halves_run : (plan : StormPlan) (from mid upto : ℕ) (a b o c d : Knowledge) (x y : Result (Unit {0}) StormFault) → Runs plan from mid a b x → Runs plan mid upto o c y → Joined b c d → o.own ≡ []
-    → Runs plan from upto a d (result_and x y)
+pub halves_run : (plan : StormPlan) (from mid upto : ℕ) (a b o c d : Knowledge) (x y : Result (Unit {0}) StormFault) → RunsWorkers plan from mid a b x → RunsWorkers plan mid upto o c y → Joined b c d → o.own ≡ []
+    → RunsWorkers plan from upto a d (result_and x y)
 halves_run plan from mid upto a b o c d (Ok _) (Ok _) p q j none =
     record {
       object = j.object ∙ p.object;
@@ -38,8 +38,8 @@ pub length-made : (e : Event) (a b : Knowledge) → MakesOne e a b → length b.
 length-made e a b (r, adds) = length-added a b (entry e r ∷ []) adds
 
 -- one worker
-pub one_runs : (plan : StormPlan) (worker count : ℕ) (a b : Knowledge) → worker < workers_of plan → Works plan worker a count b → count ≡ round_size (task_of plan worker) * plan.rounds → GoesOn a b
-    → Runs plan worker (worker + 1) a b (Ok (tt {0}))
+pub one_runs : (plan : StormPlan) (worker count : ℕ) (a b : Knowledge) → worker < workers_of plan → Works plan worker a count b → count ≡ round_size (task_of plan worker) * plan.rounds → SeesMore a b
+    → RunsWorkers plan worker (worker + 1) a b (Ok (tt {0}))
 one_runs plan worker count a b is (entries, adds, rounds, long) many goes = record {
   object = goes.object;
   view = goes.view;

@@ -15,13 +15,13 @@ use Rattle.ele_storm.specs.declared.fault.StormFault.{StormFault}
 use Rattle.ele_storm.specs.declared.plan.Task.{Task}
 use Rattle.ele_storm.specs.declared.plan.Task.TheVariants.{Cleaner}
 use Rattle.ele_storm.specs.Plan.{file_of, handle_in, looks, tagged, writes}
-use Rattle.ele_storm.specs.Work.{Adds, GoesOn, Makes, MakesOne, RunsRound, RunsRounds}
+use Rattle.ele_storm.specs.Work.{AddsCalls, SeesMore, Makes, MakesOne, RunsRound, RunsRounds}
 use Rattle.ele_shared_history.proofs.Histories.{entries_of-append}
 
 pub starts_trans : {A : Type 0} (a b c : List A) → StartsWith a b → StartsWith b c → StartsWith a c
 starts_trans a b c p q = (q.0 ++ p.0, p.1 ∙ ap (λ l. l ++ p.0) q.1 ∙ append_assoc c q.0 p.0)
 
-pub goes_further : (a b c : Knowledge) → GoesOn a b → GoesOn b c → GoesOn a c
+pub goes_further : (a b c : Knowledge) → SeesMore a b → SeesMore b c → SeesMore a c
 goes_further a b c p q = record {
   object = q.object ∙ p.object;
   numbers = q.numbers ∙ p.numbers;
@@ -29,7 +29,7 @@ goes_further a b c p q = record {
   own = starts_trans c.own b.own a.own q.own p.own;
 }
 
-pub adds_more : (a b c : Knowledge) (xs ys : List Entry) → Adds a xs b → Adds b ys c → Adds a (xs ++ ys) c
+pub adds_more : (a b c : Knowledge) (xs ys : List Entry) → AddsCalls a xs b → AddsCalls b ys c → AddsCalls a (xs ++ ys) c
 adds_more a b c xs ys (ps, p, pe) (qs, q, qe) = (
   ps ++ qs,
   q ∙ ap (λ l. l ++ qs) p ∙ append_assoc a.own ps qs,
@@ -37,7 +37,7 @@ adds_more a b c xs ys (ps, p, pe) (qs, q, qe) = (
 )
 
 pub written : (a b c d e : Knowledge) (writer round handle : ℕ) (path : List (List ℕ)) (bytes : List ℕ) (opened : Reply) → path ≡ file_of writer → bytes ≡ to_be_bytes w64 round → handle ≡ handle_in opened
-    → MakesOne (Tick 1) a b → Adds b (entry (OpenWrite path) opened ∷ []) c → MakesOne (Write handle 0 bytes) c d → MakesOne (Close handle) d e → Makes (writes writer round) a e
+    → MakesOne (Tick 1) a b → AddsCalls b (entry (OpenWrite path) opened ∷ []) c → MakesOne (Write handle 0 bytes) c d → MakesOne (Close handle) d e → Makes (writes writer round) a e
 written a b c d e writer round handle path bytes opened is_path is_bytes is_handle (r, ticks) opens (s, lays) (t, closes) = (
   entry (Tick 1) r ∷ entry (OpenWrite path) opened ∷ entry (Write handle 0 bytes) s ∷ entry (Close handle) t ∷ [],
   adds_more a d e (entry (Tick 1) r ∷ entry (OpenWrite path) opened ∷ entry (Write handle 0 bytes) s ∷ []) (entry (Close handle) t ∷ [])

@@ -12,7 +12,7 @@ size_before plan worker =
 
 -- the workers from one number to another: the seat has seen no less, and where none failed it has as many calls more as all
 -- their rounds have events
-pub record Runs (plan : StormPlan) (from upto : ℕ) (before after : Knowledge) {A : Type 0} (result : Result A StormFault) : Type 0 where
+pub record RunsWorkers (plan : StormPlan) (from upto : ℕ) (before after : Knowledge) {A : Type 0} (result : Result A StormFault) : Type 0 where
   pub object : after.object ≡ before.object
   pub view : StartsWith after.view before.view
   pub own : OnOk result

@@ -11,23 +11,23 @@ use Rattle.ele_storm.specs.declared.plan.Task.{Task}
 use Rattle.ele_storm.specs.Plan.{AreOf, AreRounds, round_events, task_of}
 
 -- it has seen no less, and is the same seat
-pub record GoesOn (before after : Knowledge) : Type 0 where
+pub record SeesMore (before after : Knowledge) : Type 0 where
   pub object : after.object ≡ before.object
   pub numbers : after.numbers ≡ before.numbers
   pub view : StartsWith after.view before.view
   pub own : StartsWith after.own before.own
 
 -- behind its own calls stand just these entries
-abbrev pub Adds : Knowledge → List Entry → Knowledge → Type 0
-Adds before entries after = (calls : List Call) × (after.own ≡ before.own ++ calls) × (entries_of calls ≡ entries)
+abbrev pub AddsCalls : Knowledge → List Entry → Knowledge → Type 0
+AddsCalls before entries after = (calls : List Call) × (after.own ≡ before.own ++ calls) × (entries_of calls ≡ entries)
 
 -- just this event
 abbrev pub MakesOne : Event → Knowledge → Knowledge → Type 0
-MakesOne event before after = (reply : Reply) × Adds before (entry event reply ∷ []) after
+MakesOne event before after = (reply : Reply) × AddsCalls before (entry event reply ∷ []) after
 
 -- just these events, through the handle that one of them opened
 abbrev pub Makes : (ℕ → List Event) → Knowledge → Knowledge → Type 0
-Makes events before after = (entries : List Entry) × Adds before entries after × AreOf events entries
+Makes events before after = (entries : List Entry) × AddsCalls before entries after × AreOf events entries
 
 -- just those of a round
 abbrev pub RunsRound : ℕ → Task → ℕ → Knowledge → Knowledge → Type 0
@@ -36,9 +36,9 @@ RunsRound writers task round before after = Makes (round_events writers task rou
 -- just those of so many rounds
 abbrev pub RunsRounds : ℕ → Task → ℕ → Knowledge → Knowledge → Type 0
 RunsRounds writers task rounds before after =
-    (entries : List Entry) × Adds before entries after × AreRounds writers task rounds entries
+    (entries : List Entry) × AddsCalls before entries after × AreRounds writers task rounds entries
 
 -- just so many, which are those of all rounds of the worker
 abbrev pub Works : StormPlan → ℕ → Knowledge → ℕ → Knowledge → Type 0
 Works plan worker before count after =
-    (entries : List Entry) × Adds before entries after × AreRounds plan.writers (task_of plan worker) plan.rounds entries × (count ≡ length entries)
+    (entries : List Entry) × AddsCalls before entries after × AreRounds plan.writers (task_of plan worker) plan.rounds entries × (count ≡ length entries)

@@ -2,7 +2,7 @@
 ghost use Rattle.std.specs.Prelude.{◌≡◌, ◌+◌, IfOk, OnOk, length};
 ghost use Rattle.ele_shared_history.specs.Running.{StartsWith};
 ghost use Rattle.ele_storm.specs.Plan.{storm_events};
-ghost use Rattle.ele_storm.specs.Work.{GoesOn};
+ghost use Rattle.ele_storm.specs.Work.{SeesMore};
 
 use crate::events::file_of;
 use crate::fault::StormFault;
@@ -55,7 +55,7 @@ fn prepare<C: Step, R: Wait>(
     requires { seat.old.object ≡ shared.now }
     ensures own { OnOk result
         (length seat.new.own ≡ length seat.old.own + 1 + plan.now.writers) }
-    ensures seen { GoesOn seat.old seat.new }
+    ensures seen { SeesMore seat.old seat.new }
 {
     let root = root(alloc)?;
     make(rt, shared, seat, Event::SetDefault(root, policy()))?;

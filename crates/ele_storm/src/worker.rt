@@ -2,7 +2,7 @@
 ghost use Rattle.std.specs.Prelude.{◌≡◌, ◌*◌, ◌<◌, IfOk, [], ◌∷◌, OnOk};
 ghost use Rattle.ele_shared_history.specs.Running.{entry};
 ghost use Rattle.ele_storm.specs.Plan.{looks, round_size, task_of, workers_of, writes};
-ghost use Rattle.ele_storm.specs.Work.{Adds, GoesOn, Makes, MakesOne, RunsRound, RunsRounds, Works};
+ghost use Rattle.ele_storm.specs.Work.{AddsCalls, SeesMore, Makes, MakesOne, RunsRound, RunsRounds, Works};
 
 use crate::events::{bytes_of, file_now, file_of, first_version, handle_in};
 use crate::fault::StormFault;
@@ -32,7 +32,7 @@ pub fn work<C: Step, R: Wait, M: Meet>(
     requires worker { worker < workers_of plan.now }
     ensures ok { IfOk result (λ count. Works plan.now worker seat.old count seat.new) }
     ensures count { IfOk result (λ count. count ≡ round_size (task_of plan.now worker) * plan.now.rounds) }
-    ensures seen { GoesOn seat.old seat.new }
+    ensures seen { SeesMore seat.old seat.new }
 {
     let task = plan.task(worker);
     if meet.arrive(worker) == MeetEnd::Alone {
@@ -66,7 +66,7 @@ fn run_rounds<C: Step, R: Wait>(
     requires { seat.old.object ≡ shared.now }
     ensures ok { OnOk result
         (RunsRounds plan.now.writers task plan.now.rounds seat.old seat.new) }
-    ensures seen { GoesOn seat.old seat.new }
+    ensures seen { SeesMore seat.old seat.new }
 {
     for round in 0..u64::from(plan.rounds) {
         run_round(rt, alloc, shared, seat, plan, task, round)?;
@@ -87,7 +87,7 @@ fn run_round<C: Step, R: Wait>(
     requires object { seat.old.object ≡ shared.now }
     requires round { round < plan.now.rounds }
     ensures ok { OnOk result (RunsRound plan.now.writers task round seat.old seat.new) }
-    ensures seen { GoesOn seat.old seat.new }
+    ensures seen { SeesMore seat.old seat.new }
 {
     match task {
         Task::Writer(writer) => write(rt, alloc, shared, seat, writer, round),
@@ -110,7 +110,7 @@ fn write<C: Step, R: Wait>(
 ) -> Result<(), StormFault>
     requires { seat.old.object ≡ shared.now }
     ensures ok { OnOk result (Makes (writes writer round) seat.old seat.new) }
-    ensures seen { GoesOn seat.old seat.new }
+    ensures seen { SeesMore seat.old seat.new }
 {
     let path = file_of(alloc, u64::from(writer))?;
     let bytes = bytes_of(alloc, round)?;
@@ -132,7 +132,7 @@ fn look<C: Step, R: Wait>(
 ) -> Result<(), StormFault>
     requires { seat.old.object ≡ shared.now }
     ensures ok { OnOk result (Makes (looks writer) seat.old seat.new) }
-    ensures seen { GoesOn seat.old seat.new }
+    ensures seen { SeesMore seat.old seat.new }
 {
     let file = file_now(alloc, writer)?;
     let first = first_version(alloc, writer)?;
@@ -150,7 +150,7 @@ pub(crate) fn make<C: Step, R: Wait>(
 ) -> Result<(), StormFault>
     requires { seat.old.object ≡ shared.now }
     ensures ok { OnOk result (MakesOne event seat.old seat.new) }
-    ensures seen { GoesOn seat.old seat.new }
+    ensures seen { SeesMore seat.old seat.new }
 {
     ask(rt, shared, seat, event)?;
     Ok(())
@@ -164,8 +164,8 @@ fn ask<C: Step, R: Wait>(
     event: Event,
 ) -> Result<Reply, StormFault>
     requires { seat.old.object ≡ shared.now }
-    ensures ok { IfOk result (λ reply. Adds seat.old (entry event reply ∷ []) seat.new) }
-    ensures seen { GoesOn seat.old seat.new }
+    ensures ok { IfOk result (λ reply. AddsCalls seat.old (entry event reply ∷ []) seat.new) }
+    ensures seen { SeesMore seat.old seat.new }
 {
     Ok(shared.call(rt, seat, event)?)
 }

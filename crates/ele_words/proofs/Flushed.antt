@@ -12,7 +12,7 @@ use Rattle.std.specs.List.{AllByRecursion}
 use Rattle.ele_runs.specs.RunState.{RunState}
 use Rattle.ele_runs.specs.LineLength.{line_unless_long}
 use Rattle.ele_runs.specs.Lines.{IsUnbroken, whole_lines}
-use Rattle.ele_runs.specs.Telling.{EndsBy, HasTold, ToldPastABound, ToldToAReadFault, ToldToAWriteFault}
+use Rattle.ele_runs.specs.Telling.{EndsAtLine, HasTold, ToldPastABound, ToldToAReadFault, ToldToAWriteFault}
 use Rattle.ele_runs.specs.Told.{cut_told}
 use Rattle.ele_runs.specs.declared.end.EndLine.{EndLine}
 use Rattle.ele_runs.specs.declared.end.RunEnd.{RunEnd}
@@ -165,7 +165,7 @@ front_of_kept old new bytes same = record { front = []; back = bytes; parts = re
 
 -- a run that a line ended has got as far as one whose writer failed
 ended_write_fault : (start : RunState) (is_cut : Bool) (input rest old new notes : Option (List ℕ)) (given : List ℕ) (lines : List (List ℕ)) (line text : List ℕ) → Consumes input rest given
-    → AllByRecursion IsUnbroken lines → IsUnbroken line → EndsBy is_cut start given rest lines line text notes → Appends old new text → ToldToAWriteFault start input old new notes
+    → AllByRecursion IsUnbroken lines → IsUnbroken line → EndsAtLine is_cut start given rest lines line text notes → Appends old new text → ToldToAWriteFault start input old new notes
 ended_write_fault start false input rest old new notes given lines line text taken whole unbroken by written = record {
   lines = lines ++ line ∷ [];
   rest = by.behind ++ left rest;

@@ -4,7 +4,7 @@ use Rattle.std.specs.Prelude.{codes, decimal}
 use Rattle.ele_runs.specs.declared.fault.ShellFault.{ShellFault}
 use Rattle.ele_runs.specs.declared.fault.ShellFault.TheVariants.{ReadFault, WriteFault, TooManyLines, NoMemory}
 use Rattle.ele_words.specs.Ends.{HasWritten}
-use Rattle.ele_words.specs.Storms.{HasTold, audit_word, storm_line}
+use Rattle.ele_words.specs.Storms.{HasPutLine, audit_word, storm_line}
 
 -- the line, piece after piece
 pub line_is : (events : ℕ) (equal : Bool) → codes "storm events " ++ (decimal events ++ (codes " audit " ++ (audit_word equal ++ codes "\n"))) ≡ storm_line events equal
@@ -12,7 +12,7 @@ line_is events equal =
     ap (λ (rest : List ℕ). codes "storm events " ++ rest) (sym (append_assoc (decimal events) (codes " audit " ++ audit_word equal) (10 ∷ [])))
 
 -- its text was written
-pub as_told : (line : List ℕ) (old new : Option (List ℕ)) (fault : Option ShellFault) → HasWritten line old new fault → HasTold line old new fault
+pub as_told : (line : List ℕ) (old new : Option (List ℕ)) (fault : Option ShellFault) → HasWritten line old new fault → HasPutLine line old new fault
 as_told line old new None is = is
 as_told line old new (Some ReadFault) is = is
 as_told line old new (Some WriteFault) is = is

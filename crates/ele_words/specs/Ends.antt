@@ -6,7 +6,7 @@ use Rattle.ele_history.specs.Past.{fresh}
 use Rattle.ele_runs.specs.RunState.{begun}
 use Rattle.ele_runs.specs.declared.fault.ShellFault.{ShellFault}
 use Rattle.ele_runs.specs.declared.fault.ShellFault.TheVariants.{ReadFault, WriteFault, TooManyLines, NoMemory}
-pub use Rattle.ele_words.specs.Status.{fault_line, Tells}
+pub use Rattle.ele_words.specs.Status.{fault_line, TellsFault}
 use Rattle.ele_words.specs.Status.{status_of}
 use Rattle.ele_words.specs.Forecasts.{ForecastEnds}
 pub use Rattle.ele_words.specs.RunEnds.{HasRun, RunEnds}
@@ -27,7 +27,7 @@ pub record Ends (Done : Option ShellFault → Type 0) (before after : Option (Li
   pub fault : Option ShellFault
   pub done : Done fault
   pub status_is : status ≡ status_of fault
-  pub told : Tells fault before after
+  pub told : TellsFault fault before after
 
 -- by what was asked for; words that weren't understood are told with status 2
 abbrev pub EndsWith : Invocation → Bool → Option (List ℕ) → Option (List ℕ) → Option (List ℕ) → Option (List ℕ) → Option (List ℕ) → Option (List ℕ) → ℕ → Type 0

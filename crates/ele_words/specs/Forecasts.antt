@@ -4,7 +4,7 @@ use Rattle.std.specs.Io.KnownBytes.{Keeps}
 use Rattle.ele_printer.specs.Front.{AppendsFront}
 use Rattle.ele_runs.specs.declared.fault.ShellFault.TheVariants as shell
 use Rattle.ele_outlook.specs.Foretold.{Foretells}
-use Rattle.ele_outlook.specs.Input.{bad_text}
+use Rattle.ele_outlook.specs.Input.{bad_line_text}
 use Rattle.ele_outlook.specs.declared.options.ForecastOptions.{ForecastOptions}
 use Rattle.ele_outlook.specs.declared.fault.ForecastFault.{ForecastFault}
 use Rattle.ele_outlook.specs.declared.fault.ForecastFault.TheVariants.{ReadFault, BadInput, TooMany, WriteFault, NoMemory}
@@ -20,7 +20,7 @@ forecast_status NoMemory = 3
 -- the line that tells a fault of a forecast
 abbrev pub forecast_line : ForecastFault → List ℕ
 forecast_line ReadFault = fault_line shell.ReadFault
-forecast_line (BadInput number why) = bad_text number why
+forecast_line (BadInput number why) = bad_line_text number why
 forecast_line TooMany = codes "elephant: more than 2000 versions to draw\n"
 forecast_line WriteFault = fault_line shell.WriteFault
 forecast_line NoMemory = fault_line shell.NoMemory

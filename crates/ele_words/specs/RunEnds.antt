@@ -9,7 +9,7 @@ use Rattle.ele_runs.specs.declared.fault.ShellFault.{ShellFault}
 use Rattle.ele_runs.specs.declared.fault.ShellFault.TheVariants.{ReadFault, WriteFault, TooManyLines, NoMemory}
 use Rattle.ele_runs.specs.declared.options.RunOptions.{RunOptions}
 use Rattle.ele_words.specs.Status.{fault_status}
-use Rattle.ele_words.specs.StrictEnd.{TellsEnd, end_status}
+use Rattle.ele_words.specs.StrictEnd.{TellsStrictEnd, end_status}
 use Rattle.ele_words.specs.SystemReason.{IsReasonOf, failed_line}
 use Rattle.ele_words.specs.declared.system_reason.SystemReason.{SystemReason}
 
@@ -28,7 +28,7 @@ run_status (Err fault) = fault_status fault
 
 -- which line ended it was told, or which fault, and why the system failed to read or to write, where that is known
 abbrev pub TellsRun : RunOptions → Result RunEnd ShellFault → Option (List ℕ) → Option (List ℕ) → Type 0
-TellsRun options (Ok end) before after = TellsEnd options end.lines end.ended_by before after
+TellsRun options (Ok end) before after = TellsStrictEnd options end.lines end.ended_by before after
 TellsRun options (Err fault) before after =
     (why : Option SystemReason) × IsReasonOf fault why × AppendsFront before after (failed_line fault why)
 

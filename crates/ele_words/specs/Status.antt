@@ -46,6 +46,6 @@ abbrev pub fault_line : ShellFault → List ℕ
 fault_line fault = line_text (codes "elephant:" ∷ decimal (number_of fault) ∷ name_of fault ∷ [])
 
 -- the line of the fault was written, or a front of it; nothing where there is none
-abbrev pub Tells : Option ShellFault → Option (List ℕ) → Option (List ℕ) → Type 0
-Tells None before after = Keeps before after
-Tells (Some fault) before after = AppendsFront before after (fault_line fault)
+abbrev pub TellsFault : Option ShellFault → Option (List ℕ) → Option (List ℕ) → Type 0
+TellsFault None before after = Keeps before after
+TellsFault (Some fault) before after = AppendsFront before after (fault_line fault)

@@ -10,7 +10,7 @@ use Rattle.ele_storm.specs.Fault.{name_of, number_of}
 use Rattle.ele_storm.specs.declared.fault.AuditFault.{AuditFault}
 use Rattle.ele_storm.specs.declared.plan.StormPlan.{StormPlan}
 use Rattle.ele_model.specs.Bounds.{largest_bounds}
-use Rattle.ele_words.specs.Status.{fault_status, storm_status, Tells}
+use Rattle.ele_words.specs.Status.{fault_status, storm_status, TellsFault}
 
 -- the line that tells a fault of a storm
 abbrev pub storm_fault_line : AuditFault → List ℕ
@@ -30,12 +30,12 @@ HasStormed plan (Ok told) = IsAudited largest_bounds plan told.0 told.1
 HasStormed plan (Err fault) = Unit {0}
 
 -- a line, by the fault that ended it: all of it was written, a front, or nothing without memory
-abbrev pub HasTold : List ℕ → Option (List ℕ) → Option (List ℕ) → Option ShellFault → Type 0
-HasTold line old new None = Appends old new line
-HasTold line old new (Some shell.WriteFault) = AppendsFront old new line
-HasTold line old new (Some shell.NoMemory) = Keeps old new
-HasTold line old new (Some shell.ReadFault) = ⊥
-HasTold line old new (Some shell.TooManyLines) = ⊥
+abbrev pub HasPutLine : List ℕ → Option (List ℕ) → Option (List ℕ) → Option ShellFault → Type 0
+HasPutLine line old new None = Appends old new line
+HasPutLine line old new (Some shell.WriteFault) = AppendsFront old new line
+HasPutLine line old new (Some shell.NoMemory) = Keeps old new
+HasPutLine line old new (Some shell.ReadFault) = ⊥
+HasPutLine line old new (Some shell.TooManyLines) = ⊥
 
 -- the status after a line, 0 only where all was equal
 abbrev pub told_status : Bool → Option ShellFault → ℕ
@@ -45,8 +45,8 @@ told_status equal (Some fault) = fault_status fault
 -- a storm that was audited is told
 pub record TellsStorm (events : ℕ) (equal : Bool) (old new before after : Option (List ℕ)) (status : ℕ) : Type 0 where
   pub fault : Option ShellFault
-  pub line : HasTold (storm_line events equal) old new fault
-  pub told : Tells fault before after
+  pub line : HasPutLine (storm_line events equal) old new fault
+  pub told : TellsFault fault before after
   pub status_is : status ≡ told_status equal fault
 
 abbrev pub TellsEnd : Result (ℕ × Bool) AuditFault → Option (List ℕ) → Option (List ℕ) → Option (List ℕ) → Option (List ℕ) → ℕ → Type 0

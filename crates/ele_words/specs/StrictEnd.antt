@@ -3,7 +3,7 @@ use Rattle.std.specs.Prelude.{◌≡◌, ℕ, Bool, true, false, List, [], ◌�
 use Rattle.std.specs.Io.KnownBytes.{Keeps}
 use Rattle.ele_printer.specs.Front.{AppendsFront}
 use Rattle.ele_printer.specs.Printed.{line_text}
-use Rattle.ele_runs.specs.WhyBad.{IsWhy, cut_reason, why_line}
+use Rattle.ele_runs.specs.WhyBad.{IsBadReason, cut_reason, why_line}
 use Rattle.ele_runs.specs.declared.end.EndLine.{EndLine}
 use Rattle.ele_runs.specs.declared.options.RunOptions.{RunOptions}
 use Rattle.ele_script.specs.declared.reasons.Reason.{Reason}
@@ -25,10 +25,10 @@ end_line number line = line_text (codes "elephant: line" ∷ decimal number ∷ 
 -- so is what is told of why the line was not run, if it is a last one without its line feed, or why it is no command
 abbrev pub IsWhyEnded : Bool → RunOptions → Option (List ℕ) → Option Reason → Type 0
 IsWhyEnded true options line why = why ≡ cut_reason line
-IsWhyEnded false options line why = IsWhy options line why
+IsWhyEnded false options line why = IsBadReason options line why
 
 -- which line ended the run was told, and why it is no command, or a front of it; nothing where no line ended the run
-abbrev pub TellsEnd : RunOptions → ℕ → Option EndLine → Option (List ℕ) → Option (List ℕ) → Type 0
-TellsEnd options number None before after = Keeps before after
-TellsEnd options number (Some end) before after =
+abbrev pub TellsStrictEnd : RunOptions → ℕ → Option EndLine → Option (List ℕ) → Option (List ℕ) → Type 0
+TellsStrictEnd options number None before after = Keeps before after
+TellsStrictEnd options number (Some end) before after =
     (why : Option Reason) × IsWhyEnded end.is_cut options end.line why × AppendsFront before after (end_line number end.line ++ why_line number why)

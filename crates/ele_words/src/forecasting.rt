@@ -2,7 +2,7 @@
 //! A contract sees what was read, what both hold then, and the status.
 ghost use Rattle.std.specs.Prelude.{◌≡◌, codes};
 ghost use Rattle.ele_printer.specs.Front.{AppendsFront};
-ghost use Rattle.ele_outlook.specs.Input.{bad_text};
+ghost use Rattle.ele_outlook.specs.Input.{bad_line_text};
 ghost use Rattle.ele_words.specs.Forecasts.{ForecastEnds, forecast_line, forecast_status};
 
 use crate::failure::{Failure, status};
@@ -62,7 +62,7 @@ fn tell_too_many<E: Write>(errors: &mut E) -> u8
 fn tell_bad_line<E: Write>(number: u64, why: BadLine, errors: &mut E) -> u8
     ensures status { result ≡ 2 }
     ensures told { AppendsFront (E.contents errors.old) (E.contents errors.new)
-        (bad_text number why) }
+        (bad_line_text number why) }
 {
     let _ = write_bad_line(number, why, errors);
     let _ = errors.flush();

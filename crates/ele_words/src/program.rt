@@ -5,7 +5,7 @@ ghost use Rattle.std.specs.Result.{result_err};
 ghost use Rattle.ele_history.specs.Past.{fresh};
 ghost use Rattle.ele_runs.specs.RunState.{begun};
 ghost use Rattle.ele_words.specs.Status.{status_of};
-ghost use Rattle.ele_words.specs.Ends.{HasRun, HasWritten, Tells, EndsWith};
+ghost use Rattle.ele_words.specs.Ends.{HasRun, HasWritten, TellsFault, EndsWith};
 ghost use Rattle.ele_words.specs.RunEnds.{TellsRun, run_status};
 ghost use Rattle.ele_words.specs.SystemReason.{IsReasonOf};
 
@@ -75,7 +75,7 @@ fn why_failed<R: LastError, W: LastError>(
     }
 }
 
-// Tells how a run ended, and why where the system failed, and the status to end with.
+// TellsFault how a run ended, and why where the system failed, and the status to end with.
 fn tell_run<E: Write>(
     alloc: Global,
     options: RunOptions,
@@ -104,10 +104,10 @@ pub(crate) fn write_text<W: Write>(text: &str, writer: &mut W) -> Result<(), She
     after_flush(Ok(()), &flushed)
 }
 
-/// Tells the fault as its number and its name, if there is one, and the status to end with.
+/// TellsFault the fault as its number and its name, if there is one, and the status to end with.
 pub(crate) fn tell<E: Write>(fault: Option<ShellFault>, errors: &mut E) -> u8
     ensures status { result ≡ status_of fault }
-    ensures told { Tells fault (E.contents errors.old) (E.contents errors.new) }
+    ensures told { TellsFault fault (E.contents errors.old) (E.contents errors.new) }
 {
     let Some(fault) = fault else {
         return 0;

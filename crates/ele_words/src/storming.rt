@@ -5,7 +5,7 @@ ghost use Rattle.std.specs.Result.{result_err};
 ghost use Rattle.ele_printer.specs.Front.{AppendsFront};
 ghost use Rattle.ele_words.specs.Progress.{EndsWatched};
 ghost use Rattle.ele_words.specs.Status.{storm_status};
-ghost use Rattle.ele_words.specs.Storms.{HasStormed, HasTold, TellsEnd, TellsStorm, audit_word, storm_fault_line, storm_line};
+ghost use Rattle.ele_words.specs.Storms.{HasStormed, HasPutLine, TellsEnd, TellsStorm, audit_word, storm_fault_line, storm_line};
 ghost use Rattle.ele_words.specs.Watched.{Watched};
 
 use crate::failure::{Failure, status};
@@ -101,7 +101,7 @@ fn write_line<W: Write>(
     equal: bool,
     writer: &mut W,
 ) -> Result<(), ShellFault>
-    ensures { HasTold (storm_line events equal) (W.contents writer.old) (W.contents writer.new)
+    ensures { HasPutLine (storm_line events equal) (W.contents writer.old) (W.contents writer.new)
         (result_err result) }
 {
     let word = audit_word(equal);

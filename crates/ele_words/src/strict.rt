@@ -3,7 +3,7 @@
 ghost use Rattle.std.specs.Prelude.{◌≡◌, ◌++◌};
 ghost use Rattle.ele_printer.specs.Front.{AppendsFront};
 ghost use Rattle.ele_runs.specs.WhyBad.{why_line};
-ghost use Rattle.ele_words.specs.StrictEnd.{IsWhyEnded, TellsEnd, end_line, end_status, shown};
+ghost use Rattle.ele_words.specs.StrictEnd.{IsWhyEnded, TellsStrictEnd, end_line, end_status, shown};
 
 use crate::failure::{Failure, status};
 use ele_runs::{EndLine, LineBuffer, RunEnd, RunOptions, tell_why, why_bad, why_cut};
@@ -20,7 +20,7 @@ pub(crate) fn report_end<E: Write>(
     errors: &mut E,
 ) -> u8
     ensures status { result ≡ end_status ran.now.ended_by }
-    ensures told { TellsEnd options ran.now.lines ran.now.ended_by (E.contents errors.old)
+    ensures told { TellsStrictEnd options ran.now.lines ran.now.ended_by (E.contents errors.old)
         (E.contents errors.new) }
 {
     let Some(end) = &ran.ended_by else {

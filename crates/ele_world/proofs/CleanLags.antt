@@ -14,7 +14,7 @@ use Rattle.ele_model.proofs.Dropped.{IsIdle, dropped as dropped_by}
 use Rattle.ele_model.proofs.DueRows.{IsDueKey, first_is_due}
 use Rattle.ele_model.proofs.Elements.{any_none}
 use Rattle.ele_world.proofs.Filters.{remove_first-version}
-use Rattle.ele_world.proofs.Lagging.{stays_file, stays_name, live_same, all_of_left, due_lags}
+use Rattle.ele_world.proofs.LagsKeeps.{stays_file, stays_name, live_same, all_of_left, due_lags}
 use Rattle.ele_model.proofs.Views.{placed_of}
 
 -- a world with other files, names and versions

@@ -4,7 +4,7 @@ use Rattle.ele_model.proofs.Words.{after_changes, ShutHandle, EndDraft, Append, 
 use Rattle.ele_model.proofs.Words.{reads_by, after_change, file_now, version_meant, Names}
 use Rattle.ele_model.specs.declared.reply.Reply.TheVariants as reply
 use Rattle.ele_path.specs.declared.tagged.Tag.TheVariants as tag
-use Rattle.ele_model.proofs.Outcomes.{in_all}
+use Rattle.ele_model.proofs.PlanOutcomes.{in_all}
 use Rattle.ele_model.proofs.Files.{next_of-numbered_on}
 use Rattle.ele_model.proofs.Walks.{file_there}
 use Rattle.ele_model.proofs.NextVersion.{new_found}

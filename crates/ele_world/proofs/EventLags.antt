@@ -1,6 +1,6 @@
 -- The law of an event made in both worlds: its plan is the same, and each change keeps what is missing.
 use Rattle.ele_model.proofs.Basics.{◌≡◌, ◌<◌, ℕ, Bool, true, false, cond, List, [], ◌∷◌, None, Some, Option, Result, Ok, Err, refl, ap, sym, subst, ◌∙◌, arith, nat_tests, find, list_any, option_map_or, all-found, any-found, found_passes, false≢true, filter, ◌+◌}
-use Rattle.ele_model.proofs.Words.{Append, AddName, Change, Drafts, DropIdle, EndDraft, EndFileName, EndName, IsEvent, Govern, Handles, IsDraft, IsHandle, HasParts, MakeDirectory, MakeFile, MoveName, OpenHandle, ShutHandle, StartDraft, Time, TruncateDraft, World, WriteDraft}
+use Rattle.ele_model.proofs.Words.{Append, AddName, Change, Drafts, DropIdle, EndDraft, EndFileName, EndName, IsEvent, SetDirectoryDefault, Handles, IsDraft, IsHandle, HasParts, MakeDirectory, MakeFile, MoveName, OpenHandle, ShutHandle, StartDraft, Time, TruncateDraft, World, WriteDraft}
 use Rattle.ele_world.proofs.Words.{Clock, Close, Create, Directory, Draft, DraftRow, Event, File, Link, MakeDir, OpenWrite, Refusal, RemoveDir, Rename, Reply, SetDefault, Target, Tick, Truncate, Unlink, Write}
 use Rattle.ele_model.proofs.Words.{after_change, after_changes, asks, draft_read, default_of, is_live_in, live_target, stands_in, walk, file_by, has_draft, is_draft, is_handle, next_of, outcome, plan, reads_by}
 use Rattle.ele_world.specs.EventLags.{LagsAfter}
@@ -10,16 +10,16 @@ use Rattle.ele_model.specs.Plan.{found_outcome}
 use Rattle.ele_model.specs.Step.{has_other_writer}
 use Rattle.ele_world.specs.PlainEvents.{is_plain}
 use Rattle.ele_model.proofs.Allowed.{allowed}
-use Rattle.ele_world.proofs.Behind.{Behind, drafted_there, lagging, live_there, names_live}
-use Rattle.ele_world.proofs.BothDrafts.{drop_both, end_draft_both, open_both, shut_both, start_both, truncate_both, write_both}
-use Rattle.ele_world.proofs.BothNames.{add_both, directory_both, end_both, end_file_both, govern_both, move_both, time_both}
-use Rattle.ele_world.proofs.BothSteps.{both_after, same_reply}
-use Rattle.ele_world.proofs.BothVersions.{append_both, make_both}
+use Rattle.ele_world.proofs.ChangesLag.{Behind, drafted_there, lagging, live_there, names_live}
+use Rattle.ele_world.proofs.DraftsLag.{drop_both, end_draft_both, open_both, shut_both, start_both, truncate_both, write_both}
+use Rattle.ele_world.proofs.NamesLag.{add_both, directory_both, end_both, end_file_both, govern_both, move_both, time_both}
+use Rattle.ele_world.proofs.PlansLag.{both_after, same_reply}
+use Rattle.ele_world.proofs.NewVersionsLag.{append_both, make_both}
 use Rattle.ele_model.proofs.Keeps.{event_keeps}
-use Rattle.ele_world.proofs.Lagging.{next_same, stays_name}
+use Rattle.ele_world.proofs.LagsKeeps.{next_same, stays_name}
 use Rattle.ele_world.proofs.LiveNames.{names_in_stay, stands_stays, target_stays, walk_stays}
 use Rattle.ele_model.proofs.May.{MayBy}
-use Rattle.ele_model.proofs.Outcomes.{InAll, asking_stays}
+use Rattle.ele_model.proofs.PlanOutcomes.{InAll, asking_stays}
 use Rattle.ele_model.proofs.Walks.{file_live, target_live}
 
 -- answers that are the same of whatever is found
@@ -137,7 +137,7 @@ module _ (gone : ℕ → ℕ → Bool) (dropped : ℕ → Bool) (v : World) (b :
       let may = (allowed v (Rename from to) b.formed old found moved leads at named into free names).0 in
       one (Rename from to) is (MoveName old.0 old.1 at.0 at.1 moved) may (move_both gone dropped behind v b old.0 old.1 at.0 at.1 moved (target_there moved old.0 old.1 may.stands) (λ f same. target_live v.names old.0 old.1 (File f) (may.stands ∙ ap Some same))))
   names_lag (SetDefault path policy) is plain changes = by_plan (SetDefault path policy) (simp walks) (λ directory leads.
-      one (SetDefault path policy) is (Govern directory policy) (allowed v (SetDefault path policy) b.formed directory leads).0 (govern_both gone dropped behind v b directory policy))
+      one (SetDefault path policy) is (SetDirectoryDefault directory policy) (allowed v (SetDefault path policy) b.formed directory leads).0 (govern_both gone dropped behind v b directory policy))
   names_lag (Write handle offset bytes) is plain changes = by_plan (Write handle offset bytes) refl (λ file found. (
     λ empty. now,
     λ some fits. one (Write handle offset bytes) is (WriteDraft file offset bytes) ((allowed v (Write handle offset bytes) b.formed file found).1 some fits).0 (write_both gone dropped behind v b file offset bytes (written_drafted v handle file b.formed found)),

@@ -1,15 +1,15 @@
 -- What a policy event, a default event and a mark change, and that nothing else changes.
 use Rattle.ele_model.proofs.Basics.{nat_tests, arith, ◌≡◌, ℕ, ◌==◌, Bool, Option, true, false, List, [], ◌∷◌, map, Ok, refl, option_map_or, list_any, update_first, find-update_other, list_any-update_first, all-found}
-use Rattle.ele_model.proofs.Words.{World, Policy, HasParts, Names, Homes, Directories, IsDirectoryThere, Govern, PutUnder, AddMark, after_change, directory_in, directory_now, file_now, governed_by, has_directory, has_member, is_directory, is_file, is_group, is_member, members_of, marks, put_under, root, walk_now, step}
+use Rattle.ele_model.proofs.Words.{World, Policy, HasParts, Names, Homes, Directories, IsDirectoryThere, SetDirectoryDefault, SetFilePolicy, AddMark, after_change, directory_in, directory_now, file_now, governed_by, has_directory, has_member, is_directory, is_file, is_group, is_member, members_of, marks, set_policy, root, walk_now, step}
 use Rattle.ele_world.proofs.Words.{FileRow, DirectoryRow, Directory, GroupRow, MarkRow}
 use Rattle.ele_world.specs.DefaultGoverns.{GovernsDirectory}
 use Rattle.ele_world.specs.MarkMarks.{MarksMoment}
 use Rattle.ele_world.specs.PolicyGoverns.{GovernsFile}
 use Rattle.ele_lists.proofs.Cuts.{any-found as first_passing}
 use Rattle.ele_model.proofs.Elements.{find-updated, find-update_still}
-use Rattle.ele_model.proofs.Files.{next_of-put_under}
+use Rattle.ele_model.proofs.Files.{next_of-set_policy}
 use Rattle.ele_model.proofs.MarksChanged.{marked_more}
-use Rattle.ele_model.proofs.Outcomes.{in_all}
+use Rattle.ele_model.proofs.PlanOutcomes.{in_all}
 use Rattle.ele_model.proofs.Walks.{file_there, live_row, walk_to}
 use Rattle.ele_model.specs.declared.reply.Reply.TheVariants as told
 use Rattle.ele_model.specs.declared.event.Event.TheVariants as asked
@@ -20,14 +20,14 @@ map-update_first see p f (x ∷ xs) same = grind (arith, nat_tests, map-update_f
 
 -- ---- a policy
 
-governs : (w : World) (path : List (List ℕ)) (policy : Policy) → HasParts w → (file : ℕ) → file_now w.names path ≡ Ok file → GovernsFile w path policy (after_change w (PutUnder file policy))
+governs : (w : World) (path : List (List ℕ)) (policy : Policy) → HasParts w → (file : ℕ) → file_now w.names path ≡ Ok file → GovernsFile w path policy (after_change w (SetFilePolicy file policy))
 governs w path policy k file named = record {
   file = file;
   named = named;
-  governs = grind (arith, nat_tests, file_there w.files w.now w.names path file (k.holds Names).each named, find-updated (is_file file) (put_under policy) w.files);
-  next = next_of-put_under w.files file file policy;
-  others = λ other apart. find-update_other (is_file file) (is_file other) (put_under policy) w.files (λ row is. grind (arith, nat_tests, is, apart));
-  files = map-update_first (λ (row : FileRow). row.id) (is_file file) (put_under policy) w.files (λ row. refl);
+  governs = grind (arith, nat_tests, file_there w.files w.now w.names path file (k.holds Names).each named, find-updated (is_file file) (set_policy policy) w.files);
+  next = next_of-set_policy w.files file file policy;
+  others = λ other apart. find-update_other (is_file file) (is_file other) (set_policy policy) w.files (λ row is. grind (arith, nat_tests, is, apart));
+  files = map-update_first (λ (row : FileRow). row.id) (is_file file) (set_policy policy) w.files (λ row. refl);
   rest = refl;
 }
 
@@ -42,7 +42,7 @@ directory_there w path directory k named =
       leads : (r : _) → directory_in r ≡ Ok directory → r ≡ Ok (Directory directory)
       leads r h = grind (arith, nat_tests)
 
-gives : (w : World) (path : List (List ℕ)) (policy : Policy) → HasParts w → (directory : ℕ) → directory_now w.names path ≡ Ok directory → GovernsDirectory w path policy (after_change w (Govern directory policy))
+gives : (w : World) (path : List (List ℕ)) (policy : Policy) → HasParts w → (directory : ℕ) → directory_now w.names path ≡ Ok directory → GovernsDirectory w path policy (after_change w (SetDirectoryDefault directory policy))
 gives w path policy k directory named = record {
   directory = directory;
   named = named;

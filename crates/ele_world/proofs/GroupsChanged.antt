@@ -5,7 +5,7 @@ use Rattle.ele_world.proofs.Words.{GroupRow, MarkRow, Done, GroupAdd, GroupDrop,
 use Rattle.ele_world.specs.GroupChanges.{ChangesGroup, IsGroupOf}
 use Rattle.ele_lists.proofs.Cuts.{any-found as first_passing}
 use Rattle.ele_model.proofs.Elements.{any_none, find-updated}
-use Rattle.ele_model.proofs.Outcomes.{in_all}
+use Rattle.ele_model.proofs.PlanOutcomes.{in_all}
 use Rattle.ele_model.specs.declared.reply.Reply.TheVariants as told
 use Rattle.ele_model.specs.declared.event.Event.TheVariants as asked
 

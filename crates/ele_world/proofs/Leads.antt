@@ -6,7 +6,7 @@ use Rattle.ele_model.proofs.Words.{directory_in, Directories, Homes, is_director
 use Rattle.ele_model.specs.declared.reply.Reply.TheVariants as reply
 use Rattle.ele_model.proofs.Created.{new_file, made_is, versions_before, named_live}
 use Rattle.ele_model.proofs.Files.{next_of-new, next_of-numbered_on}
-use Rattle.ele_model.proofs.Outcomes.{in_all}
+use Rattle.ele_model.proofs.PlanOutcomes.{in_all}
 use Rattle.ele_model.proofs.Walks.{new_leads}
 use Rattle.ele_model.proofs.Elements.{any_none}
 use Rattle.ele_model.proofs.Homes.{parent_home, directory_given}

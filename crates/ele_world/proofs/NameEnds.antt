@@ -5,7 +5,7 @@ use Rattle.ele_model.proofs.Words.{dies, step, is_live_name, live_target, walk, 
 use Rattle.ele_world.proofs.Words.{Directory, Done, EndsName, File, LeadsInstead, LeadsToSame, Link, NameRow, NoEntry, RemoveDir, Rename, Target, Unlink}
 use Rattle.ele_model.proofs.Words.{file_now, MoveName, born_row, comes_through, stands_in}
 use Rattle.ele_model.proofs.NameParts.{still_none, free_still}
-use Rattle.ele_model.proofs.Outcomes.{in_all}
+use Rattle.ele_model.proofs.PlanOutcomes.{in_all}
 use Rattle.ele_model.proofs.Walks.{parent_is, file_of, last_names, new_leads, target_live, walk-push, IsParent, live_target-push, named_leads}
 use Rattle.ele_model.proofs.Currents.{has_current, last_ends}
 

@@ -1,9 +1,9 @@
 -- Name rows after an event: those before, in their order, but for those of a file that goes, and new ones behind.
 use Rattle.ele_model.proofs.Basics.{rules, nat_tests, arith, ◌≡◌, ℕ, ◌<◌, true, List, [], ◌∷◌, ◌++◌, not, None, refl, inl, filter, list_any, AllByRecursion, AllLater, update_first, remove_first, all-push, all-weaker, filter-all, filter-same_all, list_any-append, list_any-update_first}
-use Rattle.ele_model.proofs.Words.{World, HasParts, Names, Files, DropIdle, EndDraft, ShutHandle, Take, Append, after_change, after_changes, MakeFile, PutUnder, Revive, Policy, numbered_on, put_under, IsThere, IsNameRow, born_row, dies, is_file, is_live_name, next_of, plan, step}
+use Rattle.ele_model.proofs.Words.{World, HasParts, Names, Files, DropIdle, EndDraft, ShutHandle, Take, Append, after_change, after_changes, MakeFile, SetFilePolicy, Revive, Policy, numbered_on, set_policy, IsThere, IsNameRow, born_row, dies, is_file, is_live_name, next_of, plan, step}
 use Rattle.ele_world.specs.NameRowsStay.{AreStillRows, is_there}
 use Rattle.ele_model.proofs.Dropped.{dropped, stays_named}
-use Rattle.ele_model.proofs.Outcomes.{AfterAll, in_all}
+use Rattle.ele_model.proofs.PlanOutcomes.{AfterAll, in_all}
 use Rattle.ele_model.proofs.Rising.{removed_any}
 use Rattle.ele_world.proofs.Words.{Event, Close, CleanOne, Revert, Read, NameRow, FileRow, Target, File}
 
@@ -73,8 +73,8 @@ module _ (w : World) (k : HasParts w) where
   revived : (directory : ℕ) (name : List ℕ) (file : ℕ) → Still (after_change w (Revive directory name file))
   revived directory name file = numbered (after_change w (Revive directory name file)) file refl (born w.now w.names w.names (born_row directory name (File file) w.now) refl refl (unchanged w.now w.names))
 
-  put : (file : ℕ) (policy : Policy) → Still (after_change w (PutUnder file policy))
-  put file policy = changed (after_change w (PutUnder file policy)) file (put_under policy) (λ row. refl) refl (unchanged w.now w.names)
+  put : (file : ℕ) (policy : Policy) → Still (after_change w (SetFilePolicy file policy))
+  put file policy = changed (after_change w (SetFilePolicy file policy)) file (set_policy policy) (λ row. refl) refl (unchanged w.now w.names)
 
   drops : (u : World) (file : ℕ) → u.names ≡ w.names → u.files ≡ w.files → Still (after_change u (DropIdle file))
   drops u file names files = dropped Still u file

@@ -7,10 +7,10 @@ use Rattle.ele_lists.proofs.Alls.{all-got}
 use Rattle.ele_model.specs.Step.{cells_read}
 use Rattle.ele_model.proofs.Elements.{find-updated}
 use Rattle.ele_model.proofs.KeptDrafts.{same_file}
-use Rattle.ele_model.proofs.Outcomes.{in_all}
+use Rattle.ele_model.proofs.PlanOutcomes.{in_all}
 use Rattle.ele_world.proofs.SlotsKept.{IsRewritten, cell_written, cell_fitted}
 use Rattle.ele_model.proofs.StepKeeps.{step_keeps}
-use Rattle.ele_world.proofs.Carried.{edits, carries}
+use Rattle.ele_world.proofs.CellsStay.{edits, carries}
 
 -- ---- an event that writes none
 

@@ -5,7 +5,7 @@ use Rattle.ele_world.proofs.Words.{Event, MakeDir, Create, Link, Unlink, RemoveD
 use Rattle.ele_world.specs.OneTree.{Hangs, IsOneTree, hangs_by}
 use Rattle.ele_lists.proofs.Cuts.{any-found as first_passing}
 use Rattle.ele_model.proofs.Dropped.{dropped, stays_named}
-use Rattle.ele_model.proofs.Outcomes.{AfterAll, in_all}
+use Rattle.ele_model.proofs.PlanOutcomes.{AfterAll, in_all}
 use Rattle.ele_model.proofs.StepKeeps.{step_keeps}
 use Rattle.ele_model.proofs.Walks.{live_row, parent_is, last_names, last_leads, file_of}
 use Rattle.ele_world.proofs.NameEnds.{rename_leads}

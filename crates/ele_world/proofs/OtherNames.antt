@@ -5,7 +5,7 @@ use Rattle.ele_world.proofs.Words.{Event, Close, CleanOne, Read, NameRow}
 use Rattle.ele_world.specs.OtherNamesStay.{is_named_by, OtherNamesStay}
 use Rattle.ele_model.proofs.Dropped.{dropped, stays_named}
 use Rattle.ele_world.proofs.NameEnds.{other_stays}
-use Rattle.ele_model.proofs.Outcomes.{AfterAll, in_all}
+use Rattle.ele_model.proofs.PlanOutcomes.{AfterAll, in_all}
 
 -- a name that is born elsewhere
 born : (rows : List NameRow) (row : NameRow) (d : ℕ) (n : List ℕ) → is_live_name d n row ≡ false → live_target (rows ++ row ∷ []) d n ≡ live_target rows d n

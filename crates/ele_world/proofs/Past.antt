@@ -4,7 +4,7 @@ use Rattle.ele_model.proofs.Words.{World, HasParts, Files, Names, AreApart, Drop
 use Rattle.ele_world.proofs.Words.{Event, Close, CleanOne, Read, NameRow, FileRow, Target, File}
 use Rattle.ele_world.specs.PastStays.{StoodAsBefore}
 use Rattle.ele_model.proofs.Dropped.{IsIdle, dropped, stays_named}
-use Rattle.ele_model.proofs.Outcomes.{AfterAll, in_all}
+use Rattle.ele_model.proofs.PlanOutcomes.{AfterAll, in_all}
 
 -- what sees no change of what passes sees the same found
 pub found_still : {X Y : Type 0} (p t : X → Bool) (see : X → Y) (f : X → X) (xs : List X) → ((x : X) → p x ≡ true → (t (f x) ≡ t x) × (see (f x) ≡ see x)) → option_map see (find t (update_first p f xs)) ≡ option_map see (find t xs)

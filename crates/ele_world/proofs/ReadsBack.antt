@@ -9,8 +9,8 @@ use Rattle.ele_model.proofs.May.{MayAll}
 use Rattle.ele_lists.proofs.Cuts.{any-found}
 use Rattle.ele_model.proofs.Meant.{is_at}
 use Rattle.ele_model.proofs.Readers.{has_row}
-use Rattle.ele_world.proofs.Moves.{IsPast, change_past, Moves, change_moves}
-use Rattle.ele_world.proofs.Stays.{held_past}
+use Rattle.ele_world.proofs.HeldRows.{IsPast, change_past, Moves, change_moves}
+use Rattle.ele_world.proofs.HeldStays.{held_past}
 use Rattle.ele_model.proofs.StepKeeps.{step_keeps, run_keeps, run_has}
 use Rattle.ele_model.proofs.Versions.{IsFound, all_found}
 

@@ -14,12 +14,12 @@ use Rattle.ele_world.specs.LifeStays.{LivesAsBefore}
 use Rattle.ele_model.specs.Plan.{found_outcome}
 use Rattle.ele_model.specs.declared.reply.Reply.{Reply}
 use Rattle.ele_model.proofs.Dropped.{dropped_versions}
-use Rattle.ele_world.proofs.Lives.{life_stays}
+use Rattle.ele_world.proofs.LifeStays.{life_stays}
 use Rattle.ele_world.proofs.Numbered.{all_held}
-use Rattle.ele_model.proofs.Outcomes.{AfterAll, in_all}
+use Rattle.ele_model.proofs.PlanOutcomes.{AfterAll, in_all}
 use Rattle.ele_world.proofs.Past.{past_stays}
 use Rattle.ele_model.proofs.Rising.{numbers_rise}
-use Rattle.ele_world.proofs.Stays.{held_stays}
+use Rattle.ele_world.proofs.HeldStays.{held_stays}
 use Rattle.ele_model.proofs.StepKeeps.{step_keeps}
 use Rattle.ele_model.proofs.Versions.{IsFound, all_found}
 

@@ -8,7 +8,7 @@ use Rattle.ele_world.specs.PlainEvents.{is_clean, is_plain}
 use Rattle.ele_world.specs.Schedule.{change_replies}
 use Rattle.ele_world.proofs.CleanLags.{clean_lags, parts_same}
 use Rattle.ele_world.proofs.EventLags.{event_lags}
-use Rattle.ele_world.proofs.Lagging.{lags_keeps}
+use Rattle.ele_world.proofs.LagsKeeps.{lags_keeps}
 use Rattle.ele_model.proofs.PassEnds.{pass_leaves_kept}
 use Rattle.ele_model.proofs.StepKeeps.{step_keeps}
 

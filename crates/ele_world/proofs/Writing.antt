@@ -5,7 +5,7 @@ use Rattle.ele_world.proofs.Words.{Event, Close, CleanOne, Read, OpenWrite, Draf
 use Rattle.ele_world.specs.DraftsWritten.{HaveWriters}
 use Rattle.ele_model.proofs.Dropped.{dropped}
 use Rattle.ele_model.proofs.KeptDrafts.{same_file}
-use Rattle.ele_model.proofs.Outcomes.{AfterAll, in_all}
+use Rattle.ele_model.proofs.PlanOutcomes.{AfterAll, in_all}
 use Rattle.ele_model.proofs.StepKeeps.{step_keeps}
 
 abbrev Written : List HandleRow → DraftRow → Type 0

@@ -14,7 +14,7 @@ use Rattle.ele_model.proofs.Dropped.{dropped}
 use Rattle.ele_model.proofs.Elements.{find-updated}
 use Rattle.ele_model.proofs.KeptDrafts.{same_file}
 use Rattle.ele_model.proofs.Readers.{has_row}
-use Rattle.ele_model.proofs.Outcomes.{AfterAll, in_all}
+use Rattle.ele_model.proofs.PlanOutcomes.{AfterAll, in_all}
 use Rattle.ele_model.proofs.Walks.{file_live}
 use Rattle.ele_model.specs.declared.reply.Reply.TheVariants as told
 use Rattle.ele_model.specs.declared.event.Event.TheVariants as asked

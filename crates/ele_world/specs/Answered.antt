@@ -9,13 +9,13 @@ use Rattle.ele_model.specs.declared.reply.Reply.TheVariants.{Bytes, FileStat, Ha
 use Rattle.ele_model.specs.declared.rows.Reads.TheVariants.{Version}
 use Rattle.ele_model.specs.declared.rows.VersionRow.{VersionRow}
 use Rattle.ele_model.specs.Step.{step}
-use Rattle.ele_model.specs.Told.{stamps_of}
+use Rattle.ele_model.specs.Told.{info_of}
 use Rattle.ele_model.specs.World.{World, policy_for, reads_by}
 
 -- the version's bytes and moments, and it is what a handle reads that is opened
 pub record AnswersVersion (w : World) (tagged : TaggedPath) (row : VersionRow) : Type 0 where
   pub read : (step w (Read (Tagged tagged))).0 ≡ Bytes (content_of row.cells)
-  pub stat : (step w (Stat tagged)).0 ≡ FileStat (record { file = row.file; stamps = stamps_of row; policy = policy_for w.files row.file })
+  pub stat : (step w (Stat tagged)).0 ≡ FileStat (record { file = row.file; info = info_of row; policy = policy_for w.files row.file })
   pub opened : (handle : ℕ) → (step w (OpenRead tagged)).0 ≡ Handle handle
       → reads_by ((step w (OpenRead tagged)).1).handles handle ≡ Ok (Version row.file row.number)
 

@@ -45,13 +45,13 @@ pub fn change_keeps_well_formed()
 }
 
 /// An event that is refused changes nothing.
-#[tactic(auto, using(ele_model::proofs::Outcomes::refused_stays))]
+#[tactic(auto, using(ele_model::proofs::PlanOutcomes::refused_stays))]
 pub fn refused_stays()
     ensures { RefusedStays }
 {}
 
 /// An event that only asks changes nothing.
-#[tactic(auto, using(ele_model::proofs::Outcomes::asking_stays))]
+#[tactic(auto, using(ele_model::proofs::PlanOutcomes::asking_stays))]
 pub fn asking_stays()
     ensures { AskingStays }
 {}

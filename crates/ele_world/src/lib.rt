@@ -10,6 +10,6 @@ pub use ele_model::{
     DraftRow, Entry, Event, Explain, Fate, FileId, FileRow, FileStat, Flat, Floor, GroupList,
     GroupRow, Handle, HandleRow, Interval, Key, KeyList, Kind, Ladder, LimitNumbers, Limits,
     ListOf, MarkRow, Moment, Name, NameList, NameRow, NoMemory, PassEnd, Path, PathAt, Policy,
-    Reads, Refusal, Reply, Rows, Source, Stamps, StampsList, Step, Stop, Tag, TaggedPath, Target,
-    Usage, VersionNo, VersionRow, Which, audit,
+    Reads, Refusal, Reply, Rows, Source, StampsList, Step, Stop, Tag, TaggedPath, Target, Usage,
+    VersionInfo, VersionNo, VersionRow, Which, audit,
 };

@@ -6,9 +6,9 @@ ghost use Rattle.ele_model.specs.Neighbours.{next_closing};
 ghost use Rattle.ele_model.specs.World.{next_of};
 
 use crate::files::{Files, file_of};
-use crate::meant::stamps_of;
+use crate::meant::info_of;
 use ele_inode_log::Meter;
-use ele_model::Stamps;
+use ele_model::VersionInfo;
 use ele_moment::{FileId, Moment, VersionNo};
 use ele_policy::Policy;
 
@@ -19,7 +19,7 @@ pub struct FileHead {
     /// The number of its next version.
     pub next: VersionNo,
     /// Its newest held version.
-    pub newest: Option<Stamps>,
+    pub newest: Option<VersionInfo>,
 }
 
 impl Files {
@@ -43,7 +43,7 @@ impl Files {
         let newest = held
             .log
             .prev_held(held.next, &mut Meter::new())
-            .map(stamps_of);
+            .map(info_of);
         Some(FileHead {
             policy: held.policy,
             next: held.next,

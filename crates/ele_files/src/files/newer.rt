@@ -3,24 +3,24 @@
 ghost use Rattle.std.specs.Prelude.{◌≡◌, ◌<◌, ◌≤◌, ◌+◌, ◌^◌, find, nat_le};
 ghost use Rattle.std.specs.Option.{option_map};
 ghost use Rattle.ele_model.specs.Neighbours.{is_newer_of, newer_held, with_newer};
-ghost use Rattle.ele_model.specs.Told.{stamps_of};
+ghost use Rattle.ele_model.specs.Told.{info_of};
 
 use crate::files::{Files, file_of};
-use crate::meant::stamps_of;
+use crate::meant::info_of;
 use ele_inode_log::Meter;
-use ele_model::Stamps;
+use ele_model::VersionInfo;
 use ele_moment::{FileId, VersionNo};
 
 impl Files {
     /// What is told of the file's next held version behind the number; none where there is none.
     #[tactic(auto, using(std::proofs::lemmas::Bool::Decides::nat_tests, crate::proofs::Newer::newer_none, crate::proofs::Newer::newer_shown))]
-    pub fn next_held(&self, file: FileId, number: VersionNo) -> Option<Stamps>
+    pub fn next_held(&self, file: FileId, number: VersionNo) -> Option<VersionInfo>
         ensures { result
-            ≡ option_map stamps_of (find (is_newer_of file number) self.now.versions) }
+            ≡ option_map info_of (find (is_newer_of file number) self.now.versions) }
     {
         let held = file_of(&self.files, file)?;
         let row = held.log.next_held(number, &mut Meter::new())?;
-        Some(stamps_of(row))
+        Some(info_of(row))
     }
 
     /// Whether the file holds at least so many versions with a greater number.
@@ -43,11 +43,11 @@ impl Files {
     /// What is told of the file's held version that has so many newer ones; none where there is
     /// none.
     #[tactic(auto, using(std::proofs::lemmas::Bool::Decides::nat_tests, crate::proofs::Newer::none_back, crate::proofs::Newer::back_shown))]
-    pub fn with_newer(&self, file: FileId, newer: u64) -> Option<Stamps>
-        ensures { result ≡ option_map stamps_of (with_newer self.now.versions file newer) }
+    pub fn with_newer(&self, file: FileId, newer: u64) -> Option<VersionInfo>
+        ensures { result ≡ option_map info_of (with_newer self.now.versions file newer) }
     {
         let held = file_of(&self.files, file)?;
         let row = held.log.with_newer(newer, &mut Meter::new())?;
-        Some(stamps_of(row))
+        Some(info_of(row))
     }
 }

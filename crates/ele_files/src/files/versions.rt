@@ -8,37 +8,37 @@ ghost use Rattle.ele_files.specs.Held.{cells_of_version};
 ghost use Rattle.ele_files.specs.Meant.{stamps_in};
 ghost use Rattle.ele_model.specs.FileView.{is_version_of};
 ghost use Rattle.ele_model.specs.Tagged.{had_life, version_meant};
-ghost use Rattle.ele_model.specs.Told.{stamps_of};
+ghost use Rattle.ele_model.specs.Told.{info_of};
 ghost use Rattle.ele_model.specs.World.{is_version, next_of};
 
 use crate::file::File;
 use crate::files::{Files, file_of};
-use crate::meant::stamps_of;
+use crate::meant::info_of;
 use ele_inode_log::Meter;
 use ele_lists::{ByteList, ListOf};
-use ele_model::{Refusal, Stamps, StampsList, Tag};
+use ele_model::{Refusal, StampsList, Tag, VersionInfo};
 use ele_moment::{FileId, Moment, NoMemory, VersionNo};
 use std::alloc::Global;
 
 impl Files {
     /// The version's number, its moments and its length; none where it isn't held.
     #[tactic(auto, using(std::proofs::lemmas::Bool::Decides::nat_tests, crate::proofs::Tagged::stamps_shown, crate::proofs::Rows::version_none))]
-    pub fn stamps(&self, file: FileId, number: VersionNo) -> Option<Stamps>
+    pub fn info(&self, file: FileId, number: VersionNo) -> Option<VersionInfo>
         ensures { result
-            ≡ option_map stamps_of (find (is_version file number) self.now.versions) }
+            ≡ option_map info_of (find (is_version file number) self.now.versions) }
     {
         let held = file_of(&self.files, file)?;
         let row = held.log.get(number, &mut Meter::new())?;
-        Some(stamps_of(row))
+        Some(info_of(row))
     }
 
     /// The file's version that the tag means; without one it is that before the next. Refused:
     /// `NoVersion` for a number that no version got, and `Forgotten` where it isn't held any more,
     /// with the last number that is held from before it.
     #[tactic(auto, using(std::proofs::lemmas::Bool::Decides::nat_tests, crate::proofs::Rows::next_found, crate::proofs::Tagged::meant_shown))]
-    pub fn version_meant(&self, file: FileId, tag: Tag) -> Result<Stamps, Refusal>
+    pub fn version_meant(&self, file: FileId, tag: Tag) -> Result<VersionInfo, Refusal>
         requires { 0 < next_of self.now.files file }
-        ensures { result ≡ result_map_both stamps_of (λ refusal. refusal)
+        ensures { result ≡ result_map_both info_of (λ refusal. refusal)
             (version_meant self.now.files self.now.versions file tag) }
     {
         let Some(held) = file_of(&self.files, file) else {
@@ -49,13 +49,13 @@ impl Files {
 
     /// The file's version that lived at the moment; none where it isn't held.
     #[tactic(auto, using(std::proofs::lemmas::Bool::Decides::nat_tests, crate::proofs::Tagged::none_lived, crate::proofs::Tagged::at_shown, crate::proofs::Tagged::told_found, crate::proofs::Tagged::forgotten_none))]
-    pub fn version_at(&self, file: FileId, moment: Moment) -> Option<Stamps>
+    pub fn version_at(&self, file: FileId, moment: Moment) -> Option<VersionInfo>
         ensures { result
-            ≡ option_map stamps_of (find (had_life file moment) self.now.versions) }
+            ≡ option_map info_of (find (had_life file moment) self.now.versions) }
     {
         let held = file_of(&self.files, file)?;
         match held.living(moment) {
-            Ok(stamps) => Some(stamps),
+            Ok(info) => Some(info),
             Err(_refusal) => None,
         }
     }
@@ -82,7 +82,7 @@ impl Files {
     #[tactic(auto, using(std::proofs::lemmas::Bool::Decides::nat_tests, crate::proofs::Words::all_found, crate::proofs::Tagged::list_shown, crate::proofs::Tagged::none_shown))]
     pub fn stamps_of_file(&self, file: FileId) -> Result<StampsList, NoMemory>
         ensures { IfOk result
-            (λ list. list ≡ map stamps_of (filter (is_version_of file) self.now.versions)) }
+            (λ list. list ≡ map info_of (filter (is_version_of file) self.now.versions)) }
     {
         match file_of(&self.files, file) {
             Some(held) => {
@@ -95,12 +95,12 @@ impl Files {
 }
 
 // What is told of all rows of the file's log.
-fn log_stamps(alloc: Global, file: &File) -> Result<Vec<Stamps>, NoMemory>
+fn log_stamps(alloc: Global, file: &File) -> Result<Vec<VersionInfo>, NoMemory>
     ensures { IfOk result (λ list. list.items ≡ map stamps_in file.now.log.rows) }
 {
     let mut list = Vec::with_capacity(alloc, file.log.len())?;
     for row in file.log.rows() {
-        list.push(stamps_of(row))?;
+        list.push(info_of(row))?;
     }
     Ok(list)
 }

@@ -1,5 +1,5 @@
 use Rattle.ele_state.proofs.Words.{AddMark}
-use Rattle.ele_state.proofs.Settled.{settled_or}
+use Rattle.ele_state.proofs.SoundAfter.{settled_or}
 use Rattle.ele_state.proofs.State.add_mark.Goals as goal
 
 pub invariant_of-self : goal.invariant_of-self

@@ -1,6 +1,6 @@
 use Rattle.ele_state.proofs.Words.{AddName, refl}
 use Rattle.ele_state.proofs.NewNames.{follows_new, more_queue}
-use Rattle.ele_state.proofs.Settled.{named, settled_by}
+use Rattle.ele_state.proofs.SoundAfter.{named, settled_by}
 use Rattle.ele_state.proofs.State.add_name.Goals as goal
 
 pub add-requires : goal.add-requires

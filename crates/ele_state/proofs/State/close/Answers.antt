@@ -1,5 +1,5 @@
 use Rattle.ele_state.proofs.Words.{Close}
-use Rattle.ele_state.proofs.Settled.{stepped_or}
+use Rattle.ele_state.proofs.SoundAfter.{stepped_or}
 use Rattle.ele_state.proofs.State.close.Goals as goal
 
 pub invariant_of-self : goal.invariant_of-self

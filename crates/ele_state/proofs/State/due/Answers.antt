@@ -1,5 +1,5 @@
 use Rattle.ele_state.proofs.Words.{arith, nat_tests, world_of}
-use Rattle.ele_state.proofs.Asked.{due_keys, scan_is}
+use Rattle.ele_state.proofs.Questions.{due_keys, scan_is}
 use Rattle.ele_state.proofs.State.due.Goals as goal
 
 pub returns : goal.returns

@@ -1,6 +1,6 @@
 use Rattle.ele_state.proofs.Words.{arith, nat_tests, world_of}
 use Rattle.ele_model.specs.Change.{Time, after_change}
-use Rattle.ele_state.proofs.Asked.{keys_by, scan_is}
+use Rattle.ele_state.proofs.Questions.{keys_by, scan_is}
 use Rattle.ele_state.proofs.State.due_by.Goals as goal
 
 pub returns : goal.returns

@@ -1,5 +1,5 @@
 use Rattle.ele_state.proofs.Words.{refl, ◌∙◌}
-use Rattle.ele_state.proofs.Asked.{first_is}
+use Rattle.ele_state.proofs.Questions.{first_is}
 use Rattle.ele_state.proofs.State.due_first.Goals as goal
 
 pub returns-in_default : goal.returns-in_default

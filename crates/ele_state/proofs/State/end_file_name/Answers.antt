@@ -1,5 +1,5 @@
 use Rattle.ele_state.proofs.Words.{◌≡◌, true, EndFileName, arith, nat_tests, refl, is_live, without_name, world_of}
-use Rattle.ele_state.proofs.Settled.{settled_by, settled_or}
+use Rattle.ele_state.proofs.SoundAfter.{settled_by, settled_or}
 use Rattle.ele_state.proofs.Unlinked.{others_live, unlinked_queue}
 use Rattle.ele_state.proofs.State.end_file_name.Goals as goal
 

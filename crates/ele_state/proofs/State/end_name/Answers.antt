@@ -1,6 +1,6 @@
 use Rattle.ele_state.proofs.Words.{EndName, refl}
 use Rattle.ele_state.proofs.NewNames.{dies_queue}
-use Rattle.ele_state.proofs.Settled.{settled_by}
+use Rattle.ele_state.proofs.SoundAfter.{settled_by}
 use Rattle.ele_state.proofs.State.end_name.Goals as goal
 
 pub invariant_of-self : goal.invariant_of-self

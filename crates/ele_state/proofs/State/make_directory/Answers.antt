@@ -1,6 +1,6 @@
 use Rattle.ele_state.proofs.Words.{MakeDirectory, Directories, Directory, default_is, refl, ◌+◌}
 use Rattle.ele_state.proofs.NewNames.{directory_queue, follows_new}
-use Rattle.ele_state.proofs.Settled.{named, settled_by}
+use Rattle.ele_state.proofs.SoundAfter.{named, settled_by}
 use Rattle.ele_state.proofs.State.make_directory.Goals as goal
 
 pub add-requires : goal.add-requires

@@ -2,7 +2,7 @@ use Rattle.ele_state.proofs.Words.{◌≡◌, arith, nat_tests, ◌+◌, refl, F
 use Rattle.ele_state.proofs.Booked.{made_book}
 use Rattle.ele_state.proofs.Made.{made_queue}
 use Rattle.ele_state.proofs.NewNames.{follows_new, name_goes}
-use Rattle.ele_state.proofs.Settled.{named, settled_by}
+use Rattle.ele_state.proofs.SoundAfter.{named, settled_by}
 use Rattle.ele_state.proofs.State.make_file.Goals as goal
 
 pub add-requires : goal.add-requires

@@ -1,6 +1,6 @@
 use Rattle.ele_state.proofs.Words.{MakeGroup, refl}
 use Rattle.ele_state.proofs.Marked.{group_made}
-use Rattle.ele_state.proofs.Settled.{settled_by}
+use Rattle.ele_state.proofs.SoundAfter.{settled_by}
 use Rattle.ele_state.proofs.State.make_group.Goals as goal
 
 pub invariant_of-self-2 : goal.invariant_of-self-2

@@ -1,6 +1,6 @@
 use Rattle.ele_state.proofs.Words.{MoveName, refl}
 use Rattle.ele_state.proofs.NewNames.{dies_before, follows_new, moved_queue}
-use Rattle.ele_state.proofs.Settled.{named, settled_by}
+use Rattle.ele_state.proofs.SoundAfter.{named, settled_by}
 use Rattle.ele_state.proofs.State.move_name.Goals as goal
 
 pub add-requires : goal.add-requires

@@ -1,6 +1,6 @@
 use Rattle.ele_state.proofs.Words.{◌+◌, OpenHandle, Version, refl}
 use Rattle.ele_state.proofs.OpenedKeys.{read_queue}
-use Rattle.ele_state.proofs.Settled.{settled_by}
+use Rattle.ele_state.proofs.SoundAfter.{settled_by}
 use Rattle.ele_state.proofs.State.open_read.Goals as goal
 
 pub invariant_of-self-2 : goal.invariant_of-self-2

@@ -1,7 +1,7 @@
 use Rattle.ele_state.proofs.Words.{CleanOne, Take, after_change, arith, first_is_due, nat_tests, placed_of, refl, with_rows, world_of, ◌≡◌}
 use Rattle.ele_state.proofs.Booked.{few}
 use Rattle.ele_state.proofs.Removed.{removed_keeps, removed_queue, removed_step}
-use Rattle.ele_state.proofs.Settled.{stepped}
+use Rattle.ele_state.proofs.SoundAfter.{stepped}
 use Rattle.ele_state.proofs.State.remove.Goals as goal
 
 pub unreachable-requires : goal.unreachable-requires

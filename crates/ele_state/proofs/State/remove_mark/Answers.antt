@@ -1,5 +1,5 @@
 use Rattle.ele_state.proofs.Words.{RemoveMark}
-use Rattle.ele_state.proofs.Settled.{settled_or}
+use Rattle.ele_state.proofs.SoundAfter.{settled_or}
 use Rattle.ele_state.proofs.State.remove_mark.Goals as goal
 
 pub invariant_of-self : goal.invariant_of-self

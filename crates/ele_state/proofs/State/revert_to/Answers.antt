@@ -1,6 +1,6 @@
 use Rattle.ele_state.proofs.Words.{Append, ap, refl, shown_of, version_cells, world_of}
 use Rattle.ele_state.proofs.Grown.{grown_tracked, none_new, roomy}
-use Rattle.ele_state.proofs.Settled.{settled_or}
+use Rattle.ele_state.proofs.SoundAfter.{settled_or}
 use Rattle.ele_state.proofs.Revived.{held_ready, held_there, restores}
 use Rattle.std.proofs.lemmas.Result.{on_err_weaker}
 use Rattle.ele_state.specs.declared.append.Source.TheVariants.{Version}

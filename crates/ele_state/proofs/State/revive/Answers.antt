@@ -2,7 +2,7 @@ use Rattle.ele_state.proofs.Words.{File, IsQueued, Revive, World, ap, floor_of, 
 use Rattle.ele_state.proofs.Grown.{roomy}
 use Rattle.ele_state.proofs.NewNames.{follows_new}
 use Rattle.ele_state.proofs.Revived.{held_ready, held_there, revived_absent, revived_queue, revived_world, revives}
-use Rattle.ele_state.proofs.Settled.{settled_by}
+use Rattle.ele_state.proofs.SoundAfter.{settled_by}
 use Rattle.ele_state.proofs.State.revive.Goals as goal
 
 pub head-head-requires : goal.head-head-requires

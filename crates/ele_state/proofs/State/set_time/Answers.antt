@@ -1,5 +1,5 @@
 use Rattle.ele_state.proofs.Words.{Time, refl}
-use Rattle.ele_state.proofs.Settled.{settled_by}
+use Rattle.ele_state.proofs.SoundAfter.{settled_by}
 use Rattle.ele_state.proofs.State.set_time.Goals as goal
 
 pub invariant_of-self : goal.invariant_of-self

@@ -1,6 +1,6 @@
 use Rattle.ele_state.proofs.Words.{refl, sym, ◌∙◌, TruncateDraft}
 use Rattle.ele_state.proofs.Booked.{fits, fitted_is, fitted_owed}
-use Rattle.ele_state.proofs.Settled.{settled_by}
+use Rattle.ele_state.proofs.SoundAfter.{settled_by}
 use Rattle.ele_state.proofs.State.truncate.Goals as goal
 
 pub follow_blocks-requires-clause-owed : goal.follow_blocks-requires-clause-owed

@@ -1,6 +1,6 @@
 use Rattle.ele_state.proofs.Words.{refl, sym, ◌∙◌, WriteDraft}
 use Rattle.ele_state.proofs.Booked.{fits, written_is, written_owed}
-use Rattle.ele_state.proofs.Settled.{settled_by}
+use Rattle.ele_state.proofs.SoundAfter.{settled_by}
 use Rattle.ele_state.proofs.State.write.Goals as goal
 
 pub follow_blocks-requires-clause-owed : goal.follow_blocks-requires-clause-owed

@@ -4,10 +4,10 @@ use Rattle.ele_model.specs.declared.fate.Fate.TheVariants.{Current, Open, Marked
 use Rattle.ele_state.proofs.fate.fate_of.Goals as goal
 
 pub returns-in_default : goal.returns-in_default
-returns-in_default c = fate_told c.args.rows.now c.args.file c.args.stamps.now c.requires.held Current c.in_default.is
+returns-in_default c = fate_told c.args.rows.now c.args.file c.args.info.now c.requires.held Current c.in_default.is
 
 pub returns-then-is_open : goal.returns-then-is_open
-returns-then-is_open c = fate_told c.args.rows.now c.args.file c.args.stamps.now c.requires.held Open (rw c.in-Some.is refl, sym c.is_open.ensures ∙ c.if-is_open.true)
+returns-then-is_open c = fate_told c.args.rows.now c.args.file c.args.info.now c.requires.held Open (rw c.in-Some.is refl, sym c.is_open.ensures ∙ c.if-is_open.true)
 
 pub first_mark-requires : goal.first_mark-requires
 first_mark-requires c = record { named = (c.requires.sound.formed.holds Groups).named }
@@ -15,13 +15,13 @@ first_mark-requires c = record { named = (c.requires.sound.formed.holds Groups).
 pub returns-in-Some-first_mark : goal.returns-in-Some-first_mark
 returns-in-Some-first_mark c =
     let marked = rw (← c.in-Some.is) at c.in-Some-first_mark.ensures.some in
-    fate_told c.args.rows.now c.args.file c.args.stamps.now c.requires.held (Marked _ _) (rw c.in-Some.is refl, sym c.is_open.ensures ∙ c.if-is_open.false, marked)
+    fate_told c.args.rows.now c.args.file c.args.info.now c.requires.held (Marked _ _) (rw c.in-Some.is refl, sym c.is_open.ensures ∙ c.if-is_open.false, marked)
 
 pub unreachable-requires : goal.unreachable-requires
-unreachable-requires c = fate_ungoverned c.args.rows.now c.requires.sound c.args.file c.args.stamps.now c.requires.held (sym c.policy_of.ensures ∙ c.in_default-policy_of.is)
+unreachable-requires c = fate_ungoverned c.args.rows.now c.requires.sound c.args.file c.args.info.now c.requires.held (sym c.policy_of.ensures ∙ c.in_default-policy_of.is)
 
 pub returns : goal.returns
-returns c = fate_made c.args.rows.now c.requires.sound c.args.file c.args.stamps.now c.requires.held (record {
+returns c = fate_made c.args.rows.now c.requires.sound c.args.file c.args.info.now c.requires.held (record {
   ended = c.in-Some.ended;
   ends = c.in-Some.is;
   unread = sym c.is_open.ensures ∙ c.if-is_open.false;

@@ -1,5 +1,5 @@
 use Rattle.ele_state.proofs.Words.{◌≡◌, None, Some, arith, has_member, nat_tests, sym, true, ◌∙◌}
-use Rattle.ele_state.proofs.Left.{longer_again, members_have}
+use Rattle.ele_state.proofs.OtherGroups.{longer_again, members_have}
 use Rattle.ele_state.proofs.mark.covers.Goals as goal
 
 pub returns-in-Unmarked-clause-was : goal.returns-in-Unmarked-clause-was

@@ -1,4 +1,4 @@
-use Rattle.ele_state.proofs.Words.{IsTold, refl, rule_in, ◌∙◌}
+use Rattle.ele_state.proofs.Words.{IsInfoOf, refl, rule_in, ◌∙◌}
 use Rattle.ele_lists.proofs.Taken.{all-at}
 use Rattle.ele_state.proofs.Changes.{both_change}
 use Rattle.ele_state.proofs.Governed.{all_under, one_more, stamps_told}
@@ -8,15 +8,15 @@ use Rattle.ele_state.proofs.policy.changes_under.Goals as goal
 
 pub change_under-requires : goal.change_under-requires
 change_under-requires c =
-    let at = slice_get_read c.as_slice-stamps-items.result.now _ c.loop-stamps.stamps-index c.stamps-item.result refl c.loop-stamps-test.true c.stamps-item.is in
-    all-at (IsTold c.args.rows.now.files c.args.file) c.as_slice-stamps-items.result.now c.loop-stamps.stamps-index c.stamps-item.result at (stamps_told c.args.rows.now c.args.file c.as_slice-stamps-items.result.now c.requires (c.as_slice-stamps-items.ensures ∙ c.in_ok-held.ensures))
+    let at = slice_get_read c.as_slice-info-items.result.now _ c.loop-info.info-index c.info-item.result refl c.loop-info-test.true c.info-item.is in
+    all-at (IsInfoOf c.args.rows.now.files c.args.file) c.as_slice-info-items.result.now c.loop-info.info-index c.info-item.result at (stamps_told c.args.rows.now c.args.file c.as_slice-info-items.result.now c.requires (c.as_slice-info-items.ensures ∙ c.in_ok-held.ensures))
 
-pub loop-stamps-preserved : goal.loop-stamps-preserved
-loop-stamps-preserved c =
-    let more = one_more c.args.rows.now.groups c.args.rows.now.files c.args.file (rule_in c.args.was.now c.is_live-is_live.result) (rule_in c.args.is.now c.is_live-is_live.result) c.as_slice-stamps-items.result.now c.loop-stamps.stamps-index c.stamps-item.result c.loop-stamps-test.true c.stamps-item.is in
-    rw c.in_ok-add_change.ensures (both_change _ _ _ _ _ _ _ more c.loop-stamps.invariant c.change_under.ensures)
+pub loop-info-preserved : goal.loop-info-preserved
+loop-info-preserved c =
+    let more = one_more c.args.rows.now.groups c.args.rows.now.files c.args.file (rule_in c.args.was.now c.is_live-is_live.result) (rule_in c.args.is.now c.is_live-is_live.result) c.as_slice-info-items.result.now c.loop-info.info-index c.info-item.result c.loop-info-test.true c.info-item.is in
+    rw c.in_ok-add_change.ensures (both_change _ _ _ _ _ _ _ more c.loop-info.invariant c.change_under.ensures)
 
 pub returns : goal.returns
 returns c =
-    let are = rw (take_all c.loop-stamps.stamps-index c.as_slice-stamps-items.result.now c.loop-stamps-test.false) at c.loop-stamps.invariant in
-    rw (← c.is_live-is_live.ensures) (all_under c.args.rows.now.groups c.args.rows.now.files c.args.file (rule_in c.args.was.now c.is_live-is_live.result) (rule_in c.args.is.now c.is_live-is_live.result) c.as_slice-stamps-items.result.now c.loop-stamps.changes.items (c.as_slice-stamps-items.ensures ∙ c.in_ok-held.ensures) are)
+    let are = rw (take_all c.loop-info.info-index c.as_slice-info-items.result.now c.loop-info-test.false) at c.loop-info.invariant in
+    rw (← c.is_live-is_live.ensures) (all_under c.args.rows.now.groups c.args.rows.now.files c.args.file (rule_in c.args.was.now c.is_live-is_live.result) (rule_in c.args.is.now c.is_live-is_live.result) c.as_slice-info-items.result.now c.loop-info.changes.items (c.as_slice-info-items.ensures ∙ c.in_ok-held.ensures) are)

@@ -1,5 +1,5 @@
-use Rattle.ele_storm.specs.Work.{GoesOn, RunsRounds}
+use Rattle.ele_storm.specs.Work.{SeesMore, RunsRounds}
 use Rattle.ele_storm.proofs.worker.run_rounds.Given as goal
 
 abbrev pub invariant-loop-round : goal.invariant-loop-round
-invariant-loop-round g l = RunsRounds l.plan.writers l.task l.round l.fn.seat l.seat × GoesOn l.fn.seat l.seat
+invariant-loop-round g l = RunsRounds l.plan.writers l.task l.round l.fn.seat l.seat × SeesMore l.fn.seat l.seat

@@ -1,5 +1,5 @@
 use Rattle.ele_model.proofs.Formed.{in_parts}
-use Rattle.ele_world.proofs.Stays.{held_stays}
+use Rattle.ele_world.proofs.HeldStays.{held_stays}
 use Rattle.ele_world.proofs.laws.held_stays.Goals as goal
 
 pub returns : goal.returns

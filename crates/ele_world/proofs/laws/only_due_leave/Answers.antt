@@ -1,5 +1,5 @@
 use Rattle.ele_model.proofs.Formed.{in_parts}
-use Rattle.ele_world.proofs.Stays.{only_due_leave}
+use Rattle.ele_world.proofs.HeldStays.{only_due_leave}
 use Rattle.ele_world.proofs.laws.only_due_leave.Goals as goal
 
 pub returns : goal.returns

@@ -1,5 +1,5 @@
 use Rattle.ele_model.proofs.Formed.{in_parts}
-use Rattle.ele_world.proofs.Lagging.{lags_keeps}
+use Rattle.ele_world.proofs.LagsKeeps.{lags_keeps}
 use Rattle.ele_world.proofs.schedule.lags_keeps.Goals as goal
 
 pub returns : goal.returns

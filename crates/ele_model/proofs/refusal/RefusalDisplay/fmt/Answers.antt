@@ -1,5 +1,5 @@
 use Rattle.std.proofs.Common.{rules}
-use Rattle.ele_model.proofs.Details.{none_follow}
+use Rattle.ele_model.proofs.RefusalDetails.{none_follow}
 use Rattle.ele_model.proofs.refusal.RefusalDisplay.fmt.Goals as goal
 
 pub returns-in_default : goal.returns-in_default

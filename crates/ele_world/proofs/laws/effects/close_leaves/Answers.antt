@@ -1,4 +1,4 @@
-use Rattle.ele_world.proofs.Tells.{close_leaves}
+use Rattle.ele_world.proofs.CloseTells.{close_leaves}
 use Rattle.ele_world.proofs.laws.effects.close_leaves.Goals as goal
 
 pub returns : goal.returns

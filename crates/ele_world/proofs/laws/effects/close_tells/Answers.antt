@@ -1,4 +1,4 @@
-use Rattle.ele_world.proofs.Tells.{close_tells}
+use Rattle.ele_world.proofs.CloseTells.{close_tells}
 use Rattle.ele_world.proofs.laws.effects.close_tells.Goals as goal
 
 pub returns : goal.returns

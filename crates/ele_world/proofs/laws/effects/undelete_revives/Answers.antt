@@ -1,4 +1,4 @@
-use Rattle.ele_world.proofs.Tells.{undelete_revives}
+use Rattle.ele_world.proofs.CloseTells.{undelete_revives}
 use Rattle.ele_world.proofs.laws.effects.undelete_revives.Goals as goal
 
 pub returns : goal.returns

@@ -1,5 +1,5 @@
 use Rattle.ele_model.proofs.Formed.{in_parts}
-use Rattle.ele_world.proofs.Lives.{life_stays}
+use Rattle.ele_world.proofs.LifeStays.{life_stays}
 use Rattle.ele_world.proofs.laws.past.life_stays.Goals as goal
 
 pub returns : goal.returns

@@ -18,20 +18,20 @@ pub record GoesFor (v : FileView) (row : VersionRow) (cause : Cause) : Type 0 wh
   pub why : HasCause v row ripe cause
 
 -- why the version may be forgotten from its ripe moment on, or has none
-abbrev pub IsWhy : FileView → VersionRow → Why → Type 0
-IsWhy v row Current = row.ended ≡ None
-IsWhy v row Never = IsSome row.ended × (ripe_in v row ≡ None)
-IsWhy v row (Goes cause) = GoesFor v row cause
+abbrev pub IsReasonOf : FileView → VersionRow → Why → Type 0
+IsReasonOf v row Current = row.ended ≡ None
+IsReasonOf v row Never = IsSome row.ended × (ripe_in v row ≡ None)
+IsReasonOf v row (Goes cause) = GoesFor v row cause
 
 -- a forecast of that version of the file
 pub record TellsOf (v : FileView) (row : VersionRow) (forecast : Forecast) : Type 0 where
   pub closed : forecast.closed ≡ row.closed
   pub ended : forecast.ended ≡ row.ended
   pub ripe : forecast.ripe ≡ ripe_in v row
-  pub why : IsWhy v row forecast.why
+  pub why : IsReasonOf v row forecast.why
 
 -- the file holds the version with the forecast's number, and it is the one that is told of
-pub record Tells (v : FileView) (forecast : Forecast) : Type 0 where
+pub record IsForecastOf (v : FileView) (forecast : Forecast) : Type 0 where
   pub row : VersionRow
   pub held : find (is_numbered forecast.number) v.rows ≡ Some row
   pub told : TellsOf v row forecast
@@ -42,4 +42,4 @@ told_life forecast = (forecast.number, forecast.closed, forecast.ended)
 -- one for each of the closings, in their order, each with the number, the closing and the end of the version that it tells of
 pub record AreForecasts (policy : Policy) (closings : List ℕ) (forecasts : List Forecast) : Type 0 where
   pub lives : map told_life forecasts ≡ lives_from 1 closings
-  pub tell : (v : FileView) → IsFileOf policy closings v → AllByRecursion (Tells v) forecasts
+  pub tell : (v : FileView) → IsFileOf policy closings v → AllByRecursion (IsForecastOf v) forecasts

@@ -7,7 +7,7 @@ use Rattle.ele_world.specs.AnyDueLeave.{AreDue}
 use Rattle.ele_world.specs.Lags.{Lags}
 use Rattle.ele_world.specs.Less.{less, is_dropped, IsEmptied}
 use Rattle.ele_world.proofs.LiveNames.{StaysLive}
-use Rattle.ele_world.proofs.Lagging.{stays_name}
+use Rattle.ele_world.proofs.LagsKeeps.{stays_name}
 use Rattle.ele_model.proofs.RipeAt.{is_due_is}
 
 -- the first is the second without these versions and files

@@ -6,10 +6,10 @@ use Rattle.ele_world.specs.LifeStays.{LivesAsBefore}
 use Rattle.ele_model.proofs.Allowed.{allowed}
 use Rattle.ele_model.proofs.Keeps.{reached}
 use Rattle.ele_model.proofs.May.{MayAll}
-use Rattle.ele_world.proofs.Moves.{IsPast, change_past, Moves, Same, Ended, Taken, change_moves}
-use Rattle.ele_world.proofs.Stays.{held_past}
+use Rattle.ele_world.proofs.HeldRows.{IsPast, change_past, Moves, Same, Ended, Taken, change_moves}
+use Rattle.ele_world.proofs.HeldStays.{held_past}
 use Rattle.ele_model.proofs.Versions.{IsFound, all_found}
-use Rattle.ele_world.proofs.Known.{change_later}
+use Rattle.ele_world.proofs.KnownVersions.{change_later}
 
 -- before the moment it lived as the row did
 abbrev LivesOn : ℕ → VersionRow → Option VersionRow → Type 0

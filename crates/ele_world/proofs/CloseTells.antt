@@ -6,7 +6,7 @@ use Rattle.ele_model.specs.declared.reply.Reply.TheVariants as reply
 use Rattle.ele_world.specs.CloseTells.{CloseTells, CloseLeaves}
 use Rattle.ele_world.specs.UndeleteRevives.{RevivesFile, UndeleteRevives}
 use Rattle.ele_model.proofs.Dropped.{dropped_versions}
-use Rattle.ele_model.proofs.Outcomes.{in_all}
+use Rattle.ele_model.proofs.PlanOutcomes.{in_all}
 
 reads_draft : (w : World) (handle file : ℕ) → file_by w.handles handle ≡ Ok file → reads_by w.handles handle ≡ Ok (Draft file)
 reads_draft w handle file written = grind (arith, nat_tests)

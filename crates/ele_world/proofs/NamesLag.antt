@@ -1,15 +1,15 @@
 -- Changes of the clock, of directories and of names, in a world and in one that lags behind it.
 use Rattle.ele_model.proofs.Basics.{◌≡◌, ◌==◌, ◌≤◌, ◌-◌, ℕ, Bool, true, false, cond, not, ◌&&◌, List, [], ◌∷◌, ◌++◌, refl, ap, sym, ◌∙◌, arith, nat_tests, filter, list_any}
 use Rattle.ele_model.proofs.Basics.{all-weaker, list_any-append, list_any-update_fails, list_any-update_first, false≢true, update_first}
-use Rattle.ele_model.proofs.Words.{AddName, Change, EndFileName, EndName, Govern, HasParts, MakeDirectory, MoveName, Policy, Time, World, after_change, born_row, dies, ended_at, is_live, is_live_name, is_live_name_of, is_target_file, is_version, next_of, ripe_at, with_end}
+use Rattle.ele_model.proofs.Words.{AddName, Change, EndFileName, EndName, SetDirectoryDefault, HasParts, MakeDirectory, MoveName, Policy, Time, World, after_change, born_row, dies, ended_at, is_live, is_live_name, is_live_name_of, is_target_file, is_version, next_of, ripe_at, with_end}
 use Rattle.ele_world.proofs.Words.{NameRow, Target, Directory, File}
 use Rattle.ele_world.specs.Less.{less, is_dropped}
 use Rattle.ele_world.proofs.AnyDueLeave.{remains}
-use Rattle.ele_world.proofs.Behind.{Behind, KeepsBehind, change_on, due_moment, live_there, names_live, unripe_there}
+use Rattle.ele_world.proofs.ChangesLag.{Behind, KeepsBehind, change_on, due_moment, live_there, names_live, unripe_there}
 use Rattle.ele_world.proofs.CleanLags.{parts_same}
 use Rattle.ele_model.proofs.Currents.{has_current}
 use Rattle.ele_world.proofs.Filters.{filter-push, update_first-filter, update_first-stay}
-use Rattle.ele_world.proofs.Lagging.{stays_name, live_same, next_same}
+use Rattle.ele_world.proofs.LagsKeeps.{stays_name, live_same, next_same}
 use Rattle.ele_world.proofs.LiveNames.{StaysLive}
 use Rattle.ele_model.proofs.NameMoments.{kept_moments, moments_kept, moments_stay, no_moment}
 use Rattle.ele_model.proofs.Neighbours.{in_order_of}
@@ -38,8 +38,8 @@ module _ (gone : ℕ → ℕ → Bool) (dropped : ℕ → Bool) (u v : World) (b
     groups = groups;
   }
 
-  pub govern_both : (directory : ℕ) (policy : Policy) → HasParts (after_change v (Govern directory policy)) → Behind gone dropped (after_change u (Govern directory policy)) (after_change v (Govern directory policy))
-  govern_both directory policy formed = change_on gone dropped u v b (Govern directory policy) refl formed (keeps_names (after_change v (Govern directory policy)) refl refl refl refl refl refl (λ file none. none))
+  pub govern_both : (directory : ℕ) (policy : Policy) → HasParts (after_change v (SetDirectoryDefault directory policy)) → Behind gone dropped (after_change u (SetDirectoryDefault directory policy)) (after_change v (SetDirectoryDefault directory policy))
+  govern_both directory policy formed = change_on gone dropped u v b (SetDirectoryDefault directory policy) refl formed (keeps_names (after_change v (SetDirectoryDefault directory policy)) refl refl refl refl refl refl (λ file none. none))
 
   -- ---- the names that are left after a name more, and after the end of one
 

@@ -1,7 +1,7 @@
 -- One plan from two worlds.
 use Rattle.ele_model.proofs.Basics.{◌≡◌, true, false, Some, None, Ok, Err, refl}
 use Rattle.ele_model.proofs.Words.{after_changes, Plan, Tell, Make, Unless, When, Need, IfFound, outcome, World}
-use Rattle.ele_model.proofs.Outcomes.{InAll}
+use Rattle.ele_model.proofs.PlanOutcomes.{InAll}
 
 -- is answered alike
 pub same_reply : (u v : World) (plan : Plan) → (outcome u plan).0 ≡ (outcome v plan).0

@@ -7,13 +7,13 @@ use Rattle.ele_model.specs.Due.{ripe_of}
 use Rattle.ele_world.specs.Less.{less}
 use Rattle.ele_world.proofs.AnyDueLeave.{remains}
 use Rattle.ele_model.proofs.AppendMoments.{MayGrow, gaining_is, gaining_was, has_newer, may_grow, next_before, others_after, touches}
-use Rattle.ele_world.proofs.Behind.{Behind, KeepsBehind, apart_from, change_on, new_there, unripe_there}
+use Rattle.ele_world.proofs.ChangesLag.{Behind, KeepsBehind, apart_from, change_on, new_there, unripe_there}
 use Rattle.ele_world.proofs.CleanLags.{parts_same}
 use Rattle.ele_model.proofs.Created.{created, made_is, new_file, new_name, first_version, versions_before}
 use Rattle.ele_model.proofs.Files.{next_of-given, next_of-numbered_le, next_of-push}
 use Rattle.ele_world.proofs.Filters.{filter-push, insert_before-filter, update_first-filter}
 use Rattle.ele_model.proofs.KeptVersions.{behind_too, ended_versions}
-use Rattle.ele_world.proofs.Lagging.{stays_name, stays_file, live_same, next_same}
+use Rattle.ele_world.proofs.LagsKeeps.{stays_name, stays_file, live_same, next_same}
 use Rattle.ele_model.proofs.MadeMoments.{moment_stays}
 use Rattle.ele_model.proofs.Elements.{any_none}
 use Rattle.ele_model.proofs.Neighbours.{floor_for}

@@ -1,8 +1,8 @@
-use Rattle.ele_state.proofs.Words.{PutUnder, refl, sym, world_of, ◌∙◌}
+use Rattle.ele_state.proofs.Words.{SetFilePolicy, refl, sym, world_of, ◌∙◌}
 use Rattle.ele_state.proofs.Changes.{moved_queue, refused_queue}
 use Rattle.ele_state.proofs.Governed.{governed, governed_book}
-use Rattle.ele_state.proofs.Settled.{settled_by, unchanged}
-use Rattle.ele_state.proofs.State.put_under.Goals as goal
+use Rattle.ele_state.proofs.SoundAfter.{settled_by, unchanged}
+use Rattle.ele_state.proofs.State.set_policy.Goals as goal
 
 pub invariant_of-self : goal.invariant_of-self
 invariant_of-self c =
@@ -22,7 +22,7 @@ invariant_of-self-2 c =
     let move = governed (world_of rows) c.args.file c.in-Some.was c.args.policy c.self.invariant.sound.formed filed (rw (← c.self.view_is) at c.requires) c.lemma_valid.ensures.lawful in
     let are = rw (← c.deref.ensures.value) at c.in_ok-changes.ensures in
     let went = rw (c.deref-2.ensures.value, ← c.deref.ensures.value) at c.remove_old_keys.ensures in
-    settled_by rows _ c.self.view_is c.self.invariant (PutUnder c.args.file c.args.policy) c.lemma_valid.ensures.given tt _ (rw c.put_under.ensures refl) (rw c.put_under.ensures (record {
+    settled_by rows _ c.self.view_is c.self.invariant (SetFilePolicy c.args.file c.args.policy) c.lemma_valid.ensures.given tt _ (rw c.set_policy.ensures refl) (rw c.set_policy.ensures (record {
       queue = moved_queue _ _ _ _ _ move c.deref.result.now are rows.queue c.self.invariant.sound.tracked.queue c.put_changed.new.queue c.remove_old_keys.new.queue c.in_ok-put_changed.ensures.ok went;
       book = governed_book rows c.args.file c.in-Some.was c.self.invariant.sound filed c.args.policy c.lemma_valid.ensures.lawful c.move_file.new.self (rw (c.kind.ensures, c.kind-2.ensures, c.in_ok-usage.ensures) at c.move_file.ensures.each);
       bounds = c.self.invariant.sound.tracked.bounds;

@@ -8,7 +8,7 @@ use Rattle.ele_model.specs.Change.{ended_if_nameless, next_version}
 use Rattle.ele_model.specs.Step.{cells_read}
 use Rattle.ele_model.proofs.Dropped.{dropped}
 use Rattle.ele_model.proofs.Meant.{is_meant}
-use Rattle.ele_model.proofs.Outcomes.{AfterAll, in_all}
+use Rattle.ele_model.proofs.PlanOutcomes.{AfterAll, in_all}
 use Rattle.ele_model.proofs.Versions.{IsFound, all_found}
 
 -- the event changes what a draft has

@@ -7,7 +7,7 @@ use Rattle.ele_world.proofs.Words.{Draft, DraftRow, HandleRow, NameRow, VersionR
 use Rattle.ele_world.specs.Less.{less}
 use Rattle.ele_world.specs.Lags.{Lags}
 use Rattle.ele_world.proofs.AnyDueLeave.{remains}
-use Rattle.ele_world.proofs.Behind.{Behind, KeepsBehind, apart_from, change_on, lagging, live_there, drafted_there, unripe_there}
+use Rattle.ele_world.proofs.ChangesLag.{Behind, KeepsBehind, apart_from, change_on, lagging, live_there, drafted_there, unripe_there}
 use Rattle.ele_world.proofs.CleanLags.{parts_same, drop_lags}
 use Rattle.ele_model.proofs.Currents.{has_current}
 use Rattle.ele_model.proofs.Dropped.{IsIdle, drop_keeps, idle_is, live_other, next_of-removed}
@@ -15,7 +15,7 @@ use Rattle.ele_model.proofs.DropViews.{ripe_at_dropped}
 use Rattle.ele_model.proofs.Elements.{any_none}
 use Rattle.ele_world.proofs.Filters.{remove_first-filter}
 use Rattle.ele_model.proofs.KeptDrafts.{same_file}
-use Rattle.ele_world.proofs.Lagging.{stays_name, stays_file, live_same, next_same}
+use Rattle.ele_world.proofs.LagsKeeps.{stays_name, stays_file, live_same, next_same}
 use Rattle.ele_model.proofs.NameMoments.{moments_stay, no_moment}
 use Rattle.ele_model.proofs.Neighbours.{found_moment, in_order_of}
 use Rattle.ele_model.proofs.OpenMoments.{opened_others, read_moment}

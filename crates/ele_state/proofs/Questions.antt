@@ -1,5 +1,5 @@
 -- What is told of one version, and of the first that are due.
-use Rattle.ele_state.proofs.Words.{Bool, Cover, IsTold, Policy, find, floor_in, is_version, moment_under, near_moment, newer_held, next_closing, ripe_past, unmarked_moment, AllLater, ArePlaced, VersionRow, is_live, met_before, option_and_then, with_newer, ◌-◌, ◌==◌, ◌≡◌, ℕ, ◌≤◌, false, ◌&&◌, List, cond, Option, Some, None, refl, ap, sym, ◌∙◌, arith, nat_le, slice_get, filter_map, option_map, option_map_or, nat_tests, world_of, IsSound, former_moment, gained_moment, Rows, Key, has_key, is_ripe_by, Held, Stamps, ripe_at, free_moment, newest_of, due_key, first_due, cover_of, GroupRow, stamps_of, World, is_open, policy_of, in_order_of, ripe_at_near, is_due_is, scan_members}
+use Rattle.ele_state.proofs.Words.{Bool, Cover, IsInfoOf, Policy, find, floor_in, is_version, moment_under, near_moment, newer_held, next_closing, ripe_past, unmarked_moment, AllLater, ArePlaced, VersionRow, is_live, met_before, option_and_then, with_newer, ◌-◌, ◌==◌, ◌≡◌, ℕ, ◌≤◌, false, ◌&&◌, List, cond, Option, Some, None, refl, ap, sym, ◌∙◌, arith, nat_le, slice_get, filter_map, option_map, option_map_or, nat_tests, world_of, IsSound, former_moment, gained_moment, Rows, Key, has_key, is_ripe_by, Held, VersionInfo, ripe_at, free_moment, newest_of, due_key, first_due, cover_of, GroupRow, info_of, World, is_open, policy_of, in_order_of, ripe_at_near, is_due_is, scan_members}
 use Rattle.ele_state.proofs.Changes.{passing}
 use Rattle.ele_moment.specs.Last.{last_moment}
 use Rattle.ele_due.specs.InOrder.{in_order}
@@ -40,7 +40,7 @@ ripe_told rows file number sound = ripe_at_near (world_of rows) file number (in_
 abbrev gained_by : List GroupRow → Held → ℕ → ℕ → ℕ → ℕ → ℕ → Option ℕ → Option ℕ
 gained_by groups h file floor now number closed ended = cond (is_open h.handles file number) None (gained_moment (cover_of groups file) (policy_of h.files file) floor now closed ended)
 
-pub former_told : (groups : List GroupRow) (h : Held) (file floor now : ℕ) (gaining : Stamps) → option_map stamps_of (with_newer h.versions file (floor - 1)) ≡ Some gaining
+pub former_told : (groups : List GroupRow) (h : Held) (file floor now : ℕ) (gaining : VersionInfo) → option_map info_of (with_newer h.versions file (floor - 1)) ≡ Some gaining
     → option_and_then (former_moment groups h file floor now) (with_newer h.versions file (floor - 1)) ≡ gained_by groups h file floor now gaining.number gaining.closed gaining.ended
 former_told groups h file floor now gaining told = grind (arith, nat_tests, told)
 
@@ -49,25 +49,25 @@ pub met_alone : (floor : ℕ) → (floor == 0) ≡ met_before floor
 met_alone floor = grind (arith, nat_tests)
 
 -- where no floor is in force, or one version is enough, the newest gains
-pub newest_gains : (versions : List VersionRow) (file floor : ℕ) (newest : Option Stamps) → AllLater ArePlaced versions → option_map stamps_of (newest_of versions file) ≡ newest → floor ≤ 1 → newest ≡ option_map stamps_of (with_newer versions file (floor - 1))
+pub newest_gains : (versions : List VersionRow) (file floor : ℕ) (newest : Option VersionInfo) → AllLater ArePlaced versions → option_map info_of (newest_of versions file) ≡ newest → floor ≤ 1 → newest ≡ option_map info_of (with_newer versions file (floor - 1))
 newest_gains versions file floor newest placed is few = grind (arith, nat_tests, is, few, newest_newer versions file placed)
 
 -- what is told of a held version tells its moment
-module _ (h : Held) (file : ℕ) (stamps : Stamps) (told : IsTold h file stamps) where
+module _ (h : Held) (file : ℕ) (info : VersionInfo) (told : IsInfoOf h file info) where
   pub under_told : (cover : ℕ → Option ℕ → Cover) (policy : Option Policy) (floor : ℕ)
-      → moment_under cover policy floor h.versions file stamps.number ≡ option_and_then (near_moment cover policy (next_closing h.versions file stamps.number) (nat_le floor (newer_held h.versions file stamps.number)) stamps.closed) stamps.ended
+      → moment_under cover policy floor h.versions file info.number ≡ option_and_then (near_moment cover policy (next_closing h.versions file info.number) (nat_le floor (newer_held h.versions file info.number)) info.closed) info.ended
   under_told cover policy floor = grind (arith, nat_tests, told)
 
   -- with a cover it is that without one, or the cover's end
   pub covered_told : (cover : ℕ → Option ℕ → Cover) (live : Bool)
-      → moment_under cover (policy_of h.files file) (floor_in (policy_of h.files file) live) h.versions file stamps.number ≡ option_and_then (λ ended. option_and_then (ripe_past (cover stamps.closed (Some ended))) (unmarked_moment h live file stamps.number stamps.closed ended)) stamps.ended
+      → moment_under cover (policy_of h.files file) (floor_in (policy_of h.files file) live) h.versions file info.number ≡ option_and_then (λ ended. option_and_then (ripe_past (cover info.closed (Some ended))) (unmarked_moment h live file info.number info.closed ended)) info.ended
   covered_told cover live = grind (arith, nat_tests, under_told cover (policy_of h.files file) (floor_in (policy_of h.files file) live))
 
 -- which a file's row has, if it is found under a number
-pub told_under : (h : Held) (file number : ℕ) (stamps : Stamps) → Some stamps ≡ option_map stamps_of (find (is_version file number) h.versions) → (stamps.number ≡ number) × IsTold h file stamps
-told_under h file number stamps found = grind (arith, nat_tests, found, passing (is_version file number) h.versions)
+pub told_under : (h : Held) (file number : ℕ) (info : VersionInfo) → Some info ≡ option_map info_of (find (is_version file number) h.versions) → (info.number ≡ number) × IsInfoOf h file info
+told_under h file number info found = grind (arith, nat_tests, found, passing (is_version file number) h.versions)
 
 -- so it does that which it has while no handle reads it
-pub free_told : (groups : List GroupRow) (h : Held) (live : Bool) (file number : ℕ) (stamps : Stamps) → Some stamps ≡ option_map stamps_of (find (is_version file number) h.versions)
-    → free_moment groups h.files live h.versions file number ≡ option_and_then (λ ended. option_and_then (ripe_past (cover_of groups file stamps.closed (Some ended))) (unmarked_moment h live file stamps.number stamps.closed ended)) stamps.ended
-free_told groups h live file number stamps found = let told = told_under h file number stamps found in rw (← told.0) (covered_told h file stamps told.1 (cover_of groups file) live)
+pub free_told : (groups : List GroupRow) (h : Held) (live : Bool) (file number : ℕ) (info : VersionInfo) → Some info ≡ option_map info_of (find (is_version file number) h.versions)
+    → free_moment groups h.files live h.versions file number ≡ option_and_then (λ ended. option_and_then (ripe_past (cover_of groups file info.closed (Some ended))) (unmarked_moment h live file info.number info.closed ended)) info.ended
+free_told groups h live file number info found = let told = told_under h file number info found in rw (← told.0) (covered_told h file info told.1 (cover_of groups file) live)
