@@ -1,6 +1,5 @@
 //! For how long marks keep a version. A contract sees plain data.
-ghost use Rattle.std.specs.Prelude.{◌≡◌, ◌≤◌, IfSome};
-ghost use Rattle.ele_moment.specs.Last.{last_moment};
+ghost use Rattle.std.specs.Prelude.{◌≡◌};
 ghost use Rattle.ele_model.specs.Cover.{cover_until, lasts, longer, ripe_past};
 
 use ele_moment::Moment;

@@ -12,7 +12,7 @@ ghost use Rattle.ele_model.specs.GroupRows.{covers_moment, is_member};
 ghost use Rattle.ele_model.specs.Neighbours.{is_newer_of};
 ghost use Rattle.ele_model.specs.RipeMoments.{IsDueFromRipe};
 ghost use Rattle.ele_model.specs.Scan.{key_cmp, due_key, scan};
-ghost use Rattle.ele_model.specs.World.{World, is_live_name_of, is_open, policy_of, reads_version};
+ghost use Rattle.ele_model.specs.World.{is_live_name_of, is_open, policy_of, reads_version};
 
 use crate::cover::Cover;
 use crate::flat::Flat;

@@ -1,7 +1,7 @@
 -- The same, and the lemmas on lists, for answers.
 pub use Rattle.ele_lists.proofs.Alls.{all-got}
 pub use Rattle.ele_rows.proofs.Backs.{chunk-far, chunk-near}
-pub use Rattle.ele_lists.proofs.Basics.{All-weaker, IsKeyInRange, IsPartitionPoint-from_clause, IsPartitionedBy, Some, ap, arith, false, get_or-set_same, last_of, length, length-set, ltb, nat_tests, nil_from_length, not, option_copied, recursion_from_All, refl, reverse, rules, set, slice_get, slice_get-get_or, slice_get_read, sym, take, take_all, true, update_last, with_items_is, ◌-◌, ◌<◌, ◌∙◌, ◌≡◌}
+pub use Rattle.ele_lists.proofs.Basics.{All-weaker, IsKeyInRange, IsPartitionPoint-from_clause, IsPartitionedBy, Some, ap, arith, false, get_or-set_same, last_of, length, length-set, ltb, nat_tests, nil_from_length, not, option_copied, recursion_from_All, refl, reverse, rules, set, slice_get, slice_get-get_or, slice_get_read, sym, take, take_all, true, update_last, with_items_is, ◌-◌, ◌∙◌, ◌≡◌}
 pub use Rattle.ele_rows.proofs.Basics.{entry_cmp, flat, has}
 pub use Rattle.ele_lists.proofs.Cuts.{remove_first-unfound}
 pub use Rattle.ele_lists.proofs.Edits.{all-weaker, not_found}
