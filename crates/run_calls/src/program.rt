@@ -38,15 +38,9 @@ pub fn expect_at<T: Threads + Wait + Clock + Sync + Abort, R: Read + Drop>(
     let (output, errors, status) = wanted;
     let mut told = Vec::<u8>::new(alloc);
     let mut input = KeepsError::new(reader);
-    let mut keeps_error = KeepsError::new(&mut *writer);
+    let mut kept = KeepsError::new(&mut *writer);
     let ended = dispatch::<EmptyWorld, T, _, _, _>(
-        rt,
-        alloc,
-        invocation,
-        false,
-        &mut input,
-        &mut keeps_error,
-        &mut told,
+        rt, alloc, invocation, false, &mut input, &mut kept, &mut told,
     );
     assert_eq!(rt; told.as_slice(), errors.as_bytes());
     assert_eq!(rt; writer.taken.as_slice(), output.as_bytes());
