@@ -2,17 +2,17 @@
 ghost use Rattle.std.specs.Prelude.{◌≡◌, IfOk};
 
 use ele_core::Limits;
-use ele_shared::{Elephant, Seat, Vault};
+use ele_shared::{Elephant, NoMemory, Seat, Vault};
 use std::alloc::Global;
 use std::test::Fail;
 
 /// A fresh vault that two seats share, and one of them.
-fn share_fresh(alloc: Global) -> Result<(Elephant, Seat), Fail>
+fn share_fresh(alloc: Global) -> Result<(Elephant, Seat), NoMemory>
     ensures { IfOk result (λ made. made.1.object ≡ made.0) }
 {
     let vault = Vault::new(alloc, Limits::largest())?;
     let Ok((elephant, mut seats)) = Elephant::new(alloc, vault, 2) else {
-        return Err(Fail::from("no memory"));
+        return Err(NoMemory);
     };
     let Some(seat) = seats.pop() else {
         unreachable!()
