@@ -1,4 +1,5 @@
-//! Running of scripts over a core: bytes in, text out; and what many threads call, by its names over a core.
+//! Running of scripts over a core: bytes in, text out; the audit of its answers; and what many threads call, by its
+//! names over a core.
 //! A contract sees the bytes that the reader gives and those that the writer takes, where these are
 //! known.
 #![tactic(auto)]
