@@ -3,10 +3,6 @@ use Rattle.std.specs.Prelude.{ℕ, List}
 use Rattle.ele_model.specs.declared.rows.DeadName.{DeadName}
 use Rattle.ele_model.specs.declared.rows.Target.{Target}
 
--- a dead name as a triple of its directory, its name and what it last stood for
-abbrev pub triple_of : DeadName → ℕ × List ℕ × Target
-triple_of row = (row.directory, row.name, row.target)
-
--- and the dead name that a triple tells
+-- the dead name that a triple tells
 abbrev pub row_of : ℕ × List ℕ × Target → DeadName
 row_of given = record { directory = given.0; name = given.1; target = given.2 }

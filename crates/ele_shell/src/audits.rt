@@ -3,10 +3,10 @@
 ghost use Rattle.std.specs.Prelude.{◌≡◌, ◌↔◌, IfOk, IsTrue, map};
 ghost use Rattle.std.specs.List.{AllByRecursion};
 ghost use Rattle.ele_usage.specs.Sums.{Fits};
-ghost use Rattle.ele_model.specs.Restorable.{restorable};
+ghost use Rattle.ele_model.specs.Restorable.{restorable, triple_of};
 ghost use Rattle.ele_model.specs.Scan.{scan};
 ghost use Rattle.ele_model.specs.Usage.{usages};
-ghost use Rattle.ele_shell.specs.Audit.{row_of, triple_of};
+ghost use Rattle.ele_shell.specs.Audit.{row_of};
 
 use ele_core::{DeadName, DirId, Flat, Key, Name, NoMemory, Target, Usage};
 use std::alloc::Global;

@@ -1,8 +1,9 @@
 //! The calls of a core that no script reaches. What they answer is in their contracts; here it is that they find memory.
 use ele_core::{
-    ByteList, Core, Event, FileId, Handle, Limits, Moment, PassEnd, Reply, Usage, VersionNo,
+    ByteList, Core, Event, FileId, Handle, Limits, Moment, PassEnd, Reply, Usage, VersionNo, laws,
 };
 use ele_script::read_event;
+use ele_shell::audit;
 use std::alloc::Global;
 use std::test::Fail;
 
@@ -52,6 +53,28 @@ fn a_core_is_cleaned_and_asked_and_copied(rt: HostRuntime) -> Result<(), Fail> {
         told,
         (Reply::File(FileId(1)), PassEnd::Finished(0), [true; 2])
     );
+    Ok(())
+}
+
+/// Whether an audit finds equal what the core answers, and the same with other usage.
+fn audit_both(alloc: Global, core: &Core) -> Result<[bool; 2], Fail> {
+    let due = core.due()?;
+    let names = core.restorable()?;
+    let flat = core.flat()?;
+    // For the proof: the world is well formed, so the sums of its usage are within 64 bits.
+    let _now = core.now();
+    laws::usage_fits();
+    let (due, names) = (due.as_slice(), names.as_slice());
+    let equal = audit(alloc, due, names, &core.usage(), &flat)?;
+    let other = audit(alloc, due, names, &[Usage::default(); 4], &flat)?;
+    Ok([equal, other])
+}
+
+#[test]
+fn an_audit_compares_what_a_core_answers(rt: HostRuntime) -> Result<(), Fail> {
+    let mut core = Core::new(rt.alloc(), Limits::largest())?;
+    reply_to(rt.alloc(), &mut core, "create /f")?;
+    assert_eq!(rt; audit_both(rt.alloc(), &core)?, [true, false]);
     Ok(())
 }
 

@@ -1,7 +1,6 @@
 //! Groups and what their marks cover, called with ample memory.
 use crate::rooms::moment;
-use ele_groups::Groups;
-use ele_model::Cover;
+use ele_groups::{Cover, Groups};
 use ele_moment::{FileId, Name};
 use std::test::Fail;
 
