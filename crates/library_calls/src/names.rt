@@ -1,8 +1,7 @@
 //! Names, paths and walks, called with ample memory.
 use crate::rooms::moment;
-use ele_model::{DirId, Target};
-use ele_moment::{FileId, Moment, Name, VersionNo};
-use ele_names::Names;
+use ele_moment::{DirId, FileId, Moment, Name, VersionNo};
+use ele_names::{Names, Target};
 use ele_time_path::{
     Path, PathFault, Tag, TaggedPath, WalkFault, parent_now, resolve_at, resolve_now,
 };
