@@ -53,10 +53,20 @@ fn with_fault<T>(walked: Result<T, Refusal>) -> Result<T, WalkFault>
 {
     match walked {
         Ok(value) => Ok(value),
-        Err(Refusal::Future) => Err(WalkFault::Future),
-        Err(Refusal::IsRoot) => Err(WalkFault::IsRoot),
-        Err(Refusal::NoEntry) => Err(WalkFault::NoEntry),
-        Err(Refusal::NotDirectory) => Err(WalkFault::NotDirectory),
-        Err(_) => unreachable!(),
+        Err(refusal) => Err(fault_of(refusal)),
+    }
+}
+
+// The fault that the refusal is.
+fn fault_of(refusal: Refusal) -> WalkFault
+    requires { IsOfWalk refusal }
+    ensures { refusal_of result ≡ refusal }
+{
+    match refusal {
+        Refusal::Future => WalkFault::Future,
+        Refusal::IsRoot => WalkFault::IsRoot,
+        Refusal::NoEntry => WalkFault::NoEntry,
+        Refusal::NotDirectory => WalkFault::NotDirectory,
+        _ => unreachable!(),
     }
 }

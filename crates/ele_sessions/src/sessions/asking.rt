@@ -54,7 +54,10 @@ impl Sessions {
     pub fn read(&self, handle: Handle) -> Option<Reads>
         ensures { result ≡ result_ok (reads_by self.now.handles handle) }
     {
-        self.reads_by(handle).ok()
+        let Ok(reads) = self.reads_by(handle) else {
+            return None;
+        };
+        Some(reads)
     }
 
     /// What is read through the handle. Refused: `NoHandle`.
