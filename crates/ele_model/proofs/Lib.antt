@@ -1,5 +1,5 @@
 pub mod Basics
-mod Details
+mod RefusalDetails
 pub mod Words
 pub mod Formed
 pub mod Elements
