@@ -1,6 +1,6 @@
 //! Putting paths and their tags. A contract sees a path as the list of its names, and a printer as
 //! its outlet.
-ghost use Rattle.std.specs.Prelude.{◌≡◌, ◌∷◌, ◌++◌};
+ghost use Rattle.std.specs.Prelude.{◌≡◌, ◌∷◌};
 ghost use Rattle.ele_printer.specs.EventText.{IsTag};
 ghost use Rattle.ele_printer.specs.Prints.{Prints};
 ghost use Rattle.ele_path.specs.PathAt.{tag_at};

@@ -1,6 +1,6 @@
 //! Putting refusals into an output. A contract sees a refusal as itself, and a printer as its
 //! outlet.
-ghost use Rattle.std.specs.Prelude.{◌∷◌, [], List, ℕ, decimal, codes};
+ghost use Rattle.std.specs.Prelude.{◌∷◌, [], decimal, codes};
 ghost use Rattle.ele_model.specs.Answers.{refusal_number, refusal_name};
 ghost use Rattle.ele_printer.specs.Prints.{Prints};
 ghost use Rattle.ele_printer.specs.Printed.{line_text, refusal_text};

@@ -1,6 +1,6 @@
 //! Putting replies into an output. A contract sees a reply as itself, and a printer as its
 //! outlet.
-ghost use Rattle.std.specs.Prelude.{◌≡◌, ◌≤◌, ◌++◌, ◌∷◌, [], Ok, List, ℕ, length, OnOk, OnErr, decimal, codes};
+ghost use Rattle.std.specs.Prelude.{◌≤◌, ◌++◌, ◌∷◌, [], Ok, List, ℕ, length, decimal, codes};
 ghost use Rattle.ele_printer.specs.Prints.{Prints};
 ghost use Rattle.ele_printer.specs.Printed.{line_text, key_words, closed_text, restorable_line, restorable_text, due_line, due_text, bytes_text, usage_line, usage_text, stop_text, pass_text, bad_text, IsAnswerText, IsReplyText};
 ghost use Rattle.hex.specs.Hex.{encode_lower};

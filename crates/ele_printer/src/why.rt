@@ -1,6 +1,6 @@
 //! Putting why versions are held, and which will be due. A contract sees what is told as itself, and
 //! a printer as its outlet.
-ghost use Rattle.std.specs.Prelude.{◌∷◌, [], ◌++◌, Ok, map, codes, decimal};
+ghost use Rattle.std.specs.Prelude.{◌∷◌, [], ◌++◌, Ok, codes, decimal};
 ghost use Rattle.ele_printer.specs.Prints.{Prints};
 ghost use Rattle.ele_printer.specs.Printed.{line_text, mark_word};
 ghost use Rattle.ele_printer.specs.Why.{ahead_text, cause_words, level_words, until_words, why_text};

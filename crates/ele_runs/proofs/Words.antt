@@ -1,13 +1,13 @@
 -- The words of this crate and of those below that proofs here use, in one place.
-pub use Rattle.ele_history.specs.Pass.{EndsBy, MayPass, Removes, RemovesOne}
+pub use Rattle.ele_history.specs.Pass.{MayPass, Removes, RemovesOne}
 pub use Rattle.ele_history.specs.Past.{HasRoom, IsFull, Past, answered, count_of, recorded, reply_to, trimmed, world_of}
-pub use Rattle.ele_history.specs.Reply.{MayRecord, MayReply, MayStop}
+pub use Rattle.ele_history.specs.Reply.{MayReply}
 pub use Rattle.ele_printer.specs.Front.{AppendsFront}
 pub use Rattle.ele_printer.specs.Outlet.{Outlet, Puts, Takes, TakesFront}
 pub use Rattle.ele_printer.specs.Prints.{outlet}
 pub use Rattle.ele_script.specs.Words.{longest_line}
-pub use Rattle.ele_runs.specs.Block.{IsBlock, MayAnswer, as_entry, as_read, as_trim, cut_block, cut_count}
-pub use Rattle.ele_runs.specs.RunState.{RunState, begun, advance, noting}
+pub use Rattle.ele_runs.specs.Block.{IsBlock, MayAnswer, as_entry, as_trim, cut_block, cut_count}
+pub use Rattle.ele_runs.specs.RunState.{RunState, begun, noting}
 pub use Rattle.ele_runs.specs.RunOptions.{front_of, heard, is_well, plain, tells_reasons}
 pub use Rattle.ele_runs.specs.Note.{IsNoted, cut_note}
 pub use Rattle.ele_runs.specs.Told.{AreTold, IsTold, cut_told}

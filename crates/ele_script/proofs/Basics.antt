@@ -1,6 +1,6 @@
 -- The words and lemmas of std and of lists that proofs here use, in one place.
 pub use Rattle.hex.specs.Hex.{decode_of}
-pub use Rattle.std.proofs.Common.{Bool, Bor, Err, IfNone, List, None, Ok, Option, Result, Some, [], ap, append-nil, append_assoc, arith, cond, drop, false, get_or, inl, inr, length, length-append, map, nat_lt, refl, rules, subst, suc, sym, take, tests, true, true≢false, zero, ℕ, ◌&&◌, ◌++◌, ◌+◌, ◌*◌, ◌^◌, ◌<◌, ◌==◌, ◌∙◌, ◌∷◌, ◌≡◌, ◌≢◌, ◌≤◌, ◌⊎◌}
+pub use Rattle.std.proofs.Common.{Bool, Bor, Err, IfNone, List, None, Ok, Option, Result, Some, [], ap, append-nil, append_assoc, arith, drop, false, get_or, inl, inr, length, length-append, map, nat_lt, refl, rules, subst, suc, sym, take, tests, true, true≢false, zero, ℕ, ◌&&◌, ◌++◌, ◌+◌, ◌*◌, ◌^◌, ◌<◌, ◌==◌, ◌∙◌, ◌∷◌, ◌≡◌, ◌≢◌, ◌≤◌, ◌⊎◌}
 pub use Rattle.std.proofs.Math.Decide.{dec_le, dec_lt, ℕ_discrete}
 pub use Rattle.std.proofs.lemmas.Bool.{eqb-true, false≢true, lt-ltb, ltb-false}
 pub use Rattle.std.proofs.lemmas.Bool.Decides.{nat_tests}

@@ -3,7 +3,7 @@ pub use Rattle.ele_moment.specs.Number.{SpellsNumber}
 pub use Rattle.ele_moment.specs.Spelled.{SpellsMoment, SpellsTimestamp}
 pub use Rattle.ele_policy.specs.Ladder.{IsLadder, Rung, climbs, ground, is_above}
 pub use Rattle.ele_policy.specs.declared.policy.Policy.TheVariants.{All as KeepAll, Landmarks, One, Safe}
-pub use Rattle.ele_printer.specs.Command.{command_words, name_of}
+pub use Rattle.ele_printer.specs.Command.{command_words}
 pub use Rattle.ele_script.specs.Command.{kinds_behind, kinds_if}
 pub use Rattle.ele_script.specs.CommandOf.{behind, commands, find_command, named}
 pub use Rattle.ele_script.specs.FirstFault.{FitsCommand, IsEventFault, IsFaultOfWords, IsFirstFault, IsFirstWordFault, IsOfKind, IsWordFault, no_command, no_event, not_worded, of_line, of_word, of_words, too_long}
