@@ -77,8 +77,12 @@ tie_from page number (Some ripe) None = []
 tie_from page number None other = []
 
 -- a version that another one displaces is tied to that one, whose number tells its place
+abbrev pub ties_for : Page → List Forecast → Forecast → Cause → List Mark
+ties_for page forecasts told (cause.Displaced level by) = tie_from page told.number told.ripe (slice_get forecasts (by - 1))
+ties_for page forecasts told other = []
+
 abbrev pub ties_of : Page → List Forecast → Forecast → Why → List Mark
-ties_of page forecasts told (why.Goes (cause.Displaced level by)) = tie_from page told.number told.ripe (slice_get forecasts (by - 1))
+ties_of page forecasts told (why.Goes cause) = ties_for page forecasts told cause
 ties_of page forecasts told other = []
 
 abbrev pub version_tied : Page → List Forecast → Forecast → List ℕ

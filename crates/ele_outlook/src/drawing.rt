@@ -3,7 +3,7 @@ ghost use Rattle.std.specs.Prelude.{◌≡◌, ◌<◌, ◌≤◌, ◌+◌, ◌-
 ghost use Rattle.std.specs.List.{flat_map, join_with_byte};
 ghost use Rattle.ele_policy.specs.Ladder.{level_of};
 ghost use Rattle.ele_printer.specs.Prints.{Prints};
-ghost use Rattle.ele_outlook.specs.Drawing.{IsOnPage, band_drawn, band_marks, band_top, drawing_text, floor_words, frame_drawn, head_drawn, heading_drawn, kept_drawn, kept_marks, moment_drawn, policy_name, rows_drawn, scale_drawn, scale_marks, spans_drawn, tie_from, version_drawn, version_tied};
+ghost use Rattle.ele_outlook.specs.Drawing.{IsOnPage, band_drawn, band_marks, band_top, drawing_text, floor_words, frame_drawn, head_drawn, heading_drawn, kept_drawn, kept_marks, moment_drawn, policy_name, rows_drawn, scale_drawn, scale_marks, spans_drawn, tie_from, ties_for, version_drawn, version_tied};
 ghost use Rattle.ele_outlook.specs.Mark.{mark_text};
 ghost use Rattle.ele_outlook.specs.Page.{step_of};
 ghost use Rattle.ele_outlook.specs.Why.{spaced};
@@ -304,10 +304,25 @@ fn put_tie<W: Write>(
         (version_tied page.now forecasts.now forecast.now) result }
 {
     match forecast.why {
-        Why::Goes(Cause::Displaced { by, .. }) => {
-            put_tie_to(page, forecasts, forecast, by, printer)
-        }
-        Why::Current | Why::Never | Why::Goes(_) => Ok(()),
+        Why::Goes(cause) => put_tie_for(page, forecasts, forecast, cause, printer),
+        Why::Current | Why::Never => Ok(()),
+    }
+}
+
+// Puts that of a version that its policy lets go for that cause.
+fn put_tie_for<W: Write>(
+    page: &Page,
+    forecasts: &[Forecast],
+    forecast: &Forecast,
+    cause: Cause,
+    printer: &mut Printer<'_, W>,
+) -> Result<(), WriteFault>
+    ensures { Prints W.contents printer.old printer.new
+        (flat_map mark_text (ties_for page.now forecasts.now forecast.now cause)) result }
+{
+    match cause {
+        Cause::Displaced { by, .. } => put_tie_to(page, forecasts, forecast, by, printer),
+        Cause::AtOnce | Cause::Age(_) => Ok(()),
     }
 }
 

@@ -3,6 +3,7 @@ ghost use Rattle.std.specs.Prelude.{◌≡◌, ◌&&◌, true, false, Some, IfOk
 ghost use Rattle.std.specs.Option.{option_map};
 ghost use Rattle.std.specs.Str.{bytes_eq};
 ghost use Rattle.ele_lists.specs.Lists.{AllLater};
+ghost use Rattle.ele_policy.specs.Cause.{closing_of};
 ghost use Rattle.ele_model.specs.Change.{Time, after_change};
 ghost use Rattle.ele_model.specs.Fate.{HasFate, IsMarkedBy, level_reached};
 ghost use Rattle.ele_model.specs.Cover.{ripe_past};
@@ -93,13 +94,26 @@ fn first_mark(
 }
 
 // The next held version, by its info, as a newer one of its file.
-fn newer_of(next: Option<VersionInfo>) -> Option<Newer>
-    ensures { result ≡ option_map newer_of next }
+fn newer_of(next: &Option<VersionInfo>) -> Option<Newer>
+    ensures { result ≡ option_map newer_of next.now }
 {
-    next.map(|info| Newer {
-        number: info.number,
-        closed: info.closed,
-    })
+    match next {
+        Some(info) => Some(Newer {
+            number: info.number,
+            closed: info.closed,
+        }),
+        None => None,
+    }
+}
+
+// When it closed.
+fn closing_of(next: &Option<Newer>) -> Option<Moment>
+    ensures { result ≡ closing_of next.now }
+{
+    match next {
+        Some(newer) => Some(newer.closed),
+        None => None,
+    }
 }
 
 // The level that a version has reached at the moment which ended then; none without a ladder.
@@ -129,19 +143,19 @@ fn free_fate(
     policy: &Policy,
     closed: Moment,
     ended: Moment,
-    next: Option<Newer>,
+    next: &Option<Newer>,
     floor_met: bool,
     now: Moment,
 ) -> Fate
-    ensures { IsFreeFate cover policy.now closed ended next floor_met now result }
+    ensures { IsFreeFate cover policy.now closed ended next.now floor_met now result }
 {
     policy.lemma_valid();
-    let next_closed = next.map(|newer| newer.closed);
+    let next_closed = closing_of(next);
     let until = ripe_past(cover, ripe(policy, closed, ended, next_closed, floor_met));
     if let Some(since) = until {
         if since <= now {
             since.lemma_in_range();
-            let cause = cause_of(policy, closed, ended, next, since);
+            let cause = cause_of(policy, closed, ended, *next, since);
             return Fate::Due { since, cause };
         }
     }
@@ -173,15 +187,8 @@ fn fate_of(rows: &Rows, file: FileId, info: &VersionInfo) -> Fate
     let next = rows.files.next_held(file, number);
     let floor = floor_in(&policy, rows.names.is_live(file));
     let floor_met = rows.files.has_newer(file, number, floor);
-    free_fate(
-        cover,
-        &policy,
-        closed,
-        ended,
-        newer_of(next),
-        floor_met,
-        now,
-    )
+    let next = newer_of(&next);
+    free_fate(cover, &policy, closed, ended, &next, floor_met, now)
 }
 
 impl State {

@@ -27,10 +27,10 @@ module _ (w : World) (row : VersionRow) where
   marked_told at name mark is = any_found (λ g. is_member row.file g && has_covering row.closed row.ended at g) w.groups is.group is.first_group
 
   open_protected : (at : ℕ) → is_open w.handles row.file row.number ≡ true → is_protected (file_view w row.file) row at ≡ true
-  open_protected at is = grind (arith, nat_tests, protected_told at)
+  open_protected at is = grind (arith, nat_tests, protected_told w row at)
 
   marked_protected : (at : ℕ) (name : List ℕ) (mark : MarkRow) → IsMarkedBy w.groups row.file row.closed row.ended at name mark → is_protected (file_view w row.file) row at ≡ true
-  marked_protected at name mark is = grind (arith, nat_tests, protected_told at, marked_told at name mark is)
+  marked_protected at name mark is = grind (arith, nat_tests, protected_told w row at, marked_told at name mark is)
 
   due_unprotected : (at : ℕ) → is_due_at w row at ≡ true → is_protected (file_view w row.file) row at ≡ false
   unfolding is_due_at

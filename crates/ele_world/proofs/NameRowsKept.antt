@@ -1,5 +1,5 @@
 -- Name rows after an event: those before, in their order, but for those of a file that goes, and new ones behind.
-use Rattle.ele_model.proofs.Basics.{rules, nat_tests, arith, ◌≡◌, ℕ, ◌<◌, true, List, [], ◌∷◌, ◌++◌, not, None, refl, inl, filter, list_any, AllByRecursion, AllLater, update_first, remove_first, all-push, all-weaker, filter-all, filter-same_all, list_any-append, list_any-update_first}
+use Rattle.ele_model.proofs.Basics.{rules, nat_tests, arith, ◌≡◌, ℕ, ◌<◌, true, List, [], ◌∷◌, ◌++◌, None, refl, inl, filter, list_any, AllByRecursion, AllLater, update_first, remove_first, all-push, all-weaker, filter-all, filter-same_all, list_any-append, list_any-update_first}
 use Rattle.ele_model.proofs.Words.{World, HasParts, Names, Files, DropIdle, EndDraft, ShutHandle, Take, Append, after_change, after_changes, MakeFile, SetFilePolicy, Revive, Policy, numbered_on, set_policy, IsThere, IsNameRow, born_row, dies, is_file, is_live_name, next_of, plan, step}
 use Rattle.ele_world.specs.NameRowsStay.{AreStillRows, is_there}
 use Rattle.ele_model.proofs.Dropped.{dropped, stays_named}

@@ -28,4 +28,4 @@ returns c = fate_made c.args.rows.now c.requires.sound c.args.file c.args.info.n
   unmarked = c.in_default-first_mark.ensures.none;
   policy = c.in-Some-policy_of.policy;
   filed = sym c.policy_of.ensures ∙ c.in-Some-policy_of.is;
-}) c.free_fate.result (rw (c.cover-cover.ensures, c.newer_of.ensures, c.next_held-next.ensures, c.has_newer-floor_met.ensures, c.floor_in-floor.ensures, c.is_live.ensures) at c.free_fate.ensures)
+}) c.free_fate.result (rw (c.cover-cover.ensures, c.newer_of-next.ensures, c.next_held-next.ensures, c.has_newer-floor_met.ensures, c.floor_in-floor.ensures, c.is_live.ensures) at c.free_fate.ensures)
