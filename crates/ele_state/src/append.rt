@@ -1,5 +1,5 @@
 //! A version that a file gets: where its content comes from, the keys that come with it, and what it uses.
-ghost use Rattle.std.specs.Prelude.{◌≡◌, ◌≤◌, ◌<◌, ◌+◌, ◌-◌, ◌^◌, ◌||◌, true, false, Some, None, IfOk, OnOk, OnErr, is_some, length, option_and_then};
+ghost use Rattle.std.specs.Prelude.{◌≡◌, ◌<◌, ◌-◌, ◌||◌, true, false, Some, None, IfOk, OnOk, OnErr, is_some, length, option_and_then};
 ghost use Rattle.std.specs.Option.{option_map};
 ghost use Rattle.ele_content.specs.Content.{content_of};
 ghost use Rattle.ele_due.specs.declared.key.Key.{Key};

@@ -1,5 +1,5 @@
 //! Handles and drafts: what they read, and how they open, change and close.
-ghost use Rattle.std.specs.Prelude.{◌≡◌, ◌<◌, ◌≤◌, ◌+◌, ◌^◌, ◌∷◌, [], true, false, Some, None, Ok, IfOk, OnOk, OnErr, length};
+ghost use Rattle.std.specs.Prelude.{◌≡◌, ◌<◌, ◌≤◌, ◌+◌, ◌∷◌, [], true, false, Some, None, Ok, IfOk, OnOk, OnErr, length};
 ghost use Rattle.ele_content.specs.Content.{content_of, longest_content};
 ghost use Rattle.ele_files.specs.Closing.{opening_by};
 ghost use Rattle.ele_model.specs.Change.{OpenHandle, StartDraft, TruncateDraft, WriteDraft, after_change, after_changes};

@@ -1,5 +1,5 @@
 //! Versions that come again or go, and what is asked of them.
-ghost use Rattle.std.specs.Prelude.{◌≡◌, ◌+◌, ◌-◌, ◌≤◌, ◌<◌, ◌^◌, ◌∷◌, [], true, false, Some, IfOk, OnOk, OnErr, filter, is_some, map};
+ghost use Rattle.std.specs.Prelude.{◌≡◌, ◌-◌, ◌<◌, ◌∷◌, [], true, false, Some, IfOk, OnOk, OnErr, filter, is_some, map};
 ghost use Rattle.std.specs.Result.{result_map_both};
 ghost use Rattle.ele_model.specs.Change.{Append, DropIdle, Revive, Take, after_change, after_changes};
 ghost use Rattle.ele_model.specs.FileView.{is_version_of};
