@@ -134,13 +134,14 @@ fn a_handle_that_reads_writes_nothing(rt: HostRuntime) -> Result<(), Fail> {
     let mut store = BlockStore::new(rt.alloc());
     let mut sessions = Sessions::new(rt.alloc());
     let handle = sessions.open_read(FileId(1), VersionNo(1))?;
-    let reads = Reads::Version(FileId(1), VersionNo(1));
-    assert!(rt; sessions.read(handle) == Some(reads));
-    assert!(rt; sessions.handle_at(0) == Some((handle, reads)));
+    let reads = sessions.read(handle);
+    assert!(rt; matches!(reads, Some(Reads::Version(FileId(1), VersionNo(1)))));
+    let first = sessions.handle_at(0);
+    assert!(rt; matches!(first, Some((Handle(1), Reads::Version(_, _)))));
     let written = sessions.write(&mut store, handle, 0, b"a");
-    assert!(rt; written == Err(SessionFault::NotWriter));
+    assert!(rt; matches!(written, Err(SessionFault::NotWriter)));
     let cut = sessions.truncate(&mut store, Handle(2), 0);
-    assert!(rt; cut == Err(SessionFault::NoHandle));
+    assert!(rt; matches!(cut, Err(SessionFault::NoHandle)));
     Ok(())
 }
 
