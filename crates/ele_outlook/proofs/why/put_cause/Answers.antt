@@ -4,7 +4,7 @@ use Rattle.ele_outlook.proofs.Known.{fronted, puts_as}
 use Rattle.ele_outlook.proofs.why.put_cause.Goals as goal
 
 pub returns-in-AtOnce : goal.returns-in-AtOnce
-returns-in-AtOnce g c = rw c.in-AtOnce.is c.put_word-in-AtOnce.ensures
+returns-in-AtOnce g c = rw c.in-AtOnce.is c.put_word.ensures
 
 pub returns-in-Age : goal.returns-in-Age
 returns-in-Age g c =
