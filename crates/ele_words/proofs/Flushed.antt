@@ -58,7 +58,7 @@ kept_told start n None input rest old mid new notes ran same = record {
   goes_on = ran.goes_on;
   uncut = ran.uncut;
   written = Appends-kept old mid new (ran.text ++ cut_told ran.run_state (line_unless_long ran.last)) ran.written same;
-  keeps_error = ran.keeps_error;
+  noted = ran.noted;
 }
 kept_told start n (Some end) input rest old mid new notes ran same = record {
   given = ran.given;
@@ -92,7 +92,7 @@ kept start input rest old mid new notes (Err ReadFault) ran same =
       told = ran.told;
       goes_on = ran.goes_on;
       written = Appends-kept old mid new ran.text ran.written same;
-      keeps_error = ran.keeps_error;
+      noted = ran.noted;
     }
 kept start input rest old mid new notes (Err TooManyLines) ran same =
     record {
@@ -110,7 +110,7 @@ kept start input rest old mid new notes (Err TooManyLines) ran same =
       told = ran.told;
       goes_on = ran.goes_on;
       written = Appends-kept old mid new ran.text ran.written same;
-      keeps_error = ran.keeps_error;
+      noted = ran.noted;
     }
 kept start input rest old mid new notes (Err WriteFault) ran same =
     record {
@@ -174,7 +174,7 @@ ended_write_fault start false input rest old new notes given lines line text tak
   input_is = taken_is input rest given (whole_lines (lines ++ line ∷ [])) by.behind taken by.parts;
   whole = all-append IsUnbroken lines (line ∷ []) whole (unbroken, tt);
   told = by.are;
-  written = inl (whole_front old new text written, by.keeps_error);
+  written = inl (whole_front old new text written, by.noted);
 }
 ended_write_fault start true input rest old new notes given lines line text taken whole unbroken by written = record {
   lines = lines;
@@ -184,7 +184,7 @@ ended_write_fault start true input rest old new notes given lines line text take
   input_is = all_is input rest given (whole_lines lines) line taken by.at_end by.parts;
   whole = whole;
   told = by.are;
-  written = inr (unbroken, subst (AppendsFront old new) by.told_is (whole_front old new text written), front_of_kept by.run_state.notes notes _ by.keeps_error);
+  written = inr (unbroken, subst (AppendsFront old new) by.told_is (whole_front old new text written), front_of_kept by.run_state.notes notes _ by.noted);
 }
 
 -- so has one that ended in any way
@@ -198,7 +198,7 @@ told_write_fault start n None input rest old new notes ran =
       input_is = all_is input rest ran.given (whole_lines ran.lines) ran.last ran.taken ran.at_end ran.are.parts;
       whole = ran.are.whole;
       told = ran.told;
-      written = inr (ran.are.cut, whole_front old new (ran.text ++ cut_told ran.run_state (line_unless_long ran.last)) ran.written, ran.keeps_error);
+      written = inr (ran.are.cut, whole_front old new (ran.text ++ cut_told ran.run_state (line_unless_long ran.last)) ran.written, ran.noted);
     }
 told_write_fault start n (Some end) input rest old new notes ran =
     ended_write_fault start end.is_cut input rest old new notes ran.given ran.lines ran.line ran.text ran.taken ran.whole ran.unbroken ran.by ran.written
@@ -214,7 +214,7 @@ as_write_fault start input rest old new notes (Err ReadFault) ran =
       input_is = taken_is input rest ran.given (whole_lines ran.lines) ran.part ran.taken ran.are.parts;
       whole = ran.are.whole;
       told = ran.told;
-      written = inl (whole_front old new ran.text ran.written, ran.keeps_error);
+      written = inl (whole_front old new ran.text ran.written, ran.noted);
     }
 as_write_fault start input rest old new notes (Err TooManyLines) ran =
     record {
@@ -226,7 +226,7 @@ as_write_fault start input rest old new notes (Err TooManyLines) ran =
           (ap (λ (zs : List ℕ). zs ++ ran.byte ∷ []) ran.are.parts ∙ append_assoc (whole_lines ran.lines) ran.part (ran.byte ∷ []));
       whole = ran.are.whole;
       told = ran.told;
-      written = inl (whole_front old new ran.text ran.written, ran.keeps_error);
+      written = inl (whole_front old new ran.text ran.written, ran.noted);
     }
 as_write_fault start input rest old new notes (Err WriteFault) ran = ran
 as_write_fault start input rest old new notes (Err NoMemory) ran =
