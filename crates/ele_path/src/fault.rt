@@ -3,7 +3,7 @@ ghost use Rattle.std.specs.Prelude.{◌≡◌};
 ghost use Rattle.ele_path.specs.declared.fault.PathFault.TheVariants.{NoMemory};
 ghost use Rattle.ele_path.specs.declared.fault.PathAtFault.TheVariants.{Path};
 
-use std::alloc::AllocFailed;
+use std::alloc::{AllocError, AllocFailed};
 use thiserror::Error;
 
 /// Why a word was not read as a path, or as a path with a tag.
@@ -28,6 +28,14 @@ impl<T: Drop> From<AllocFailed<T>> for PathFault {
     ghost from_gives = { λ _ fault. fault ≡ NoMemory };
 
     fn from(_refused: AllocFailed<T>) -> PathFault {
+        PathFault::NoMemory
+    }
+}
+
+impl From<AllocError> for PathFault {
+    ghost from_gives = { λ _ fault. fault ≡ NoMemory };
+
+    fn from(_refused: AllocError) -> PathFault {
         PathFault::NoMemory
     }
 }

@@ -92,6 +92,14 @@ impl Path {
     }
 }
 
+// Room for just the names that a text has between its slashes, since a history keeps each path.
+fn room_for(alloc: Global, text: &[u8]) -> Result<Vec<Name>, AllocError>
+    ensures { IfOk result (λ names. names.items ≡ []) }
+{
+    let slashes = text.iter().filter(|byte| **byte == b'/').count();
+    Vec::with_capacity(alloc, slashes.min(Path::MOST_NAMES - 1) + 1)
+}
+
 // The names that a text has between its slashes.
 fn read_names(alloc: Global, text: &[u8]) -> Result<Vec<Name>, PathFault>
     ensures found { IfOk result (λ names. names.items ≡ pieces_of text.now) }
@@ -99,7 +107,7 @@ fn read_names(alloc: Global, text: &[u8]) -> Result<Vec<Name>, PathFault>
     ensures fault { IfErr result (λ fault. (fault ≡ PathFault.NoMemory)
         ⊎ (slice_get (piece_faults (pieces_of text.now)) 0 ≡ Some fault)) }
 {
-    let mut names = Vec::new(alloc);
+    let mut names = room_for(alloc, text)?;
     for piece in text.split(|byte| *byte == b'/') {
         let name = read_piece(names.len(), piece)?;
         names.push(name)?;

@@ -10,7 +10,7 @@ returns-in_err-name-clause-fault c =
     let turn = YieldsList-turn (YieldsList-at c.into_iter-piece-iterator.ensures.into_iter_gives (YieldsList-from_slice_split _ (λ byte. byte == 47) text c.split-piece-items.ensures.rest c.split-piece-items.ensures.done c.split-piece-items.ensures.closure (λ x b q h. search (rules, tests)))) c.loop-piece.yielded _ c.loop-piece.yielded_by _ _ c.in-Some.piece c.in-Some.is c.next.ensures.steps in
     let so_far = YieldsList-so_far (YieldsList-at c.into_iter-piece-iterator.ensures.into_iter_gives (YieldsList-from_slice_split _ (λ byte. byte == 47) text c.split-piece-items.ensures.rest c.split-piece-items.ensures.done c.split-piece-items.ensures.closure (λ x b q h. search (rules, tests)))) c.loop-piece.yielded _ c.loop-piece.yielded_by in
     let count : length names ≡ c.len.result = omega arith in
-    let p = err_from_is_err_and c.from_residual.result c.from_residual.ensures.1 in
+    let p = err_from_is_err_and c.from_residual-in_err-name.result c.from_residual-in_err-name.ensures.1 in
     rw (p.1, p.2) (inr (next_fault (pieces_of text) names _ _ _ c.loop-piece.invariant.1 (c.loop-piece.invariant.0 ∙ so_far) turn.0 turn.1 (rw count c.in_err-name.ensures.fault)))
 
 pub loop-piece-preserved : goal.loop-piece-preserved
