@@ -28,6 +28,9 @@ use std::alloc::Global;
 use std::collections::BTreeMap;
 use std::marker::Model;
 
+// No name has this number.
+const NO_HINT: u64 = u64::MAX;
+
 /// All name rows, each with a serial number in order of making.
 #[derive(Drop)]
 pub struct Names {
@@ -187,12 +190,20 @@ impl Names {
     }
 
     /// What the newest row of the name stands for, if that row is dead. The name is not live then.
-    #[tactic(auto, using(crate::proofs::Words::nat_tests, crate::proofs::Apart::dead_by_newest))]
     pub fn last_dead(&self, directory: DirId, name: &Name) -> Option<Target>
         ensures value { result ≡ last_dead self.now directory name.now }
         ensures free { IfSome result (λ _. live_target self.now directory name.now ≡ None) }
     {
-        let row = self.newest(directory, name)?;
+        self.last_dead_by(NO_HINT, directory, name)
+    }
+
+    // The same, where the name may have the number that is hinted at.
+    #[tactic(auto, using(crate::proofs::Words::nat_tests, crate::proofs::Apart::dead_by_newest))]
+    fn last_dead_by(&self, hint: u64, directory: DirId, name: &Name) -> Option<Target>
+        ensures value { result ≡ last_dead self.now directory name.now }
+        ensures free { IfSome result (λ _. live_target self.now directory name.now ≡ None) }
+    {
+        let row = self.newest(hint, directory, name)?;
         if row.death.is_some() {
             Some(row.target)
         } else {
@@ -202,32 +213,39 @@ impl Names {
 
     // The newest row of the name.
     #[tactic(auto, using(crate::proofs::Apart::born_by_end))]
-    fn newest(&self, directory: DirId, name: &Name) -> Option<NameRow>
+    fn newest(&self, hint: u64, directory: DirId, name: &Name) -> Option<NameRow>
         ensures newest { result ≡ last_passing (is_named directory name.now) self.now }
         ensures apart { AllLater Follows self.now }
     {
-        self.newest_by(directory, name, u64::MAX)
+        self.newest_by(hint, directory, name, u64::MAX)
     }
 
     // The newest row of the name that was born by that many seconds.
     #[tactic(auto, using(crate::proofs::Apart::none_known, crate::proofs::Apart::newest))]
-    fn newest_by(&self, directory: DirId, name: &Name, seconds: u64) -> Option<NameRow>
+    fn newest_by(&self, hint: u64, directory: DirId, name: &Name, seconds: u64) -> Option<NameRow>
         ensures newest { result
             ≡ last_passing (is_born_by directory name.now seconds) self.now }
         ensures apart { AllLater Follows self.now }
         ensures born { AllByRecursion (λ row. row.birth ≤ last_moment) self.now }
     {
-        let number = self.live_names.number(directory, name)?;
+        let number = self.live_names.number_by(hint, directory, name)?;
         let (_, serial) = self.table.places.by_name.last(number, seconds)?;
         self.table.rows.get(serial).copied()
     }
 
     /// What the name stood for at the moment.
-    #[tactic(auto, using(crate::proofs::Apart::covering_is_newest))]
     pub fn at(&self, directory: DirId, name: &Name, moment: Moment) -> Option<Target>
         ensures { result ≡ target_at self.now moment directory name.now }
     {
-        let row = self.newest_by(directory, name, moment.seconds())?;
+        self.at_by(NO_HINT, directory, name, moment)
+    }
+
+    // The same, where the name may have the number that is hinted at.
+    #[tactic(auto, using(crate::proofs::Apart::covering_is_newest))]
+    fn at_by(&self, hint: u64, directory: DirId, name: &Name, moment: Moment) -> Option<Target>
+        ensures { result ≡ target_at self.now moment directory name.now }
+    {
+        let row = self.newest_by(hint, directory, name, moment.seconds())?;
         if lives_past(&row, moment) {
             Some(row.target)
         } else {
@@ -249,7 +267,7 @@ impl Names {
             let Some(name) = self.live_names.name(number) else {
                 unreachable!()
             };
-            let target = self.at(directory, &name.1, moment);
+            let target = self.at_by(number, directory, &name.1, moment);
             put_some(&mut found, name.1, target)?;
             next = self.live_names.in_directory.older(number);
         }
@@ -265,9 +283,12 @@ impl Names {
             ≡ last_dead self.now directory name) }
     {
         let mut found = BTreeMap::new(self.alloc);
+        // The keys stand by number.
+        let mut number: u64 = 0;
         for (directory, name) in self.live_names.by_name.keys() {
-            let target = self.last_dead(*directory, name);
+            let target = self.last_dead_by(number, *directory, name);
             put_some(&mut found, (*directory, *name), target)?;
+            number = number.wrapping_add(1);
         }
         let items = found
             .into_iter()

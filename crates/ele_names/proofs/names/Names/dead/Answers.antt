@@ -15,8 +15,8 @@ loop-directory-preserved c =
     let key = c.in-Some.field-0.now in
     let told = rw c.in-Some.ensures.steps at c.loop-directory.invariant in
     rw c.in_ok-put_some.ensures (told_one name_cmp (λ k. last_dead (rows_of c.self.inside.table) k.0 k.1) name_total name_exact
-    (λ k. list_any (name_eq k) (key ∷ c.next.new.self)) (λ k. list_any (name_eq k) c.next.new.self) c.loop-directory.found.entries key c.last_dead-target.result
-    (dead_next key c.next.new.self) (rw (← c.self.view_is) at c.last_dead-target.ensures.value) told)
+    (λ k. list_any (name_eq k) (key ∷ c.next.new.self)) (λ k. list_any (name_eq k) c.next.new.self) c.loop-directory.found.entries key c.last_dead_by-target.result
+    (dead_next key c.next.new.self) (rw (← c.self.view_is) at c.last_dead_by-target.ensures.value) told)
 
 pub returns-clause-sorted : goal.returns-clause-sorted
 returns-clause-sorted c = rw (entries_are c) (c.into_iter.ensures.into_iter_gives.5)

@@ -22,8 +22,8 @@ loop-next-preserved c =
     let told = rw c.in-Some.is at c.loop-next.invariant.1 in (
       list_second c.self.inside c.self.invariant c.args.moment d c.in-Some.number name c.in-Some-name.ensures first c.older-next.result c.older-next.ensures,
       rw c.in_ok-put_some.ensures (told_one (slice_cmp nat_cmp) (target_at (rows_of c.self.inside.table) c.args.moment d) nat_list_cmp_total exact_bytes
-          (is_left names d (Some c.in-Some.number)) (is_left names d c.older-next.result) c.loop-next.found.entries name.1 c.at-target.result
-          (list_next c.self.inside c.self.invariant c.args.moment d c.in-Some.number name c.in-Some-name.ensures first c.older-next.result c.older-next.ensures) (rw (← c.self.view_is) at c.at-target.ensures) told),
+          (is_left names d (Some c.in-Some.number)) (is_left names d c.older-next.result) c.loop-next.found.entries name.1 c.at_by-target.result
+          (list_next c.self.inside c.self.invariant c.args.moment d c.in-Some.number name c.in-Some-name.ensures first c.older-next.result c.older-next.ensures) (rw (← c.self.view_is) at c.at_by-target.ensures) told),
     )
 
 pub returns-clause-found : goal.returns-clause-found
