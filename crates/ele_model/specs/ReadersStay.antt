@@ -2,17 +2,20 @@
 use Rattle.std.specs.Prelude.{◌≡◌, Bool, true, false}
 use Rattle.ele_model.specs.declared.event.Event.{Event}
 use Rattle.ele_model.specs.declared.reply.Reply.{Reply}
-use Rattle.ele_model.specs.declared.reply.Reply.TheVariants.{Bytes, Rows, NameList, RestoreList, DueList, GroupList}
+use Rattle.ele_model.specs.declared.reply.Reply.TheVariants.{Bytes, FileStat, DirStat, Rows, NameList, RestoreList, DueList, UsageList, GroupList}
 use Rattle.ele_model.specs.Step.{step}
 use Rattle.ele_model.specs.World.{World}
 
--- the reply holds a list, which a copy wants memory for
+-- the reply holds a list or a value apart, which a copy wants memory for
 abbrev pub needs_memory : Reply → Bool
 needs_memory (Bytes bytes) = true
+needs_memory (FileStat stat) = true
+needs_memory (DirStat row) = true
 needs_memory (Rows rows) = true
 needs_memory (NameList names) = true
 needs_memory (RestoreList names) = true
 needs_memory (DueList keys) = true
+needs_memory (UsageList usages) = true
 needs_memory (GroupList groups) = true
 needs_memory reply = false
 

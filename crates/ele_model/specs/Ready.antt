@@ -1,7 +1,7 @@
 -- Which events take no memory, so that they are always answered.
 use Rattle.std.specs.Prelude.{Bool, true, false}
 use Rattle.ele_model.specs.declared.event.Event.{Event}
-use Rattle.ele_model.specs.declared.event.Event.TheVariants.{Clock, Tick, RemoveDir, SetDefault, CleanOne, Stat, UsageAll}
+use Rattle.ele_model.specs.declared.event.Event.TheVariants.{Clock, Tick, RemoveDir, SetDefault, CleanOne}
 
 abbrev pub takes_no_memory : Event → Bool
 takes_no_memory (Clock to) = true
@@ -9,6 +9,4 @@ takes_no_memory (Tick seconds) = true
 takes_no_memory (RemoveDir path) = true
 takes_no_memory (SetDefault path policy) = true
 takes_no_memory CleanOne = true
-takes_no_memory (Stat tagged) = true
-takes_no_memory UsageAll = true
 takes_no_memory event = false

@@ -41,7 +41,7 @@ fn copy_groups(alloc: Global, groups: &GroupList) -> Result<GroupList, NoMemory>
 impl Reply {
     /// A copy of the reply.
     ///
-    /// `NoMemory` where memory is refused. A reply without a list takes none.
+    /// `NoMemory` where memory is refused. A reply without a list or a value apart takes none.
     pub fn copy(&self, alloc: Global) -> Result<Reply, NoMemory>
         ensures same { IfOk result (λ reply. reply ≡ self.now) }
         ensures ready { needs_memory self.now ≡ false → IsOk result }
@@ -57,13 +57,13 @@ impl Reply {
             Reply::Closed(number) => Reply::Closed(*number),
             Reply::Removed(key) => Reply::Removed(*key),
             Reply::Bytes(bytes) => Reply::Bytes(copy_list(alloc, bytes)?),
-            Reply::FileStat(stat) => Reply::FileStat(*stat),
-            Reply::DirStat(row) => Reply::DirStat(*row),
+            Reply::FileStat(stat) => Reply::FileStat(stat.copy(alloc)?),
+            Reply::DirStat(row) => Reply::DirStat(row.copy(alloc)?),
             Reply::Rows(rows) => Reply::Rows(copy_list(alloc, rows)?),
             Reply::NameList(names) => Reply::NameList(copy_list(alloc, names)?),
             Reply::RestoreList(names) => Reply::RestoreList(copy_list(alloc, names)?),
             Reply::DueList(keys) => Reply::DueList(copy_list(alloc, keys)?),
-            Reply::UsageList(usage) => Reply::UsageList(*usage),
+            Reply::UsageList(usage) => Reply::UsageList(usage.copy(alloc)?),
             Reply::GroupList(groups) => Reply::GroupList(copy_groups(alloc, groups)?),
             Reply::Refused(refusal) => Reply::Refused(*refusal),
         })

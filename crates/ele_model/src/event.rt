@@ -1,4 +1,5 @@
-//! Events: the commands that a world takes.
+//! Events: the commands that a world takes. Policies and the names of groups lie apart, so that an event stays small.
+use crate::boxed::Boxed;
 use ele_lists::ByteList;
 use ele_moment::{Handle, Moment, Name, VersionNo};
 use ele_path::{Path, PathAt, TaggedPath};
@@ -48,22 +49,22 @@ pub enum Event {
     /// The file at the path gets a version more, with the content of the one with that number.
     Revert(Path, VersionNo),
     /// The file at the path has that policy from now on.
-    SetPolicy(Path, Policy),
+    SetPolicy(Path, Boxed<Policy>),
     /// Files that are made in the directory at the path from now on get that policy.
-    SetDefault(Path, Policy),
+    SetDefault(Path, Boxed<Policy>),
     /// A group of that name is made, without files and marks.
-    GroupMake(Name),
+    GroupMake(Boxed<Name>),
     /// The group goes, and its marks with it.
-    GroupDrop(Name),
+    GroupDrop(Boxed<Name>),
     /// The group gets the file at the path.
-    GroupAdd(Name, Path),
+    GroupAdd(Boxed<Name>, Path),
     /// The group loses the file at the path.
-    GroupRemove(Name, Path),
+    GroupRemove(Boxed<Name>, Path),
     /// The group is marked at the moment, which has passed: what was current then of its files isn't removed before the mark
     /// ends, which it does at the second moment, if there is one.
-    Mark(Name, Moment, Option<Moment>),
+    Mark(Boxed<Name>, Moment, Option<Moment>),
     /// The group loses the mark.
-    Unmark(Name, Moment),
+    Unmark(Boxed<Name>, Moment),
     /// The first due version is removed.
     CleanOne,
     /// Asks for bytes.

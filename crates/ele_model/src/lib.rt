@@ -4,6 +4,7 @@
 
 mod auditing;
 mod audits;
+mod boxed;
 mod copy;
 mod cover;
 mod entry;
@@ -25,6 +26,7 @@ mod sums;
 
 pub use auditing::Audit;
 pub use audits::audit;
+pub use boxed::Boxed;
 pub use cover::Cover;
 pub use ele_content::Cell;
 pub use ele_due::Key;

@@ -1,4 +1,5 @@
-//! Replies: what a command answers.
+//! Replies: what a command answers. What a question tells of one thing lies apart, so that a reply stays small.
+use crate::boxed::Boxed;
 use crate::list::{DeadNameList, GroupList, KeyList, NameList, StampsList};
 use crate::refusal::Refusal;
 use crate::rows::{DirectoryRow, FileStat};
@@ -23,9 +24,9 @@ pub enum Reply {
     Removed(Key),
     Bytes(ByteList),
     /// A version, and the policy that governs its file.
-    FileStat(FileStat),
+    FileStat(Boxed<FileStat>),
     /// A directory, and the policy that it gives.
-    DirStat(DirectoryRow),
+    DirStat(Boxed<DirectoryRow>),
     /// Versions of one file, by number.
     Rows(StampsList),
     /// What names stand for, or stood for, by the bytes of the names.
@@ -34,7 +35,7 @@ pub enum Reply {
     RestoreList(DeadNameList),
     DueList(KeyList),
     /// What the files of each kind of policy use, in the order of `Kind`.
-    UsageList([Usage; 4]),
+    UsageList(Boxed<[Usage; 4]>),
     /// Groups in order of making.
     GroupList(GroupList),
     /// The command was refused, and changed nothing.

@@ -30,7 +30,7 @@ pub trait Step: Drop {
     /// Takes the event: answers it, and makes its change.
     ///
     /// `NoMemory` where memory is refused, and then the world is as it was. `clock`, `tick`,
-    /// `rmdir`, `default`, `clean`, `stat` and `usage` take none.
+    /// `rmdir`, `default` and `clean` take none.
     fn apply(&mut self, event: &Event) -> Result<Reply, NoMemory>
         ensures step { IfOk result
             (λ reply. (reply, world self.new) ≡ step (world self.old) event.now) }

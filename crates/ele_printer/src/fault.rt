@@ -73,6 +73,14 @@ impl From<AllocError> for LineFault {
     }
 }
 
+impl From<ele_moment::NoMemory> for LineFault {
+    ghost from_gives = { λ _ fault. fault ≡ NoMemory };
+
+    fn from(_refused: ele_moment::NoMemory) -> LineFault {
+        LineFault::NoMemory
+    }
+}
+
 impl From<ele_moment::BadName> for LineFault {
     ghost from_gives = { λ _ fault. fault ≡ BadName };
 

@@ -2,15 +2,13 @@
 use Rattle.ele_script.proofs.Basics.{◌≡◌, ◌≢◌, ℕ, ◌+◌, ◌<◌, ◌≤◌, ◌==◌, Bool, true, List, [], ◌∷◌, ◌++◌, zero, suc, length, take, drop, refl, true≢false, sym, ap, ◌∙◌, arith, inl, inr, append_assoc, length-append, take-append-drop, subst, map, length-map, Option, Some, None, Result, Ok, Err, IfOk}
 use Rattle.ele_script.proofs.Prelude.{OneMeaning, Command, LineFault, WordKind, command_words, kinds_behind, kinds_if, longest_line, words_of, is_worded}
 use Rattle.ele_script.proofs.Prelude.{IsFirstWordFault, FitsCommand, IsFaultOfWords, IsFirstFault, too_long, not_worded, of_words, no_command, of_word}
-use Rattle.ele_printer.specs.declared.command.Command.TheVariants.{Read}
 use Rattle.ele_script.specs.CommandOf.{command_of}
-use Rattle.ele_script.specs.Memory.{behind_takes, takes_memory, word_takes}
+use Rattle.ele_script.specs.Memory.{any_takes}
 use Rattle.ele_script.specs.Reason.{IsFirstBadWord, IsReasonOfWords, fault_of, unknown_number}
 use Rattle.ele_script.specs.Reason as why
-use Rattle.ele_script.specs.ReasonFound.{AreOfKinds, IsCommand, TakesBehind, any_takes}
+use Rattle.ele_script.specs.ReasonFound.{AreOfKinds, IsCommand, TakesBehind}
 use Rattle.ele_script.specs.declared.reasons.Reason.{Reason}
 use Rattle.ele_script.specs.declared.reasons.Reason.TheVariants.{NoCommand, Words}
-use Rattle.std.specs.List.{list_any}
 use Rattle.ele_script.proofs.Laws.{moved}
 use Rattle.ele_script.proofs.Commands.{command_of-words, one_fit, words_found}
 use Rattle.std.specs.Prelude.{◌-◌, IfNone, IfSome, OnErr}
@@ -105,19 +103,6 @@ faultless_line law line first short worded is command fault (of_words also whole
     let found = subst IsCommand is command in
     command_faultless law (words_of line) fault (subst IsCommand (all_fit (words_of line) found.command found.arguments found.fits) found) bad
 
-any_of : (kinds : List WordKind) (words : List (List ℕ)) → any_takes kinds words ≡ true → list_any takes_memory kinds ≡ true
-any_of [] words takes = absurd cc
-any_of (kind ∷ kinds) [] takes = absurd cc
-any_of (kind ∷ kinds) (word ∷ words) takes = grind (arith, any_of kinds words, one kind word) where
-  one : (kind : WordKind) (word : List ℕ) → word_takes kind word ≡ true → takes_memory kind ≡ true
-  one kind word takes = grind arith
-
--- a word of a command that is read with memory
-pub takes_behind : (command : Command) (arguments : List (List ℕ)) → any_takes (kinds_behind command arguments) arguments ≡ true → behind_takes command arguments ≡ true
-takes_behind Read [] takes = absurd cc
-takes_behind Read (word ∷ arguments) takes = grind (arith, takes)
-takes_behind command arguments takes = any_of (kinds_behind command arguments) arguments takes
-
 -- words in front of which no command is found are none
 pub unknown_reason : (words : List (List ℕ)) (number : ℕ) → command_of words ≡ None → number ≡ unknown_number words → IsReasonOfWords words (NoCommand number)
 unknown_reason words number none is = why.no_command (λ c xs are. absurd (let found = ap command_of are ∙ command_of-words c xs in grind (arith, none, found))) (ap NoCommand is)
@@ -150,7 +135,7 @@ reason_none words command arguments (Err e) fits none = tt
 pub reason_memory : {A E : Type 0} (words : List (List ℕ)) (command : Command) (arguments : List (List ℕ)) (r : Result A E) → FitsCommand words command arguments
     → OnErr r (any_takes (kinds_behind command arguments) arguments ≡ true) → OnErr r (TakesBehind words)
 reason_memory words command arguments (Ok x) fits takes = tt
-reason_memory words command arguments (Err e) fits takes = record { command = command; arguments = arguments; fits = fits; takes = takes_behind command arguments takes }
+reason_memory words command arguments (Err e) fits takes = record { command = command; arguments = arguments; fits = fits; takes = takes }
 
 -- what was found of the first words of a line is so of the line
 pub line_some : {E : Type 0} (line : List ℕ) (first : List (List ℕ)) (r : Result (Option Reason) E) → length line ≤ longest_line → is_worded line ≡ true → first ≡ take 5 (words_of line) → IfOk r (λ found. IfSome found (IsReasonOfWords first))

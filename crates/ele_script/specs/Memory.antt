@@ -1,5 +1,5 @@
 -- Which lines are read with memory.
-use Rattle.std.specs.Prelude.{◌≡◌, ℕ, List, ◌++◌, Bool, true, false}
+use Rattle.std.specs.Prelude.{◌≡◌, ℕ, List, ◌∷◌, ◌++◌, ◌||◌, Bool, true, false}
 use Rattle.std.specs.List.{list_any}
 use Rattle.ele_printer.specs.declared.command.Command.{Command}
 use Rattle.ele_printer.specs.declared.command.Command.TheVariants.{Read}
@@ -8,11 +8,12 @@ use Rattle.ele_script.specs.PathWord.{begins_path}
 use Rattle.ele_printer.specs.Command.{command_words}
 use Rattle.ele_script.specs.Command.{kinds_behind}
 
--- paths and bytes take memory, and nothing else does; a source may be a path
+-- paths and bytes take memory, and a group's name, which lies apart in an event; nothing else does, for a policy stands behind a
+-- path; a source may be a path
 abbrev pub takes_memory : WordKind → Bool
 takes_memory NumberWord = false
 takes_memory MomentWord = false
-takes_memory NameWord = false
+takes_memory NameWord = true
 takes_memory PathWord = true
 takes_memory TaggedWord = true
 takes_memory TimedWord = true
@@ -20,19 +21,32 @@ takes_memory SourceWord = true
 takes_memory BytesWord = true
 takes_memory PolicyWord = false
 
--- a word of the kind takes memory
+-- a word of the kind takes memory where it is read alone
 abbrev pub word_takes : WordKind → List ℕ → Bool
 word_takes SourceWord word = begins_path word
+word_takes NameWord word = false
 word_takes kind word = takes_memory kind
 
--- a path or bytes stand behind the command; behind `read` the word is looked at
+-- a path, bytes or a name stand behind the command; behind `read` the word is looked at
 abbrev pub behind_takes : Command → List (List ℕ) → Bool
 behind_takes Read arguments = list_any begins_path arguments
 behind_takes command arguments = list_any takes_memory (kinds_behind command arguments)
 
--- the words begin with a command behind which a path or bytes stand
+-- the words begin with a command behind which a path, bytes or a name stand
 pub record TakesMemory (words : List (List ℕ)) : Type 0 where
   pub command : Command
   pub arguments : List (List ℕ)
   pub are : words ≡ command_words command ++ arguments
   pub takes : behind_takes command arguments ≡ true
+
+-- one of the words takes memory where it is read alone
+abbrev pub any_takes : List WordKind → List (List ℕ) → Bool
+any_takes (kind ∷ kinds) (word ∷ words) = word_takes kind word || any_takes kinds words
+any_takes kinds words = false
+
+-- the words begin with a command behind which one of the words takes memory where it is read alone
+pub record WordTakesMemory (words : List (List ℕ)) : Type 0 where
+  pub command : Command
+  pub arguments : List (List ℕ)
+  pub are : words ≡ command_words command ++ arguments
+  pub takes : any_takes (kinds_behind command arguments) arguments ≡ true

@@ -1,9 +1,9 @@
--- Words that have no reason, and which of them are read with memory. No public clause cites this module.
-use Rattle.std.specs.Prelude.{◌≡◌, ℕ, Bool, true, false, ◌||◌, List, ◌∷◌}
+-- Words that have no reason, and which of the first ones are read with memory. No public clause cites this module.
+use Rattle.std.specs.Prelude.{◌≡◌, ℕ, true, List, ◌∷◌}
 use Rattle.ele_printer.specs.declared.command.Command.{Command}
 use Rattle.ele_script.specs.Command.{kinds_behind}
 use Rattle.ele_script.specs.FirstFault.{FitsCommand, IsOfKind}
-use Rattle.ele_script.specs.Memory.{behind_takes, word_takes}
+use Rattle.ele_script.specs.Memory.{any_takes}
 use Rattle.ele_script.specs.Value.{WordKind}
 
 -- each word is of its kind
@@ -18,14 +18,9 @@ pub record IsCommand (words : List (List ℕ)) : Type 0 where
   pub fits : FitsCommand words command arguments
   pub are : AreOfKinds (kinds_behind command arguments) arguments
 
--- one of the words is read with memory
-abbrev pub any_takes : List WordKind → List (List ℕ) → Bool
-any_takes (kind ∷ kinds) (word ∷ words) = word_takes kind word || any_takes kinds words
-any_takes kinds words = false
-
 -- the words fit a command, and one behind it takes memory
 pub record TakesBehind (words : List (List ℕ)) : Type 0 where
   pub command : Command
   pub arguments : List (List ℕ)
   pub fits : FitsCommand words command arguments
-  pub takes : behind_takes command arguments ≡ true
+  pub takes : any_takes (kinds_behind command arguments) arguments ≡ true

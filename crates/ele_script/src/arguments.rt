@@ -6,7 +6,7 @@ ghost use Rattle.ele_script.specs.Value as value;
 ghost use Rattle.ele_script.specs.Reads.{Reads};
 
 use crate::word;
-use ele_model::{ByteList, Source};
+use ele_model::{Boxed, ByteList, Source};
 use ele_moment::{Moment, Name};
 use ele_path::{Path, PathAt, TaggedPath};
 use ele_policy::Policy;
@@ -78,11 +78,12 @@ pub(crate) fn moment(words: &[&[u8]]) -> Result<Moment, LineFault>
 }
 
 /// A name.
-pub(crate) fn name(words: &[&[u8]]) -> Result<Name, LineFault>
+pub(crate) fn name(alloc: Global, words: &[&[u8]]) -> Result<Boxed<Name>, LineFault>
     ensures { Reads (NameWord ∷ []) (λ name. value.Name name ∷ [])
         (map (λ word. word.now) words.now) result }
 {
-    word::name(one(words)?)
+    let name = word::name(one(words)?)?;
+    Ok(Boxed::new(alloc, name)?)
 }
 
 /// A path.
@@ -151,40 +152,55 @@ pub(crate) fn path_and_number(alloc: Global, words: &[&[u8]]) -> Result<(Path, u
 }
 
 /// A path and a policy.
-pub(crate) fn path_and_policy(alloc: Global, words: &[&[u8]]) -> Result<(Path, Policy), LineFault>
+pub(crate) fn path_and_policy(
+    alloc: Global,
+    words: &[&[u8]],
+) -> Result<(Path, Boxed<Policy>), LineFault>
     ensures { Reads (PathWord ∷ PolicyWord ∷ [])
         (λ both. value.Path both.0 ∷ value.Policy both.1 ∷ [])
         (map (λ word. word.now) words.now) result }
 {
     let (first, second) = two(words)?;
     let first = word::path(alloc, first)?;
-    Ok((first, word::policy(second)?))
+    let second = word::policy(second)?;
+    Ok((first, Boxed::new(alloc, second)?))
 }
 
 /// A name and a path.
-pub(crate) fn name_and_path(alloc: Global, words: &[&[u8]]) -> Result<(Name, Path), LineFault>
+pub(crate) fn name_and_path(
+    alloc: Global,
+    words: &[&[u8]],
+) -> Result<(Boxed<Name>, Path), LineFault>
     ensures { Reads (NameWord ∷ PathWord ∷ [])
         (λ both. value.Name both.0 ∷ value.Path both.1 ∷ [])
         (map (λ word. word.now) words.now) result }
 {
     let (first, second) = two(words)?;
     let first = word::name(first)?;
-    Ok((first, word::path(alloc, second)?))
+    let second = word::path(alloc, second)?;
+    Ok((Boxed::new(alloc, first)?, second))
 }
 
 /// A name and a moment.
-pub(crate) fn name_and_moment(words: &[&[u8]]) -> Result<(Name, Moment), LineFault>
+pub(crate) fn name_and_moment(
+    alloc: Global,
+    words: &[&[u8]],
+) -> Result<(Boxed<Name>, Moment), LineFault>
     ensures { Reads (NameWord ∷ MomentWord ∷ [])
         (λ both. value.Name both.0 ∷ value.Moment both.1 ∷ [])
         (map (λ word. word.now) words.now) result }
 {
     let (first, second) = two(words)?;
     let first = word::name(first)?;
-    Ok((first, word::moment(second)?))
+    let second = word::moment(second)?;
+    Ok((Boxed::new(alloc, first)?, second))
 }
 
 /// A name and two moments.
-pub(crate) fn name_and_two_moments(words: &[&[u8]]) -> Result<(Name, Moment, Moment), LineFault>
+pub(crate) fn name_and_two_moments(
+    alloc: Global,
+    words: &[&[u8]],
+) -> Result<(Boxed<Name>, Moment, Moment), LineFault>
     ensures { Reads (NameWord ∷ MomentWord ∷ MomentWord ∷ [])
         (λ all. value.Name all.0 ∷ value.Moment all.1 ∷ value.Moment all.2 ∷ [])
         (map (λ word. word.now) words.now) result }
@@ -192,7 +208,8 @@ pub(crate) fn name_and_two_moments(words: &[&[u8]]) -> Result<(Name, Moment, Mom
     let (first, second, third) = three(words)?;
     let first = word::name(first)?;
     let second = word::moment(second)?;
-    Ok((first, second, word::moment(third)?))
+    let third = word::moment(third)?;
+    Ok((Boxed::new(alloc, first)?, second, third))
 }
 
 /// Two numbers and bytes.

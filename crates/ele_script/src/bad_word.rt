@@ -2,11 +2,11 @@
 ghost use Rattle.std.specs.Prelude.{◌≡◌, ◌⊎◌, ◌+◌, ◌<◌, ◌≤◌, ◌^◌, true, map, length, Err, IfOk, IfErr, IfSome, IfNone, OnOk, OnErr};
 ghost use Rattle.std.specs.List.{list_all, list_any};
 ghost use Rattle.ele_script.specs.FirstFault.{IsFirstFault, IsOfKind, IsWordFault};
-ghost use Rattle.ele_script.specs.Memory.{TakesMemory, word_takes};
+ghost use Rattle.ele_script.specs.Memory.{WordTakesMemory, any_takes, word_takes};
 ghost use Rattle.ele_printer.specs.Command.{command_words};
 ghost use Rattle.ele_script.specs.CommandOf.{commands};
 ghost use Rattle.ele_script.specs.Reason.{IsFirstBadWord, IsReason, IsReasonOfWords, IsWordReason, begins_command, digits_detail, detail_of, fault_of, is_digit, path_detail, unknown_number};
-ghost use Rattle.ele_script.specs.ReasonFound.{AreOfKinds, IsCommand, TakesBehind, any_takes};
+ghost use Rattle.ele_script.specs.ReasonFound.{AreOfKinds, IsCommand, TakesBehind};
 ghost use Rattle.ele_script.specs.Words.{words_of};
 
 use crate::command::{COMMANDS, read_command};
@@ -29,7 +29,7 @@ pub fn reason(alloc: Global, line: &[u8]) -> Result<Option<Reason>, NoMemory>
         (λ found. IfSome found (λ reason. IsFirstFault line.now (fault_of reason))) }
     ensures none { IfOk result
         (λ found. IfNone found ((fault : LineFault) → ¬ IsFirstFault line.now fault)) }
-    ensures memory { OnErr result (TakesMemory (words_of line.now)) }
+    ensures memory { OnErr result (WordTakesMemory (words_of line.now)) }
 {
     // Told for the proof: as a path, a word means one thing.
     one_meaning();

@@ -43,7 +43,7 @@ const MOST_WORDS: usize = 4;
 ///
 /// A line that asks for nothing is answered with its first fault: its length, its bytes and spaces,
 /// its command and number of words, and then the first bad word from the left. `NoMemory` may come
-/// in place of any other answer where the command takes a path or bytes.
+/// in place of any other answer where the command takes a path, bytes or the name of a group.
 #[tactic(auto, using(crate::proofs::Laws::one_fault, crate::proofs::Words::unfit_line))]
 pub fn read_line(alloc: Global, line: &[u8]) -> Result<Line, LineFault>
     ensures found { IfOk result (Asks line.now) }
@@ -208,8 +208,8 @@ fn line_behind_any(alloc: Global, command: Command, words: &[&[u8]]) -> Result<L
             let read = path_and_policy(alloc, words);
             read.map(|(path, policy)| Line::Event(Event::SetDefault(path, policy)))
         }
-        Command::GroupMake => name(words).map(|name| Line::Event(Event::GroupMake(name))),
-        Command::GroupDrop => name(words).map(|name| Line::Event(Event::GroupDrop(name))),
+        Command::GroupMake => name(alloc, words).map(|name| Line::Event(Event::GroupMake(name))),
+        Command::GroupDrop => name(alloc, words).map(|name| Line::Event(Event::GroupDrop(name))),
         Command::GroupAdd => {
             name_and_path(alloc, words).map(|(name, path)| Line::Event(Event::GroupAdd(name, path)))
         }
@@ -217,9 +217,10 @@ fn line_behind_any(alloc: Global, command: Command, words: &[&[u8]]) -> Result<L
             let read = name_and_path(alloc, words);
             read.map(|(name, path)| Line::Event(Event::GroupRemove(name, path)))
         }
-        Command::Mark => mark(words),
+        Command::Mark => mark(alloc, words),
         Command::Unmark => {
-            name_and_moment(words).map(|(name, moment)| Line::Event(Event::Unmark(name, moment)))
+            let read = name_and_moment(alloc, words);
+            read.map(|(name, moment)| Line::Event(Event::Unmark(name, moment)))
         }
         Command::Clean => nothing(words).map(|()| Line::Event(Event::CleanOne)),
         Command::Read => source(alloc, words).map(|source| Line::Event(Event::Read(source))),
@@ -237,13 +238,14 @@ fn line_behind_any(alloc: Global, command: Command, words: &[&[u8]]) -> Result<L
 }
 
 // A mark, and its end behind it, where there are three words.
-fn mark(words: &[&[u8]]) -> Result<Line, LineFault>
+fn mark(alloc: Global, words: &[&[u8]]) -> Result<Line, LineFault>
     ensures { ReadsLine Command.Mark (map (λ word. word.now) words.now) result }
 {
     if words.len() == 3 {
-        let read = name_and_two_moments(words);
+        let read = name_and_two_moments(alloc, words);
         read.map(|(name, at, end)| Line::Event(Event::Mark(name, at, Some(end))))
     } else {
-        name_and_moment(words).map(|(name, at)| Line::Event(Event::Mark(name, at, None)))
+        let read = name_and_moment(alloc, words);
+        read.map(|(name, at)| Line::Event(Event::Mark(name, at, None)))
     }
 }

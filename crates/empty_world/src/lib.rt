@@ -2,7 +2,7 @@
 //! A contract sees it as its flat world.
 #![tactic(auto)]
 
-ghost use Rattle.std.specs.Prelude.{◌≡◌, ◌≤◌};
+ghost use Rattle.std.specs.Prelude.{◌≡◌, ◌≤◌, IfOk};
 ghost use Rattle.ele_moment.specs.Last.{last_moment};
 ghost use Rattle.ele_policy.specs.Policy.{IsPolicy};
 ghost use Rattle.ele_model.specs.Step.{step};
@@ -10,8 +10,8 @@ ghost use Rattle.ele_model.specs.declared.event.Event.TheVariants as event;
 ghost use Rattle.empty_world.specs.Empty.{IsEmpty};
 
 use ele_model::{
-    Audit, Counts, DeadNameList, DirId, DirectoryRow, Event, Explain, Fate, Flat, KeyList, Limits,
-    ListOf, NoMemory, Refusal, Reply, Step, laws,
+    Audit, Boxed, Counts, DeadNameList, DirId, DirectoryRow, Event, Explain, Fate, Flat, KeyList,
+    Limits, ListOf, NoMemory, Refusal, Reply, Step, laws,
 };
 use ele_moment::Moment;
 use ele_path::{Path, Tag, TaggedPath};
@@ -20,8 +20,8 @@ use ele_usage::Usage;
 use std::alloc::Global;
 use std::marker::Model;
 
-/// A world without files and names. It answers what takes no memory, and has no memory for all
-/// else.
+/// A world without files and names. It answers what takes no memory, `stat` and `usage`, and has no
+/// memory for all else.
 #[derive(Drop)]
 pub struct EmptyWorld {
     alloc: Global,
@@ -93,24 +93,26 @@ impl EmptyWorld {
         Reply::Refused(Refusal::NoEntry)
     }
 
-    fn stat(&self, tagged: &TaggedPath) -> Reply
-        ensures { (result, self.entry.now) ≡ step self.entry.now (event.Stat tagged.now) }
+    fn stat(&self, tagged: &TaggedPath) -> Result<Reply, NoMemory>
+        ensures { IfOk result (λ reply.
+            (reply, self.entry.now) ≡ step self.entry.now (event.Stat tagged.now)) }
     {
         if let Tag::At(moment) = tagged.tag() {
             if self.now.seconds() < moment.seconds() {
-                return Reply::Refused(Refusal::Future);
+                return Ok(Reply::Refused(Refusal::Future));
             }
         }
         if !tagged.path().names().is_empty() {
-            return Reply::Refused(Refusal::NoEntry);
+            return Ok(Reply::Refused(Refusal::NoEntry));
         }
         if let Tag::Number(_) = tagged.tag() {
-            return Reply::Refused(Refusal::IsDirectory);
+            return Ok(Reply::Refused(Refusal::IsDirectory));
         }
-        Reply::DirStat(DirectoryRow {
+        let row = DirectoryRow {
             id: ROOT,
             default: self.default,
-        })
+        };
+        Ok(Reply::DirStat(Boxed::new(self.alloc, row)?))
     }
 
     #[tactic(auto, using(crate::proofs::Nothing::clean_none))]
@@ -122,8 +124,9 @@ impl EmptyWorld {
     }
 
     #[tactic(auto, using(crate::proofs::Nothing::usage_none))]
-    fn usage(&self) -> Reply
-        ensures { (result, self.entry.now) ≡ step self.entry.now event.UsageAll }
+    fn usage(&self) -> Result<Reply, NoMemory>
+        ensures { IfOk result
+            (λ reply. (reply, self.entry.now) ≡ step self.entry.now event.UsageAll) }
     {
         self.lemma_empty();
         let nothing = Usage {
@@ -132,7 +135,8 @@ impl EmptyWorld {
             bytes: 0,
             blocks: 0,
         };
-        Reply::UsageList([nothing, nothing, nothing, nothing])
+        let usages = [nothing, nothing, nothing, nothing];
+        Ok(Reply::UsageList(Boxed::new(self.alloc, usages)?))
     }
 }
 
@@ -153,12 +157,12 @@ impl Step for EmptyWorld {
             Event::Clock(to) => Ok(self.clock(*to)),
             Event::Tick(seconds) => Ok(self.tick(*seconds)),
             Event::RemoveDir(path) => Ok(self.remove_dir(path)),
-            Event::SetDefault(path, policy) => Ok(self.set_default(path, *policy)),
+            Event::SetDefault(path, policy) => Ok(self.set_default(path, *policy.get())),
             Event::CleanOne => Ok(self.clean()),
-            Event::Stat(tagged) => Ok(self.stat(tagged)),
-            Event::UsageAll => Ok(self.usage()),
+            Event::Stat(tagged) => self.stat(tagged),
+            Event::UsageAll => self.usage(),
             Event::SetPolicy(_, policy) => {
-                policy.lemma_valid();
+                policy.get().lemma_valid();
                 Err(NoMemory)
             }
             _ => Err(NoMemory),

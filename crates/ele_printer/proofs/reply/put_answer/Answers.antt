@@ -42,13 +42,13 @@ pub returns-in-Bytes : goal.returns-in-Bytes
 returns-in-Bytes g c = rw c.in-Bytes.is (_, refl, rw c.as_slice.ensures at c.put_bytes.ensures)
 
 pub returns-in-UsageList : goal.returns-in-UsageList
-returns-in-UsageList g c = rw c.in-UsageList.is (_, refl, c.put_usages.ensures)
+returns-in-UsageList g c = rw c.in-UsageList.is (_, refl, rw c.get-in-UsageList.ensures at c.put_usages.ensures)
 
 pub returns-in-FileStat : goal.returns-in-FileStat
-returns-in-FileStat g c = rw c.in-FileStat.is (_, refl, c.put_file.ensures)
+returns-in-FileStat g c = rw c.in-FileStat.is (_, refl, rw c.get.ensures at c.put_file.ensures)
 
 pub returns-in-DirStat : goal.returns-in-DirStat
-returns-in-DirStat g c = rw c.in-DirStat.is (_, refl, c.put_directory.ensures)
+returns-in-DirStat g c = rw c.in-DirStat.is (_, refl, rw c.get-in-DirStat.ensures at c.put_directory.ensures)
 
 pub returns-in-Rows : goal.returns-in-Rows
 returns-in-Rows g c = rw c.in-Rows.is (_, refl, rw c.as_slice-in-Rows.ensures at c.put_versions.ensures)
