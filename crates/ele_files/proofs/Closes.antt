@@ -1,5 +1,5 @@
 -- What goes with a handle, and what the last writer of a changed draft leaves.
-use Rattle.ele_files.proofs.Words.{AllByRecursion, AllSessions, Became, Bool, Draft, EndDraft, Err, File, HasAppended, Held, HeldRows, IsDraftKept, IsGivenUp, IsPast, Keeps, Layout, List, None, Ok, OnErr, Option, Reads, Refusal, Result, Rises, ShutHandle, Some, Store, [], after_changes, all_found, all_not_found, all-remove_first, ap, arith, cells_of_draft, changed_at, closed, closed_of, closing, closing_of, cond, content_of, draft_in, draft_stock, false, file_by, file_closing, file_row, find, finishing, get_or, held_in, is_draft, is_id, is_some, is_writer, last_draft, leaving, left_by, left_drafts, left_handles, left_of, length, list_any, map, nat_tests, next_of, next_row, opening_by, opening_of, option_and_then, option_map, position, reads_by, refl, remove_first, remove_first-map, remove_first_unfound, row_stock, rows_of, set, stock_of, sym, true, with_rows, ℕ, ◌∙◌, ◌∷◌, ◌≡◌}
+use Rattle.ele_files.proofs.Words.{LivesIn, subst, AllByRecursion, AllSessions, Became, Bool, Draft, EndDraft, Err, File, HasAppended, Held, HeldRows, IsDraftKept, IsGivenUp, IsPast, Keeps, Layout, List, None, Ok, OnErr, Option, Reads, Refusal, Result, Rises, ShutHandle, Some, Store, [], after_changes, all_found, all_not_found, all-remove_first, ap, arith, cells_of_draft, changed_at, closed, closed_of, closing, closing_of, cond, content_of, draft_in, draft_stock, false, file_by, file_closing, file_row, find, finishing, get_or, held_in, is_draft, is_id, is_some, is_writer, last_draft, leaving, left_by, left_drafts, left_handles, left_of, length, list_any, map, nat_tests, next_of, next_row, opening_by, opening_of, option_and_then, option_map, position, reads_by, refl, remove_first, remove_first-map, remove_first_unfound, row_stock, rows_of, set, stock_of, sym, true, with_rows, ℕ, ◌∙◌, ◌∷◌, ◌≡◌}
 use Rattle.ele_files.proofs.Drafts.{dropped, drafts_apart, its_file}
 use Rattle.ele_files.proofs.Stock.{IsSeen, draft_apart, draft_lives}
 use Rattle.ele_files.proofs.Rows.{draft_found, no_file, next_found, its_id, file_past}
@@ -31,6 +31,19 @@ module _ (s : Store) (files : List File) (ss : AllSessions) (handle : ℕ) where
   -- ---- the handle is left
 
   module _ (kept : Keeps s files ss) where
+    -- the map that comes out lives in the store
+    pub given_lives : (m : Layout) → given ss handle ≡ Some m → LivesIn s m
+    given_lives m = by (reads_by ss.handles handle) where
+      ends : (file : ℕ) (b : Bool) (o : Option Draft) → find (is_draft file) ss.drafts ≡ o → (file_closing b o).1 ≡ Some m → LivesIn s m
+      ends file true o found is = absurd cc
+      ends file false None found is = absurd cc
+      ends file false (Some d) found is = let same : d.layout ≡ m = cc in subst (LivesIn s) same (draft_lives s files ss kept file d found)
+
+      by : (o : Result Reads Refusal) → option_and_then (λ answer. answer.1) (closing_of ss handle o) ≡ Some m → LivesIn s m
+      by (Err refusal) is = absurd cc
+      by (Ok (reads.Version file version)) is = absurd cc
+      by (Ok (reads.Draft file)) is = ends file (list_any (is_writer file) (left_handles ss handle)) (find (is_draft file) ss.drafts) refl is
+
     module _ (t : Store) where
       pub leaves : IsGivenUp s t (given ss handle) → IsSeen t files (closed ss handle) (left_by shown handle)
       leaves = by (reads_by ss.handles handle) where

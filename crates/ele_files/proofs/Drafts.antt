@@ -1,5 +1,5 @@
 -- A draft goes, or gets another map by a write or a truncate.
-use Rattle.ele_files.proofs.Words.{AllByRecursion, AllLater, AllSessions, AreOrderly, Bool, Draft, DraftRow, File, Held, IsDraftKept, IsEarlier, IsFileKept, IsStocked, IsResized, IsRowOf, IsSomeAnd, Keeps, Layout, List, MatchBool, Moves, None, OnErr, OnOk, Option, Renews, Result, Rewrites, RewritesDraft, Rises, ShowsSame, Some, Stays, Store, Truncates, Writes, [], all-append, all-both, all-flat_map, all_found, all-left, all-map, all-remove_first, all-right, all-update_first, all-weaker, ap, arith, changed_by, cond, content_of, draft_by, draft_for, draft_in, draft_stock, eqb, false, false≢true, file_row, file_stock, find, fitted, fitted_by, fitted_of, flat_map, found_passes, handle_file, has_length, held_in, is_draft, is_file, length, map, nat_tests, next_of, option_map, option_map_or, refl, remove_first, remove_first-map, rewritten_by, row_stock, shown, stock_of, sym, true, update_first, update_first_same, written_by, written_of, ℕ, ◌<◌, ◌∙◌, ◌∷◌, ◌≡◌, ◌≢◌}
+use Rattle.ele_files.proofs.Words.{AllByRecursion, AllLater, AllSessions, AreOrderly, Bool, Draft, DraftRow, File, Held, IsDraftKept, IsEarlier, IsFileKept, IsStocked, IsResized, IsRowOf, Keeps, Layout, List, MatchBool, Moves, None, OnErr, OnOk, Option, Renews, Result, RewritesDraft, Rises, ShowsSame, Some, Stays, Store, [], all-append, all-both, all-flat_map, all_found, all-left, all-map, all-remove_first, all-right, all-update_first, all-weaker, ap, arith, changed_by, cond, content_of, draft_in, draft_stock, eqb, false, false≢true, file_row, file_stock, find, fitted_by, flat_map, found_passes, has_length, held_in, is_draft, is_file, length, map, nat_tests, next_of, option_map, option_map_or, refl, remove_first, remove_first-map, rewritten_by, row_stock, shown, stock_of, sym, true, update_first, update_first_same, ℕ, ◌<◌, ◌∙◌, ◌∷◌, ◌≡◌, ◌≢◌, Redrafts, IsWritten, draft_of, changed_at, WriteDraft, TruncateDraft}
 use Rattle.ele_files.proofs.Stock.{IsSeen, drafts_same, held_stays, versions_same, draft_apart, draft_changed, draft_lives}
 use Rattle.ele_files.proofs.Rows.{draft_found}
 use Rattle.ele_model.specs.World as world
@@ -69,7 +69,7 @@ module _ (s t : Store) (files : List File) (a b : AllSessions) (kept : Keeps s f
       seen [] h all = absurd cc
       seen (x ∷ ds) h all = grind (arith, nat_tests, changed, drafts_same s t, seen ds)
 
--- ---- a write or a truncate through a handle
+-- ---- a write or a truncate of a file's draft
 
 module _ (s : Store) (files : List File) (a : AllSessions) (kept : Keeps s files a) where
   abbrev rows : Held
@@ -79,9 +79,9 @@ module _ (s : Store) (files : List File) (a : AllSessions) (kept : Keeps s files
   pub length_is : (file size : ℕ) (d : Draft) → find (is_draft file) a.drafts ≡ Some d → eqb (length (content_of (shown s d.layout))) size ≡ eqb d.layout.size size
   length_is file size d found = ap (λ n. eqb n size) (kept.laws.long s d.layout (draft_lives s files a kept file d found))
 
-  module _ (t : Store) (b : AllSessions) (orderly : AreOrderly a) where
-    stays : session.Stays s t a b → IsSeen t files b rows
-    stays h = rw (h.store, h.sessions) (record { keeps = kept; shows = refl })
+  module _ (t : Store) (b : AllSessions) (orderly : AreOrderly a) (file : ℕ) where
+    stays : (h : Held) → rows ≡ h → session.Stays s t a b → IsSeen t files b h
+    stays h same left = rw (left.store, left.sessions) (record { keeps = kept; shows = same })
 
     -- a new map for a draft, which shows as the changed row does
     record IsNewMap (change : DraftRow → DraftRow) (was : Draft) (now : Layout) : Type 0 where
@@ -90,39 +90,34 @@ module _ (s : Store) (files : List File) (a : AllSessions) (kept : Keeps s files
       pub renews : Renews s t was.number renewed was.layout now
       pub changed : draft_in t (rewritten_by now was) ≡ change (draft_in s was)
 
-    -- the draft under the handle gets it
-    rewrites : (handle : ℕ) (Made : Draft → Layout → Type 0) (change : ℕ → DraftRow → DraftRow) (after : Option ℕ → Held)
-        → ((file : ℕ) → after (Some file) ≡ record rows { drafts = update_first (world.is_draft file) (change (next_of (map file_row files) file)) rows.drafts })
-        → ((file : ℕ) → handle_file a.handles handle ≡ Some file → (r : RewritesDraft a.drafts b.drafts file Made) → IsNewMap (change r.was.number) r.was r.layout)
-        → Rewrites a b handle Made → IsSeen t files b (after (handle_file a.handles handle))
-    rewrites handle Made change after is new h = by (handle_file a.handles handle) refl h.1 where
-      by : (o : Option ℕ) → handle_file a.handles handle ≡ o → IsSomeAnd o (λ file. RewritesDraft a.drafts b.drafts file Made) → IsSeen t files b (after o)
-      by None e r = absurd r
-      by (Some file) e r =
-          let map = new file e r in
-          let number = its_number s t files a b kept file r.was r.found r.layout map.renewed map.moves map.renews orderly.drafts_rise in
-          rw (is file, ← number) (rewritten s t files a b kept file r.was r.found r.layout map.renewed map.moves map.renews orderly.drafts_rise (change r.was.number) map.changed (h.0 ∙ ap (λ ds. record a { drafts = ds }) r.made))
+    abbrev changed_rows : (ℕ → DraftRow → DraftRow) → Held
+    changed_rows change = record rows { drafts = update_first (world.is_draft file) (change (next_of (map file_row files) file)) rows.drafts }
 
-    written : (handle offset : ℕ) (bytes : List ℕ) → Writes s t a b handle offset bytes → IsSeen t files b (written_by rows handle offset bytes)
-    written handle offset [] h = grind (arith, nat_tests, stays h)
-    written handle offset (byte ∷ bytes) h = rewrites handle _ (λ number. changed_by number offset (byte ∷ bytes)) (λ o. written_of rows o offset (byte ∷ bytes)) (λ file. refl)
-        (λ file e r. record { moves = r.how.moves; renewed = _; renews = r.how.renews; changed = rw r.how.cells refl }) h
+    -- the file's draft gets it
+    rewrites : (Made : Draft → Layout → Type 0) (change : ℕ → DraftRow → DraftRow) → ((r : RewritesDraft a.drafts b.drafts file Made) → IsNewMap (change r.was.number) r.was r.layout) → Redrafts a b file Made → IsSeen t files b (changed_rows change)
+    rewrites Made change new h =
+        let r = h.1 in
+        let map = new r in
+        let number = its_number s t files a b kept file r.was r.found r.layout map.renewed map.moves map.renews orderly.drafts_rise in
+        rw (← number) (rewritten s t files a b kept file r.was r.found r.layout map.renewed map.moves map.renews orderly.drafts_rise (change r.was.number) map.changed (h.0 ∙ ap (λ ds. record a { drafts = ds }) r.made))
+
+    written : (offset : ℕ) (bytes : List ℕ) → Redrafts a b file (λ was. IsWritten s t was.number offset bytes was.layout) → IsSeen t files b (changed_at rows 0 (WriteDraft file offset bytes ∷ []))
+    written offset bytes h = rewrites _ (λ number. changed_by number offset bytes) (λ r. record { moves = r.how.moves; renewed = _; renews = r.how.renews; changed = rw r.how.cells refl }) h
 
     -- a draft of that length is as it was
-    fits_already : (o : Option ℕ) (size : ℕ) → has_length size (draft_for a o) ≡ true → rows ≡ fitted_of rows o size
-    fits_already None size e = refl
-    fits_already (Some file) size e = by (find (is_draft file) a.drafts) refl e where
-      by : (d : Option Draft) → find (is_draft file) a.drafts ≡ d → has_length size d ≡ true → rows ≡ fitted_of rows (Some file) size
+    fits_already : (size : ℕ) → has_length size (draft_of a file) ≡ true → rows ≡ changed_at rows 0 (TruncateDraft file size ∷ [])
+    fits_already size e = by (find (is_draft file) a.drafts) refl e where
+      by : (d : Option Draft) → find (is_draft file) a.drafts ≡ d → has_length size d ≡ true → rows ≡ changed_at rows 0 (TruncateDraft file size ∷ [])
       by None found e = absurd (false≢true e)
       by (Some d) found e =
           let same = length_is file size d found ∙ e in
           sym (ap (λ drafts. record rows { drafts = drafts }) (update_first_same (world.is_draft file) (fitted_by (next_of (map file_row files) file) size) rows.drafts (draft_in s d) (draft_found s file a.drafts ∙ ap (option_map (draft_in s)) found) (rw same refl)))
 
-    truncated : (handle size : ℕ) (same : Bool) → has_length size (draft_by a handle) ≡ same → MatchBool same (session.Stays s t a b) (Rewrites a b handle (λ was. IsResized s t was.number size was.layout)) → IsSeen t files b (fitted rows handle size)
-    truncated handle size true e h = rw (← fits_already (handle_file a.handles handle) size e) (stays h)
-    truncated handle size false e h = rewrites handle _ (λ number. fitted_by number size) (λ o. fitted_of rows o size) (λ file. refl)
-        (λ file there r.
-        let long : eqb r.was.layout.size size ≡ false = rw (there, r.found) at e in
+    truncated : (size : ℕ) (same : Bool) → has_length size (draft_of a file) ≡ same → MatchBool same (session.Stays s t a b) (Redrafts a b file (λ was. IsResized s t was.number size was.layout)) → IsSeen t files b (changed_at rows 0 (TruncateDraft file size ∷ []))
+    truncated size true e h = stays _ (fits_already size e) h
+    truncated size false e h = rewrites _ (λ number. fitted_by number size)
+        (λ r.
+        let long : eqb r.was.layout.size size ≡ false = rw r.found at e in
         let other = length_is file size r.was r.found ∙ long in
         record { moves = r.how.moves; renewed = _; renews = r.how.renews; changed = rw (other, r.how.cells) refl }) h
 
@@ -131,8 +126,8 @@ module _ (s : Store) (files : List File) (a : AllSessions) (kept : Keeps s files
       answered : (r : Result T E) (P : Type 0) (h : Held) → (P → IsSeen t files b h) → OnOk r P → OnErr r (session.Stays s t a b) → Keeps t files b × OnOk r (held_in t files b ≡ h)
       answered x0 x1 h seen done left = grind (arith, nat_tests, stays)
 
-      pub wrote : (handle offset : ℕ) (bytes : List ℕ) (r : Result T E) → OnOk r (Writes s t a b handle offset bytes) → OnErr r (session.Stays s t a b) → Keeps t files b × OnOk r (held_in t files b ≡ written_by rows handle offset bytes)
-      wrote handle offset bytes r = answered r (Writes s t a b handle offset bytes) (written_by rows handle offset bytes) (written handle offset bytes)
+      pub wrote : (offset : ℕ) (bytes : List ℕ) (r : Result T E) → OnOk r (Redrafts a b file (λ was. IsWritten s t was.number offset bytes was.layout)) → OnErr r (session.Stays s t a b) → Keeps t files b × OnOk r (held_in t files b ≡ changed_at rows 0 (WriteDraft file offset bytes ∷ []))
+      wrote offset bytes r = answered r _ (changed_at rows 0 (WriteDraft file offset bytes ∷ [])) (written offset bytes)
 
-      pub cut : (handle size : ℕ) (r : Result T E) → OnOk r (Truncates s t a b handle size) → OnErr r (session.Stays s t a b) → Keeps t files b × OnOk r (held_in t files b ≡ fitted rows handle size)
-      cut handle size r = answered r (Truncates s t a b handle size) (fitted rows handle size) (truncated handle size (has_length size (draft_by a handle)) refl)
+      pub cut : (size : ℕ) (r : Result T E) → OnOk r (session.Refits s t a b file size) → OnErr r (session.Stays s t a b) → Keeps t files b × OnOk r (held_in t files b ≡ changed_at rows 0 (TruncateDraft file size ∷ []))
+      cut size r = answered r (session.Refits s t a b file size) (changed_at rows 0 (TruncateDraft file size ∷ [])) (truncated size (has_length size (draft_of a file)) refl)

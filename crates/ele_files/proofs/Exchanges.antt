@@ -1,5 +1,6 @@
 -- One file has other rows, as many or one fewer, or another policy.
-use Rattle.ele_files.proofs.Words.{find_position, AllByRecursion, AllLater, AllSessions, Bool, Draft, EndsInTime, File, FileRow, HeldRows, IsDraftKept, IsFileKept, IsRowOf, IsStocked, Keeps, List, LivesIn, LogRow, Moves, None, Precedes, Some, Stays, Store, VersionRow, [], all_found, all_not_found, all-remove_first, all-update_first, all-weaker, ap, arith, bucket_changes, content_of, file_row, filter, find, flat_map, get_or, held_in, is_file, is_id, has_number, is_other, is_version, later-remove_first, later-update_first, length, local-remove_first, map, nat_tests, option_map, position, refl, remove_first, remove_first-map, remove_first_unfound, row_in, row_stock, rows_in, set, set-first, stock_of, sym, update_first, update_first-map, update_first_same, without, ℕ, ◌<◌, ◌∙◌, ◌∷◌, ◌≡◌, remove_first-key, later-weaker, Policy, SetFilePolicy, changed_at, file_stock, next_of}
+use Rattle.ele_files.proofs.Words.{find_position, AllByRecursion, AllLater, AllSessions, Bool, Draft, EndsInTime, File, FileRow, HeldRows, IsDraftKept, IsFileKept, IsRowOf, IsStocked, Keeps, List, LivesIn, LogRow, Moves, None, Precedes, Some, Stays, Store, VersionRow, [], all_found, all_not_found, all-remove_first, all-update_first, all-weaker, ap, arith, bucket_changes, content_of, file_row, filter, find, flat_map, get_or, held_in, is_file, is_id, has_number, is_other, is_version, later-remove_first, later-update_first, length, local-remove_first, map, nat_tests, option_map, position, refl, remove_first, remove_first-map, remove_first_unfound, row_in, row_stock, rows_in, set, set-first, stock_of, sym, update_first, update_first-map, update_first_same, without, ℕ, ◌<◌, ◌∙◌, ◌∷◌, ◌≡◌, remove_first-key, later-weaker, Policy, SetFilePolicy, changed_at, file_stock, next_of, IsTrue, is_version_of, kind_of, list_any, not, policy_of, ◌↔◌}
+use Rattle.ele_files.proofs.Drops.{any_held}
 use Rattle.ele_files.proofs.Rows.{file_row_found, file_of, tagged, its_id, own_version, same_number, version_of}
 use Rattle.ele_files.proofs.Stock.{over, rows_stay, row_apart, row_lives, IsSeen, held_stays}
 use Rattle.ele_model.specs.Change as world
@@ -50,6 +51,11 @@ module _ (files : List File) (id : ℕ) (f g : File) (found : find (is_id id) fi
     pub same_shows : held_in s after a ≡ held_in s files a
     same_shows = rw (sym (bucket_changes (λ (x : File). x.id) (rows_in s) file_of (tagged s) id (λ xs. xs) (record { past = λ xs ys all. refl; short = λ xs ys all. refl }) (over g) files f kept.rise found (ap (map (row_in s f.id)) rows)), rows_same next) refl
 
+-- the file is found again, with its other rows
+found_over : (files : List File) (id : ℕ) (f g : File) → find (is_id id) files ≡ Some f → find (is_id id) (update_first (is_id id) (over g) files) ≡ Some (over g f)
+found_over [] id f g found = absurd cc
+found_over (x ∷ files) id f g found = grind (arith, nat_tests, found, found_over files id f g)
+
 -- ---- a version leaves its file, and its map the store
 
 -- the file that a search reached
@@ -89,6 +95,14 @@ module _ (s : Store) (files : List File) (a : AllSessions) (kept : Keeps s files
 
   found_row : find (is_version id number) (flat_map (rows_in s) files) ≡ option_map (row_in s f.id) (find (has_number number) f.log.rows)
   found_row = version_of s id number files kept.rise f at.found
+
+  -- the kind of its policy
+  pub kind_told : option_map kind_of (policy_of (map file_row files) id) ≡ Some (kind_of f.policy)
+  kind_told = rw (file_row_found files id, at.found) refl
+
+  -- whether it holds no version any more
+  pub none_left : (none : Bool) → IsTrue none ↔ (these.rows ≡ []) → not none ≡ list_any (is_version_of id) (without (held_in s files a) id number).versions
+  none_left none is = any_held s id (after files id f g at.found) (rise_over files id f g at.found kept.rise) g (found_over files id f g at.found) none is ∙ ap (list_any (is_version_of id)) (sym versions_leave)
 
   -- the number isn't held
   pub unheld : find (has_number number) f.log.rows ≡ None → IsSeen s (set files i g) a (without (held_in s files a) id number) × (find (is_version id number) (flat_map (rows_in s) files) ≡ None)

@@ -1,5 +1,5 @@
 -- The words and the lemmas of other crates that proofs here use, in one place.
-pub use Rattle.ele_blocks.specs.Changes.{IsResized}
+pub use Rattle.ele_blocks.specs.Changes.{IsResized, IsWritten}
 pub use Rattle.ele_blocks.specs.Distinct.{Named, names_from, names_of}
 pub use Rattle.ele_blocks.specs.Layout.{Layout, cell_by, cell_of, shown, slots_of}
 pub use Rattle.ele_blocks.specs.LivesIn.{LivesIn}
@@ -13,7 +13,7 @@ pub use Rattle.ele_content.specs.Place.{Place, different, is_place}
 pub use Rattle.ele_content.specs.declared.cell.Cell.{Cell}
 pub use Rattle.ele_files.specs.Appending.{HasAppended, HasRows, IsGivenUp, IsRowPast, ended_by, ended_rows, next_row, opening_of}
 pub use Rattle.ele_files.specs.Closing.{IsPast, changed_opening, finishing, last_draft, leaving, left_by, left_of, opening_by}
-pub use Rattle.ele_files.specs.Held.{Became, GotFile, Held, cells_of_draft, cells_of_version, changed_at, current_ended, first_draft, fitted, fitted_of, is_bare, opened_by, rows_of, with_rows, without, without_file, written_by, written_of}
+pub use Rattle.ele_files.specs.Held.{Became, GotFile, Held, cells_of_draft, cells_of_version, changed_at, current_ended, first_draft, is_bare, opened_by, rows_of, with_rows, without, without_file}
 pub use Rattle.ele_files.specs.Inside.{IsDraftKept, IsFileKept, IsRowOf, Keeps, draft_in, draft_stock, file_row, file_stock, held_in, held_of, is_id, row_in, row_stock, rows_in, stock_of}
 pub use Rattle.ele_files.specs.Meant.{row_living, row_meant, row_numbered, stamps_in, told_or_forgotten}
 pub use Rattle.ele_files.specs.Met.{Counts, Meets, is_key, log_bytes, log_places}
@@ -33,18 +33,19 @@ pub use Rattle.ele_lists.proofs.Shown.{any-map, find-map, is_some-copied, insert
 pub use Rattle.ele_lists.proofs.Sums.{length-split, sum_by-around, sum_by-flat_map, sum_by-insert_before, sum_by-map, sum_by-remove_first, sum_by-same, sum_by-update_first, sum_by-update_same}
 pub use Rattle.ele_lists.specs.Last.{last_passing}
 pub use Rattle.ele_lists.specs.Lists.{AllLater, insert_before, remove_first, update_first}
+pub use Rattle.ele_policy.specs.Policy.{kind_of}
 pub use Rattle.ele_policy.specs.declared.policy.Policy.{Policy}
-pub use Rattle.ele_sessions.specs.Changes.{Rewrites, RewritesDraft, Truncates, Writes, has_length, rewritten_by}
+pub use Rattle.ele_sessions.specs.Changes.{Redrafts, Refits, RewritesDraft, has_length, rewritten_by}
 pub use Rattle.ele_sessions.specs.Closes.{closed, closed_of, closing, closing_of, file_closing, left_drafts, left_handles}
 pub use Rattle.ele_sessions.specs.Opening.{Opens, new_draft, with_draft}
 pub use Rattle.ele_sessions.specs.Order.{Rises}
 pub use Rattle.ele_sessions.specs.Orderly.{AreOrderly}
-pub use Rattle.ele_sessions.specs.Sessions.{AllSessions, Draft, draft_by, draft_for, draft_of, handle_file, is_draft, is_draft_after}
+pub use Rattle.ele_sessions.specs.Sessions.{AllSessions, Draft, draft_of, is_draft, is_draft_after}
 pub use Rattle.ele_path.specs.declared.tagged.Tag.{Tag}
 pub use Rattle.ele_model.proofs.Created.{named_live}
 pub use Rattle.ele_model.proofs.Files.{next_of-numbered_other, next_of-push}
 pub use Rattle.ele_model.proofs.Newer.{enough_newer, newer_own, with_newer_own}
-pub use Rattle.ele_model.specs.Change.{Append, EndDraft, OpenHandle, SetFilePolicy, ShutHandle, after_change, after_changes, changed_by, ended_at, fitted_by, numbered_on, with_file, with_name}
+pub use Rattle.ele_model.specs.Change.{Append, EndDraft, OpenHandle, SetFilePolicy, ShutHandle, TruncateDraft, WriteDraft, after_change, after_changes, changed_by, ended_at, fitted_by, numbered_on, with_file, with_name}
 pub use Rattle.ele_model.specs.FileUsage.{file_usage}
 pub use Rattle.ele_model.specs.FileView.{is_version_of}
 pub use Rattle.ele_model.specs.Neighbours.{is_newer_of, newer_held, newest_of, next_closing, with_newer}

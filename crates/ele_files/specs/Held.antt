@@ -1,11 +1,10 @@
 -- The rows of all files, and how they change.
-use Rattle.std.specs.Prelude.{◌≡◌, ℕ, ◌+◌, ◌==◌, Bool, false, not, ◌&&◌, List, [], ◌∷◌, length, Option, Some, None, find, if◌then◌else◌}
+use Rattle.std.specs.Prelude.{◌≡◌, ℕ, ◌+◌, ◌==◌, Bool, false, not, ◌&&◌, List, [], ◌∷◌, length, find, if◌then◌else◌}
 use Rattle.std.specs.List.{list_any}
 use Rattle.std.specs.Option.{option_map_or}
 use Rattle.ele_policy.specs.declared.policy.Policy.{Policy}
 use Rattle.ele_content.specs.declared.cell.Cell.{Cell}
 use Rattle.ele_content.specs.Content.{content_of}
-use Rattle.ele_sessions.specs.Sessions.{handle_file}
 use Rattle.ele_model.specs.declared.rows.FileRow.{FileRow}
 use Rattle.ele_model.specs.declared.rows.VersionRow.{VersionRow}
 use Rattle.ele_model.specs.declared.rows.DraftRow.{DraftRow}
@@ -13,7 +12,7 @@ use Rattle.ele_model.specs.declared.rows.HandleRow.{HandleRow}
 use Rattle.ele_model.specs.declared.rows.Reads.TheVariants as reads
 use Rattle.ele_model.specs.Bounds.{largest_bounds}
 use Rattle.ele_lists.specs.Lists.{remove_first}
-use Rattle.ele_model.specs.Change.{Change, MakeFile, OpenHandle, StartDraft, WriteDraft, TruncateDraft, Take, new_draft, with_end, after_changes}
+use Rattle.ele_model.specs.Change.{Change, MakeFile, OpenHandle, StartDraft, Take, new_draft, with_end, after_changes}
 use Rattle.ele_model.specs.FileView.{is_version_of}
 use Rattle.ele_model.specs.World.{World, fresh_world, is_file, is_live, is_version, is_draft}
 
@@ -69,31 +68,9 @@ opened_by h file now =
     let number = h.opened + 1 in
     changed_at h now (if list_any (is_draft file) h.drafts then OpenHandle number (reads.Draft file) ∷ [] else StartDraft file ∷ OpenHandle number (reads.Draft file) ∷ [])
 
--- with the bytes written through a handle of the file; no bytes change nothing
-abbrev pub written_of : Held → Option ℕ → ℕ → List ℕ → Held
-written_of h None offset bytes = h
-written_of h (Some file) offset [] = h
-written_of h (Some file) offset (byte ∷ bytes) = changed_at h 0 (WriteDraft file offset (byte ∷ bytes) ∷ [])
-
-abbrev pub written_by : Held → ℕ → ℕ → List ℕ → Held
-written_by h handle offset bytes = written_of h (handle_file h.handles handle) offset bytes
-
--- with so many bytes in the draft under a handle of the file
-abbrev pub fitted_of : Held → Option ℕ → ℕ → Held
-fitted_of h None size = h
-fitted_of h (Some file) size = changed_at h 0 (TruncateDraft file size ∷ [])
-
-abbrev pub fitted : Held → ℕ → ℕ → Held
-fitted h handle size = fitted_of h (handle_file h.handles handle) size
-
--- whether the draft under a handle of the file has so many bytes
-abbrev pub has_length_of : Held → Option ℕ → ℕ → Bool
-has_length_of h None size = false
-has_length_of h (Some file) size =
-    option_map_or (λ row. length (content_of row.cells) == size) (find (is_draft file) h.drafts) false
-
+-- whether the file's draft has so many bytes
 abbrev pub has_length : Held → ℕ → ℕ → Bool
-has_length h handle size = has_length_of h (handle_file h.handles handle) size
+has_length h file size = option_map_or (λ row. length (content_of row.cells) == size) (find (is_draft file) h.drafts) false
 
 -- the cells of the file's draft
 abbrev pub cells_of_draft : Held → ℕ → List Cell

@@ -1,6 +1,6 @@
 //! The files of one world, with their drafts and handles.
 //! A contract sees the flat rows of all of them.
-ghost use Rattle.std.specs.Prelude.{◌≡◌, ◌<◌, ◌≤◌, ◌+◌, ◌-◌, ◌^◌, true, [], ◌∷◌, All, OnOk, OnErr, IfOk, IfNone, IsOkUnless, IsErrOf, length, find, is_some, position, if◌then◌else◌};
+ghost use Rattle.std.specs.Prelude.{◌≡◌, ◌<◌, ◌≤◌, ◌+◌, ◌-◌, ◌^◌, true, [], ◌∷◌, All, OnOk, OnErr, IfOk, IfNone, IfSome, IsOkUnless, IsErrOf, Some, length, find, is_some, not, position, if◌then◌else◌};
 ghost use Rattle.std.specs.List.{AllByRecursion, list_any};
 ghost use Rattle.std.specs.Option.{ForSome, option_copied, option_map, option_map_or};
 ghost use Rattle.ele_content.specs.Content.{content_of};
@@ -11,7 +11,9 @@ ghost use Rattle.ele_inode_log.specs.Rows.{has_number};
 ghost use Rattle.ele_lists.specs.Lists.{AllLater};
 ghost use Rattle.ele_model.specs.Change.{OpenHandle};
 ghost use Rattle.ele_model.specs.declared.rows.Reads.TheVariants.{Version};
+ghost use Rattle.ele_model.specs.FileView.{is_version_of};
 ghost use Rattle.ele_model.specs.Usage.{places};
+ghost use Rattle.ele_policy.specs.Policy.{kind_of};
 ghost use Rattle.ele_model.specs.World.{policy_of, next_of, is_version, is_draft};
 
 mod asking;
@@ -31,10 +33,21 @@ use crate::file::File;
 use ele_blocks::{BlockMap, BlockStore, laws};
 use ele_inode_log::{InodeLog, Meter};
 use ele_moment::{FileId, Handle, Moment, NoMemory, VersionNo};
-use ele_policy::Policy;
+use ele_policy::{Kind, Policy};
 use ele_sessions::Sessions;
 use std::alloc::Global;
 use std::marker::Model;
+
+/// A version that was taken out of its file.
+#[derive(Clone, Copy, Debug)]
+pub struct RemovedVersion {
+    /// The kind of the file's policy.
+    pub kind: Kind,
+    /// How many bytes the version had.
+    pub bytes: u64,
+    /// Whether the file holds no version any more.
+    pub was_last: bool,
+}
 
 /// Files by id, each with its held versions; drafts and handles; and the store of all their blocks.
 #[derive(Drop)]
@@ -162,25 +175,36 @@ impl Files {
         self.sessions.open_read(file, number)
     }
 
-    /// Takes out the version, and answers how many bytes it had; none where it isn't held.
+    /// Takes out the version, and answers what it leaves; none where it isn't held.
     #[tactic(auto, using(std::proofs::lemmas::Bool::Decides::nat_tests, crate::proofs::Rows::version_none, crate::proofs::Rows::no_file, crate::proofs::Words::remove_first_unfound, crate::proofs::Words::all_not_found))]
     pub fn remove_version(
         &mut self,
         file: FileId,
         number: VersionNo,
         meter: &mut Meter,
-    ) -> Option<u64>
+    ) -> Option<RemovedVersion>
         requires { meter.old < 2 ^ 62 }
-        ensures value { result ≡ option_map (λ row. length (content_of row.cells))
+        ensures bytes { option_map (λ removed. removed.bytes) result
+            ≡ option_map (λ row. length (content_of row.cells))
             (find (is_version file number) self.old.versions) }
+        ensures kind { IfSome result (λ removed.
+            option_map kind_of (policy_of self.old.files file) ≡ Some removed.kind) }
+        ensures last { IfSome result (λ removed.
+            not removed.was_last ≡ list_any (is_version_of file) self.new.versions) }
         ensures rows { self.new ≡ without self.old file number }
         ensures read { meter.new ≡ meter.old + (if is_some result then 1 else 0) }
     {
         let at = place_of(&self.files, file)?;
-        let row = self.files[at].get_mut().log.remove(number, meter)?;
-        let length = row.cells.length();
+        let held = self.files[at].get_mut();
+        let row = held.log.remove(number, meter)?;
+        let (kind, was_last) = (held.policy.kind(), held.log.is_empty());
+        let bytes = row.cells.length();
         row.cells.give_up(&mut self.store);
-        Some(length)
+        Some(RemovedVersion {
+            kind,
+            bytes,
+            was_last,
+        })
     }
 
     /// How many different blocks the versions and drafts have: a slot that several have from one

@@ -10,7 +10,7 @@ pub use Rattle.ele_lists.specs.Keys.{stands_by, is_behind}
 pub use Rattle.ele_lists.specs.Lists.{insert_before, remove_first, update_first}
 pub use Rattle.ele_rows.specs.Tally.{counted}
 pub use Rattle.ele_rows.specs.declared.tally.Tally.{Tally}
-pub use Rattle.std.proofs.Common.{Bool, Err, List, MatchBool, None, Ok, Option, Result, Some, [], ap, append-nil, arith, cond, eqb, false, get_or, length, nat_lt, not, refl, sym, true, ℕ, ◌++◌, ◌+◌, ◌-◌, ◌<◌, ◌||◌, ◌∙◌, ◌∷◌, ◌≡◌, ◌≤◌}
+pub use Rattle.std.proofs.Common.{Bool, Err, List, MatchBool, None, Ok, Option, Result, Some, [], ap, append-nil, arith, cond, eqb, false, get_or, length, nat_lt, not, refl, subst, sym, true, ℕ, ◌++◌, ◌+◌, ◌-◌, ◌<◌, ◌||◌, ◌∙◌, ◌∷◌, ◌≡◌, ◌≤◌}
 pub use Rattle.std.proofs.Math.ListN.{set}
 pub use Rattle.std.proofs.Math.Seq.{map-set_same}
 pub use Rattle.std.proofs.lemmas.Bool.{false≢true}
@@ -18,5 +18,5 @@ pub use Rattle.std.proofs.lemmas.Bool.Decides.{nat_tests}
 pub use Rattle.std.proofs.lemmas.List.{length-append}
 pub use Rattle.std.specs.List.{AllByRecursion, count_by, filter, find, insert, list_any, position, remove, sum_by}
 pub use Rattle.std.specs.Option.{option_map, unwrap_or}
-pub use Rattle.std.specs.Result.{IfErr, OnErr}
+pub use Rattle.std.specs.Result.{IfErr, IfOk, OnErr}
 pub use Rattle.std.proofs.lemmas.List.Folds.{list_any-append}

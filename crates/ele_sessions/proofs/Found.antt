@@ -1,6 +1,6 @@
 -- The entry that a search found, as the list of drafts shows it.
-use Rattle.ele_sessions.proofs.Basics.{◌≡◌, ℕ, true, false, length, eqb, List, get_or, Some, None, Result, Ok, Err, refl, sym, ap, ◌∙◌, set, map-set_same, find, remove, insert, list_any, position, unwrap_or, OnErr, IfErr, stands_by, is_behind, false≢true, remove_first, insert_before, find-position, find-none, find-shown, set-shown, remove-shown, any-shown, any-missing, find-missing, insert-shown, remove-place, arith, rises-map, all-not_found, remove_first-unfound}
-use Rattle.ele_sessions.proofs.Words.{Layout, Entry, HandleRow, RewritesDraft, rewritten_by, IsAt, IsGap, drafts_of, draft_in, file_in, number_in, Draft, is_draft, is_draft_after, is_handle, Rises}
+use Rattle.ele_sessions.proofs.Basics.{subst, ◌≡◌, ℕ, true, false, length, eqb, List, get_or, Some, None, Result, Ok, Err, refl, sym, ap, ◌∙◌, set, map-set_same, find, remove, insert, list_any, position, unwrap_or, OnErr, IfErr, stands_by, is_behind, false≢true, remove_first, insert_before, find-position, find-none, find-shown, set-shown, remove-shown, any-shown, any-missing, find-missing, insert-shown, remove-place, arith, nat_tests, found_passes, rises-map, all-not_found, remove_first-unfound}
+use Rattle.ele_sessions.proofs.Words.{Layout, Entry, HandleRow, RewritesDraft, StandsAt, rewritten_by, IsAt, IsGap, drafts_of, draft_in, file_in, number_in, Draft, is_draft, is_draft_after, is_handle, Rises}
 
 -- a gap, of what a search says of it
 pub gap_of : {X : Type 0} (key : X → ℕ) (this : ℕ) (xs : List X) (r : Result ℕ ℕ) → IfErr r (λ at. position (stands_by key this) xs ≡ None) → IfErr r (λ at. unwrap_or (position (is_behind key this) xs) (length xs) ≡ at) → IfErr r (IsGap key this xs)
@@ -45,5 +45,13 @@ rises_in es rise = rises-map draft_in (λ (d : Draft). d.file) es rise
 -- the search for a handle found none
 pub no_handle : (hs : List HandleRow) (number i : ℕ) → IsGap number_in number hs i → find (is_handle number) hs ≡ None
 no_handle hs number i gap = find-none (is_handle number) hs gap.missing
+
+-- the handle that a search found
+pub stands_there : (hs : List HandleRow) (number i : ℕ) (h : HandleRow) → IsAt number_in number hs i → h ≡ get_or hs i h → (h.number ≡ number) × StandsAt hs (record { row = h; place = i })
+stands_there hs number i h at is =
+    let found : find (is_handle number) hs ≡ Some h = find-position (is_handle number) hs i h at ∙ ap (λ x. Some x) (sym is) in
+    let passes = found_passes (is_handle number) hs h found in
+    let same : h.number ≡ number = grind (arith, nat_tests) in
+    (same, record { row = subst (λ (n : ℕ). find (is_handle n) hs ≡ Some h) (sym same) found; place = subst (λ (n : ℕ). position (is_handle n) hs ≡ Some i) (sym same) at })
 
 pub ruleset handle_steps = (find-none, find-position, remove-place, all-not_found, remove_first-unfound)

@@ -1,6 +1,6 @@
 -- That the fields keep their order and counts when a handle comes or goes.
-use Rattle.ele_sessions.proofs.Basics.{◌≡◌, ℕ, ◌+◌, ◌-◌, true, Ok, Err, cond, nat_lt, List, [], ◌∷◌, ◌++◌, Some, ap, ◌∙◌, arith, list_any, find, length-append, nat_tests, remove_first, counted, Tally, remove_first-unfound, all-not_found, length-remove_first-le}
-use Rattle.ele_sessions.proofs.Words.{Layout, Store, RewritesDraft, Resizes, has_length, left_drafts, Keeps, reads_eq, reading, AreOrderly, Draft, AllSessions, is_handle, is_writer, is_draft, reads_by, file_by, HandleRow, Reads, Refusal}
+use Rattle.ele_sessions.proofs.Basics.{IfOk, Result, ◌≡◌, ℕ, ◌+◌, ◌-◌, true, Ok, Err, refl, cond, nat_lt, List, [], ◌∷◌, ◌++◌, Some, ap, ◌∙◌, arith, list_any, find, length-append, nat_tests, remove_first, counted, Tally, length-remove_first-le}
+use Rattle.ele_sessions.proofs.Words.{FoundHandle, StandsAt, Layout, Store, RewritesDraft, Resizes, has_length, left_drafts, Keeps, reads_eq, reading, AreOrderly, Draft, AllSessions, is_handle, is_writer, is_draft, reads_by, file_by, HandleRow, Reads, Refusal}
 use Rattle.ele_model.specs.declared.rows.Reads.TheVariants as reads
 use Rattle.ele_sessions.proofs.Counts.{reading-push, reading-left, any-writer}
 use Rattle.ele_sessions.proofs.Orders.{reader_left, writer_left, its_draft, rewritten}
@@ -15,8 +15,9 @@ pub record IsRead (hs : List HandleRow) (number : ℕ) (what : Reads) : Type 0 w
 pub written_by : (hs : List HandleRow) (number file : ℕ) → Ok file ≡ file_by hs number → Ok (reads.Draft file) ≡ reads_by hs number
 written_by hs number file is = grind (arith, nat_tests, is, reads_by)
 
-pub none_left : (hs : List HandleRow) (number : ℕ) (refusal : Refusal) → Err refusal ≡ reads_by hs number → remove_first (is_handle number) hs ≡ hs
-none_left hs number refusal none = grind (arith, nat_tests, remove_first-unfound, is_handle, all-not_found, find)
+-- what is read through a handle that stands there
+pub stood_reads : (hs : List HandleRow) (found : FoundHandle) → StandsAt hs found → Ok found.row.reads ≡ reads_by hs found.row.number
+stood_reads hs found stands = rw stands.row refl
 
 module _ (s : AllSessions) (counts : Tally Reads) (keeps : Keeps s counts) where
   pub entered_keeps : (h : HandleRow) (ds : List Draft) (ready counts' : Tally Reads) → AreOrderly (record { drafts = ds; handles = s.handles ++ h ∷ []; opened = s.opened + 1 }) → ((what : Reads) → counted reads_eq ready what ≡ counted reads_eq counts what) → ((what : Reads) → counted reads_eq counts' what ≡ counted reads_eq ready what + cond (reads_eq h.reads what) 1 0) → Keeps (record { drafts = ds; handles = s.handles ++ h ∷ []; opened = s.opened + 1 }) counts'
@@ -68,3 +69,8 @@ module _ (s : AllSessions) (counts : Tally Reads) (keeps : Keeps s counts) where
       -- and before
       pub stays_then : nat_lt 1 (counted reads_eq counts (reads.Draft file)) ≡ list_any (is_writer file) rest
       stays_then = grind (arith, nat_tests, is, keeps.counted (reads.Draft file), fewer_by (reads.Draft file), any-writer file rest)
+
+  -- a file that a handle writes has its draft
+  pub file_drafted : (number : ℕ) (r : Result ℕ Refusal) → r ≡ file_by s.handles number → IfOk r (λ file. list_any (is_draft file) s.drafts ≡ true)
+  file_drafted number (Ok file) is = draft_there number (reads.Draft file) (written_by s.handles number file is) file refl
+  file_drafted number (Err refusal) is = tt

@@ -6,7 +6,7 @@ use Rattle.ele_blocks.specs.Changes.{IsWritten, IsResized}
 use Rattle.ele_blocks.specs.Layout.{Layout}
 use Rattle.ele_blocks.specs.Store.{Store}
 use Rattle.ele_lists.specs.Lists.{update_first}
-use Rattle.ele_sessions.specs.Sessions.{Draft, AllSessions, is_draft, handle_file, draft_by}
+use Rattle.ele_sessions.specs.Sessions.{Draft, AllSessions, draft_of, is_draft, handle_file}
 use Rattle.ele_model.specs.World.{file_by}
 use Rattle.ele_model.specs.declared.refusal.Refusal.{Refusal}
 use Rattle.ele_model.specs.declared.refusal.Refusal.TheVariants.{TooBig}
@@ -42,20 +42,20 @@ pub record RewritesDraft (old new : List Draft) (file : ℕ) (Made : Draft → L
   pub made : new ≡ update_first (is_draft file) (rewritten_by layout) old
   pub how : Made was layout
 
--- so has the draft under the handle, and handles are as they were
-abbrev pub Rewrites : AllSessions → AllSessions → ℕ → (Draft → Layout → Type 0) → Type 0
-Rewrites old new handle Made = (new ≡ record old { drafts = new.drafts }) × IsSomeAnd (handle_file old.handles handle) (λ file. RewritesDraft old.drafts new.drafts file Made)
+-- and handles are as they were
+abbrev pub Redrafts : AllSessions → AllSessions → ℕ → (Draft → Layout → Type 0) → Type 0
+Redrafts old new file Made = (new ≡ record old { drafts = new.drafts }) × RewritesDraft old.drafts new.drafts file Made
 
 -- drafts, handles and blocks are as they were
 pub record Stays (s t : Store) (old new : AllSessions) : Type 0 where
   pub sessions : new ≡ old
   pub store : t ≡ s
 
--- a write of no bytes changes nothing, and each other is in the draft, which is then changed
+-- a write of no bytes changes nothing, and each other is in the draft under the handle, which is then changed
 abbrev pub Writes : Store → Store → AllSessions → AllSessions → ℕ → ℕ → List ℕ → Type 0
 Writes s t old new handle offset [] = Stays s t old new
 Writes s t old new handle offset (byte ∷ bytes) =
-    Rewrites old new handle (λ was. IsWritten s t was.number offset (byte ∷ bytes) was.layout)
+    IsSomeAnd (handle_file old.handles handle) (λ file. Redrafts old new file (λ was. IsWritten s t was.number offset (byte ∷ bytes) was.layout))
 
 -- whether it is a draft of that many bytes
 abbrev pub has_length : ℕ → Option Draft → Bool
@@ -66,7 +66,11 @@ abbrev pub Resizes : Store → Store → List Draft → List Draft → ℕ → �
 Resizes s t old new file size =
     MatchBool (has_length size (find (is_draft file) old)) ((new ≡ old) × (t ≡ s)) (RewritesDraft old new file (λ was. IsResized s t was.number size was.layout))
 
--- a truncate to the same length changes nothing, and one to another length changes the draft
+-- a truncate to the same length changes nothing, and one to another length changes the file's draft
+abbrev pub Refits : Store → Store → AllSessions → AllSessions → ℕ → ℕ → Type 0
+Refits s t old new file size =
+    MatchBool (has_length size (draft_of old file)) (Stays s t old new) (Redrafts old new file (λ was. IsResized s t was.number size was.layout))
+
+-- so does one of the draft under the handle
 abbrev pub Truncates : Store → Store → AllSessions → AllSessions → ℕ → ℕ → Type 0
-Truncates s t old new handle size =
-    MatchBool (has_length size (draft_by old handle)) (Stays s t old new) (Rewrites old new handle (λ was. IsResized s t was.number size was.layout))
+Truncates s t old new handle size = IsSomeAnd (handle_file old.handles handle) (λ file. Refits s t old new file size)

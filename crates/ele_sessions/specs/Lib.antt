@@ -3,6 +3,7 @@ pub mod Faults
 pub mod Changes
 pub mod Opening
 pub mod Closes
+pub mod Found
 pub mod Order
 pub mod Orderly
 pub mod Inside

@@ -2,7 +2,9 @@
 //! A contract sees the lists of both.
 ghost use Rattle.std.specs.Prelude.{◌≡◌, ◌<◌, ◌+◌, ◌^◌, [], ◌∷◌, ◌++◌, Ok, Some, IfOk, IfErr, IsErrAnd, vec_len, vec_capacity, if◌then◌else◌};
 ghost use Rattle.ele_rows.specs.Tally.{counted, room};
+ghost use Rattle.std.specs.Result.{result_map_both};
 ghost use Rattle.ele_sessions.specs.Faults.{refusal_of};
+ghost use Rattle.ele_sessions.specs.Found.{StandsAt};
 ghost use Rattle.ele_sessions.specs.Inside.{IsAt, IsGap, file_in, number_in};
 ghost use Rattle.ele_sessions.specs.Kept.{reads_eq};
 ghost use Rattle.ele_sessions.specs.Order.{Rises};
@@ -12,6 +14,7 @@ ghost use Rattle.ele_model.specs.declared.rows.Reads.{Reads};
 
 use crate::draft::Draft;
 use crate::fault::SessionFault;
+use crate::found_handle::FoundHandle;
 use ele_lists::Keyed;
 use ele_model::{HandleRow, Reads, Refusal};
 use ele_moment::{FileId, Handle};
@@ -63,29 +66,45 @@ pub fn enter(handles: &mut Vec<HandleRow>, counts: &mut Tally<Reads>, handle: &H
     counts.add(handle.reads);
 }
 
-/// The handle of that number goes. The answer is what was read through it. Refused: `NoHandle`.
+/// The handle that was found there goes. The answer is what was read through it.
 #[tactic(auto, using(crate::proofs::Found::handle_steps))]
-pub fn take_handle(handles: &mut Vec<HandleRow>, number: Handle) -> Result<Reads, Refusal>
-    requires { Rises number_in handles.old.items }
-    ensures reads { result ≡ reads_by handles.old.items number }
-    ensures left { handles.new.items ≡ remove_first (is_handle number) handles.old.items }
+pub fn take_found(handles: &mut Vec<HandleRow>, found: &FoundHandle) -> Reads
+    requires { StandsAt handles.old.items found.now }
+    ensures reads { Ok result ≡ reads_by handles.old.items found.now.row.number }
+    ensures left { handles.new.items
+        ≡ remove_first (is_handle found.now.row.number) handles.old.items }
 {
-    let Ok(at) = handle_place(handles, number) else {
+    let row = handles.remove(found.place);
+    row.reads
+}
+
+/// The handle of that number, with its place. Refused: `NoHandle`.
+#[tactic(auto, using(crate::proofs::Found::handle_steps))]
+pub fn handle_by(handles: &[HandleRow], number: Handle) -> Result<FoundHandle, Refusal>
+    requires { Rises number_in handles.now }
+    ensures number { IfOk result (λ found. found.row.number ≡ number) }
+    ensures stands { IfOk result (StandsAt handles.now) }
+    ensures reads { result_map_both (λ found. found.row.reads) (λ refusal. refusal) result
+        ≡ reads_by handles.now number }
+{
+    let Ok(place) = handle_place(handles, number) else {
         return Err(Refusal::NoHandle);
     };
-    Ok(handles.remove(at).reads)
+    Ok(FoundHandle {
+        row: handles[place],
+        place,
+    })
 }
 
 /// What is read through the handle. Refused: `NoHandle`.
-#[tactic(auto, using(crate::proofs::Found::handle_steps))]
 pub fn reads_by(handles: &[HandleRow], number: Handle) -> Result<Reads, Refusal>
     requires { Rises number_in handles.now }
     ensures { result ≡ reads_by handles.now number }
 {
-    let Ok(at) = handle_place(handles, number) else {
-        return Err(Refusal::NoHandle);
-    };
-    Ok(handles[at].reads)
+    match handle_by(handles, number) {
+        Ok(found) => Ok(found.row.reads),
+        Err(refusal) => Err(refusal),
+    }
 }
 
 // The file that a handle writes that reads this. Refused: `NotWriter`.

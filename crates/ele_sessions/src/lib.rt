@@ -8,11 +8,15 @@ mod closing;
 mod draft;
 mod entries;
 mod fault;
+mod found_handle;
 mod leaving;
+mod longest;
 mod opening;
 mod sessions;
 
 pub use closing::Closing;
 pub use ele_model::Reads;
 pub use fault::SessionFault;
+pub use found_handle::FoundHandle;
+pub use longest::is_too_long;
 pub use sessions::Sessions;

@@ -1,23 +1,19 @@
 //! The sessions of all files.
 //! A contract sees them as drafts, handles and the count of handles ever opened.
-ghost use Rattle.std.specs.Prelude.{◌≡◌, ◌<◌, ◌≤◌, ◌+◌, ◌^◌, [], ◌∷◌, None, OnOk, OnErr, IfOk, IfErr, IsOk, IsSome, IsTrue, length, not, nat_lt, true};
-ghost use Rattle.std.specs.Option.{ForSome};
-ghost use Rattle.ele_content.specs.Content.{longest_content};
+ghost use Rattle.std.specs.Prelude.{◌≡◌, ◌<◌, ◌+◌, ◌^◌, [], Some, OnOk, OnErr, IfOk};
 ghost use Rattle.ele_blocks.specs.LivesIn.{LivesIn};
 ghost use Rattle.ele_blocks.specs.Owes.{IsUncrowded};
 ghost use Rattle.ele_sessions.specs.Orderly.{AreOrderly};
-ghost use Rattle.ele_sessions.specs.Changes.{write_refusal, truncate_refusal, Writes, Truncates, Stays, has_length};
 ghost use Rattle.ele_sessions.specs.Closes.{closing, closed};
-ghost use Rattle.ele_sessions.specs.Faults.{refusal_of};
+ghost use Rattle.ele_sessions.specs.Found.{StandsAt};
 ghost use Rattle.ele_sessions.specs.Opening.{new_draft, opened_by, reader_opened, Opens};
-ghost use Rattle.ele_sessions.specs.Sessions.{handle_file, draft_by};
 
 mod asking;
+mod writing;
 
-use crate::changing::{truncate_draft, write_draft};
 use crate::closing::Closing;
-use crate::entries::{Entry, enter, take_handle, written_by};
-use crate::fault::SessionFault;
+use crate::entries::{Entry, enter, handle_by, take_found};
+use crate::found_handle::FoundHandle;
 use crate::leaving::leave;
 use crate::opening::{DraftSpec, join};
 use ele_blocks::{BlockMap, BlockStore};
@@ -26,16 +22,6 @@ use ele_moment::{FileId, Handle, Moment, NoMemory, VersionNo};
 use ele_rows::Tally;
 use std::alloc::Global;
 use std::marker::Model;
-
-/// How many bytes a content may have.
-const LONGEST_CONTENT: u64 = 1_048_576;
-
-// Whether a content may end so many bytes behind the offset.
-fn fits(offset: u64, len: usize) -> bool
-    ensures { result ≡ not (nat_lt longest_content (offset + len)) }
-{
-    offset <= LONGEST_CONTENT && len as u64 <= LONGEST_CONTENT - offset
-}
 
 /// Drafts and handles of all files. Whoever ends them closes each handle and keeps or gives up the
 /// map that comes out, or its blocks stay in the store.
@@ -133,98 +119,37 @@ impl Sessions {
         Ok(number)
     }
 
-    /// Writes the bytes from the offset on into the draft under the handle; zeros fill it up to the
-    /// offset where it ends before. Even equal bytes mark the draft changed. No bytes change
-    /// nothing, whatever the offset.
-    ///
-    /// In this order: `NoHandle` if no open handle has that number, `NotWriter` if it reads a
-    /// version, `TooBig` if the bytes would end past 1,048,576, `NoMemory` if memory is refused. A
-    /// fault leaves all as it was.
-    #[tactic(auto, using(crate::proofs::Found::rises_in))]
-    pub fn write(
-        &mut self,
-        store: &mut BlockStore,
-        handle: Handle,
-        offset: u64,
-        bytes: &[u8],
-    ) -> Result<(), SessionFault>
-        requires { ForSome (draft_by self.old handle) (λ draft. LivesIn store.old draft.layout) }
-        ensures allowed { OnOk result
-            (write_refusal self.old.handles handle offset bytes.now ≡ None) }
-        ensures fault { IfErr result (λ fault. refusal_of fault
-            ≡ write_refusal self.old.handles handle offset bytes.now) }
-        ensures idle { IsSome (handle_file self.old.handles handle)
-            → bytes.now ≡ [] → IsOk result }
-        ensures writes { OnOk result
-            (Writes store.old store.new self.old self.new handle offset bytes.now) }
-        ensures orderly { AreOrderly self.old }
-        ensures err { OnErr result (Stays store.old store.new self.old self.new) }
-    {
-        let file = written_by(&self.handles, handle)?;
-        if bytes.is_empty() {
-            return Ok(());
-        }
-        if !fits(offset, bytes.len()) {
-            return Err(SessionFault::TooBig);
-        }
-        write_draft(&mut self.drafts, store, file, offset, bytes)?;
-        Ok(())
-    }
-
-    /// Makes the content of the draft under the handle so many bytes long, and marks it changed;
-    /// where it has that length, nothing is changed.
-    ///
-    /// In this order: `NoHandle` if no open handle has that number, `NotWriter` if it reads a
-    /// version, `TooBig` for more than 1,048,576 bytes, `NoMemory` if memory is refused. A fault
-    /// leaves all as it was.
-    #[tactic(auto, using(crate::proofs::Found::rises_in))]
-    pub fn truncate(
-        &mut self,
-        store: &mut BlockStore,
-        handle: Handle,
-        size: u64,
-    ) -> Result<(), SessionFault>
-        requires { ForSome (draft_by self.old handle) (λ draft. LivesIn store.old draft.layout) }
-        ensures allowed { OnOk result
-            (truncate_refusal self.old.handles handle size ≡ None) }
-        ensures fault { IfErr result (λ fault. refusal_of fault
-            ≡ truncate_refusal self.old.handles handle size) }
-        ensures idle { IsTrue (has_length size (draft_by self.old handle))
-            → size ≤ longest_content → IsOk result }
-        ensures truncates { OnOk result
-            (Truncates store.old store.new self.old self.new handle size) }
-        ensures orderly { AreOrderly self.old }
-        ensures err { OnErr result (Stays store.old store.new self.old self.new) }
-    {
-        let file = written_by(&self.handles, handle)?;
-        if size > LONGEST_CONTENT {
-            return Err(SessionFault::TooBig);
-        }
-        truncate_draft(&mut self.drafts, store, file, size)?;
-        Ok(())
-    }
-
     /// Closes the handle; none where no open handle has that number. With the last handle of a file
     /// its draft goes, and its map comes out: whoever takes it gives it up or keeps it. A handle
     /// that read a version just goes.
-    #[tactic(auto, using(crate::proofs::Found::rises_in))]
     pub fn close(&mut self, handle: Handle) -> Option<(Closing, Option<BlockMap>)>
         ensures answer { result ≡ closing self.old handle }
         ensures sessions { self.new ≡ closed self.old handle }
         ensures orderly { AreOrderly self.old }
     {
-        let Ok(reads) = take_handle(&mut self.handles, handle) else {
+        let Ok(found) = handle_by(&self.handles, handle) else {
             return None;
         };
-        match reads {
+        Some(self.close_found(&found))
+    }
+
+    /// Closes the handle that was found there, as `close` does, without another search for it.
+    #[tactic(auto, using(crate::proofs::Found::rises_in))]
+    pub fn close_found(&mut self, found: &FoundHandle) -> (Closing, Option<BlockMap>)
+        requires { StandsAt self.old.handles found.now }
+        ensures answer { Some result ≡ closing self.old found.now.row.number }
+        ensures sessions { self.new ≡ closed self.old found.now.row.number }
+        ensures orderly { AreOrderly self.old }
+    {
+        match take_found(&mut self.handles, found) {
             Reads::Draft(file) => {
                 self.counts.take(Reads::Draft(file));
                 let stays = self.counts.count(Reads::Draft(file)) > 0;
-                Some(leave(&mut self.drafts, file, stays))
+                leave(&mut self.drafts, file, stays)
             }
             Reads::Version(file, number) => {
                 self.counts.take(Reads::Version(file, number));
-                Some((Closing::Unread(file, number), None))
+                (Closing::Unread(file, number), None)
             }
         }
     }

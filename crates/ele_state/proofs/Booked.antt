@@ -1,5 +1,5 @@
 -- The book of usage, as the files change.
-use Rattle.ele_state.proofs.Words.{IsFew, IsOwedBy, of_file, TruncateDraft, WriteDraft, changed_at, nat_tests, ◌≡◌, ℕ, ◌+◌, ◌-◌, ◌<◌, ◌≤◌, ◌^◌, Bool, true, cond, List, ◌∷◌, length, Some, Ok, refl, ◌∙◌, arith, sum_by, world_of, IsSound, IsTracked, held_world, blocks_of, only_blocks, IsOwed, IsBooked, Rows, content_of, Held, rows_after, rows_of, opened_by, written_by, fitted, sum_by-map, Kind, Policy, kind_of, is_kind, Usage, Book, sums_of, only_at, nothing, plus, Fits, usage_of, is_file_of, bytes_in, ChangesOnly, World, VersionRow, MakeFile, created, made_is, policy_of, file_by, usage_changes, usage_same, within_files, within_versions, within_bytes, within_blocks, whole_files, whole_versions, whole_bytes, created_usage, only_at_is, []}
+use Rattle.ele_state.proofs.Words.{IsFew, IsOwedBy, of_file, TruncateDraft, WriteDraft, changed_at, nat_tests, ◌≡◌, ℕ, ◌+◌, ◌-◌, ◌<◌, ◌≤◌, ◌^◌, Bool, true, cond, List, ◌∷◌, length, Some, refl, ◌∙◌, arith, sum_by, world_of, IsSound, IsTracked, held_world, blocks_of, only_blocks, IsOwed, IsBooked, Rows, content_of, Held, rows_after, rows_of, opened_by, sum_by-map, Kind, Policy, kind_of, is_kind, Usage, Book, sums_of, only_at, nothing, plus, Fits, usage_of, is_file_of, bytes_in, ChangesOnly, World, VersionRow, MakeFile, created, made_is, policy_of, usage_changes, usage_same, within_files, within_versions, within_bytes, within_blocks, whole_files, whole_versions, whole_bytes, created_usage, only_at_is, []}
 use Rattle.ele_model.proofs.OtherFiles.{drafts-opened, drafts-updated, other_drafts}
 
 pub booked : (rows : Rows) → IsTracked rows → (k : Kind) → sums_of rows.book k ≡ usage_of (world_of rows) k
@@ -60,20 +60,12 @@ pub opened_owed : (rows : Rows) (file : ℕ) (now : Held) (before : ℕ) → IsT
 opened_owed rows file now before tracked is after = grind (arith, nat_tests, drafts_owed rows file now before tracked is, drafts-opened (world_of rows) file)
 
 -- bytes are written
-pub written_owed : (rows : Rows) (handle file offset : ℕ) (bytes : List ℕ) (now : Held) (before : ℕ) → IsTracked rows → Ok file ≡ file_by rows.files.handles handle → before ≡ blocks_of rows.files → now ≡ written_by rows.files handle offset bytes → IsOwed now rows.book file before
-written_owed rows handle file offset x4 now before tracked of is after = grind (arith, nat_tests, drafts_owed rows file now before tracked is, drafts-updated)
+pub written_owed : (rows : Rows) (file offset : ℕ) (bytes : List ℕ) (now : Held) (before : ℕ) → IsTracked rows → before ≡ blocks_of rows.files → now ≡ changed_at rows.files 0 (WriteDraft file offset bytes ∷ []) → IsOwed now rows.book file before
+written_owed rows file offset bytes now before tracked is after = grind (arith, nat_tests, drafts_owed rows file now before tracked is, drafts-updated)
 
 -- a draft gets another length
-pub fitted_owed : (rows : Rows) (handle file size : ℕ) (now : Held) (before : ℕ) → IsTracked rows → Ok file ≡ file_by rows.files.handles handle → before ≡ blocks_of rows.files → now ≡ fitted rows.files handle size → IsOwed now rows.book file before
-fitted_owed rows handle file size now before tracked of is after = grind (arith, nat_tests, drafts_owed rows file now before tracked is, drafts-updated)
-
--- with some bytes the draft changes, and with any length
-pub written_is : (h : Held) (handle file offset : ℕ) (bytes : List ℕ) → file_by h.handles handle ≡ Ok file → 0 < length bytes → written_by h handle offset bytes ≡ changed_at h 0 (WriteDraft file offset bytes ∷ [])
-written_is h handle file offset [] by some = absurd (omega (arith, some))
-written_is h handle file offset (byte ∷ bytes) by some = rw by refl
-
-pub fitted_is : (h : Held) (handle file size : ℕ) → file_by h.handles handle ≡ Ok file → fitted h handle size ≡ changed_at h 0 (TruncateDraft file size ∷ [])
-fitted_is h handle file size by = rw by refl
+pub fitted_owed : (rows : Rows) (file size : ℕ) (now : Held) (before : ℕ) → IsTracked rows → before ≡ blocks_of rows.files → now ≡ changed_at rows.files 0 (TruncateDraft file size ∷ []) → IsOwed now rows.book file before
+fitted_owed rows file size now before tracked is after = grind (arith, nat_tests, drafts_owed rows file now before tracked is, drafts-updated)
 
 -- ---- a file is made
 

@@ -3,6 +3,12 @@ use Rattle.ele_state.proofs.Words.{◌≡◌, ◌<◌, ◌^◌, ◌||◌, ℕ, L
 use Rattle.ele_state.proofs.Appended.{appended_queue}
 use Rattle.ele_model.proofs.OtherFiles.{other_drafts}
 use Rattle.ele_model.specs.declared.rows.HandleRow.{HandleRow}
+use Rattle.ele_sessions.specs.Found.{StandsAt}
+use Rattle.ele_sessions.specs.declared.found_handle.FoundHandle.{FoundHandle}
+
+-- what is read through a handle that stands there
+pub stood_reads : (rows : List HandleRow) (found : FoundHandle) → StandsAt rows found → reads_by rows found.row.number ≡ Ok found.row.reads
+stood_reads rows found stands = rw stands.row refl
 
 -- one that reads a draft writes the file
 pub writes_file : (rows : List HandleRow) (handle file : ℕ) → reads_by rows handle ≡ Ok (Draft file) → file_by rows handle ≡ Ok file

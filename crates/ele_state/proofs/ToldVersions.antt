@@ -1,10 +1,13 @@
 -- Where a path leads by the names of any moment, and what is told of the version that its tag means.
-use Rattle.ele_state.proofs.Words.{Names, HasParts, is_held, meant_held, true, arith, nat_tests, ◌≡◌, ℕ, List, ◌∷◌, Option, Result, Ok, Err, refl, ap, subst, AllByRecursion, option_map_or, result_map_both, all-found, target_at, version_at, version_found, version_meant, walk_meant, info_of, file_at, walk_now, IsNameRow, IsThere, World, Refusal, VersionInfo, Target, File, Directory, VersionRow, is_at, is_meant, file_there, [], AllLater, ArePlaced, IfOk, Some, all_found, find, is_version, version_cells, sym, ◌∙◌}
+use Rattle.ele_state.proofs.Words.{Names, HasParts, is_held, meant_held, true, arith, nat_tests, ◌≡◌, ℕ, List, ◌∷◌, Option, Result, Ok, Err, refl, ap, subst, AllByRecursion, option_map_or, result_map_both, all-found, target_at, version_at, version_found, version_meant, walk_meant, info_of, file_at, walk_now, IsNameRow, IsThere, World, Refusal, VersionInfo, Target, File, Directory, VersionRow, is_at, is_meant, file_there, [], AllLater, ArePlaced, IfOk, Some, option_map, all_found, find, is_version, version_cells, sym, ◌∙◌}
 use Rattle.ele_state.specs.Told.{found_of}
 use Rattle.ele_path.specs.declared.tagged.Tag.{Tag}
 use Rattle.ele_path.specs.declared.tagged.TaggedPath.{TaggedPath}
 use Rattle.ele_model.proofs.Versions.{IsFound}
 use Rattle.ele_model.specs.WalkAt.{walk_covering}
+use Rattle.ele_model.specs.Fate.{HasFate}
+use Rattle.ele_model.specs.Why.{MeansFate}
+use Rattle.ele_model.specs.declared.fate.Fate.{Fate}
 use Rattle.ele_model.specs.declared.refusal.Refusal.TheVariants.{NoEntry}
 
 -- ---- where a path leads is there
@@ -56,3 +59,24 @@ found_cells w tagged found placed h =
     let itself : find (is_version told.row.file told.row.number) w.versions ≡ Some told.row = all-found meant.passes (IsFound w.versions) w.versions told.row meant.found (all_found w.versions placed) in
     let cells : version_cells w found.0 found.1.number ≡ told.row.cells = ap (λ (f : ℕ × VersionInfo). version_cells w f.0 f.1.number) told.is ∙ ap (λ o. option_map_or (λ (row : VersionRow). row.cells) o []) itself in
     subst (λ (r : Result VersionRow Refusal). IfOk r (λ row. version_cells w found.0 found.1.number ≡ row.cells)) (sym told.meant) cells
+
+-- so it is told of the held version of its number
+pub found_info : (w : World) (tagged : TaggedPath) (found : ℕ × VersionInfo) → AllLater ArePlaced w.versions → Ok found ≡ found_of (version_at w tagged) → option_map info_of (find (is_version found.0 found.1.number) w.versions) ≡ Some found.1
+found_info w tagged found placed h =
+    let told = told_row w tagged found h in
+    let meant = is_at w tagged told.row told.meant in
+    let itself : find (is_version told.row.file told.row.number) w.versions ≡ Some told.row = all-found meant.passes (IsFound w.versions) w.versions told.row meant.found (all_found w.versions placed) in
+    subst (λ (f : ℕ × VersionInfo). option_map info_of (find (is_version f.0 f.1.number) w.versions) ≡ Some f.1) (sym told.is) (ap (option_map info_of) itself)
+
+-- and what becomes of it is why the path's version is held or may go
+pub found_fate : (w : World) (tagged : TaggedPath) (found : ℕ × VersionInfo) (fate : Fate) → Ok found ≡ found_of (version_at w tagged) → HasFate w found.0 found.1.number fate → MeansFate w tagged fate
+found_fate w tagged found fate h has =
+    let told = told_row w tagged found h in
+    record { row = told.row; means = told.meant; has = subst (λ (f : ℕ × VersionInfo). HasFate w f.0 f.1.number fate) told.is has }
+
+-- where none is found, the refusal is the path's
+pub none_found : (w : World) (tagged : TaggedPath) (refusal : Refusal) → Err refusal ≡ found_of (version_at w tagged) → version_at w tagged ≡ Err refusal
+none_found w tagged refusal h = by (version_at w tagged) refl h where
+  by : (r : Result VersionRow Refusal) → version_at w tagged ≡ r → Err refusal ≡ found_of r → version_at w tagged ≡ Err refusal
+  by (Ok row) is h = absurd cc
+  by (Err other) is h = let same : refusal ≡ other = cc in is ∙ ap (λ (e : Refusal). Err e) (sym same)

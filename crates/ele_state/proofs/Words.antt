@@ -13,7 +13,7 @@ pub use Rattle.ele_state.specs.declared.mark.GroupChange.TheVariants.{Dropped, J
 pub use Rattle.ele_state.specs.declared.rows.Rows.{Rows}
 pub use Rattle.ele_due.specs.declared.key.Key.{Key}
 pub use Rattle.ele_files.specs.Closing.{IsPast, finishing, last_draft, leaving, left_by, left_of, opening_by}
-pub use Rattle.ele_files.specs.Held.{Held, cells_of_draft, cells_of_version, changed_at, current_ended, fitted, opened_by, rows_after, rows_of, with_rows, without, written_by}
+pub use Rattle.ele_files.specs.Held.{Held, cells_of_draft, cells_of_version, changed_at, current_ended, opened_by, rows_after, rows_of, with_rows, without}
 pub use Rattle.ele_lists.proofs.Sums.{any-count, count-update_first, sum_by-insert_before, sum_by-map, sum_by-remove_first, sum_by-update_same}
 pub use Rattle.ele_lists.proofs.Places.{set-first as set_first}
 pub use Rattle.ele_policy.specs.declared.policy.Kind.{Kind}

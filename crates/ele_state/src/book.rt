@@ -1,10 +1,9 @@
 //! How the book of usage follows the files.
-ghost use Rattle.std.specs.Prelude.{IsTrue, ◌≡◌, ◌<◌, ◌^◌};
+ghost use Rattle.std.specs.Prelude.{◌≡◌, ◌<◌, ◌^◌};
 ghost use Rattle.ele_policy.specs.declared.policy.Kind.{Kind};
 ghost use Rattle.ele_usage.specs.Book.{sums_of};
-ghost use Rattle.ele_usage.specs.Sums.{plus, Fits, IsWithin};
-ghost use Rattle.ele_state.specs.Tracked.{blocks_of, only_blocks, one_version, of_file, IsOwed, IsOwedBy, IsBooked};
-ghost use Rattle.ele_model.specs.Usage.{is_file_of};
+ghost use Rattle.ele_usage.specs.Sums.{Fits};
+ghost use Rattle.ele_state.specs.Tracked.{blocks_of, only_blocks, one_version, IsOwed, IsOwedBy, IsBooked};
 
 use ele_files::Files;
 use ele_model::FileId;
@@ -72,17 +71,5 @@ pub fn one_version(bytes: u64) -> Usage
         versions: 1,
         bytes,
         ..Usage::default()
-    }
-}
-
-// A version of so many bytes has left the file: all that it used but its blocks is taken off.
-pub fn take_version(book: &mut UsageBook, files: &Files, file: FileId, bytes: u64)
-    requires { (k : Kind) → IsTrue (is_file_of files.now.files k file)
-        → IsWithin (one_version bytes) (sums_of book.old k) }
-    ensures { (k : Kind) → plus (sums_of book.new k) (of_file files.now file (one_version bytes) k)
-        ≡ sums_of book.old k }
-{
-    if let Some(policy) = files.policy_of(file) {
-        book.sub(policy.kind(), one_version(bytes));
     }
 }

@@ -6,9 +6,10 @@ ghost use Rattle.ele_lists.specs.Lists.{AllLater};
 ghost use Rattle.ele_policy.specs.Cause.{closing_of};
 ghost use Rattle.ele_model.specs.Change.{Time, after_change};
 ghost use Rattle.ele_model.specs.Fate.{HasFate, IsMarkedBy, level_reached};
-ghost use Rattle.ele_model.specs.Cover.{ripe_past};
+ghost use Rattle.ele_model.specs.Cover.{cover_of, ripe_past};
 ghost use Rattle.ele_model.specs.GroupRows.{has_covering, is_marked, is_member, keeps_at};
 ghost use Rattle.ele_model.specs.Scan.{scan};
+ghost use Rattle.ele_model.specs.Why.{IsWhy};
 ghost use Rattle.ele_model.specs.World.{is_held};
 ghost use Rattle.ele_state.specs.Fated.{IsFreeFate, MarksAt, newer_of};
 ghost use Rattle.ele_state.specs.Inside.{world_of, IsSound};
@@ -19,8 +20,8 @@ use crate::keys::floor_in;
 use crate::rows::Rows;
 use ele_groups::Groups;
 use ele_model::{
-    Cover, Fate, FileId, KeyList, ListOf, MarkRow, Moment, Name, NoMemory, Policy, VersionInfo,
-    VersionNo,
+    Cover, Fate, FileId, KeyList, ListOf, MarkRow, Moment, Name, NoMemory, Policy, Refusal,
+    TaggedPath, VersionInfo, VersionNo,
 };
 use ele_policy::{Newer, cause_of, ripe};
 
@@ -66,10 +67,11 @@ fn mark_at(
 }
 
 // The first group, in order of making, that has the file and a mark that covers and is in force, by its name, and the first such
-// mark.
+// mark; all marks together cover the version so.
 #[tactic(auto, using(ele_model::proofs::GroupMarks::marked_lasts))]
 fn first_mark(
     groups: &Groups,
+    cover: &Cover,
     file: FileId,
     closed: Moment,
     ended: Moment,
@@ -77,12 +79,13 @@ fn first_mark(
 ) -> Option<(Name, MarkRow)>
     requires named { AllLater
         (λ earlier later. bytes_eq earlier.name later.name ≡ false) groups.now }
+    requires cover { cover.now ≡ cover_of groups.now file closed (Some ended) }
     ensures some { IfSome result
         (λ by. IsMarkedBy groups.now file closed (Some ended) now by.0 by.1) }
     ensures none { IfNone result (is_marked groups.now file closed (Some ended) now ≡ false) }
 {
-    // This looks at the file's groups alone, and most versions aren't marked.
-    if !groups.cover(file, closed, Some(ended)).lasts(now) {
+    // The cover is of the file's groups alone, and most versions aren't marked.
+    if !cover.lasts(now) {
         return None;
     }
     for place in 0..groups.len() {
@@ -177,10 +180,10 @@ fn fate_of(rows: &Rows, file: FileId, info: &VersionInfo) -> Fate
         return Fate::Open;
     }
     let now = rows.moment;
-    if let Some((group, mark)) = first_mark(&rows.groups, file, closed, ended, now) {
+    let cover = rows.groups.cover(file, closed, Some(ended));
+    if let Some((group, mark)) = first_mark(&rows.groups, &cover, file, closed, ended, now) {
         return Fate::Marked { group, mark };
     }
-    let cover = rows.groups.cover(file, closed, Some(ended));
     let Some(policy) = rows.files.policy_of(file) else {
         unreachable!()
     };
@@ -199,6 +202,14 @@ impl State {
     {
         let info = self.rows.files.info(file, number)?;
         Some(fate_of(&self.rows, file, &info))
+    }
+
+    /// What becomes of the version that the path and its tag mean, and why. It takes no memory. Refused: as `version_at`.
+    pub fn fate_at(&self, tagged: &TaggedPath) -> Result<Fate, Refusal>
+        ensures { IsWhy self.now.world tagged.now result }
+    {
+        let (file, info) = self.version_at(tagged)?;
+        Ok(fate_of(&self.rows, file, &info))
     }
 
     /// The keys of the versions that are due at the moment if until then nothing comes but the clock, in the order in which they

@@ -1,5 +1,6 @@
 //! Handles and drafts: what they read, and how they open, change and close.
 ghost use Rattle.std.specs.Prelude.{◌≡◌, ◌<◌, ◌≤◌, ◌+◌, ◌∷◌, [], true, false, Some, None, Ok, IfOk, OnOk, OnErr, length};
+ghost use Rattle.std.specs.Result.{result_map_both};
 ghost use Rattle.ele_content.specs.Content.{content_of, longest_content};
 ghost use Rattle.ele_files.specs.Closing.{opening_by};
 ghost use Rattle.ele_model.specs.Change.{OpenHandle, StartDraft, TruncateDraft, WriteDraft, after_change, after_changes};
@@ -8,6 +9,7 @@ ghost use Rattle.ele_model.specs.World.{file_by, has_draft, is_held, next_of, re
 ghost use Rattle.ele_model.specs.declared.event.Event.TheVariants as event;
 ghost use Rattle.ele_model.specs.declared.reply.Reply.TheVariants.{Closed};
 ghost use Rattle.ele_model.specs.declared.rows.Reads.TheVariants.{Draft, Version};
+ghost use Rattle.ele_sessions.specs.Found.{StandsAt};
 ghost use Rattle.ele_state.specs.Inside.{world_of, IsTracked, IsSound};
 
 use crate::State;
@@ -17,6 +19,7 @@ use crate::file::drop_idle;
 use crate::keys::{free_moment, put, take};
 use crate::rows::Rows;
 use ele_model::{ByteList, FileId, Handle, Moment, NoMemory, Reads, Refusal, VersionNo};
+use ele_sessions::FoundHandle;
 
 impl State {
     /// What is read through the handle. Refused: `NoHandle`.
@@ -26,9 +29,20 @@ impl State {
         self.rows.files.reads_by(handle)
     }
 
-    /// The file that is written through the handle. Refused: `NoHandle`, `NotWriter`.
+    /// The open handle of that number, and its place. Refused: `NoHandle`.
+    pub fn handle(&self, handle: Handle) -> Result<FoundHandle, Refusal>
+        ensures number { IfOk result (λ found. found.row.number ≡ handle) }
+        ensures stands { IfOk result (StandsAt self.now.world.handles) }
+        ensures reads { result_map_both (λ found. found.row.reads) (λ refusal. refusal) result
+            ≡ reads_by self.now.world.handles handle }
+    {
+        self.rows.files.handle(handle)
+    }
+
+    /// The file that is written through the handle, which has a draft. Refused: `NoHandle`, `NotWriter`.
     pub fn file_by(&self, handle: Handle) -> Result<FileId, Refusal>
-        ensures { result ≡ file_by self.now.world.handles handle }
+        ensures file { result ≡ file_by self.now.world.handles handle }
+        ensures drafted { IfOk result (λ file. has_draft self.now.world file ≡ true) }
     {
         self.rows.files.file_by(handle)
     }
@@ -86,61 +100,50 @@ impl State {
         Ok(handle)
     }
 
-    /// The bytes, of which there are some, are written from that offset on into the draft of the file that the handle writes.
+    /// The bytes are written from that offset on into the file's draft.
     ///
     /// `NoMemory` where memory is refused; the world stays.
-    pub fn write(
-        &mut self,
-        handle: Handle,
-        file: FileId,
-        offset: u64,
-        bytes: &[u8],
-    ) -> Result<(), NoMemory>
-        requires file { file_by self.old.world.handles handle ≡ Ok file }
-        requires some { 0 < length bytes.now }
+    pub fn write(&mut self, file: FileId, offset: u64, bytes: &[u8]) -> Result<(), NoMemory>
+        requires drafted { has_draft self.old.world file ≡ true }
         requires short { offset + length bytes.now ≤ longest_content }
         ensures ok { OnOk result (self.new.world
             ≡ after_change self.old.world (WriteDraft file offset bytes.now)) }
         ensures err { OnErr result (self.new.world ≡ self.old.world) }
     {
         let before = blocks(&self.rows.files);
-        if let Err(_fault) = self.rows.files.write(handle, offset, bytes) {
-            return Err(NoMemory);
-        }
+        self.rows.files.write(file, offset, bytes)?;
         follow_blocks(&mut self.rows.book, &self.rows.files, file, before);
         Ok(())
     }
 
-    /// The draft of the file that the handle writes gets so many bytes.
+    /// The file's draft gets so many bytes.
     ///
     /// `NoMemory` where memory is refused; the world stays.
-    pub fn truncate(&mut self, handle: Handle, file: FileId, size: u64) -> Result<(), NoMemory>
-        requires file { file_by self.old.world.handles handle ≡ Ok file }
+    pub fn truncate(&mut self, file: FileId, size: u64) -> Result<(), NoMemory>
+        requires drafted { has_draft self.old.world file ≡ true }
         requires short { size ≤ longest_content }
         ensures ok { OnOk result
             (self.new.world ≡ after_change self.old.world (TruncateDraft file size)) }
         ensures err { OnErr result (self.new.world ≡ self.old.world) }
     {
         let before = blocks(&self.rows.files);
-        if let Err(_fault) = self.rows.files.truncate(handle, size) {
-            return Err(NoMemory);
-        }
+        self.rows.files.truncate(file, size)?;
         follow_blocks(&mut self.rows.book, &self.rows.files, file, before);
         Ok(())
     }
 
-    /// The handle goes, which reads that. With a file's last writer its draft goes: a changed one becomes the file's next
-    /// version, and the answer is its number; with any other goes a file of which nothing else is left. A version that is read
-    /// by no other has its key again.
+    /// The handle goes. With a file's last writer its draft goes: a changed one becomes the file's next version, and the answer
+    /// is its number; with any other goes a file of which nothing else is left. A version that is read by no other has its key
+    /// again.
     ///
     /// `NoMemory` where memory is refused; the world stays.
-    pub fn close(&mut self, handle: Handle, reads: Reads) -> Result<Option<VersionNo>, NoMemory>
-        requires { reads_by self.old.world.handles handle ≡ Ok reads }
-        ensures ok { IfOk result (λ number.
-            (Closed number, self.new.world) ≡ step self.old.world (event.Close handle)) }
+    pub fn close(&mut self, handle: &FoundHandle) -> Result<Option<VersionNo>, NoMemory>
+        requires { StandsAt self.old.world.handles handle.now }
+        ensures ok { IfOk result (λ number. (Closed number, self.new.world)
+            ≡ step self.old.world (event.Close handle.now.row.number)) }
         ensures err { OnErr result (self.new.world ≡ self.old.world) }
     {
-        match reads {
+        match handle.row.reads {
             Reads::Draft(file) => unwrite(&mut self.rows, handle, file),
             Reads::Version(file, number) => unread(&mut self.rows, handle, file, number),
         }
@@ -170,11 +173,13 @@ fn finish(
 
 // A handle is closed whose draft stays, or goes without a trace, and with it a file of which nothing else is left.
 #[tactic(auto, using(crate::proofs::Words::nat_tests, crate::proofs::Booked::fits, crate::proofs::ClosedSums::left_owed, crate::proofs::ClosedSums::left_answer))]
-fn leave(rows: &mut Rows, handle: Handle, file: FileId) -> Option<VersionNo>
+fn leave(rows: &mut Rows, handle: &FoundHandle, file: FileId) -> Option<VersionNo>
     requires sound { IsSound rows.old }
-    requires reads { reads_by rows.old.files.handles handle ≡ Ok (Draft file) }
-    requires unchanged { opening_by rows.old.files handle ≡ None }
-    ensures step { (Closed result, world_of rows.new) ≡ step (world_of rows.old) (event.Close handle) }
+    requires stands { StandsAt rows.old.files.handles handle.now }
+    requires reads { reads_by rows.old.files.handles handle.now.row.number ≡ Ok (Draft file) }
+    requires unchanged { opening_by rows.old.files handle.now.row.number ≡ None }
+    ensures step { (Closed result, world_of rows.new)
+        ≡ step (world_of rows.old) (event.Close handle.now.row.number) }
     ensures tracked { IsTracked rows.new }
 {
     let before = blocks(&rows.files);
@@ -189,14 +194,17 @@ fn leave(rows: &mut Rows, handle: Handle, file: FileId) -> Option<VersionNo>
 #[tactic(auto, using(crate::proofs::Words::nat_tests, crate::proofs::OpenedKeys::unread_queue))]
 fn unread(
     rows: &mut Rows,
-    handle: Handle,
+    handle: &FoundHandle,
     file: FileId,
     number: VersionNo,
 ) -> Result<Option<VersionNo>, NoMemory>
     requires sound { IsSound rows.old }
-    requires reads { reads_by rows.old.files.handles handle ≡ Ok (Version file number) }
+    requires stands { StandsAt rows.old.files.handles handle.now }
+    requires reads { reads_by rows.old.files.handles handle.now.row.number
+        ≡ Ok (Version file number) }
     ensures step { IfOk result
-        (λ number. (Closed number, world_of rows.new) ≡ step (world_of rows.old) (event.Close handle)) }
+        (λ number. (Closed number, world_of rows.new)
+        ≡ step (world_of rows.old) (event.Close handle.now.row.number)) }
     ensures err { OnErr result (world_of rows.new ≡ world_of rows.old) }
     ensures tracked { IsTracked rows.new }
 {
@@ -212,16 +220,22 @@ fn unread(
 }
 
 // A handle that writes a file is closed.
-fn unwrite(rows: &mut Rows, handle: Handle, file: FileId) -> Result<Option<VersionNo>, NoMemory>
+fn unwrite(
+    rows: &mut Rows,
+    handle: &FoundHandle,
+    file: FileId,
+) -> Result<Option<VersionNo>, NoMemory>
     requires sound { IsSound rows.old }
-    requires reads { reads_by rows.old.files.handles handle ≡ Ok (Draft file) }
+    requires stands { StandsAt rows.old.files.handles handle.now }
+    requires reads { reads_by rows.old.files.handles handle.now.row.number ≡ Ok (Draft file) }
     ensures step { IfOk result
-        (λ number. (Closed number, world_of rows.new) ≡ step (world_of rows.old) (event.Close handle)) }
+        (λ number. (Closed number, world_of rows.new)
+        ≡ step (world_of rows.old) (event.Close handle.now.row.number)) }
     ensures err { OnErr result (world_of rows.new ≡ world_of rows.old) }
     ensures tracked { IsTracked rows.new }
 {
     match rows.files.changed_draft(handle) {
-        Some(opened) => finish(rows, handle, file, opened),
+        Some(opened) => finish(rows, handle.row.number, file, opened),
         None => Ok(leave(rows, handle, file)),
     }
 }

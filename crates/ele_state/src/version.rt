@@ -14,7 +14,7 @@ ghost use Rattle.ele_state.specs.Told.{found_of};
 
 use crate::State;
 use crate::append::{Source, append, head};
-use crate::book::{blocks, follow_blocks, take_version};
+use crate::book::{blocks, charge_blocks, one_version};
 use crate::file::drop_idle;
 use crate::keys::{take, take_back};
 use crate::path::file_in;
@@ -126,7 +126,7 @@ impl State {
 
     /// The version of the key goes, which is the first due one, and with it a file of which nothing else is left. It takes no
     /// memory, and reads one row.
-    #[tactic(auto, using(crate::proofs::Words::nat_tests, crate::proofs::Words::first_is_due, crate::proofs::Words::placed_of, crate::proofs::Removed::removed_bytes, crate::proofs::Removed::removed_within, crate::proofs::Removed::removed_owed, crate::proofs::Removed::removed_queue))]
+    #[tactic(auto, using(crate::proofs::Words::nat_tests, crate::proofs::Words::first_is_due, crate::proofs::Words::placed_of, crate::proofs::Removed::held_stays, crate::proofs::Removed::removed_queue))]
     pub fn remove(&mut self, key: &Key)
         requires first { first_due self.old.world ≡ Some key.now }
         requires meter { self.old.rows_read ≡ 0 }
@@ -135,7 +135,7 @@ impl State {
         ensures read { self.new.rows_read ≡ 1 }
     {
         let before = blocks(&self.rows.files);
-        let Some(bytes) = self
+        let Some(removed) = self
             .rows
             .files
             .remove_version(key.file, key.number, &mut self.rows.meter)
@@ -144,8 +144,10 @@ impl State {
         };
         // No other key changes, so that a clean takes no memory and can't be stopped.
         take(&mut self.rows.queue, key.file, key.number, Some(key.ripe));
-        take_version(&mut self.rows.book, &self.rows.files, key.file, bytes);
-        follow_blocks(&mut self.rows.book, &self.rows.files, key.file, before);
-        drop_idle(&mut self.rows, key.file);
+        self.rows.book.sub(removed.kind, one_version(removed.bytes));
+        charge_blocks(&mut self.rows.book, &self.rows.files, removed.kind, before);
+        if removed.was_last {
+            drop_idle(&mut self.rows, key.file);
+        }
     }
 }

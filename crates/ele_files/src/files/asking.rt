@@ -1,17 +1,20 @@
 //! What is asked of files, drafts and handles.
 //! A contract sees each answer as a look at the rows.
-ghost use Rattle.std.specs.Prelude.{◌≡◌, IfOk, length, find};
+ghost use Rattle.std.specs.Prelude.{◌≡◌, IfOk, length, find, true};
 ghost use Rattle.std.specs.List.{list_any};
 ghost use Rattle.std.specs.Option.{option_map};
+ghost use Rattle.std.specs.Result.{result_map_both};
 ghost use Rattle.ele_content.specs.Content.{content_of};
 ghost use Rattle.ele_files.specs.Held.{cells_of_draft};
 ghost use Rattle.ele_model.specs.World.{policy_of, is_file, is_draft, is_open, reads_by, file_by};
+ghost use Rattle.ele_sessions.specs.Found.{StandsAt};
 
 use crate::files::{Files, file_of};
 use ele_lists::{ByteList, ListOf};
 use ele_model::{Reads, Refusal};
 use ele_moment::{FileId, Handle, NoMemory, VersionNo};
 use ele_policy::Policy;
+use ele_sessions::FoundHandle;
 
 impl Files {
     /// The file's policy; none where there is no such file.
@@ -39,9 +42,22 @@ impl Files {
         self.sessions.reads_by(handle)
     }
 
-    /// The file that is written through the handle. Refused: `NoHandle`, `NotWriter`.
+    /// The open handle of that number, and its place. Refused: `NoHandle`.
+    pub fn handle(&self, handle: Handle) -> Result<FoundHandle, Refusal>
+        ensures number { IfOk result (λ found. found.row.number ≡ handle) }
+        ensures stands { IfOk result (StandsAt self.now.handles) }
+        ensures reads { result_map_both (λ found. found.row.reads) (λ refusal. refusal) result
+            ≡ reads_by self.now.handles handle }
+    {
+        self.sessions.handle(handle)
+    }
+
+    /// The file that is written through the handle, which has a draft. Refused: `NoHandle`,
+    /// `NotWriter`.
+    #[tactic(auto, using(std::proofs::lemmas::Bool::Decides::nat_tests, crate::proofs::Rows::any_draft))]
     pub fn file_by(&self, handle: Handle) -> Result<FileId, Refusal>
-        ensures { result ≡ file_by self.now.handles handle }
+        ensures file { result ≡ file_by self.now.handles handle }
+        ensures drafted { IfOk result (λ file. list_any (is_draft file) self.now.drafts ≡ true) }
     {
         self.sessions.file_by(handle)
     }

@@ -9,23 +9,21 @@ ghost use Rattle.ele_files.specs.Appending.{IsGivenUp, opening_of};
 ghost use Rattle.ele_files.specs.Closing.{opening_by, left_by, finishing, IsPast};
 ghost use Rattle.ele_files.specs.Held.{Became, cells_of_draft};
 ghost use Rattle.ele_model.specs.World.{next_of, file_by};
+ghost use Rattle.ele_sessions.specs.Found.{StandsAt};
 
 use crate::file::NewVersion;
 use crate::files::{Files, place_of};
 use ele_blocks::{BlockMap, BlockStore};
 use ele_moment::{FileId, Handle, Moment, NoMemory};
-use ele_sessions::Closing;
+use ele_sessions::{Closing, FoundHandle};
 
 // When the draft was opened that the closing makes a version; none where it makes none.
-fn opening_of(closing: Option<Closing>) -> Option<Moment>
-    ensures { result ≡ opening_of closing }
+fn opening_of(closing: Closing) -> Option<Moment>
+    ensures { result ≡ opening_of (Some closing) }
 {
     match closing {
-        Some(closing) => match closing {
-            Closing::Changed(_, opened) => Some(opened),
-            _ => None,
-        },
-        None => None,
+        Closing::Changed(_, opened) => Some(opened),
+        _ => None,
     }
 }
 
@@ -53,19 +51,20 @@ impl Files {
     /// When the draft was opened that is to become a version as the handle closes: that of the file
     /// which it writes, where no other handle does and the draft was changed. None where closing it
     /// makes no version, as that of a handle that reads one.
-    pub fn changed_draft(&self, handle: Handle) -> Option<Moment>
-        ensures { result ≡ opening_by self.now handle }
+    pub fn changed_draft(&self, handle: &FoundHandle) -> Option<Moment>
+        requires { StandsAt self.now.handles handle.now }
+        ensures { result ≡ opening_by self.now handle.now.row.number }
     {
-        opening_of(self.sessions.peek_close(handle))
+        opening_of(self.sessions.peek_close_found(handle))
     }
 
     /// The handle goes, and no version is made: while others write the file its draft stays, and
-    /// with the last handle it vanishes. Of a handle that reads a version nothing stays behind. A
-    /// number that no open handle has does nothing.
-    pub fn leave(&mut self, handle: Handle)
-        ensures { self.new ≡ left_by self.old handle }
+    /// with the last handle it vanishes. Of a handle that reads a version nothing stays behind.
+    pub fn leave(&mut self, handle: &FoundHandle)
+        requires { StandsAt self.old.handles handle.now }
+        ensures { self.new ≡ left_by self.old handle.now.row.number }
     {
-        let map = map_of(self.sessions.close(handle));
+        let (_closing, map) = self.sessions.close_found(handle);
         give_up(&mut self.store, map);
     }
 

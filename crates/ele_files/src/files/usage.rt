@@ -68,40 +68,37 @@ fn log_bytes(file: &File) -> u64
     bytes
 }
 
+// How many versions a file has, and how many bytes these have.
+#[derive(Clone, Copy)]
+struct OwnVersions {
+    count: u64,
+    bytes: u64,
+}
+
 impl Files {
-    // How many versions of the file are held.
-    #[tactic(auto, using(std::proofs::lemmas::Bool::Decides::nat_tests, crate::proofs::Copies::own_count, crate::proofs::Tagged::none_shown))]
-    fn versions_of(&self, file: FileId) -> u64
-        ensures { result ≡ length (filter (is_version_of file) self.now.versions) }
-    {
-        match file_of(&self.files, file) {
-            Some(held) => held.log.len() as u64,
-            None => 0,
-        }
-    }
-
-    // How many bytes the file's versions have.
-    #[tactic(auto, using(std::proofs::lemmas::Bool::Decides::nat_tests, crate::proofs::Words::all_found, crate::proofs::Copies::own_few, crate::proofs::Copies::own_bytes, crate::proofs::Tagged::none_shown))]
-    fn bytes_of(&self, file: FileId) -> u64
+    // Meets the slots of the file's versions, and counts these and their bytes.
+    #[tactic(auto, using(std::proofs::lemmas::Bool::Decides::nat_tests, crate::proofs::Words::all_found, crate::proofs::Stock::logs_live, crate::proofs::Copies::own_count, crate::proofs::Copies::own_few, crate::proofs::Copies::own_bytes, crate::proofs::Tagged::none_shown))]
+    fn meet_versions(
+        &self,
+        met: &mut HashSet<(usize, u64)>,
+        file: FileId,
+    ) -> Result<OwnVersions, NoMemory>
         requires few { length self.now.versions ≤ 2 ^ 40 }
-        ensures { result ≡ bytes_in (filter (is_version_of file) self.now.versions) }
-    {
-        match file_of(&self.files, file) {
-            Some(held) => log_bytes(held),
-            None => 0,
-        }
-    }
-
-    // Meets the slots of the file's versions.
-    #[tactic(auto, using(std::proofs::lemmas::Bool::Decides::nat_tests, crate::proofs::Words::all_found, crate::proofs::Stock::logs_live))]
-    fn meet_versions(&self, met: &mut HashSet<(usize, u64)>, file: FileId) -> Result<(), NoMemory>
-        ensures { OnOk result (Meets file met.old.keys met.new.keys
+        ensures met { OnOk result (Meets file met.old.keys met.new.keys
             (places (filter (is_version_of file) self.now.versions) [])) }
+        ensures count { IfOk result
+            (λ own. own.count ≡ length (filter (is_version_of file) self.now.versions)) }
+        ensures bytes { IfOk result
+            (λ own. own.bytes ≡ bytes_in (filter (is_version_of file) self.now.versions)) }
     {
-        match file_of(&self.files, file) {
-            Some(held) => meet_log(met, &self.store, held),
-            None => Ok(()),
-        }
+        let Some(held) = file_of(&self.files, file) else {
+            return Ok(OwnVersions { count: 0, bytes: 0 });
+        };
+        meet_log(met, &self.store, held)?;
+        Ok(OwnVersions {
+            count: held.log.len() as u64,
+            bytes: log_bytes(held),
+        })
     }
 
     // Meets the slots of the file's draft, if it has one.
@@ -125,12 +122,12 @@ impl Files {
             (λ usage. usage ≡ file_usage self.now.versions self.now.drafts file) }
     {
         let mut met = HashSet::new(self.alloc);
-        self.meet_versions(&mut met, file)?;
+        let own = self.meet_versions(&mut met, file)?;
         self.meet_draft(&mut met, file)?;
         Ok(Usage {
             files: 1,
-            versions: self.versions_of(file),
-            bytes: self.bytes_of(file),
+            versions: own.count,
+            bytes: own.bytes,
             blocks: met.len() as u64,
         })
     }

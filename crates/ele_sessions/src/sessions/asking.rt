@@ -1,16 +1,19 @@
 //! What is asked of the sessions.
 //! A contract sees each answer as a look-up in drafts or handles.
-ghost use Rattle.std.specs.Prelude.{◌≡◌, length, slice_get};
+ghost use Rattle.std.specs.Prelude.{◌≡◌, IfOk, Some, length, slice_get, true};
+ghost use Rattle.std.specs.List.{list_any};
 ghost use Rattle.std.specs.Option.{option_map, option_copied};
-ghost use Rattle.std.specs.Result.{result_ok};
+ghost use Rattle.std.specs.Result.{result_map_both, result_ok};
 ghost use Rattle.ele_sessions.specs.Closes.{closing};
+ghost use Rattle.ele_sessions.specs.Found.{StandsAt};
 ghost use Rattle.ele_sessions.specs.Orderly.{AreOrderly};
-ghost use Rattle.ele_sessions.specs.Sessions.{draft_of};
+ghost use Rattle.ele_sessions.specs.Sessions.{draft_of, is_draft};
 ghost use Rattle.ele_model.specs.World.{file_by, is_open, reads_by};
 
 use crate::closing::Closing;
 use crate::draft::Draft;
-use crate::entries::{file_by, place_of, reads_by};
+use crate::entries::{file_by, handle_by, place_of, reads_by};
+use crate::found_handle::FoundHandle;
 use crate::leaving::peek;
 use crate::sessions::Sessions;
 use ele_blocks::BlockMap;
@@ -34,20 +37,39 @@ impl Sessions {
     }
 
     /// What closing the handle would answer; none where no open handle has that number.
-    #[tactic(auto, using(crate::proofs::Found::rises_in))]
     pub fn peek_close(&self, handle: Handle) -> Option<Closing>
         ensures { result ≡ option_map (λ answer. answer.0) (closing self.now handle) }
     {
-        let Ok(reads) = reads_by(&self.handles, handle) else {
+        let Ok(found) = self.handle(handle) else {
             return None;
         };
-        match reads {
+        Some(self.peek_close_found(&found))
+    }
+
+    /// What closing the handle that was found there would answer.
+    #[tactic(auto, using(crate::proofs::Found::rises_in))]
+    pub fn peek_close_found(&self, found: &FoundHandle) -> Closing
+        requires { StandsAt self.now.handles found.now }
+        ensures { Some result
+            ≡ option_map (λ answer. answer.0) (closing self.now found.now.row.number) }
+    {
+        match found.row.reads {
             Reads::Draft(file) => {
                 let stays = self.counts.count(Reads::Draft(file)) > 1;
-                Some(peek(&self.drafts, file, stays))
+                peek(&self.drafts, file, stays)
             }
-            Reads::Version(file, number) => Some(Closing::Unread(file, number)),
+            Reads::Version(file, number) => Closing::Unread(file, number),
         }
+    }
+
+    /// The open handle of that number, and its place. Refused: `NoHandle`.
+    pub fn handle(&self, handle: Handle) -> Result<FoundHandle, Refusal>
+        ensures number { IfOk result (λ found. found.row.number ≡ handle) }
+        ensures stands { IfOk result (StandsAt self.now.handles) }
+        ensures reads { result_map_both (λ found. found.row.reads) (λ refusal. refusal) result
+            ≡ reads_by self.now.handles handle }
+    {
+        handle_by(&self.handles, handle)
     }
 
     /// What is read through the handle; none if no open handle has that number.
@@ -67,9 +89,11 @@ impl Sessions {
         reads_by(&self.handles, handle)
     }
 
-    /// The file that is written through the handle. Refused: `NoHandle`, `NotWriter`.
+    /// The file that is written through the handle, which has a draft. Refused: `NoHandle`,
+    /// `NotWriter`.
     pub fn file_by(&self, handle: Handle) -> Result<FileId, Refusal>
-        ensures { result ≡ file_by self.now.handles handle }
+        ensures file { result ≡ file_by self.now.handles handle }
+        ensures drafted { IfOk result (λ file. list_any (is_draft file) self.now.drafts ≡ true) }
     {
         file_by(&self.handles, handle)
     }

@@ -10,7 +10,7 @@ pub returns-then-is_open : goal.returns-then-is_open
 returns-then-is_open c = fate_told c.args.rows.now c.args.file c.args.info.now c.requires.held Open (rw c.in-Some.is refl, sym c.is_open.ensures ∙ c.if-is_open.true)
 
 pub first_mark-requires : goal.first_mark-requires
-first_mark-requires c = record { named = (c.requires.sound.formed.holds Groups).named }
+first_mark-requires c = record { named = (c.requires.sound.formed.holds Groups).named; cover = c.cover-cover.ensures }
 
 pub returns-in-Some-first_mark : goal.returns-in-Some-first_mark
 returns-in-Some-first_mark c =

@@ -1,10 +1,7 @@
 use Rattle.ele_sessions.proofs.Basics.{refl, sym}
 use Rattle.ele_sessions.proofs.Words.{sessions_of}
-use Rattle.ele_sessions.proofs.Keepings.{written_by, draft_there, rewritten_keeps}
+use Rattle.ele_sessions.proofs.Keepings.{written_by, draft_there}
 use Rattle.ele_sessions.proofs.sessions.Sessions.write.Goals as goal
 
 pub write_draft-requires-clause-there : goal.write_draft-requires-clause-there
-write_draft-requires-clause-there c = draft_there (sessions_of c.self.inside) c.self.inside.counts c.self.invariant c.args.handle _ (written_by c.self.inside.handles.items c.args.handle c.in_ok-file.file (sym (rw c.deref.ensures.value at c.in_ok-file.ensures.file))) c.in_ok-file.file refl
-
-pub invariant_of-self-2 : goal.invariant_of-self-2
-invariant_of-self-2 c = rewritten_keeps (sessions_of c.self.inside) c.self.inside.counts c.self.invariant _ _ _ c.in_ok-write_draft.ensures.made
+write_draft-requires-clause-there c = rw (← c.self.view_is) (draft_there (sessions_of c.self.inside) c.self.inside.counts c.self.invariant c.args.handle _ (written_by c.self.inside.handles.items c.args.handle c.in_ok-file.file (sym (rw c.deref.ensures.value at c.in_ok-file.ensures.file))) c.in_ok-file.file refl)

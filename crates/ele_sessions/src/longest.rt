@@ -1,0 +1,14 @@
+//! How long a content may be.
+//! A contract sees the bound as a number of bytes.
+ghost use Rattle.std.specs.Prelude.{◌≡◌, ◌+◌, nat_lt};
+ghost use Rattle.ele_content.specs.Content.{longest_content};
+
+/// How many bytes a content may have.
+const LONGEST_CONTENT: u64 = 1_048_576;
+
+/// Whether a content would be too long whose bytes go on for this length after the offset.
+pub fn is_too_long(offset: u64, length: u64) -> bool
+    ensures { result ≡ nat_lt longest_content (offset + length) }
+{
+    offset > LONGEST_CONTENT || length > LONGEST_CONTENT - offset
+}

@@ -1,0 +1,137 @@
+//! Writes and truncates of drafts: by file, where the caller knows that they may be, and by handle,
+//! where they are judged. A contract sees the list of drafts, in which one has another map.
+ghost use Rattle.std.specs.Prelude.{◌≡◌, ◌≤◌, ◌+◌, [], None, OnOk, OnErr, IfErr, IsOk, IsSome, IsTrue, length, true};
+ghost use Rattle.std.specs.List.{list_any};
+ghost use Rattle.std.specs.Option.{ForSome};
+ghost use Rattle.ele_blocks.specs.Changes.{IsWritten};
+ghost use Rattle.ele_blocks.specs.LivesIn.{LivesIn};
+ghost use Rattle.ele_content.specs.Content.{longest_content};
+ghost use Rattle.ele_sessions.specs.Changes.{write_refusal, truncate_refusal, Redrafts, Refits, Writes, Truncates, Stays, has_length};
+ghost use Rattle.ele_sessions.specs.Faults.{refusal_of};
+ghost use Rattle.ele_sessions.specs.Orderly.{AreOrderly};
+ghost use Rattle.ele_sessions.specs.Sessions.{draft_by, draft_of, handle_file, is_draft};
+
+use crate::changing::{truncate_draft, write_draft};
+use crate::entries::written_by;
+use crate::fault::SessionFault;
+use crate::longest::is_too_long;
+use crate::sessions::Sessions;
+use ele_blocks::BlockStore;
+use ele_moment::{FileId, Handle, NoMemory};
+
+impl Sessions {
+    /// Writes the bytes from the offset on into the file's draft; zeros fill it up to the offset
+    /// where it ends before. The draft is changed, even by equal bytes or by none. Where memory is
+    /// refused, sessions and store are as they were.
+    #[tactic(auto, using(crate::proofs::Found::rises_in))]
+    pub fn write_draft(
+        &mut self,
+        store: &mut BlockStore,
+        file: FileId,
+        offset: u64,
+        bytes: &[u8],
+    ) -> Result<(), NoMemory>
+        requires there { list_any (is_draft file) self.old.drafts ≡ true }
+        requires lives { ForSome (draft_of self.old file) (λ draft. LivesIn store.old draft.layout) }
+        requires fits { offset + length bytes.now ≤ longest_content }
+        ensures writes { OnOk result (Redrafts self.old self.new file
+            (λ was. IsWritten store.old store.new was.number offset bytes.now was.layout)) }
+        ensures orderly { AreOrderly self.old }
+        ensures err { OnErr result (Stays store.old store.new self.old self.new) }
+    {
+        write_draft(&mut self.drafts, store, file, offset, bytes)?;
+        Ok(())
+    }
+
+    /// Makes the file's draft so many bytes long, and marks it changed; where it has that length,
+    /// nothing is changed. Where memory is refused, sessions and store are as they were.
+    #[tactic(auto, using(crate::proofs::Found::rises_in))]
+    pub fn truncate_draft(
+        &mut self,
+        store: &mut BlockStore,
+        file: FileId,
+        size: u64,
+    ) -> Result<(), NoMemory>
+        requires there { list_any (is_draft file) self.old.drafts ≡ true }
+        requires lives { ForSome (draft_of self.old file) (λ draft. LivesIn store.old draft.layout) }
+        requires fits { size ≤ longest_content }
+        ensures idle { IsTrue (has_length size (draft_of self.old file)) → IsOk result }
+        ensures refits { OnOk result (Refits store.old store.new self.old self.new file size) }
+        ensures orderly { AreOrderly self.old }
+        ensures err { OnErr result (Stays store.old store.new self.old self.new) }
+    {
+        truncate_draft(&mut self.drafts, store, file, size)?;
+        Ok(())
+    }
+
+    /// Writes the bytes from the offset on into the draft under the handle; zeros fill it up to the
+    /// offset where it ends before. Even equal bytes mark the draft changed. No bytes change
+    /// nothing, whatever the offset.
+    ///
+    /// In this order: `NoHandle` if no open handle has that number, `NotWriter` if it reads a
+    /// version, `TooBig` if the bytes would end past 1,048,576, `NoMemory` if memory is refused. A
+    /// fault leaves all as it was.
+    #[tactic(auto, using(crate::proofs::Found::rises_in))]
+    pub fn write(
+        &mut self,
+        store: &mut BlockStore,
+        handle: Handle,
+        offset: u64,
+        bytes: &[u8],
+    ) -> Result<(), SessionFault>
+        requires { ForSome (draft_by self.old handle) (λ draft. LivesIn store.old draft.layout) }
+        ensures allowed { OnOk result
+            (write_refusal self.old.handles handle offset bytes.now ≡ None) }
+        ensures fault { IfErr result (λ fault. refusal_of fault
+            ≡ write_refusal self.old.handles handle offset bytes.now) }
+        ensures idle { IsSome (handle_file self.old.handles handle)
+            → bytes.now ≡ [] → IsOk result }
+        ensures writes { OnOk result
+            (Writes store.old store.new self.old self.new handle offset bytes.now) }
+        ensures orderly { AreOrderly self.old }
+        ensures err { OnErr result (Stays store.old store.new self.old self.new) }
+    {
+        let file = written_by(&self.handles, handle)?;
+        if bytes.is_empty() {
+            return Ok(());
+        }
+        if is_too_long(offset, bytes.len() as u64) {
+            return Err(SessionFault::TooBig);
+        }
+        self.write_draft(store, file, offset, bytes)?;
+        Ok(())
+    }
+
+    /// Makes the content of the draft under the handle so many bytes long, and marks it changed;
+    /// where it has that length, nothing is changed.
+    ///
+    /// In this order: `NoHandle` if no open handle has that number, `NotWriter` if it reads a
+    /// version, `TooBig` for more than 1,048,576 bytes, `NoMemory` if memory is refused. A fault
+    /// leaves all as it was.
+    #[tactic(auto, using(crate::proofs::Found::rises_in))]
+    pub fn truncate(
+        &mut self,
+        store: &mut BlockStore,
+        handle: Handle,
+        size: u64,
+    ) -> Result<(), SessionFault>
+        requires { ForSome (draft_by self.old handle) (λ draft. LivesIn store.old draft.layout) }
+        ensures allowed { OnOk result
+            (truncate_refusal self.old.handles handle size ≡ None) }
+        ensures fault { IfErr result (λ fault. refusal_of fault
+            ≡ truncate_refusal self.old.handles handle size) }
+        ensures idle { IsTrue (has_length size (draft_by self.old handle))
+            → size ≤ longest_content → IsOk result }
+        ensures truncates { OnOk result
+            (Truncates store.old store.new self.old self.new handle size) }
+        ensures orderly { AreOrderly self.old }
+        ensures err { OnErr result (Stays store.old store.new self.old self.new) }
+    {
+        let file = written_by(&self.handles, handle)?;
+        if is_too_long(0, size) {
+            return Err(SessionFault::TooBig);
+        }
+        self.truncate_draft(store, file, size)?;
+        Ok(())
+    }
+}
