@@ -1,7 +1,7 @@
 -- A version with newer ones behind it: when it ripens, and why it goes then.
 use Rattle.ele_forecast.proofs.Words.{◌≡◌, ℕ, ◌&&◌, ◌||◌, Bool, true, false, not, List, [], ◌++◌, append-nil, Option, Some, refl, ap, sym, subst, ◌∙◌, IsSome, arith, nat_tests, nat_le, ◌==◌, option_map_or, option_and_then, list_any}
-use Rattle.ele_forecast.proofs.Words.{Policy, Landmarks, IsRipe, alone, candidates, earliest_of, is_due_by, VersionRow, FileView, beside, MarkRow, ends_over, keeps_at, due_in, ripe_in, IsFollowed, IsReasonOf, TellsOf, Forecast, Why}
-use Rattle.ele_forecast.proofs.Words.{One, All, Safe, IsLawful, last_moment, ◌≤◌, length, meets_floor, ripe_near}
+use Rattle.ele_forecast.proofs.Words.{Policy, Case, IsRipe, alone, case_of, cond, counts_newer, None, candidates, earliest_of, is_due_by, VersionRow, FileView, beside, MarkRow, ends_over, keeps_at, due_in, ripe_in, IsFollowed, IsReasonOf, TellsOf, Forecast, Why}
+use Rattle.ele_forecast.proofs.Words.{IsLawful, last_moment, ◌≤◌, meets_floor, ripe_case}
 use Rattle.ele_forecast.proofs.Words.{map, slice_get}
 use Rattle.ele_forecast.specs.ForecastOf.{GoesFor}
 use Rattle.ele_model.specs.Fate.{newer_version, newer_versions}
@@ -41,13 +41,12 @@ module _ (v : FileView) (row : VersionRow) where
         ∙ ap (λ (x : Option ℕ). ripe_with [] [] (Some policy) x) ends
         ∙ ap (earliest_of (is_due_by policy row.closed (beside v row) ended)) (append-nil (candidates policy ended))
 
--- where it has a ripe moment, the floor is met, and the nearest newer closing tells it
-pub told_alone : (policy : Policy) (closed ended m : ℕ) (nearest : Option ℕ) (met : Bool) → ripe_near policy closed nearest met ended ≡ Some m → ripe_by policy closed (alone nearest) ended ≡ Some m
-told_alone (Safe interval floor) closed ended m nearest true is = is
-told_alone (Safe interval floor) closed ended m nearest false is = absurd cc
-told_alone One closed ended m nearest met is = is
-told_alone All closed ended m nearest met is = is
-told_alone (Landmarks rungs) closed ended m nearest met is = is
+-- where a case has a ripe moment, the nearest newer closing tells it
+pub told_alone : (case : Case) (ended m : ℕ) → ripe_case case ended ≡ Some m → ripe_by case.policy case.closed (alone case.next_closed) ended ≡ Some m
+told_alone case ended m is = by (case.enough || not (counts_newer case.policy)) is where
+  by : (b : Bool) → cond b (ripe_by case.policy case.closed (alone case.next_closed) ended) None ≡ Some m → ripe_by case.policy case.closed (alone case.next_closed) ended ≡ Some m
+  by true h = h
+  by false h = absurd cc
 
 -- so the policy lets it go then, beside that one alone
 pub due_alone : (policy : Policy) (closed ended ripe : ℕ) → IsLawful policy → ripe ≤ last_moment → ripe_by policy closed (alone (Some ended)) ended ≡ Some ripe → is_due_by policy closed (alone (Some ended)) ended ripe ≡ true
@@ -84,18 +83,15 @@ module _ (policy : Policy) (v : FileView) (row next : VersionRow) (newer : ℕ) 
 
   module _ (closed ended : ℕ) (found : Option ℕ) (closes : row.closed ≡ closed) (ends : next.closed ≡ ended) where
     -- what `ripe` answers is its ripe moment
-    pub ripe_found : IsRipe policy closed ended (Some ended) (meets_floor policy true newer) found → found ≡ ripe_in v row
+    pub ripe_found : IsRipe (case_of policy closed (Some ended) (meets_floor policy true newer)) ended found → found ≡ ripe_in v row
     ripe_found is_ripe =
-        let met = meets_floor policy true newer in
-        let under : ℕ → ℕ → Type 0 = λ c e. IsRipe policy c e (Some e) met found in
+        let under : ℕ → ℕ → Type 0 = λ c e. IsRipe (case_of policy c (Some e) (meets_floor policy true newer)) e found in
         let own = subst (λ (c : ℕ). under c next.closed) (sym closes) (subst (under closed) (sym ends) is_ripe) in
-        let floor : meets_floor policy v.live (length (beside v row).newer) ≡ met =
-        ap (λ (live : Bool). meets_floor policy live (length (beside v row).newer)) is.live ∙ ap (meets_floor policy true) is.so_many in
-        own (beside v row) (record { near = is.nearest; floor = floor }) ∙ sym (ripe_is v row policy next.closed is.policy_is is.unread is.unmarked is.ended)
+        own (beside v row) is.case ∙ sym (ripe_is v row policy next.closed is.policy_is is.unread is.unmarked is.ended)
 
     -- and so a forecast of it tells of it
     pub tells_of : (number : ℕ) (why : Why) (forecast : Forecast) → forecast ≡ record { number = number; closed = closed; ended = Some ended; ripe = found; why = why }
-        → IsRipe policy closed ended (Some ended) (meets_floor policy true newer) found → (ripe_in v row ≡ found → IsReasonOf v row why) → TellsOf v row forecast
+        → IsRipe (case_of policy closed (Some ended) (meets_floor policy true newer)) ended found → (ripe_in v row ≡ found → IsReasonOf v row why) → TellsOf v row forecast
     tells_of number why forecast parts is_ripe reason =
         let made : Forecast = record { number = number; closed = closed; ended = Some ended; ripe = found; why = why } in
         let own : TellsOf v row made = record {

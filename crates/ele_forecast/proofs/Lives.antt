@@ -1,6 +1,6 @@
 -- The version of a closing: where it stands among its file's rows, and what stands behind it.
-use Rattle.ele_forecast.proofs.Words.{◌≡◌, ℕ, zero, suc, ◌+◌, ◌<◌, ◌≤◌, false, List, [], ◌∷◌, ◌++◌, Option, Some, None, refl, ap, sym, subst, ◌∙◌, arith, nat_tests, filter, find, map, slice_get, AllByRecursion, AllLater, length}
-use Rattle.ele_forecast.proofs.Words.{all-weaker, later-around, find-at, Policy, IsNearest, VersionRow, FileView, beside, closings, is_newer, is_numbered, IsFileOf, IsFollowed, Life, life_of, lives_from, IsForecastOf, TellsOf, Forecast}
+use Rattle.ele_forecast.proofs.Words.{◌≡◌, ℕ, zero, suc, ◌+◌, ◌<◌, ◌≤◌, false, true, Bool, List, [], ◌∷◌, ◌++◌, Option, Some, None, refl, ap, sym, subst, ◌∙◌, arith, nat_tests, filter, find, map, slice_get, AllByRecursion, AllLater, length}
+use Rattle.ele_forecast.proofs.Words.{all-weaker, later-around, find-at, Policy, meets_floor, VersionRow, FileView, beside, closings, is_newer, is_numbered, IsFileOf, IsFollowed, Life, life_of, lives_from, IsForecastOf, TellsOf, Forecast}
 use Rattle.ele_model.proofs.Views.{Precedes, newer_is}
 
 -- ---- the rows of closings that never fall
@@ -115,12 +115,8 @@ module _ (policy : Policy) (cs : List ℕ) (v : FileView) (is : IsFileOf policy 
   closings_same : closings (filter (is_newer own.row) v.rows) ≡ own.later
   closings_same = ap closings newer_rows ∙ closings_are (place + 1 + 1) own.later own.behind own.rest
 
-  pub nearest : IsNearest own.row.closed (slice_get cs (suc place)) (beside v own.row)
-  nearest =
-      record {
-        in_order = subst (λ (xs : List ℕ). AllLater ◌≤◌ (own.row.closed ∷ xs)) (sym closings_same) (subst (λ (x : ℕ). AllLater ◌≤◌ (x ∷ own.later)) (sym closes) own.rises);
-        first = ap (λ (xs : List ℕ). slice_get xs 0) closings_same ∙ own.next;
-      }
+  in_order : AllLater ◌≤◌ (own.row.closed ∷ (beside v own.row).newer)
+  in_order = subst (λ (xs : List ℕ). AllLater ◌≤◌ (own.row.closed ∷ xs)) (sym closings_same) (subst (λ (x : ℕ). AllLater ◌≤◌ (x ∷ own.later)) (sym closes) own.rises)
 
   -- a version without an end
   pub tells_current : (forecast : Forecast) → forecast.number ≡ place + 1 → slice_get cs (suc place) ≡ None
@@ -159,14 +155,16 @@ module _ (policy : Policy) (cs : List ℕ) (v : FileView) (is : IsFileOf policy 
         let same : Some ended ≡ Some behind_it.next_row.closed = ap Some (sym behind_it.closed_then) in
         record {
           policy_is = is.policy_is;
-          live = is.live;
           unread = is.unread;
           unmarked = is.unmarked;
           ended = ends ∙ next ∙ same;
           later = behind_it.others;
           behind = newer_rows ∙ behind_it.parts;
-          so_many = so_many newer are;
-          nearest = subst (λ (x : Option ℕ). IsNearest own.row.closed x (beside v own.row)) (next ∙ same) nearest;
+          case = record {
+            in_order = in_order;
+            next = ap (λ (xs : List ℕ). slice_get xs 0) closings_same ∙ own.next ∙ next ∙ same;
+            enough = ap (λ (live : Bool). meets_floor policy live (length (beside v own.row).newer)) is.live ∙ ap (meets_floor policy true) (so_many newer are);
+          };
         }
 
     pub tells_followed : (forecast : Forecast) (newer : ℕ) → newer + suc place ≡ length cs → forecast.number ≡ place + 1

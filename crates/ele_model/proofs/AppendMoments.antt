@@ -1,10 +1,10 @@
 -- Which ripe moments change where a file has a version more: the new one's own, and that of the held one which with it has as many
--- newer ones as the floor asks; where no floor is in force that of the newest held one, which ends unless it had, and gets a
+-- newer ones as the file's rule asks for; where that asks for none that of the newest held one, which ends unless it had, and gets a
 -- neighbour.
-use Rattle.ele_model.proofs.Basics.{◌≡◌, ℕ, ◌+◌, ◌-◌, ◌<◌, ◌==◌, Bool, true, false, cond, ◌&&◌, ◌||◌, List, [], ◌∷◌, Some, None, is_none, refl, ap, sym, subst, ◌∙◌, arith, find, option_and_then, option_map, unwrap_or, AllByRecursion}
-use Rattle.ele_model.proofs.Basics.{nat_tests, Option, ◌≤◌, nat_le, nat_lt, list_any, IfSome, zero, suc, sum_by-cons, all-none, all-not_found, AllLater, insert_before, update_first, later-weaker, all-insert_before, all-update_first, all-weaker, all-found, found_passes, not_found, find-insert_before}
+use Rattle.ele_model.proofs.Basics.{◌≡◌, ℕ, ◌+◌, ◌-◌, ◌<◌, ◌==◌, Bool, true, false, cond, ◌&&◌, ◌||◌, List, [], ◌∷◌, Some, None, is_none, refl, ap, sym, subst, ◌∙◌, arith, find, option_and_then, option_map, option_map_or, unwrap_or, AllByRecursion}
+use Rattle.ele_model.proofs.Basics.{nat_tests, Option, ◌≤◌, nat_le, nat_lt, list_any, zero, suc, sum_by-cons, all-none, all-not_found, AllLater, insert_before, update_first, later-weaker, all-insert_before, all-update_first, all-weaker, all-found, found_passes, not_found, find-insert_before}
 use Rattle.ele_model.proofs.Basics.{list_any-update_first, any-found, find-inserted, find-update_other}
-use Rattle.ele_model.proofs.Words.{Cell, Cover, Policy, floor_in, newer_held, IsLawful, VersionRow, ended_at, next_version, with_end, with_version, ripe_of, ripe_at, cover_of, is_newer_of, near_moment, next_closing, ArePlaced, AreHeldRead, AreVersions}
+use Rattle.ele_model.proofs.Words.{Cell, Cover, Policy, Rule, case_moment, case_of, rule_in, rule_of, newer_held, IsLawful, VersionRow, ended_at, next_version, with_end, with_version, ripe_of, ripe_at, cover_of, is_newer_of, next_closing, ArePlaced, AreHeldRead, AreVersions}
 use Rattle.ele_model.proofs.Words.{IsVersion, Readers, Versions, HasParts, World, is_file, is_live, is_open, is_version, is_version_after, next_of, policy_of}
 use Rattle.std.proofs.Common.{zero-add}
 use Rattle.std.specs.List.{count_by}
@@ -14,10 +14,10 @@ use Rattle.ele_model.proofs.NextVersion.{new_found, none_next}
 use Rattle.ele_model.proofs.Files.{policies-numbered}
 use Rattle.ele_model.proofs.Elements.{any_none}
 use Rattle.ele_model.proofs.KeptVersions.{behind_too, ended_versions, next_placed}
-use Rattle.ele_model.proofs.Neighbours.{AreInOrder, floor_for, found_moment, unmet_moment, near_floored, near_unmet, newer_held-ended, next_closing-ended, no_floor, none_past, ripe_at_near, versions_in_order}
+use Rattle.ele_model.proofs.Neighbours.{AreInOrder, IsInForce, case_floored, found_moment, has_enough, in_force, least_newer, moment_is, unmet_moment, newer_held-ended, next_closing-ended, none_asked, none_past, versions_in_order}
 use Rattle.ele_model.proofs.Readers.{unread_unheld}
 use Rattle.ele_model.proofs.RipeAt.{ripe_at_is}
-use Rattle.ele_model.proofs.Views.{IsLife, lives_in, policies_of, policy_is}
+use Rattle.ele_model.proofs.Views.{IsLife, lives_in, policies_of}
 
 -- what is found in front is so still where an element comes in behind it
 find-insert_behind : {X : Type 0} (p q : X → Bool) (y : X) (xs : List X) (x : X) → AllLater (λ x z. p x ≡ true → p z ≡ true) xs → find q xs ≡ Some x → p x ≡ false → find q (insert_before p y xs) ≡ Some x
@@ -67,9 +67,9 @@ pub record MayGrow (w : World) (file : ℕ) : Type 0 where
 pub may_grow : (w : World) (file : ℕ) → HasParts w → 0 < next_of w.files file → MayGrow w file
 may_grow w file k there = record { there = there; versions = k.holds Versions; readers = k.holds Readers; policies = policies_of w k }
 
--- the next version of the file, and the one that with it meets the floor; without one the newest
+-- the next version of the file, and the one that with it has enough newer ones; where none is asked for the newest
 abbrev pub touches : World → ℕ → ℕ → ℕ → Bool
-touches w file f n = (f == file) && ((n == next_of w.files file) || has_newer w.versions file (floor_for w file - 1) n)
+touches w file f n = (f == file) && ((n == next_of w.files file) || has_newer w.versions file (least_newer w file - 1) n)
 
 unheld_moment : (w : World) (file number : ℕ) → AllByRecursion (λ row. is_version file number row ≡ false) w.versions → ripe_at w file number ≡ None
 unheld_moment w file number none = ripe_at_is w file number ∙ ap (option_and_then (ripe_of w)) (not_found (is_version file number) w.versions none)
@@ -91,10 +91,7 @@ module _ (w : World) (file opened : ℕ) (cells : List Cell) (k : MayGrow w file
   behind = is_version_after file next
 
   abbrev floor : ℕ
-  floor = floor_for w file
-
-  abbrev policy : Option Policy
-  policy = policy_of w.files file
+  floor = least_newer w file
 
   abbrev cover : ℕ → Option ℕ → Cover
   cover = cover_of w.groups file
@@ -108,8 +105,9 @@ module _ (w : World) (file opened : ℕ) (cells : List Cell) (k : MayGrow w file
   then_ordered : AreInOrder appended.files appended.versions
   then_ordered = grind (arith, nat_tests, k.policies, all-update_first (is_file file), all-insert_before behind IsLife new (with_end w file), lives_in w.files w.now (with_end w file), ended, next_placed w file k.versions opened cells)
 
-  given : IfSome policy IsLawful
-  given = policy_is w.files file k.policies
+  -- its rule stays
+  rule_still : rule_of appended file ≡ rule_of w file
+  rule_still = ap (option_map (λ policy. rule_in policy (is_live w file))) (policies-numbered w.files file file)
 
   none_there : AllByRecursion (λ row. is_version file next row ≡ false) w.versions
   none_there = all-weaker (IsVersion w.files w.now) (λ row. is_version file next row ≡ false) w.versions (none_next w.files w.now file) k.versions.each
@@ -121,14 +119,14 @@ module _ (w : World) (file opened : ℕ) (cells : List Cell) (k : MayGrow w file
   none_behind = grind (arith, nat_tests, find-insert_before behind (is_newer_of file next) new (with_end w file), none_past w.files w.now (with_end w file) file next ended.each)
 
   -- it has its moment where it ends at once
-  pub next_after : ripe_at appended file next ≡ cond (is_live w file) None (near_moment cover policy None true w.now w.now)
-  next_after =
+  pub next_after : (policy : Policy) → policy_of w.files file ≡ Some policy → ripe_at appended file next ≡ cond (is_live w file) None (case_moment cover (case_of policy w.now None true) w.now)
+  next_after policy governed =
       let unread = unread_unheld w.versions w.handles file next k.readers (any_none (is_version file next) w.versions none_there) in
-      ripe_at_near appended file next then_ordered
-      ∙ rw (new_found w file k.versions.each opened cells, policies-numbered w.files file file, none_behind, unread) (by (is_live w file)) where
-        by : (live : Bool) → option_and_then (near_moment cover policy None (nat_le (floor_in policy live) (newer_held appended.versions file next)) w.now) (cond live None (Some w.now)) ≡ cond live None (near_moment cover policy None true w.now w.now)
+      moment_is appended then_ordered file next (rule_in policy (is_live w file)) (rule_still ∙ rw governed refl)
+      ∙ rw (new_found w file k.versions.each opened cells, none_behind, unread) (by (is_live w file)) where
+        by : (live : Bool) → option_and_then (case_moment cover (case_of policy w.now None (nat_le (rule_in policy live).newer (newer_held appended.versions file next)))) (cond live None (Some w.now)) ≡ cond live None (case_moment cover (case_of policy w.now None true) w.now)
         by true = refl
-        by false = ap (λ met. near_moment cover policy None met w.now w.now) (no_floor (newer_held appended.versions file next))
+        by false = ap (λ enough. case_moment cover (case_of policy w.now None enough) w.now) (none_asked (newer_held appended.versions file next))
 
   -- each other version is found as before, but that its file's last one ends
   found_after : (f n : ℕ) → is_version f n new ≡ false → find (is_version f n) appended.versions ≡ find (is_version f n) (with_end w file)
@@ -202,43 +200,55 @@ module _ (w : World) (file opened : ℕ) (cells : List Cell) (k : MayGrow w file
           ap (option_map (λ (x : VersionRow). x.closed)) (find-insert_behind behind (is_newer_of file n) new (with_end w file) is.0 (later-weaker ArePlaced (λ x z. behind x ≡ true → behind z ≡ true) (with_end w file) (λ x z placed is. behind_too file next x z is placed) ended.placed) is.1 before ∙ sym is.1)
           ∙ next_closing-ended p w.now w.versions file n
 
-    -- the one that with the new one meets the floor, or is the newest where there is none
-    module _ (least : newer_held w.versions file n ≡ floor - 1) where
-      -- it had a moment if it had ended, no floor is in force, and it had one alone
-      pub gaining_was : ripe_at w file n ≡ cond (is_open w.handles file n) None (option_and_then (near_moment cover policy None (nat_le floor (floor - 1)) row.closed) row.ended)
-      gaining_was = ripe_at_near w file n ordered ∙ rw (found, least) (by (is_open w.handles file n) (floor - 1) refl row.ended) where
-        by : (b : Bool) (m : ℕ) → floor - 1 ≡ m → (e : Option ℕ) → cond b None (option_and_then (near_moment cover policy (next_closing w.versions file n) (nat_le floor m) row.closed) e) ≡ cond b None (option_and_then (near_moment cover policy None (nat_le floor m) row.closed) e)
+    -- the one that with the new one has enough, or is the newest where none is asked for
+    module _ (rule : Rule) (ruled : rule_of w file ≡ Some rule) (least : newer_held w.versions file n ≡ rule.newer - 1) where
+      force : IsInForce rule
+      force = in_force w file rule ordered ruled
+
+      -- it had a moment if it had ended, none is asked for, and it had one alone
+      pub gaining_was : ripe_at w file n ≡ cond (is_open w.handles file n) None (option_and_then (case_moment cover (case_of rule.policy row.closed None (nat_le rule.newer (rule.newer - 1)))) row.ended)
+      gaining_was = moment_is w ordered file n rule ruled ∙ rw (found, least) (by (is_open w.handles file n) (rule.newer - 1) refl row.ended) where
+        by : (b : Bool) (m : ℕ) → rule.newer - 1 ≡ m → (e : Option ℕ) → cond b None (option_and_then (case_moment cover (case_of rule.policy row.closed (next_closing w.versions file n) (nat_le rule.newer m))) e) ≡ cond b None (option_and_then (case_moment cover (case_of rule.policy row.closed None (nat_le rule.newer m))) e)
         by true m is e = refl
         by false m is None = refl
         by false zero is (Some end) = rw (none_now (least ∙ is)) refl
-        by false (suc m) is (Some end) =
-            let unmet : nat_le floor (suc m) ≡ false = grind (arith, nat_tests, is) in
-            rw unmet (near_unmet cover policy (is_live w file) (suc m) (next_closing w.versions file n) row.closed end given unmet ∙ sym (near_unmet cover policy (is_live w file) (suc m) None row.closed end given unmet))
+        by false (suc m) is (Some end) = case_floored cover rule force (case_of rule.policy row.closed (next_closing w.versions file n) (nat_le rule.newer (suc m))) end None (grind (arith, nat_tests, is))
 
       -- and has one with the new version beside it
-      pub gaining_is : ripe_at appended file n ≡ cond (is_open w.handles file n) None (near_moment cover policy (Some w.now) true row.closed (unwrap_or row.ended w.now))
+      pub gaining_is : ripe_at appended file n ≡ cond (is_open w.handles file n) None (case_moment cover (case_of rule.policy row.closed (Some w.now) true) (unwrap_or row.ended w.now))
       gaining_is =
-          let met : nat_le floor (newer_held appended.versions file n) ≡ true = grind (arith, nat_tests, one_newer, least) in
-          ripe_at_near appended file n then_ordered ∙ rw (row_ended, policies-numbered w.files file file, met) (by (is_open w.handles file n) (floor - 1) refl) where
-            by : (b : Bool) (m : ℕ) → floor - 1 ≡ m → cond b None (near_moment cover policy (next_closing appended.versions file n) true row.closed (unwrap_or row.ended w.now)) ≡ cond b None (near_moment cover policy (Some w.now) true row.closed (unwrap_or row.ended w.now))
+          let enough : nat_le rule.newer (newer_held appended.versions file n) ≡ true = grind (arith, nat_tests, one_newer, least) in
+          moment_is appended then_ordered file n rule (rule_still ∙ ruled) ∙ rw (row_ended, enough) (by (is_open w.handles file n) (rule.newer - 1) refl) where
+            by : (b : Bool) (m : ℕ) → rule.newer - 1 ≡ m → cond b None (case_moment cover (case_of rule.policy row.closed (next_closing appended.versions file n) true) (unwrap_or row.ended w.now)) ≡ cond b None (case_moment cover (case_of rule.policy row.closed (Some w.now) true) (unwrap_or row.ended w.now))
             by true m is = refl
             by false zero is = rw (next_behind (least ∙ is)) refl
-            by false (suc m) is = near_floored cover policy (is_live w file) (next_closing appended.versions file n) (Some w.now) true row.closed (unwrap_or row.ended w.now) given (grind (arith, nat_tests, is))
+            by false (suc m) is = case_floored cover rule force (case_of rule.policy row.closed (next_closing appended.versions file n) true) (unwrap_or row.ended w.now) (Some w.now) (grind (arith, nat_tests, is))
 
-    -- any other
+    -- any other has enough if it had
     module _ (other : (newer_held w.versions file n == floor - 1) ≡ false) where
+      still_enough : 0 < newer_held w.versions file n → has_enough appended file n ≡ has_enough w file n
+      still_enough some = ap (λ (r : Option Rule). option_map_or (λ rule. nat_le rule.newer (newer_held appended.versions file n)) r false) rule_still ∙ by (rule_of w file) refl where
+        by : (r : Option Rule) → rule_of w file ≡ r → option_map_or (λ rule. nat_le rule.newer (newer_held appended.versions file n)) r false ≡ option_map_or (λ rule. nat_le rule.newer (newer_held w.versions file n)) r false
+        by None is = refl
+        by (Some rule) is = let apart : (newer_held w.versions file n == rule.newer - 1) ≡ false = rw is at other in grind (arith, nat_tests, one_newer, apart, some)
+
       stays_met : 0 < newer_held w.versions file n → ripe_at appended file n ≡ ripe_at w file n
       stays_met some =
           let before = its.before in
           found_moment w appended file n ordered then_ordered (λ closed ended. refl) (policies-numbered w.files file file)
-          (rw (policies-numbered w.files file file, one_newer) (grind (arith, nat_tests, other, some))) refl (next_still some) (found_still file n (grind (arith, nat_tests, before)) (grind (arith, nat_tests, not_last some)))
+          (still_enough some) refl (next_still some) (found_still file n (grind (arith, nat_tests, before)) (grind (arith, nat_tests, not_last some)))
 
       -- the newest, which is still without enough
-      stays_unmet : newer_held w.versions file n ≡ 0 → ripe_at appended file n ≡ ripe_at w file n
-      stays_unmet none =
-          let then_unmet : nat_le floor (newer_held appended.versions file n) ≡ false = grind (arith, nat_tests, one_newer, none, other) in
-          let now_unmet : nat_le floor (newer_held w.versions file n) ≡ false = grind (arith, nat_tests, none, other) in
-          unmet_moment appended file n then_ordered (rw (policies-numbered w.files file file) then_unmet) ∙ sym (unmet_moment w file n ordered now_unmet)
+      module _ (none : newer_held w.versions file n ≡ 0) where
+        few : (r : Option Rule) → rule_of w file ≡ r → (newer : ℕ) → newer ≤ 1 → option_map_or (λ rule. nat_le rule.newer newer) r false ≡ false
+        few None is newer least = refl
+        few (Some rule) is newer least = let apart : (newer_held w.versions file n == rule.newer - 1) ≡ false = rw is at other in grind (arith, nat_tests, none, apart, least)
+
+        stays_unmet : ripe_at appended file n ≡ ripe_at w file n
+        stays_unmet =
+            let now_few = few (rule_of w file) refl (newer_held w.versions file n) (grind (arith, none)) in
+            let then_few = ap (λ (r : Option Rule). option_map_or (λ rule. nat_le rule.newer (newer_held appended.versions file n)) r false) rule_still ∙ few (rule_of w file) refl (newer_held appended.versions file n) (grind (arith, none, one_newer)) in
+            unmet_moment appended file n then_ordered then_few ∙ sym (unmet_moment w file n ordered now_few)
 
       stays_held : ripe_at appended file n ≡ ripe_at w file n
       stays_held = by (newer_held w.versions file n) refl where

@@ -1,9 +1,9 @@
 -- Which ripe moments change where marks of groups come and go: those of versions that they cover, and no other.
 use Rattle.ele_model.proofs.Basics.{◌≡◌, ℕ, true, false, cond, List, [], ◌∷◌, Option, Some, None, ap, sym, subst, ◌∙◌, arith, ◌&&◌, ◌==◌, Bool, find, list_any, option_map_or, bytes_eq, false≢true, nat_tests, AllLater, all-found}
 use Rattle.ele_model.proofs.Words.{DropGroup, AddMember, RemoveMember, AddMark, RemoveMark, after_change, ripe_at, covers_moment, group_named, has_mark, has_member, is_group, is_marked_at, is_member, with_mark, with_member, without_group}
-use Rattle.ele_model.proofs.Words.{without_mark, without_member, Cover, cover_of, cover_until, cover_with, cover_without, longer, members_of, marks_of, moment_under, Groups, IsGroup, HasParts, World, is_open, is_version, policy_of, Counts, GroupRow, MarkRow, VersionRow}
+use Rattle.ele_model.proofs.Words.{without_mark, without_member, Cover, cover_of, cover_until, cover_with, cover_without, longer, members_of, marks_of, free_moment, Groups, IsGroup, HasParts, World, is_open, is_version, Counts, GroupRow, MarkRow, VersionRow}
 use Rattle.ele_model.proofs.MarksChanged.{drop_apart, drop_still, join_apart, join_longer, leave_apart, leave_still, mark_apart, mark_longer, touches, unmark_apart, unmark_still}
-use Rattle.ele_model.proofs.Neighbours.{IfHeld, floor_for, in_order_of, moment_same, ripe_at_near}
+use Rattle.ele_model.proofs.Neighbours.{IfHeld, free_same, in_order_of, ripe_at_near}
 
 -- the file's version with that number, if it is held, was current at one of the marks
 abbrev pub is_covered : List ℕ → List VersionRow → ℕ → ℕ → Bool
@@ -17,7 +17,7 @@ is_touched files marks versions file number = list_any (λ member. member == fil
 pub record MarksMove (w v : World) (cover : ℕ → ℕ → Option ℕ → Cover) (files marks : List ℕ) : Type 0 where
   pub others : (file number : ℕ) → is_touched files marks w.versions file number ≡ false → ripe_at v file number ≡ ripe_at w file number
   pub own : (file number : ℕ) → is_touched files marks w.versions file number ≡ true
-      → ripe_at v file number ≡ cond (is_open w.handles file number) None (moment_under (cover file) (policy_of w.files file) (floor_for w file) w.versions file number)
+      → ripe_at v file number ≡ cond (is_open w.handles file number) None (free_moment w (cover file) file number)
 
 module _ (w : World) (k : HasParts w) where
   -- the world in which the groups alone are others
@@ -25,8 +25,8 @@ module _ (w : World) (k : HasParts w) where
     abbrev regrouped : World
     regrouped = record w { groups = groups; made = made }
 
-    moment_then : (file number : ℕ) → ripe_at regrouped file number ≡ cond (is_open w.handles file number) None (moment_under (cover_of groups file) (policy_of w.files file) (floor_for w file) w.versions file number)
-    moment_then file number = ripe_at_near regrouped file number (in_order_of w k)
+    moment_then : (file number : ℕ) → ripe_at regrouped file number ≡ cond (is_open w.handles file number) None (free_moment w (cover_of groups file) file number)
+    moment_then file number = ripe_at_near regrouped (in_order_of w k) file number
 
     module _ (files marks : List ℕ) where
       -- a version that is held is touched if its moments are
@@ -39,10 +39,10 @@ module _ (w : World) (k : HasParts w) where
           → MarksMove w regrouped cover files marks
       moves cover same is = record {
         others = λ file number apart. moment_then file number
-            ∙ ap (cond (is_open w.handles file number) None) (moment_same w.versions file number (cover_of groups file) (cover_of w.groups file) (policy_of w.files file) (floor_for w file) (λ row found. same file row.closed row.ended (held_touched file number false apart row found)))
-            ∙ sym (ripe_at_near w file number (in_order_of w k));
+            ∙ ap (cond (is_open w.handles file number) None) (free_same w file number (cover_of groups file) (cover_of w.groups file) (λ row found. same file row.closed row.ended (held_touched file number false apart row found)))
+            ∙ sym (ripe_at_near w (in_order_of w k) file number);
         own = λ file number touched. moment_then file number
-            ∙ ap (cond (is_open w.handles file number) None) (moment_same w.versions file number (cover_of groups file) (cover file) (policy_of w.files file) (floor_for w file) (λ row found. is file row.closed row.ended (held_touched file number true touched row found)));
+            ∙ ap (cond (is_open w.handles file number) None) (free_same w file number (cover_of groups file) (cover file) (λ row found. is file row.closed row.ended (held_touched file number true touched row found)));
       }
 
   abbrev named : AllLater (λ (earlier : GroupRow) later. bytes_eq earlier.name later.name ≡ false) w.groups

@@ -1,21 +1,34 @@
 -- Which ripe moments change where names come, go or move: with a file's last name that of its last version, and those of versions
--- that the floor kept.
-use Rattle.ele_model.proofs.Basics.{◌≡◌, ℕ, ◌-◌, Bool, Option, true, false, ◌==◌, ◌&&◌, List, Some, None, refl, ap, ◌∙◌, arith, cond, false≢true, find, is_some, nat_le, option_and_then, nat_tests, find-update_other, list_any-update_fails, list_any-update_found}
-use Rattle.ele_model.proofs.Words.{Policy, dies, ended_at, floor_in, newer_held, with_end, after_change, EndFileName, File, is_live_name, is_live_name_of, live_target, ripe_at, file_view, cover_of, near_moment, next_closing, Versions, HasParts, World, policy_of, next_of, is_live, is_open, is_version}
+-- that had too few newer ones.
+use Rattle.ele_model.proofs.Basics.{◌≡◌, ℕ, ◌-◌, Bool, Option, true, false, ◌==◌, ◌&&◌, List, Some, None, refl, ap, ◌∙◌, arith, cond, false≢true, find, is_some, nat_le, option_and_then, option_map, option_map_or, nat_tests, find-update_other, list_any-update_fails, list_any-update_found}
+use Rattle.ele_model.proofs.Words.{Policy, dies, ended_at, case_moment, case_of, newer_held, rule_in, rule_of, with_end, after_change, EndFileName, File, is_live_name, is_live_name_of, live_target, ripe_at, file_view, cover_of, next_closing, Versions, HasParts, World, policy_of, next_of, is_live, is_open, is_version}
 use Rattle.ele_model.specs.Due.{ripe_of}
 use Rattle.ele_model.proofs.Currents.{HasCurrent, last_ends}
 use Rattle.ele_model.proofs.KeptVersions.{ended_versions}
-use Rattle.ele_model.proofs.Neighbours.{AreInOrder, floor_for, found_kept, found_moment, in_order_of, met_of, newer_held-ended, next_closing-ended, no_floor, none_past, ripe_at_near, versions_in_order}
+use Rattle.ele_model.proofs.Neighbours.{AreInOrder, least_newer, found_kept, found_moment, in_order_of, newer_held-ended, next_closing-ended, moment_is, none_asked, none_past, versions_in_order}
 use Rattle.ele_model.proofs.RipeAt.{ripe_at_is, unended}
 use Rattle.ele_model.proofs.Views.{policies_of}
 
--- where files, versions, handles and groups stay, so do the moments of a file that is live as before, or has no floor
+-- where files, versions, handles and groups stay, so do the moments of a file whose rule asks for as many newer ones
 pub moments_stay : (w v : World) → AreInOrder w.files w.versions → v.files ≡ w.files → v.versions ≡ w.versions → v.handles ≡ w.handles → v.groups ≡ w.groups
-    → (file number : ℕ) → floor_for v file ≡ floor_for w file → ripe_at v file number ≡ ripe_at w file number
+    → (file number : ℕ) → least_newer v file ≡ least_newer w file → ripe_at v file number ≡ ripe_at w file number
 moments_stay w v ordered files versions handles groups file number floor = grind (arith, nat_tests, found_moment)
 
+-- whether so many newer ones are enough under the policy, in a file that is live or not
+abbrev are_enough : Option Policy → Bool → ℕ → Bool
+are_enough policy live newer = option_map_or (λ rule. nat_le rule.newer newer) (option_map (λ p. rule_in p live) policy) false
+
+-- how many the policy asks for
+abbrev asked : Option Policy → Bool → ℕ
+asked policy live = option_map_or (λ rule. rule.newer) (option_map (λ p. rule_in p live) policy) 0
+
+-- where it asks for as many, as many are enough
+asked_same : (policy : Option Policy) (live then : Bool) (newer after : ℕ) → asked policy then ≡ asked policy live → after ≡ newer → are_enough policy then after ≡ are_enough policy live newer
+asked_same None live then newer after same held = refl
+asked_same (Some policy) live then newer after same held = rw (held) (ap (λ least. nat_le least newer) same)
+
 -- what has enough newer ones in a live file has them in a nameless one
-met_stays : (policy : Option Policy) (live then : Bool) (newer : ℕ) → (live ≡ false → then ≡ false) → nat_le (floor_in policy live) newer ≡ true → nat_le (floor_in policy then) newer ≡ true
+met_stays : (policy : Option Policy) (live then : Bool) (newer : ℕ) → (live ≡ false → then ≡ false) → are_enough policy live newer ≡ true → are_enough policy then newer ≡ true
 met_stays policy live then newer nameless met = grind (arith, nat_tests, nameless, met)
 
 -- and those that are there already of a file that doesn't become live
@@ -65,9 +78,9 @@ module _ (w : World) (directory : ℕ) (name : List ℕ) (file : ℕ) where
       by true = refl
       by false = find-update_other (is_version file last) (is_version f n) (ended_at w.now) w.versions (λ row is. grind (arith, nat_tests, apart, is))
 
-    -- those of all other versions stay, where no floor goes
-    pub other_moments : floor_for after f ≡ floor_for w f → ripe_at after f n ≡ ripe_at w f n
-    other_moments floor = found_moment w after f n (in_order_of w k) (ended_in_order k) (λ closed ended. refl) refl (rw (floor, same_newer) refl) refl same_next same_found
+    -- those of all other versions stay, where the rule asks for as many newer ones
+    pub other_moments : least_newer after f ≡ least_newer w f → ripe_at after f n ≡ ripe_at w f n
+    other_moments asks = found_moment w after f n (in_order_of w k) (ended_in_order k) (λ closed ended. refl) refl (asked_same (policy_of w.files f) (is_live w f) (is_live after f) (newer_held w.versions f n) (newer_held after.versions f n) asks same_newer) refl same_next same_found
 
     -- and those that are there
     pub kept_moments : is_some (ripe_at w f n) ≡ true → ripe_at after f n ≡ ripe_at w f n
@@ -80,10 +93,11 @@ module _ (w : World) (directory : ℕ) (name : List ℕ) (file : ℕ) where
     unfolding ripe_of
     no_moment = ripe_at_is w file last ∙ ap (option_and_then (ripe_of w)) current.found ∙ unended (file_view w current.row.file) current.row current.no_end
 
-    -- without a newer one beside it, and no floor
-    pub ended_moment : HasParts w → is_live after file ≡ false → ripe_at after file last ≡ cond (is_open w.handles file last) None (near_moment (cover_of w.groups file) (policy_of w.files file) None true current.row.closed w.now)
-    ended_moment k dead =
+    -- without a newer one beside it, where none is asked for
+    pub ended_moment : HasParts w → is_live after file ≡ false → (policy : Policy) → policy_of w.files file ≡ Some policy
+        → ripe_at after file last ≡ cond (is_open w.handles file last) None (case_moment (cover_of w.groups file) (case_of policy current.row.closed None true) w.now)
+    ended_moment k dead policy governed =
         let found : find (is_version file last) after.versions ≡ Some (ended_at w.now current.row) = rw dead (last_ends w file current) in
         let next : next_closing after.versions file last ≡ None = rw dead (none_past w.files w.now (with_end w file) file last (ended_versions w file (k.holds Versions)).each (omega arith)) in
-        let met : met_of after file last ≡ true = ap (λ l. nat_le (floor_in (policy_of w.files file) l) (newer_held after.versions file last)) dead ∙ no_floor (newer_held after.versions file last) in
-        ripe_at_near after file last (ended_in_order k) ∙ rw (found, next, current.no_end, met) refl
+        let ruled : rule_of after file ≡ Some (rule_in policy false) = rw (dead, governed) refl in
+        moment_is after (ended_in_order k) file last (rule_in policy false) ruled ∙ rw (found, next, current.no_end, none_asked (newer_held after.versions file last)) refl

@@ -4,7 +4,7 @@ use Rattle.ele_model.proofs.Words.{Cover, Always, Free, Until, Policy, is_due_by
 use Rattle.ele_policy.specs.Ripe.{ripe_by}
 use Rattle.ele_model.specs.Due.{is_due_at, ripe_of}
 use Rattle.ele_model.proofs.Covers.{end_stands, lasts_by}
-use Rattle.ele_model.proofs.Views.{view_is, nearest_of}
+use Rattle.ele_model.proofs.Views.{view_is, closings_in_order}
 
 -- ---- the earliest of moments
 
@@ -158,4 +158,4 @@ unfolding ripe_of
 ripe_is_answered w k = all-split (RipeIsAnswer w) w.versions (λ before row behind whole policy ended answer filed ends free is.
     let v = file_view w row.file in
     let governed : IsLawful policy = subst (λ p. IfSome p IsLawful) filed (view_is w k row.file).governed in
-    free_ripe v row policy ended free governed filed ends ∙ sym (is (beside v row) (record { near = nearest_of w before row behind (view_is w k row.file) whole; floor = refl })))
+    free_ripe v row policy ended free governed filed ends ∙ sym (is (beside v row) (record { in_order = closings_in_order w before row behind (view_is w k row.file) whole; next = refl; enough = refl })))

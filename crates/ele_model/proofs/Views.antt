@@ -1,7 +1,7 @@
 -- A file's rows in a well-formed world, and which are newer than one of them, by its place.
-use Rattle.ele_model.proofs.Basics.{all-found, ◌≡◌, ℕ, ◌<◌, ◌≤◌, false, List, [], ◌∷◌, ◌++◌, Some, filter, arith, slice_get, IfSome, AllByRecursion, filter-append, IfSome_then, nat_tests, AllLater, all-weaker, all-filter, all-map, all-right}
+use Rattle.ele_model.proofs.Basics.{all-found, ◌≡◌, ℕ, ◌<◌, ◌≤◌, false, List, [], ◌∷◌, ◌++◌, Some, filter, arith, IfSome, AllByRecursion, filter-append, IfSome_then, nat_tests, AllLater, all-weaker, all-filter, all-map, all-right}
 use Rattle.ele_model.proofs.Basics.{later-right, later-filter, later-around, filter-all, filter-none}
-use Rattle.ele_model.proofs.Words.{is_file, last_moment, IsLawful, IsNearest, FileRow, VersionRow, FileView, file_view, is_version_of, is_newer, closings, beside, Now, Files, Versions, IsFile, IsVersion, ArePlaced, HasParts, World, policy_of, Law}
+use Rattle.ele_model.proofs.Words.{is_file, last_moment, IsLawful, FileRow, VersionRow, FileView, file_view, is_version_of, is_newer, closings, beside, Now, Files, Versions, IsFile, IsVersion, ArePlaced, HasParts, World, policy_of, Law}
 use Rattle.ele_model.proofs.Formed.{law_of}
 
 -- the version didn't end before it closed
@@ -84,10 +84,10 @@ closings_rise (x ∷ xs) lives placed = grind (arith, nat_tests, all-map (λ row
 pub own_rows : (before : List VersionRow) (row : VersionRow) (behind : List VersionRow) → filter (is_version_of row.file) (before ++ row ∷ behind) ≡ filter (is_version_of row.file) before ++ row ∷ filter (is_version_of row.file) behind
 own_rows before row behind = grind (arith, nat_tests, filter-append)
 
--- so what stands beside a version of a world is as its policy wants it
-pub nearest_of : (w : World) (before : List VersionRow) (row : VersionRow) (behind : List VersionRow) → IsView (file_view w row.file) → w.versions ≡ before ++ row ∷ behind
-    → IsNearest row.closed (slice_get (beside (file_view w row.file) row).newer 0) (beside (file_view w row.file) row)
-nearest_of w before row behind view whole = grind (arith, nat_tests, own_rows before row behind, closings_rise (row ∷ filter (is_version_of row.file) behind), newer_is (filter (is_version_of row.file) before) row (filter (is_version_of row.file) behind), all-right IsLife (filter (is_version_of row.file) before) (row ∷ filter (is_version_of row.file) behind), later-right Precedes (filter (is_version_of row.file) before) (row ∷ filter (is_version_of row.file) behind))
+-- so those of what stands beside a version of a world never fall either, from its own on
+pub closings_in_order : (w : World) (before : List VersionRow) (row : VersionRow) (behind : List VersionRow) → IsView (file_view w row.file) → w.versions ≡ before ++ row ∷ behind
+    → AllLater ◌≤◌ (row.closed ∷ (beside (file_view w row.file) row).newer)
+closings_in_order w before row behind view whole = grind (arith, nat_tests, own_rows before row behind, closings_rise (row ∷ filter (is_version_of row.file) behind), newer_is (filter (is_version_of row.file) before) row (filter (is_version_of row.file) behind), all-right IsLife (filter (is_version_of row.file) before) (row ∷ filter (is_version_of row.file) behind), later-right Precedes (filter (is_version_of row.file) before) (row ∷ filter (is_version_of row.file) behind))
 
 -- of another file
 pub other_rows : (file : ℕ) (before : List VersionRow) (row : VersionRow) (behind : List VersionRow) → is_version_of file row ≡ false → filter (is_version_of file) (before ++ row ∷ behind) ≡ filter (is_version_of file) (before ++ behind)

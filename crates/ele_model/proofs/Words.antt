@@ -7,13 +7,15 @@ pub use Rattle.ele_due.specs.HasKey.{has_key}
 pub use Rattle.ele_due.specs.Key.{is_key, is_ripe_by}
 pub use Rattle.ele_due.specs.declared.key.Key.{Key}
 pub use Rattle.ele_moment.specs.Last.{last_moment}
-pub use Rattle.ele_policy.specs.FloorOf.{floor_of, meets_floor}
+pub use Rattle.ele_policy.specs.FloorOf.{floor_of, meets_floor, rule_in}
 pub use Rattle.ele_policy.specs.Lawful.{IsLawful, PoliciesAreLawful}
 pub use Rattle.ele_policy.specs.Policy.{IsPolicy, is_kind, kind_of}
-pub use Rattle.ele_policy.specs.Ripe.{Beside, IsNearest, IsToldBy, candidates, earliest_of, is_due_by, lets_go, ripe_near}
+pub use Rattle.ele_policy.specs.Ripe.{Beside, candidates, case_beside, case_of, earliest_of, is_due_by, lets_go, ripe_case}
 pub use Rattle.ele_policy.specs.declared.policy.Kind.{Kind}
 pub use Rattle.ele_policy.specs.declared.policy.Policy.{Policy}
 pub use Rattle.ele_policy.specs.declared.policy.Policy.TheVariants.{All, One, Safe}
+pub use Rattle.ele_policy.specs.declared.rule.Case.{Case}
+pub use Rattle.ele_policy.specs.declared.rule.Rule.{Rule}
 pub use Rattle.ele_path.specs.declared.tagged.Tag.{Tag}
 pub use Rattle.ele_path.specs.declared.tagged.TaggedPath.{TaggedPath}
 pub use Rattle.ele_usage.specs.OnlyAt.{only_at}
@@ -29,7 +31,7 @@ pub use Rattle.ele_model.specs.GroupRows.{adds, covers_moment, forgets, forgotte
 pub use Rattle.ele_model.specs.Cover.{cover_by, cover_of, cover_until, lasts, longer, ripe_past}
 pub use Rattle.ele_model.specs.GroupsAsked.{cover_with, cover_without, is_left_out, marks_left, marks_of, members_of}
 pub use Rattle.ele_model.specs.NameRows.{born_row, covers, dies, is_live_directory, is_live_in, is_name_of_directory, is_named, is_target_directory, last_dead, target_at}
-pub use Rattle.ele_model.specs.Neighbours.{floor_in, free_moment, is_moment, is_newer_of, moment_under, near_moment, newer_held, newest_of, next_closing, with_newer}
+pub use Rattle.ele_model.specs.Neighbours.{case_in, case_moment, free_moment, is_moment, is_newer_of, moment_under, newer_held, newest_of, next_closing, rule_of, with_newer}
 pub use Rattle.ele_model.specs.NewPlaces.{different_of, has_slot, is_among, new_places}
 pub use Rattle.ele_model.specs.NoIdleStays.{HasNoIdle, NoIdleStays}
 pub use Rattle.ele_model.specs.NothingChanges.{asks}

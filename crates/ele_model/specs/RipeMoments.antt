@@ -1,11 +1,10 @@
 -- What the ripe moment of a held version is: the moment from which on it is due, and what `ripe` of `ele_policy` answers.
-use Rattle.std.specs.Prelude.{◌≡◌, ℕ, ◌≤◌, nat_le, false, Option, Some, length, slice_get}
+use Rattle.std.specs.Prelude.{◌≡◌, ℕ, ◌≤◌, nat_le, false, Option, Some}
 use Rattle.std.specs.List.{AllByRecursion}
 use Rattle.std.specs.Option.{option_map_or}
 use Rattle.ele_moment.specs.Last.{last_moment}
 use Rattle.ele_policy.specs.declared.policy.Policy.{Policy}
-use Rattle.ele_policy.specs.FloorOf.{meets_floor}
-use Rattle.ele_policy.specs.Ripe.{IsRipe}
+use Rattle.ele_policy.specs.Ripe.{IsRipe, case_beside}
 use Rattle.ele_model.specs.declared.rows.VersionRow.{VersionRow}
 use Rattle.ele_model.specs.Due.{is_due_at, ripe_of}
 use Rattle.ele_model.specs.FileView.{file_view, beside, is_protected}
@@ -19,14 +18,14 @@ IsDueFromRipe w row = (at : ℕ) → at ≤ last_moment → is_due_at w row at �
 abbrev pub DueFromRipe : Type 0
 DueFromRipe = (w : World) → IsWellFormed w → AllByRecursion (IsDueFromRipe w) w.versions
 
--- of a version that has ended and isn't protected: what `ripe` answers of its file's policy, its closing, its end, the closing of
--- the next held version, and whether the newer held ones meet the floor, is its ripe moment
+-- of a version that has ended and isn't protected: what `ripe` answers of its end and of its case, as its file's policy sees it beside
+-- the newer held ones, is its ripe moment
 abbrev pub RipeIsAnswer : World → VersionRow → Type 0
 RipeIsAnswer w row =
     let v = file_view w row.file in
     (policy : Policy) (ended : ℕ) (answer : Option ℕ) → v.policy ≡ Some policy → row.ended ≡ Some ended
     → ((at : ℕ) → is_protected v row at ≡ false)
-    → IsRipe policy row.closed ended (slice_get (beside v row).newer 0) (meets_floor policy v.live (length (beside v row).newer)) answer
+    → IsRipe (case_beside policy row.closed (beside v row)) ended answer
     → ripe_of w row ≡ answer
 
 abbrev pub RipeIsAnswered : Type 0

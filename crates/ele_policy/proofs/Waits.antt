@@ -1,5 +1,5 @@
--- A policy lets a version go from one age on, which the nearest newer closing tells.
-use Rattle.std.proofs.Common.{length-append, ◌≡◌, ℕ, ◌+◌, ◌-◌, ◌≤◌, ◌==◌, ◌&&◌, Bool, true, false, cond, List, [], ◌∷◌, ◌++◌, Option, Some, None, refl, ap, sym, subst, ◌∙◌, arith, rules, zero, suc}
+-- A policy lets a version go from one age on, which its case tells.
+use Rattle.std.proofs.Common.{length-append, ◌≡◌, ℕ, ◌+◌, ◌-◌, ◌≤◌, ◌==◌, ◌&&◌, ◌||◌, Bool, true, false, not, cond, List, [], ◌∷◌, ◌++◌, Option, Some, None, refl, ap, sym, subst, ◌∙◌, arith, zero, suc}
 use Rattle.std.specs.Prelude.{nat_le, find, slice_get, option_and_then, IfSome, IfNone}
 use Rattle.std.specs.List.{list_any}
 use Rattle.std.specs.Option.{option_map, option_map_or}
@@ -10,11 +10,12 @@ use Rattle.ele_lists.specs.Lists.{AllLater}
 use Rattle.ele_moment.specs.Last.{last_moment}
 use Rattle.ele_policy.specs.declared.policy.Policy.{Policy}
 use Rattle.ele_policy.specs.declared.policy.Policy.TheVariants.{One, All, Safe, Landmarks}
+use Rattle.ele_policy.specs.declared.rule.Case.{Case}
 use Rattle.ele_policy.specs.Lawful.{PoliciesAreLawful}
 use Rattle.ele_policy.specs.Ladder.{Rung, ground, climbs, level_of, rung_at, shares}
 use Rattle.ele_policy.specs.Policy.{IsPolicy}
-use Rattle.ele_policy.specs.FloorOf.{floor_of, meets_floor}
-use Rattle.ele_policy.specs.Ripe.{Beside, IsRipe, IsToldBy, alone, lets_go, is_due_by, candidates, earliest_of, ripe_by, ripe_near}
+use Rattle.ele_policy.specs.FloorOf.{counts_newer, floor_of, meets_floor}
+use Rattle.ele_policy.specs.Ripe.{Beside, IsBeside, IsRipe, alone, case_of, lets_go, is_due_by, candidates, earliest_of, ripe_by, ripe_case}
 use Rattle.ele_policy.specs.Wait.{has_newer, wait, in_time, ripe_after}
 use Rattle.ele_policy.proofs.Earliest.{earliest_from, earliest_same, is_candidate, never_due}
 use Rattle.ele_policy.proofs.Nesting.{climbed, nests, nearest_decides, shares_on}
@@ -146,23 +147,27 @@ lets_go_without policy live xs gone ys closed age gone_age given longer goes = g
 lets_go_fewer : (policy : Policy) (live : Bool) (xs : List ℕ) (more : ℕ) (ys : List ℕ) (closed age : ℕ) → lets_go policy closed (record { newer = xs ++ ys; live = live }) age ≡ true → lets_go policy closed (record { newer = xs ++ more ∷ ys; live = live }) age ≡ true
 lets_go_fewer policy live xs more ys closed age goes = grind (arith, nat_tests, any-with, length-append xs ys, length-append xs (more ∷ ys))
 
--- ---- told by the nearest newer closing, and by whether the floor is met
+-- ---- told by the case
 
 same_found : (f g : Rung → Bool) (rungs : List Rung) → ((rung : Rung) → f rung ≡ g rung) → find f rungs ≡ find g rungs
 same_found f g [] same = refl
 same_found f g (rung ∷ rungs) same = rw (same rung, same_found f g rungs same) refl
 
--- how long the policy waits, by these
-abbrev pub wait_near : Policy → ℕ → Option ℕ → Bool → Option ℕ
-wait_near (Safe interval floor) closed nearest met = cond met (Some interval) None
-wait_near policy closed nearest met = wait policy closed (alone nearest)
+-- how long the policy waits in a case
+abbrev pub wait_case : Case → Option ℕ
+wait_case case = cond (case.enough || not (counts_newer case.policy)) (wait case.policy case.closed (alone case.next_closed)) None
 
--- the wait is the same
-pub nearest_tells : (policy : Policy) (closed : ℕ) (nearest : Option ℕ) (met : Bool) (beside : Beside) → IsToldBy policy closed nearest met beside → wait policy closed beside ≡ wait_near policy closed nearest met
-nearest_tells (Safe interval floor) closed nearest met beside is = ap (λ b. cond b (Some interval) None) is.floor
-nearest_tells One closed nearest met beside is = refl
-nearest_tells All closed nearest met beside is = refl
-nearest_tells (Landmarks rungs) closed nearest met beside is = by nearest beside.newer is.near.in_order is.near.first where
+-- no floor is in force in it
+waits_alone : (interval floor closed : ℕ) (nearest : Option ℕ) → wait (Safe interval floor) closed (alone nearest) ≡ Some interval
+waits_alone interval floor closed None = refl
+waits_alone interval floor closed (Some n) = refl
+
+-- the wait is the same beside all that may stand so
+pub case_tells : (policy : Policy) (closed : ℕ) (nearest : Option ℕ) (enough : Bool) (beside : Beside) → IsBeside (case_of policy closed nearest enough) beside → wait policy closed beside ≡ wait_case (case_of policy closed nearest enough)
+case_tells (Safe interval floor) closed nearest enough beside is = grind (arith, nat_tests, is.enough, waits_alone interval floor closed nearest)
+case_tells One closed nearest enough beside is = grind (arith, nat_tests)
+case_tells All closed nearest enough beside is = grind (arith, nat_tests)
+case_tells (Landmarks rungs) closed nearest enough beside is = by nearest beside.newer is.in_order is.next ∙ grind (arith, nat_tests) where
   by : (nearest : Option ℕ) (newer : List ℕ) → AllLater ◌≤◌ (closed ∷ newer) → slice_get newer 0 ≡ nearest → option_map (λ (rung : Rung). rung.0) (find (has_newer closed newer) rungs) ≡ wait (Landmarks rungs) closed (alone nearest)
   by None [] later first = refl
   by (Some n) [] later first = absurd cc
@@ -176,77 +181,90 @@ nearest_tells (Landmarks rungs) closed nearest met beside is = by nearest beside
 abbrev after_wait : ℕ → Option ℕ → Option ℕ
 after_wait ended wait_is = option_and_then (λ age. in_time (ended + age)) wait_is
 
-pub near_is : (policy : Policy) (closed ended : ℕ) (nearest : Option ℕ) (met : Bool) → IsPolicy policy → ripe_near policy closed nearest met ended ≡ after_wait ended (wait_near policy closed nearest met)
-near_is (Safe interval floor) closed ended nearest true given = ripe_is (Safe interval floor) closed ended (alone nearest) given ∙ alone_waits nearest where
-  alone_waits : (nearest : Option ℕ) → ripe_after (Safe interval floor) closed ended (alone nearest) ≡ in_time (ended + interval)
-  alone_waits None = refl
-  alone_waits (Some n) = refl
-near_is (Safe interval floor) closed ended nearest false given = refl
-near_is One closed ended nearest met given = ripe_is One closed ended (alone nearest) given
-near_is All closed ended nearest met given = ripe_is All closed ended (alone nearest) given
-near_is (Landmarks rungs) closed ended nearest met given = ripe_is (Landmarks rungs) closed ended (alone nearest) given
+pub case_is : (case : Case) (ended : ℕ) → IsPolicy case.policy → ripe_case case ended ≡ after_wait ended (wait_case case)
+case_is case ended given = by (case.enough || not (counts_newer case.policy)) where
+  by : (b : Bool) → cond b (ripe_by case.policy case.closed (alone case.next_closed) ended) None ≡ after_wait ended (cond b (wait case.policy case.closed (alone case.next_closed)) None)
+  by true = ripe_is case.policy case.closed ended (alone case.next_closed) given
+  by false = refl
 
-pub ripe_nearest : (policy : Policy) (closed ended : ℕ) (nearest : Option ℕ) (met : Bool) (beside : Beside) → IsPolicy policy → IsToldBy policy closed nearest met beside → ripe_by policy closed beside ended ≡ ripe_near policy closed nearest met ended
-ripe_nearest policy closed ended nearest met beside given is =
-    ripe_is policy closed ended beside given ∙ ap (after_wait ended) (nearest_tells policy closed nearest met beside is) ∙ sym (near_is policy closed ended nearest met given)
+module _ (case : Case) (ended : ℕ) (given : IsPolicy case.policy) where
+  tells : (beside : Beside) → IsBeside case beside → wait case.policy case.closed beside ≡ wait_case case
+  tells beside is = case_tells case.policy case.closed case.next_closed case.enough beside is
 
-pub is_ripe : (policy : Policy) (closed ended : ℕ) (nearest : Option ℕ) (met : Bool) (r : Option ℕ) → IsPolicy policy → r ≡ ripe_near policy closed nearest met ended → IsRipe policy closed ended nearest met r
-is_ripe policy closed ended nearest met r given is beside told = is ∙ sym (ripe_nearest policy closed ended nearest met beside given told)
+  pub ripe_seen : (beside : Beside) → IsBeside case beside → ripe_by case.policy case.closed beside ended ≡ ripe_case case ended
+  ripe_seen beside is = ripe_is case.policy case.closed ended beside given ∙ ap (after_wait ended) (tells beside is) ∙ sym (case_is case ended given)
 
--- with a floor whether it is met tells all
-ripe_floored : (policy : Policy) (closed ended : ℕ) (one other : Option ℕ) (met : Bool) → IsPolicy policy → 1 ≤ floor_of policy → ripe_near policy closed one met ended ≡ ripe_near policy closed other met ended
-ripe_floored (Safe interval floor) closed ended one other met given some = near_is (Safe interval floor) closed ended one met given ∙ sym (near_is (Safe interval floor) closed ended other met given)
-ripe_floored One closed ended one other met given some = absurd (omega (arith, some))
-ripe_floored All closed ended one other met given some = absurd (omega (arith, some))
-ripe_floored (Landmarks rungs) closed ended one other met given some = absurd (omega (arith, some))
+  pub is_ripe : (r : Option ℕ) → r ≡ ripe_case case ended → IsRipe case ended r
+  is_ripe r is beside stands = is ∙ sym (ripe_seen beside stands)
 
-ripe_unmet : (policy : Policy) (closed ended newer : ℕ) (nearest : Option ℕ) (live : Bool) → meets_floor policy live newer ≡ false → ripe_near policy closed nearest false ended ≡ None
-ripe_unmet (Safe interval floor) closed ended newer nearest live unmet = refl
-ripe_unmet One closed ended newer nearest live unmet = grind (arith, nat_tests, unmet)
-ripe_unmet All closed ended newer nearest live unmet = grind (arith, nat_tests, unmet)
-ripe_unmet (Landmarks rungs) closed ended newer nearest live unmet = grind (arith, nat_tests, unmet)
+  -- beside all that may stand so, the version is due from the ripe moment on, or never
+  due_seen : (at : ℕ) (wait_is : Option ℕ) (beside : Beside) → IsBeside case beside → wait_case case ≡ wait_is → is_due_by case.policy case.closed beside ended at ≡ (nat_le ended at && reached wait_is (at - ended))
+  due_seen at wait_is beside stands is = ap (λ b. nat_le ended at && b) (lets_go_from case.policy case.closed beside (at - ended) given ∙ ap (λ o. reached o (at - ended)) (tells beside stands ∙ is))
 
--- beside all that they tell of, the version is due from the ripe moment on, or never
-due_nearest : (policy : Policy) (closed ended at : ℕ) (nearest wait_is : Option ℕ) (met : Bool) (beside : Beside) → IsPolicy policy → IsToldBy policy closed nearest met beside → wait_near policy closed nearest met ≡ wait_is → is_due_by policy closed beside ended at ≡ (nat_le ended at && reached wait_is (at - ended))
-due_nearest policy closed ended at nearest wait_is met beside given told is = ap (λ b. nat_le ended at && b) (lets_go_from policy closed beside (at - ended) given ∙ ap (λ o. reached o (at - ended)) (nearest_tells policy closed nearest met beside told ∙ is))
+  abbrev pub DueFrom : Option ℕ → Type 0
+  DueFrom ripe = IfSome ripe (λ m. (beside : Beside) → IsBeside case beside → (at : ℕ) → is_due_by case.policy case.closed beside ended at ≡ nat_le m at)
 
-abbrev pub DueFrom : Policy → ℕ → ℕ → Option ℕ → Bool → Option ℕ → Type 0
-DueFrom policy closed ended nearest met ripe = IfSome ripe (λ m. (beside : Beside) → IsToldBy policy closed nearest met beside → (at : ℕ) → is_due_by policy closed beside ended at ≡ nat_le m at)
+  abbrev pub NeverDue : Option ℕ → Type 0
+  NeverDue ripe = IfNone ripe ((beside : Beside) → IsBeside case beside → (at : ℕ) → at ≤ last_moment → is_due_by case.policy case.closed beside ended at ≡ false)
 
-abbrev pub NeverDue : Policy → ℕ → ℕ → Option ℕ → Bool → Option ℕ → Type 0
-NeverDue policy closed ended nearest met ripe = IfNone ripe ((beside : Beside) → IsToldBy policy closed nearest met beside → (at : ℕ) → at ≤ last_moment → is_due_by policy closed beside ended at ≡ false)
+  pub ripe_from : (r : Option ℕ) → r ≡ ripe_case case ended → DueFrom r
+  ripe_from r told = subst DueFrom (sym (told ∙ case_is case ended given)) (by (wait_case case) refl) where
+    by : (o : Option ℕ) → wait_case case ≡ o → DueFrom (option_and_then (λ age. in_time (ended + age)) o)
+    by None is = tt
+    by (Some age) is = elim (nat_le (ended + age) last_moment) as (λ b. DueFrom (cond b (Some (ended + age)) None)) [
+      | true ↦ λ beside stands at. due_seen at (Some age) beside stands is ∙ grind (arith, nat_tests)
+      | false ↦ tt
+    ]
 
-pub ripe_from : (policy : Policy) (closed ended : ℕ) (nearest : Option ℕ) (met : Bool) (r : Option ℕ) → IsPolicy policy → r ≡ ripe_near policy closed nearest met ended → DueFrom policy closed ended nearest met r
-ripe_from policy closed ended nearest met r given told = subst (DueFrom policy closed ended nearest met) (sym (told ∙ near_is policy closed ended nearest met given)) (by (wait_near policy closed nearest met) refl) where
-  by : (o : Option ℕ) → wait_near policy closed nearest met ≡ o → DueFrom policy closed ended nearest met (option_and_then (λ age. in_time (ended + age)) o)
-  by None is = tt
-  by (Some age) is = elim (nat_le (ended + age) last_moment) as (λ b. DueFrom policy closed ended nearest met (cond b (Some (ended + age)) None)) [
-    | true ↦ λ beside near at. due_nearest policy closed ended at nearest (Some age) met beside given near is ∙ grind (arith, nat_tests)
-    | false ↦ tt
-  ]
+  pub ripe_never : (r : Option ℕ) → r ≡ ripe_case case ended → NeverDue r
+  ripe_never r told = subst NeverDue (sym (told ∙ case_is case ended given)) (by (wait_case case) refl) where
+    by : (o : Option ℕ) → wait_case case ≡ o → NeverDue (option_and_then (λ age. in_time (ended + age)) o)
+    by None is = λ beside stands at fits. due_seen at None beside stands is ∙ grind (arith, nat_tests)
+    by (Some age) is = elim (nat_le (ended + age) last_moment) as (λ b. nat_le (ended + age) last_moment ≡ b → NeverDue (cond b (Some (ended + age)) None)) [
+      | true ↦ λ early. tt
+      | false ↦ λ late beside stands at fits. due_seen at (Some age) beside stands is ∙ grind (arith, nat_tests)
+    ] refl
 
-pub ripe_never : (policy : Policy) (closed ended : ℕ) (nearest : Option ℕ) (met : Bool) (r : Option ℕ) → IsPolicy policy → r ≡ ripe_near policy closed nearest met ended → NeverDue policy closed ended nearest met r
-ripe_never policy closed ended nearest met r given told = subst (NeverDue policy closed ended nearest met) (sym (told ∙ near_is policy closed ended nearest met given)) (by (wait_near policy closed nearest met) refl) where
-  by : (o : Option ℕ) → wait_near policy closed nearest met ≡ o → NeverDue policy closed ended nearest met (option_and_then (λ age. in_time (ended + age)) o)
-  by None is = λ beside near at fits. due_nearest policy closed ended at nearest None met beside given near is ∙ grind (arith, nat_tests)
-  by (Some age) is = elim (nat_le (ended + age) last_moment) as (λ b. nat_le (ended + age) last_moment ≡ b → NeverDue policy closed ended nearest met (cond b (Some (ended + age)) None)) [
-    | true ↦ λ early. tt
-    | false ↦ λ late beside near at fits. due_nearest policy closed ended at nearest (Some age) met beside given near is ∙ grind (arith, nat_tests)
-  ] refl
+-- ---- the laws of one policy's cases
 
-ripe_keeps : (policy : Policy) (closed ended m nearest : ℕ) (met : Bool) → IsPolicy policy → ripe_near policy closed None met ended ≡ Some m → ripe_near policy closed (Some nearest) true ended ≡ Some m
-ripe_keeps policy closed ended m nearest met given is =
-    near_is policy closed ended (Some nearest) true given ∙ by policy met (sym (near_is policy closed ended None met given) ∙ is) where
-      none : (rungs : List Rung) → find (has_newer closed []) rungs ≡ None
+-- with a floor whether enough are held tells all
+ripe_floored : (policy : Policy) (case : Case) (ended : ℕ) (other : Option ℕ) → IsPolicy policy → 1 ≤ floor_of policy → ripe_case (record case { policy = policy }) ended ≡ ripe_case (record case { policy = policy; next_closed = other }) ended
+ripe_floored (Safe interval floor) case ended other given some =
+    case_is (record case { policy = Safe interval floor }) ended given
+    ∙ grind (arith, nat_tests, waits_alone interval floor case.closed case.next_closed, waits_alone interval floor case.closed other)
+    ∙ sym (case_is (record case { policy = Safe interval floor; next_closed = other }) ended given)
+ripe_floored One case ended other given some = absurd (omega (arith, some))
+ripe_floored All case ended other given some = absurd (omega (arith, some))
+ripe_floored (Landmarks rungs) case ended other given some = absurd (omega (arith, some))
+
+ripe_unmet : (policy : Policy) (case : Case) (ended newer : ℕ) (live : Bool) → meets_floor policy live newer ≡ false → ripe_case (record case { policy = policy; enough = false }) ended ≡ None
+ripe_unmet (Safe interval floor) case ended newer live unmet = refl
+ripe_unmet One case ended newer live unmet = grind (arith, nat_tests, unmet)
+ripe_unmet All case ended newer live unmet = grind (arith, nat_tests, unmet)
+ripe_unmet (Landmarks rungs) case ended newer live unmet = grind (arith, nat_tests, unmet)
+
+ripe_keeps : (policy : Policy) (case : Case) (ended m nearest : ℕ) → IsPolicy policy → ripe_case (record case { policy = policy; next_closed = None }) ended ≡ Some m → ripe_case (record case { policy = policy; next_closed = Some nearest; enough = true }) ended ≡ Some m
+ripe_keeps policy case ended m nearest given is =
+    case_is (case_of policy case.closed (Some nearest) true) ended given ∙ by policy case.enough (sym (case_is (case_of policy case.closed None case.enough) ended given) ∙ is) where
+      none : (rungs : List Rung) → find (has_newer case.closed []) rungs ≡ None
       none [] = refl
       none (rung ∷ rungs) = none rungs
 
-      by : (policy : Policy) (met : Bool) → after_wait ended (wait_near policy closed None met) ≡ Some m → after_wait ended (wait_near policy closed (Some nearest) true) ≡ Some m
-      by (Landmarks rungs) met h = absurd (let no = none rungs in cc)
+      by : (policy : Policy) (enough : Bool) → after_wait ended (wait_case (case_of policy case.closed None enough)) ≡ Some m → after_wait ended (wait_case (case_of policy case.closed (Some nearest) true)) ≡ Some m
+      by (Landmarks rungs) enough h = absurd (let no = none rungs in grind (arith, nat_tests))
       by (Safe interval floor) false h = absurd cc
-      by policy met h = grind arith
+      by policy enough h = grind (arith, nat_tests)
 
 -- ---- so every policy is lawful
 
 pub policies_are_lawful : PoliciesAreLawful
-policies_are_lawful policy given = search (rules, due_from, ripe_nearest, ripe_keeps, ripe_floored, ripe_unmet, lets_go_without, lets_go_fewer)
+policies_are_lawful policy given = record {
+  given = given;
+  due_from = λ closed ended at beside fits. due_from policy closed ended at beside given fits;
+  ripe_seen = λ case ended beside stands. ripe_seen (record case { policy = policy }) ended given beside stands;
+  ripe_floored = λ case ended other some. ripe_floored policy case ended other given some;
+  ripe_unmet = λ case ended newer live unmet. ripe_unmet policy case ended newer live unmet;
+  ripe_keeps = λ case ended m nearest is. ripe_keeps policy case ended m nearest given is;
+  lets_go_without = λ live xs gone ys closed age gone_age longer goes. lets_go_without policy live xs gone ys closed age gone_age given longer goes;
+  lets_go_fewer = λ live xs more ys closed age goes. lets_go_fewer policy live xs more ys closed age goes;
+}

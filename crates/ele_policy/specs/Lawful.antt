@@ -3,9 +3,10 @@ use Rattle.std.specs.Prelude.{◌≡◌, ℕ, ◌≤◌, nat_le, Bool, true, fal
 use Rattle.std.specs.Option.{option_map_or}
 use Rattle.ele_moment.specs.Last.{last_moment}
 use Rattle.ele_policy.specs.declared.policy.Policy.{Policy}
+use Rattle.ele_policy.specs.declared.rule.Case.{Case}
 use Rattle.ele_policy.specs.FloorOf.{floor_of, meets_floor}
 use Rattle.ele_policy.specs.Policy.{IsPolicy}
-use Rattle.ele_policy.specs.Ripe.{Beside, IsToldBy, is_due_by, lets_go, ripe_by, ripe_near}
+use Rattle.ele_policy.specs.Ripe.{Beside, IsBeside, is_due_by, lets_go, ripe_by, ripe_case}
 
 pub record IsLawful (policy : Policy) : Type 0 where
   -- its numbers are such as can be given
@@ -13,18 +14,18 @@ pub record IsLawful (policy : Policy) : Type 0 where
   -- a version is due by it from its ripe moment on, and never without one
   pub due_from : (closed ended at : ℕ) (beside : Beside) → at ≤ last_moment
       → is_due_by policy closed beside ended at ≡ option_map_or (λ m. nat_le m at) (ripe_by policy closed beside ended) false
-  -- the nearest newer closing, and whether the floor is met, tell the ripe moment
-  pub ripe_nearest : (closed ended : ℕ) (nearest : Option ℕ) (met : Bool) (beside : Beside) → IsToldBy policy closed nearest met beside
-      → ripe_by policy closed beside ended ≡ ripe_near policy closed nearest met ended
-  -- of a policy with a floor whether that is met alone
-  pub ripe_floored : (closed ended : ℕ) (one other : Option ℕ) (met : Bool) → 1 ≤ floor_of policy
-      → ripe_near policy closed one met ended ≡ ripe_near policy closed other met ended
-  -- where it isn't, there is none
-  pub ripe_unmet : (closed ended newer : ℕ) (nearest : Option ℕ) (live : Bool) → meets_floor policy live newer ≡ false
-      → ripe_near policy closed nearest false ended ≡ None
-  -- a version that ripens with no newer one ripens then beside one, which leaves the floor met
-  pub ripe_keeps : (closed ended m nearest : ℕ) (met : Bool) → ripe_near policy closed None met ended ≡ Some m
-      → ripe_near policy closed (Some nearest) true ended ≡ Some m
+  -- its case tells the ripe moment, whatever else stands beside it
+  pub ripe_seen : (case : Case) (ended : ℕ) (beside : Beside) → IsBeside (record case { policy = policy }) beside
+      → ripe_by policy case.closed beside ended ≡ ripe_case (record case { policy = policy }) ended
+  -- under a policy with a floor whether enough newer ones are held tells it alone
+  pub ripe_floored : (case : Case) (ended : ℕ) (other : Option ℕ) → 1 ≤ floor_of policy
+      → ripe_case (record case { policy = policy }) ended ≡ ripe_case (record case { policy = policy; next_closed = other }) ended
+  -- where they aren't, there is none
+  pub ripe_unmet : (case : Case) (ended newer : ℕ) (live : Bool) → meets_floor policy live newer ≡ false
+      → ripe_case (record case { policy = policy; enough = false }) ended ≡ None
+  -- a version that ripens with no newer one ripens then beside one, which leaves enough
+  pub ripe_keeps : (case : Case) (ended m nearest : ℕ) → ripe_case (record case { policy = policy; next_closed = None }) ended ≡ Some m
+      → ripe_case (record case { policy = policy; next_closed = Some nearest; enough = true }) ended ≡ Some m
   -- one that is let go itself may be missing: an older one that has been ended as long goes as before
   pub lets_go_without : (live : Bool) (xs : List ℕ) (gone : ℕ) (ys : List ℕ) (closed age gone_age : ℕ) → gone_age ≤ age
       → lets_go policy gone (record { newer = ys; live = live }) gone_age ≡ true

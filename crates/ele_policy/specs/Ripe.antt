@@ -1,12 +1,13 @@
 -- When a policy lets a version go that has ended.
-use Rattle.std.specs.Prelude.{◌≡◌, ℕ, ◌+◌, ◌-◌, ◌≤◌, min, nat_le, Bool, true, false, ◌&&◌, List, [], ◌∷◌, map, length, Option, Some, None, slice_get, if◌then◌else◌}
+use Rattle.std.specs.Prelude.{◌≡◌, ℕ, ◌+◌, ◌-◌, ◌≤◌, min, nat_le, Bool, true, false, not, ◌&&◌, ◌||◌, List, [], ◌∷◌, map, length, Option, Some, None, slice_get, if◌then◌else◌}
 use Rattle.std.specs.List.{list_any}
 use Rattle.std.specs.Option.{option_map_or}
 use Rattle.ele_moment.specs.Last.{last_moment}
 use Rattle.ele_lists.specs.Lists.{AllLater}
 use Rattle.ele_policy.specs.declared.policy.Policy.{Policy}
 use Rattle.ele_policy.specs.declared.policy.Policy.TheVariants.{One, All, Safe, Landmarks}
-use Rattle.ele_policy.specs.FloorOf.{meets_floor}
+use Rattle.ele_policy.specs.declared.rule.Case.{Case}
+use Rattle.ele_policy.specs.FloorOf.{counts_newer, meets_floor}
 use Rattle.ele_policy.specs.Ladder.{level_of, rung_at, shares}
 
 -- what stands beside a version in its file: when the newer held ones closed, in order, and whether the file is live
@@ -49,22 +50,25 @@ earliest_of holds (at ∷ moments) =
 unfoldable pub ripe_by : Policy → ℕ → Beside → ℕ → Option ℕ
 ripe_by policy closed beside ended = earliest_of (is_due_by policy closed beside ended) (candidates policy ended)
 
--- of a version that closed then: the newer closings aren't before its own and stand in order, and this is the first of them
-pub record IsNearest (closed : ℕ) (nearest : Option ℕ) (beside : Beside) : Type 0 where
-  pub in_order : AllLater ◌≤◌ (closed ∷ beside.newer)
-  pub first : slice_get beside.newer 0 ≡ nearest
+-- the case of a version that closed then, when that next one did, with enough newer ones or not
+abbrev pub case_of : Policy → ℕ → Option ℕ → Bool → Case
+case_of policy closed next enough = record { policy = policy; closed = closed; next_closed = next; enough = enough }
 
--- the nearest newer closing and whether the floor is met are what they are beside the version
-pub record IsToldBy (policy : Policy) (closed : ℕ) (nearest : Option ℕ) (met : Bool) (beside : Beside) : Type 0 where
-  pub near : IsNearest closed nearest beside
-  pub floor : meets_floor policy beside.live (length beside.newer) ≡ met
+-- as the policy sees it beside these
+abbrev pub case_beside : Policy → ℕ → Beside → Case
+case_beside policy closed beside = case_of policy closed (slice_get beside.newer 0) (meets_floor policy beside.live (length beside.newer))
 
--- the ripe moment by these: kept safe, a version has none where its floor isn't met
-abbrev pub ripe_near : Policy → ℕ → Option ℕ → Bool → ℕ → Option ℕ
-ripe_near (Safe interval floor) closed nearest met ended = if met then ripe_by (Safe interval floor) closed (alone nearest) ended else None
-ripe_near policy closed nearest met ended = ripe_by policy closed (alone nearest) ended
+-- this stands beside a version of that case: the newer closings aren't before its own and stand in order, the next one is the first
+-- of them, and they are enough or not, as it says
+pub record IsBeside (case : Case) (beside : Beside) : Type 0 where
+  pub in_order : AllLater ◌≤◌ (case.closed ∷ beside.newer)
+  pub next : slice_get beside.newer 0 ≡ case.next_closed
+  pub enough : meets_floor case.policy beside.live (length beside.newer) ≡ case.enough
+
+-- the ripe moment of a version of that case which ended then: kept safe, it has none without enough newer ones
+abbrev pub ripe_case : Case → ℕ → Option ℕ
+ripe_case case ended = if case.enough || not (counts_newer case.policy) then ripe_by case.policy case.closed (alone case.next_closed) ended else None
 
 -- the ripe moment, whatever else stands beside the version
-abbrev pub IsRipe : Policy → ℕ → ℕ → Option ℕ → Bool → Option ℕ → Type 0
-IsRipe policy closed ended nearest met ripe =
-    (beside : Beside) → IsToldBy policy closed nearest met beside → ripe ≡ ripe_by policy closed beside ended
+abbrev pub IsRipe : Case → ℕ → Option ℕ → Type 0
+IsRipe case ended ripe = (beside : Beside) → IsBeside case beside → ripe ≡ ripe_by case.policy case.closed beside ended

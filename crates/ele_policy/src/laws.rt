@@ -4,7 +4,7 @@ ghost use Rattle.ele_policy.specs.LetsGoFrom.{LetsGoFrom};
 ghost use Rattle.ele_policy.specs.SharesNest.{SharesNest};
 
 /// A policy lets a version go from one age on, or never, and what stands beside the version tells
-/// which age by the nearest newer closing, and by whether the floor is met, alone.
+/// which age by its case alone.
 pub fn lets_go_from()
     ensures { LetsGoFrom }
 {}

@@ -9,6 +9,7 @@ mod ladder;
 pub mod laws;
 mod policy;
 mod ripening;
+mod rule;
 
 pub use cause::{Cause, Newer, cause_of};
 pub use floor::Floor;
@@ -16,3 +17,4 @@ pub use interval::{BadLadder, Interval};
 pub use ladder::Ladder;
 pub use policy::{Kind, Policy};
 pub use ripening::{ripe, ripe_beside};
+pub use rule::{Case, Rule};

@@ -4,10 +4,11 @@ ghost use Rattle.std.specs.Prelude.{◌≡◌, ◌≤◌, ℕ, false, nat_le, If
 ghost use Rattle.std.specs.Option.{option_map_or};
 ghost use Rattle.ele_moment.specs.Last.{last_moment};
 ghost use Rattle.ele_policy.specs.Policy.{IsPolicy};
-ghost use Rattle.ele_policy.specs.Ripe.{Beside, IsRipe, IsToldBy, alone, is_due_by, ripe_by, ripe_near};
+ghost use Rattle.ele_policy.specs.Ripe.{Beside, IsBeside, IsRipe, case_of, is_due_by, ripe_by, ripe_case};
 ghost use Rattle.ele_policy.specs.Wait.{wait, ripe_after};
 
 use crate::policy::Policy;
+use crate::rule::Case;
 use ele_moment::Moment;
 
 // How many seconds after its end the policy lets a version go that closed then.
@@ -64,41 +65,9 @@ pub fn ripe_beside(
     ripe_after(policy, closed, ended, newer, is_live)
 }
 
-// The same with no floor in force, told by the nearest newer closing.
-fn ripe_alone(
-    policy: &Policy,
-    closed: Moment,
-    ended: Moment,
-    next_closed: Option<Moment>,
-) -> Option<Moment>
-    ensures { result ≡ ripe_by policy.now closed (alone next_closed) ended }
-{
-    match next_closed {
-        Some(next) => ripe_beside(policy, closed, ended, &[next], false),
-        None => ripe_beside(policy, closed, ended, &[], false),
-    }
-}
-
-// The same, told by whether the floor is met too.
-fn ripe_near(
-    policy: &Policy,
-    closed: Moment,
-    ended: Moment,
-    next_closed: Option<Moment>,
-    floor_met: bool,
-) -> Option<Moment>
-    ensures { result ≡ ripe_near policy.now closed next_closed floor_met ended }
-{
-    match policy {
-        Policy::Safe(_, _) if !floor_met => None,
-        _ => ripe_alone(policy, closed, ended, next_closed),
-    }
-}
-
-/// The same, told by the closing of the next held version of the file, if there is one, which isn't
-/// before the version's own, and by whether the floor is met: whatever else stands beside the
-/// version, the answer is the same. `Safe` alone looks at the floor.
-#[tactic(auto, using(crate::proofs::Waits::is_ripe, crate::proofs::Waits::ripe_from, crate::proofs::Waits::ripe_never))]
+/// The same of a version's case: told by the closing of the next held version of the file, if there is one, which isn't before the
+/// version's own, and by whether the floor is met. Whatever else stands beside the version, the answer is the same. `Safe` alone
+/// looks at the floor.
 pub fn ripe(
     policy: &Policy,
     closed: Moment,
@@ -106,15 +75,20 @@ pub fn ripe(
     next_closed: Option<Moment>,
     floor_met: bool,
 ) -> Option<Moment>
-    ensures value { IsRipe policy.now closed ended next_closed floor_met result }
-    ensures near { result ≡ ripe_near policy.now closed next_closed floor_met ended }
-    ensures from_then { IfSome result
-        (λ m. (beside : Beside) → IsToldBy policy.now closed next_closed floor_met beside
+    ensures value { IsRipe (case_of policy.now closed next_closed floor_met) ended result }
+    ensures near { result ≡ ripe_case (case_of policy.now closed next_closed floor_met) ended }
+    ensures from_then { IfSome result (λ m. (beside : Beside)
+        → IsBeside (case_of policy.now closed next_closed floor_met) beside
         → (at : ℕ) → is_due_by policy.now closed beside ended at ≡ nat_le m at) }
-    ensures never { IfNone result
-        ((beside : Beside) → IsToldBy policy.now closed next_closed floor_met beside
+    ensures never { IfNone result ((beside : Beside)
+        → IsBeside (case_of policy.now closed next_closed floor_met) beside
         → (at : ℕ) → at ≤ last_moment → is_due_by policy.now closed beside ended at ≡ false) }
 {
-    policy.lemma_valid();
-    ripe_near(policy, closed, ended, next_closed, floor_met)
+    Case {
+        policy: *policy,
+        closed,
+        next_closed,
+        enough: floor_met,
+    }
+    .ripe(ended)
 }

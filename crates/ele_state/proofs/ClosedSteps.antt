@@ -1,5 +1,5 @@
 -- What closing a handle leaves, as the step of the world has it.
-use Rattle.ele_state.proofs.Words.{◌≡◌, ◌<◌, ◌^◌, ◌||◌, ℕ, List, Bool, true, false, cond, ◌∷◌, is_some, Option, Some, None, Ok, refl, ap, sym, ◌∙◌, arith, find, false≢true, AllByRecursion, option_map, option_map_or, nat_tests, IsSound, KeyChange, IsQueued, comes, new_keys, Rows, Key, has_key, cells_of_draft, is_live, may_grow, finishing, last_draft, leaving, left_by, opening_by, IsPast, Held, rows_of, with_rows, found_passes, all-found, all-weaker, Close, Closed, DraftRow, FileRow, Draft, EndDraft, ShutHandle, DropIdle, after_change, after_changes, has_other_writer, step, Counted, Drafts, Files, Handles, Versions, HasParts, dropped, all_keep, drafts-removed, World, file_by, file_written, has_draft, is_draft, next_of, reads_by, is_moment, in_order_of, open_still, shut_others, has_row, []}
+use Rattle.ele_state.proofs.Words.{◌≡◌, ◌<◌, ◌^◌, ◌||◌, ℕ, List, Bool, true, false, cond, ◌∷◌, is_some, Option, Some, None, Ok, refl, ap, sym, ◌∙◌, arith, find, false≢true, AllByRecursion, option_map, option_map_or, nat_tests, IsSound, KeyChange, IsQueued, comes, new_keys, Rows, Key, has_key, cells_of_draft, is_live, may_grow, finishing, last_draft, leaving, left_by, opening_by, IsPast, Held, rows_of, with_rows, found_passes, all-found, all-weaker, Close, Closed, DraftRow, FileRow, Draft, EndDraft, ShutHandle, DropIdle, after_change, after_changes, has_other_writer, step, Counted, Drafts, Files, Handles, Versions, HasParts, dropped, all_keep, drafts-removed, World, file_by, file_written, has_draft, is_draft, next_of, policy_of, Policy, reads_by, is_moment, in_order_of, open_still, shut_others, has_row, []}
 use Rattle.ele_state.proofs.Appended.{appended_queue}
 use Rattle.ele_model.proofs.OtherFiles.{other_drafts}
 use Rattle.ele_model.specs.declared.rows.HandleRow.{HandleRow}
@@ -25,8 +25,8 @@ module _ (w : World) (handle file : ℕ) (reads : reads_by w.handles handle ≡ 
   over_queue formed queue queued k = queued k ∙ ap (is_moment k.ripe) (sym (shut_others w handle (Draft file) reads (in_order_of w formed) k.file k.number refl))
 
   -- the same keys come
-  over_keys : (live : Bool) → new_keys over.groups (rows_of over) file w.now false live ≡ new_keys w.groups (rows_of w) file w.now false live
-  over_keys live = grind (arith, nat_tests, open_still w handle (Draft file) reads)
+  over_keys : (policy : Policy) (live : Bool) → new_keys over.groups (rows_of over) policy live file w.now false ≡ new_keys w.groups (rows_of w) policy live file w.now false
+  over_keys policy live = grind (arith, nat_tests, open_still w handle (Draft file) reads)
 
   -- ---- a version is made of the draft
 
@@ -48,10 +48,10 @@ module _ (w : World) (handle file : ℕ) (reads : reads_by w.handles handle ≡ 
     file_there formed = grind (arith, nat_tests, is_final, all-found, found_passes, formed.holds Drafts)
 
     -- the keys that come with it are those of all versions
-    pub finished_queue : (formed : HasParts w) (queue after : List Key) → IsQueued w queue → ((j : Key) → has_key j after ≡ (comes (new_keys w.groups (rows_of w) file w.now false (is_live w file)) j || has_key j queue)) → IsQueued (after_changes w (finishing (rows_of w) handle file opened)) after
-    finished_queue formed queue after queued edited =
+    pub finished_queue : (formed : HasParts w) (policy : Policy) → policy_of w.files file ≡ Some policy → (queue after : List Key) → IsQueued w queue → ((j : Key) → has_key j after ≡ (comes (new_keys w.groups (rows_of w) policy (is_live w file) file w.now false) j || has_key j queue)) → IsQueued (after_changes w (finishing (rows_of w) handle file opened)) after
+    finished_queue formed policy filed queue after queued edited =
         let kept = all_keep (Close handle) w w (ShutHandle handle ∷ EndDraft file ∷ []) tt (tt, (is_final.alone, tt)) formed in
-        appended_queue over file opened (cells_of_draft (rows_of w) file) (may_grow over file kept (file_there formed)) false refl queue after (over_queue formed queue queued) (λ j. edited j ∙ ap (λ (keys : List KeyChange). comes keys j || has_key j queue) (sym (over_keys (is_live w file))))
+        appended_queue over file opened (cells_of_draft (rows_of w) file) (may_grow over file kept (file_there formed)) policy filed false refl queue after (over_queue formed queue queued) (λ j. edited j ∙ ap (λ (keys : List KeyChange). comes keys j || has_key j queue) (sym (over_keys policy (is_live w file))))
 
   -- ---- none is made
 

@@ -1,5 +1,5 @@
 -- What becomes of a held version: by the groups that have its file, and by what its policy alone makes of it.
-use Rattle.ele_state.proofs.Words.{IsLawful, floor_in, is_live, newer_held, ◌≡◌, ℕ, ◌≤◌, ◌&&◌, Bool, true, false, List, [], ◌∷◌, Option, Some, None, IfSome, IsSome, refl, ap, sym, subst, ◌∙◌, arith, nat_tests, nat_le, find, slice_get, take, option_map, option_map_or, AllByRecursion, AllLater, all-found, any-found, found_passes, bytes_eq-Decides, IsSound, IsInfoOf, Rows, world_of, Held, Policy, GroupRow, VersionInfo, VersionRow, Versions, World, Cover, MarkRow, cover_of, ripe_past, option_and_then, file_view, is_open, is_version, policy_of, info_of, in_order_of, ripe_at_is, ripe_at_near}
+use Rattle.ele_state.proofs.Words.{IsLawful, Case, Rule, case_moment, case_of, moment_is, ripe_case, rule_in, rule_of, is_live, newer_held, ◌≡◌, ℕ, ◌≤◌, ◌&&◌, Bool, true, false, List, [], ◌∷◌, Option, Some, None, IfSome, IsSome, refl, ap, sym, subst, ◌∙◌, arith, nat_tests, nat_le, find, slice_get, take, option_map, option_map_or, AllByRecursion, AllLater, all-found, any-found, found_passes, bytes_eq-Decides, IsSound, IsInfoOf, Rows, world_of, Held, Policy, GroupRow, VersionInfo, VersionRow, Versions, World, Cover, MarkRow, cover_of, ripe_past, option_and_then, file_view, is_open, is_version, policy_of, info_of, in_order_of, ripe_at_is}
 use Rattle.ele_state.proofs.Changes.{none_any}
 use Rattle.ele_lists.proofs.Taken.{all-at, find-first_at}
 use Rattle.ele_model.proofs.Basics.{zero, suc}
@@ -9,7 +9,7 @@ use Rattle.ele_policy.specs.Cause.{closing_of}
 use Rattle.ele_policy.specs.declared.cause.Cause.{Cause}
 use Rattle.ele_policy.specs.declared.cause.Newer.{Newer}
 use Rattle.ele_moment.specs.Last.{last_moment}
-use Rattle.ele_policy.specs.Ripe.{alone, is_due_by, ripe_by, ripe_near}
+use Rattle.ele_policy.specs.Ripe.{alone, is_due_by, ripe_by}
 use Rattle.ele_groups.specs.Rows.{row_of}
 use Rattle.ele_state.specs.Fated.{IsCauseBy, IsFreeFate, MarksAt, newer_of}
 use Rattle.ele_model.proofs.Fates.{nearest_newer, protected_told}
@@ -63,26 +63,37 @@ marked_first rows place file closed ended now name mark none its =
 
 -- ---- by its row
 
--- a version that has ended, of which neither a handle nor a mark keeps it, and its policy
+-- a version that has ended, of which neither a handle nor a mark keeps it, and its rule
 pub record IsFree (rows : Rows) (file : ℕ) (info : VersionInfo) : Type 0 where
   pub ended : ℕ
   pub ends : info.ended ≡ Some ended
   pub unread : is_open rows.files.handles file info.number ≡ false
   pub unmarked : is_marked rows.groups file info.closed (Some ended) rows.moment ≡ false
-  pub policy : Policy
-  pub filed : policy_of rows.files.files file ≡ Some policy
+  pub rule : Rule
+  pub ruled : rule_of (world_of rows) file ≡ Some rule
 
--- what that policy alone makes of it, beside its next one, as it has its cover and the floor is met or not
+-- what its policy alone makes of it, beside its next one, as it has its cover and its case
 abbrev pub IsMade : (rows : Rows) (file : ℕ) (info : VersionInfo) → IsFree rows file info → Fate → Type 0
-IsMade rows file info free fate = IsFreeFate (cover_of rows.groups file info.closed (Some free.ended)) free.policy info.closed free.ended (option_map newer_of (option_map info_of (find (is_newer_of file info.number) rows.files.versions)))
-    (nat_le (floor_in (Some free.policy) (is_live (world_of rows) file)) (newer_held rows.files.versions file info.number)) rows.moment fate
+IsMade rows file info free fate =
+    let next = option_map newer_of (option_map info_of (find (is_newer_of file info.number) rows.files.versions)) in
+    IsFreeFate (cover_of rows.groups file info.closed (Some free.ended)) (case_of free.rule.policy info.closed (closing_of next) (nat_le free.rule.newer (newer_held rows.files.versions file info.number))) next free.ended rows.moment fate
+
+-- a rule is of the file's policy
+filed_by : (live : Bool) (o : Option Policy) (rule : Rule) → option_map (λ (policy : Policy). rule_in policy live) o ≡ Some rule → o ≡ Some rule.policy
+filed_by live None rule is = absurd cc
+filed_by live (Some policy) rule is = let same : rule_in policy live ≡ rule = cc in ap (λ (r : Rule). Some r.policy) same
+
+unruled_by : (live : Bool) (o : Option Policy) → option_map (λ (policy : Policy). rule_in policy live) o ≡ None → o ≡ None
+unruled_by live None is = refl
+unruled_by live (Some policy) is = absurd cc
 
 module _ (rows : Rows) (sound : IsSound rows) (row : VersionRow) (found : find (is_version row.file row.number) rows.files.versions ≡ Some row) where
   abbrev w : World
   w = world_of rows
 
-  governed : policy_of w.files row.file ≡ None → ⊥
-  governed none =
+  governed : rule_of w row.file ≡ None → ⊥
+  governed unruled =
+      let none : policy_of w.files row.file ≡ None = unruled_by (is_live w row.file) (policy_of w.files row.file) unruled in
       let is = all-found (is_version row.file row.number) (IsVersion w.files w.now) w.versions row found (sound.formed.holds Versions).each in
       let there = is.numbered in
       grind (arith, nat_tests)
@@ -94,11 +105,14 @@ module _ (rows : Rows) (sound : IsSound rows) (row : VersionRow) (found : find (
     abbrev next_newer : Option Newer
     next_newer = option_map newer_of (option_map info_of next_row)
 
+    filed : policy_of w.files row.file ≡ Some free.rule.policy
+    filed = filed_by (is_live w row.file) (policy_of w.files row.file) free.rule free.ruled
+
     abbrev ripe_beside : Option ℕ → Option ℕ
-    ripe_beside closing = option_and_then (ripe_past (cover_of w.groups row.file row.closed (Some free.ended))) (ripe_near free.policy row.closed closing (nat_le (floor_in (Some free.policy) (is_live w row.file)) (newer_held w.versions row.file row.number)) free.ended)
+    ripe_beside closing = case_moment (cover_of w.groups row.file) (case_of free.rule.policy row.closed closing (nat_le free.rule.newer (newer_held w.versions row.file row.number))) free.ended
 
     ripe_told : ripe_of w row ≡ ripe_beside (closing_of next_newer)
-    ripe_told = sym (ripe_at_is w row.file row.number ∙ rw found refl) ∙ ripe_at_near w row.file row.number (in_order_of w sound.formed) ∙ rw (free.unread, found, free.ends, free.filed) (ap ripe_beside (by next_row)) where
+    ripe_told = sym (ripe_at_is w row.file row.number ∙ rw found refl) ∙ moment_is w (in_order_of w sound.formed) row.file row.number free.rule free.ruled ∙ rw (free.unread, found, free.ends) (ap ripe_beside (by next_row)) where
       by : (o : Option VersionRow) → option_map (λ (r : VersionRow). r.closed) o ≡ closing_of (option_map newer_of (option_map info_of o))
       by None = refl
       by (Some next) = refl
@@ -112,10 +126,10 @@ module _ (rows : Rows) (sound : IsSound rows) (row : VersionRow) (found : find (
       by None = refl
       by (Some next) = refl
 
-    cause_is : (since : ℕ) (cause : Cause) → IsCauseBy free.policy row.closed free.ended next_newer since cause → HasCause (file_view w row.file) row since cause
+    cause_is : (since : ℕ) (cause : Cause) → IsCauseBy free.rule.policy row.closed free.ended next_newer since cause → HasCause (file_view w row.file) row since cause
     cause_is since cause is = record {
-      policy = free.policy;
-      policy_is = free.filed;
+      policy = free.rule.policy;
+      policy_is = filed;
       ended = free.ended;
       has_ended = free.ends;
       why = is (newer_versions (file_view w row.file) row) next_is;
@@ -130,22 +144,22 @@ module _ (rows : Rows) (sound : IsSound rows) (row : VersionRow) (found : find (
       unprotected = protected_told w row w.now ∙ rw (free.unread, free.ends, free.unmarked) refl;
       not_due = due_told until (sym ripe) ∙ is.1;
       until_is = ripe;
-      level_is = is.2 ∙ rw (free.filed, free.ends) refl;
+      level_is = is.2 ∙ rw (filed, free.ends) refl;
     }
     made_fate (Due since cause) is = let ripe = ripe_told ∙ is.0 in record { due = due_told (Some since) ripe ∙ is.1; ripe = ripe; why = cause_is since cause is.2 }
 
 -- ---- why it is due
 
-near_alone : (policy : Policy) (closed : ℕ) (nearest : Option ℕ) (met : Bool) (ended r : ℕ) → ripe_near policy closed nearest met ended ≡ Some r → ripe_by policy closed (alone nearest) ended ≡ Some r
-near_alone policy closed nearest met ended r is = grind (arith, nat_tests, is)
+case_alone : (case : Case) (ended r : ℕ) → ripe_case case ended ≡ Some r → ripe_by case.policy case.closed (alone case.next_closed) ended ≡ Some r
+case_alone case ended r is = grind (arith, nat_tests, is)
 
 -- what ripens is due from then on beside its nearest newer one alone
-pub due_alone : (cover : Cover) (policy : Policy) (closed : ℕ) (nearest : Option ℕ) (met : Bool) (ended since : ℕ) → IsLawful policy → since ≤ last_moment → option_and_then (ripe_past cover) (ripe_near policy closed nearest met ended) ≡ Some since
-    → is_due_by policy closed (alone nearest) ended since ≡ true
-due_alone cover policy closed nearest met ended since given fits is = by (ripe_near policy closed nearest met ended) refl is where
-  by : (o : Option ℕ) → ripe_near policy closed nearest met ended ≡ o → option_and_then (ripe_past cover) o ≡ Some since → is_due_by policy closed (alone nearest) ended since ≡ true
+pub due_alone : (cover : Cover) (case : Case) (nearest : Option ℕ) (ended since : ℕ) → case.next_closed ≡ nearest → IsLawful case.policy → since ≤ last_moment → option_and_then (ripe_past cover) (ripe_case case ended) ≡ Some since
+    → is_due_by case.policy case.closed (alone nearest) ended since ≡ true
+due_alone cover case nearest ended since next given fits is = rw (← next) (by (ripe_case case ended) refl is) where
+  by : (o : Option ℕ) → ripe_case case ended ≡ o → option_and_then (ripe_past cover) o ≡ Some since → is_due_by case.policy case.closed (alone case.next_closed) ended since ≡ true
   by None none h = absurd cc
-  by (Some r) some h = given.due_from closed ended since (alone nearest) fits ∙ rw (near_alone policy closed nearest met ended r some) (past cover r h) where
+  by (Some r) some h = given.due_from case.closed ended since (alone case.next_closed) fits ∙ rw (case_alone case ended r some) (past cover r h) where
     past : (c : Cover) (r : ℕ) → ripe_past c r ≡ Some since → nat_le r since ≡ true
     past x0 r h = grind (arith, nat_tests, h)
 
@@ -183,5 +197,5 @@ module _ (rows : Rows) where
   pub fate_made : IsSound rows → (file : ℕ) (info : VersionInfo) → IsInfoOf rows.files file info → (free : IsFree rows file info) (fate : Fate) → IsMade rows file info free fate → HasFate (world_of rows) file info.number fate
   fate_made sound = told_row rows.files (λ file info. (free : IsFree rows file info) (fate : Fate) → IsMade rows file info free fate → HasFate (world_of rows) file info.number fate) (λ row found free fate is. record { row = row; held = found; is = made_fate rows sound row found free fate is })
 
-  pub fate_ungoverned : IsSound rows → (file : ℕ) (info : VersionInfo) → IsInfoOf rows.files file info → policy_of rows.files.files file ≡ None → ⊥
-  fate_ungoverned sound = told_row rows.files (λ file info. policy_of rows.files.files file ≡ None → ⊥) (λ row found. governed rows sound row found)
+  pub fate_ungoverned : IsSound rows → (file : ℕ) (info : VersionInfo) → IsInfoOf rows.files file info → rule_of (world_of rows) file ≡ None → ⊥
+  fate_ungoverned sound = told_row rows.files (λ file info. rule_of (world_of rows) file ≡ None → ⊥) (λ row found. governed rows sound row found)

@@ -1,5 +1,5 @@
--- The moments of a file's newest versions, where no floor keeps them.
-use Rattle.ele_state.proofs.Words.{IsLawful, cond, cover_of, false≢true, floor_of, is_open, is_some, near_floored, near_moment, next_closing, unread_under, unwrap_or, ◌≤◌, comes, if_changed, sym, Held, has_newer, freed_moment, is_entry, is_freed, ◌∙◌, ap, refl, ◌≡◌, ℕ, ◌+◌, ◌==◌, nat_le, Bool, true, false, not, ◌&&◌, ◌||◌, List, Option, Some, None, find, option_and_then, option_map, arith, nat_tests, and-false, AllLater, ArePlaced, VersionRow, GroupRow, VersionInfo, Policy, Key, info_of, is_version, is_moment, found_passes, newer_held, no_floor, with_newer}
+-- The moments of a file's newest versions, where its rule asks for no newer ones.
+use Rattle.ele_state.proofs.Words.{IsLawful, cond, cover_of, case_moment, case_of, ripe_past, rule_in, false≢true, is_open, is_some, next_closing, unread_under, unwrap_or, ◌≤◌, comes, if_changed, sym, Held, has_newer, freed_moment, is_entry, is_freed, ◌∙◌, ap, refl, ◌≡◌, ℕ, ◌+◌, ◌==◌, nat_le, Bool, true, false, not, ◌&&◌, ◌||◌, List, Option, Some, None, find, option_and_then, option_map, arith, nat_tests, and-false, AllLater, ArePlaced, VersionRow, GroupRow, VersionInfo, Policy, Key, info_of, is_version, is_moment, found_passes, newer_held, none_asked, with_newer}
 use Rattle.ele_state.proofs.Changes.{any_is, brought}
 use Rattle.ele_state.proofs.Governed.{unheld}
 use Rattle.ele_state.proofs.Appended.{none_has, one_alone, one_has}
@@ -13,21 +13,21 @@ module _ (groups : List GroupRow) (h : Held) (file : ℕ) (policy : Policy) (now
   its row = freed_moment groups h file policy now row.number row.closed row.ended
 
   pub none_freed : (k : Key) → is_freed groups h file policy now 0 k ≡ false
-  none_freed k = rw (no_floor (newer_held h.versions file k.number)) (and-false (k.file == file))
+  none_freed k = rw (none_asked (newer_held h.versions file k.number)) (and-false (k.file == file))
 
-  -- under a policy with a floor one that has ended has the moment that it has without it
-  module _ (given : IsLawful policy) (some : 1 ≤ floor_of policy) where
-    alone : (nearest : Option ℕ) (closed : ℕ) (e : Option ℕ) → is_some e ≡ true → near_moment (cover_of groups file) (Some policy) None true closed (unwrap_or e now) ≡ option_and_then (near_moment (cover_of groups file) (Some policy) nearest true closed) e
+  -- under a policy that may ask for some one that has ended has the moment that it has where none are asked for
+  module _ (given : IsLawful policy) (some : 1 ≤ (rule_in policy true).newer) where
+    alone : (nearest : Option ℕ) (closed : ℕ) (e : Option ℕ) → is_some e ≡ true → case_moment (cover_of groups file) (case_of policy closed None true) (unwrap_or e now) ≡ option_and_then (case_moment (cover_of groups file) (case_of policy closed nearest true)) e
     alone nearest closed None is = absurd (false≢true is)
-    alone nearest closed (Some ended) is = near_floored (cover_of groups file) (Some policy) true None nearest true closed ended given some
+    alone nearest closed (Some ended) is = ap (option_and_then (ripe_past (cover_of groups file closed (Some ended)))) (given.ripe_floored (case_of policy closed None true) ended nearest some)
 
-    pub freed_is : (n : ℕ) → ((row : VersionRow) → find (is_version file n) h.versions ≡ Some row → is_some row.ended ≡ true) → option_and_then its (find (is_version file n) h.versions) ≡ unread_under groups (record { policy = policy; floor = 0 }) h file n
+    pub freed_is : (n : ℕ) → ((row : VersionRow) → find (is_version file n) h.versions ≡ Some row → is_some row.ended ≡ true) → option_and_then its (find (is_version file n) h.versions) ≡ unread_under groups (rule_in policy false) h file n
     freed_is n ended = by (find (is_version file n) h.versions) refl where
-      by : (o : Option VersionRow) → find (is_version file n) h.versions ≡ o → option_and_then its o ≡ unread_under groups (record { policy = policy; floor = 0 }) h file n
-      by None none = sym (unheld groups h file n (record { policy = policy; floor = 0 }) none)
+      by : (o : Option VersionRow) → find (is_version file n) h.versions ≡ o → option_and_then its o ≡ unread_under groups (rule_in policy false) h file n
+      by None none = sym (unheld groups h file n (rule_in policy false) none)
       by (Some row) found =
           let number : row.number ≡ n = grind (arith, nat_tests, found_passes (is_version file n) h.versions row found) in
-          rw (found, number, no_floor (newer_held h.versions file n)) (ap (cond (is_open h.handles file n) None) (alone (next_closing h.versions file n) row.closed row.ended (ended row found)))
+          rw (found, number, none_asked (newer_held h.versions file n)) (ap (cond (is_open h.handles file n) None) (alone (next_closing h.versions file n) row.closed row.ended (ended row found)))
 
   module _ (placed : AllLater ArePlaced h.versions) (newest : ℕ) (k : Key) where
     abbrev pub one_more : Bool

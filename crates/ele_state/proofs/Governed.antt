@@ -1,5 +1,5 @@
 -- The keys and the book, once a file has another policy.
-use Rattle.ele_state.proofs.Words.{AreChanges, get_or, is_one, is_own, length, take, ◌+◌, None, Rule, floor_of, is_live, is_open, nat_le, near_unmet, newer_held, no_floor, rule_in, ◌≤◌, IsInfoOf, ◌∙◌, Versions, all_found, ap, find, cover_of, near_moment, next_closing, option_and_then, rows_of, ◌≡◌, ℕ, ◌<◌, ◌==◌, Bool, true, false, cond, ◌&&◌, ◌||◌, List, ◌∷◌, Option, Some, refl, sym, subst, arith, filter, map, AllByRecursion, list_any, nat_tests, world_of, IsSound, unread_under, held_world, IsBooked, Rows, Held, changed_at, Kind, Policy, IsLawful, is_kind, kind_of, Usage, Book, sums_of, only_at, plus, Fits, IsWithin, GroupRow, VersionInfo, VersionRow, SetFilePolicy, after_change, is_version_of, info_of, file_usage, usage_of, usages, Bounded, World, is_version, next_of, policy_of, in_order_of, ripe_at_near, put_under_keeps, usage_same, usages_fit, [], HasParts, KeyChange, if_changed}
+use Rattle.ele_state.proofs.Words.{AreChanges, get_or, is_one, is_own, length, take, ◌+◌, None, Rule, case_in, case_moment, case_of, is_live, is_open, moment_is, nat_le, newer_held, none_asked, option_map, ripe_past, rule_in, IsInfoOf, ◌∙◌, Versions, all_found, ap, find, cover_of, next_closing, option_and_then, rows_of, ◌≡◌, ℕ, ◌<◌, ◌==◌, Bool, true, false, cond, ◌&&◌, ◌||◌, List, ◌∷◌, Option, Some, refl, sym, subst, arith, filter, map, AllByRecursion, list_any, nat_tests, world_of, IsSound, unread_under, held_world, IsBooked, Rows, Held, changed_at, Kind, Policy, IsLawful, is_kind, kind_of, Usage, Book, sums_of, only_at, plus, Fits, IsWithin, GroupRow, VersionInfo, VersionRow, SetFilePolicy, after_change, is_version_of, info_of, file_usage, usage_of, usages, Bounded, World, is_version, next_of, policy_of, in_order_of, put_under_keeps, usage_same, usages_fit, [], HasParts, KeyChange, if_changed}
 use Rattle.std.proofs.lemmas.List.Folds.{list_any_more}
 use Rattle.ele_state.proofs.Questions.{under_told}
 use Rattle.ele_state.proofs.Changes.{Move, any_is, one_changes, one_stays, wider}
@@ -24,10 +24,10 @@ module _ (groups : List GroupRow) (h : Held) (file : ℕ) (was is : Rule) where
   -- of a version by what is told of it
   module _ (info : VersionInfo) (told : IsInfoOf h file info) where
     abbrev told_under : Rule → Option ℕ
-    told_under rule = cond (is_open h.handles file info.number) None (option_and_then (near_moment (cover_of groups file) (Some rule.policy) (next_closing h.versions file info.number) (nat_le rule.floor (newer_held h.versions file info.number)) info.closed) info.ended)
+    told_under rule = cond (is_open h.handles file info.number) None (option_and_then (case_moment (cover_of groups file) (case_in rule h.versions file info.number info.closed)) info.ended)
 
     has : (rule : Rule) → unread_under groups rule h file info.number ≡ told_under rule
-    has rule = ap (cond (is_open h.handles file info.number) None) (under_told h file info told (cover_of groups file) (Some rule.policy) rule.floor)
+    has rule = ap (cond (is_open h.handles file info.number) None) (under_told h file info told (cover_of groups file) rule)
 
     pub stays_under : told_under is ≡ told_under was → AreOf (is_one file info.number) []
     stays_under same = one_stays _ _ file info.number (has is ∙ same ∙ sym (has was))
@@ -46,10 +46,16 @@ module _ (groups : List GroupRow) (h : Held) (file : ℕ) (was is : Rule) where
   pub all_under : (held : List VersionInfo) (changes : List KeyChange) → held ≡ map info_of (filter (is_version_of file) h.versions) → AreOf (is_among file held) changes → AreOf (is_own file) changes
   all_under held changes all are = wider _ _ (is_among file held) (is_own file) changes (λ owner number h. grind (arith, nat_tests, h)) (λ owner number own none. grind (arith, nat_tests, own, none, held_told number h.versions, all, any_is (is_version file number) h.versions)) are
 
--- the floor keeps those that have too few newer ones, and leaves the others their moments
-pub floored : (groups : List GroupRow) (policy : Policy) (floor : ℕ) (h : Held) (file number : ℕ) → IsLawful policy → floor ≤ floor_of policy
-    → unread_under groups (record { policy = policy; floor = floor }) h file number ≡ cond (nat_le floor (newer_held h.versions file number)) (unread_under groups (record { policy = policy; floor = 0 }) h file number) None
-floored groups policy floor h file number given within = grind (arith, nat_tests, no_floor (newer_held h.versions file number), near_unmet (cover_of groups file) (Some policy) true (newer_held h.versions file number) (next_closing h.versions file number))
+-- a live name keeps those that have too few newer ones, and leaves the others their moments
+module _ (groups : List GroupRow) (policy : Policy) (h : Held) (file number : ℕ) (given : IsLawful policy) where
+  abbrev held : ℕ
+  held = newer_held h.versions file number
+
+  few_none : (closed ended : ℕ) → nat_le (rule_in policy true).newer held ≡ false → case_moment (cover_of groups file) (case_of policy closed (next_closing h.versions file number) false) ended ≡ None
+  few_none closed ended few = ap (option_and_then (ripe_past (cover_of groups file closed (Some ended)))) (given.ripe_unmet (case_of policy closed (next_closing h.versions file number) false) ended held true few)
+
+  pub asked : unread_under groups (rule_in policy true) h file number ≡ cond (nat_le (rule_in policy true).newer held) (unread_under groups (rule_in policy false) h file number) None
+  asked = grind (arith, nat_tests, none_asked held, few_none)
 
 -- so is each that is told of a file whose versions are in order
 all_told : (h : Held) (file : ℕ) (rows : List VersionRow) → AllByRecursion (λ row. find (is_version row.file row.number) h.versions ≡ Some row) rows → AllByRecursion (IsInfoOf h file) (map info_of (filter (is_version_of file) rows))
@@ -63,7 +69,7 @@ stamps_told rows file held sound is = rw is (all_told rows.files file rows.files
 pub governed : (w : World) (file : ℕ) (was policy : Policy) → HasParts w → policy_of w.files file ≡ Some was → 0 < next_of w.files file → IsLawful policy
     → Move w (after_change w (SetFilePolicy file policy)) (is_own file) (unread_under w.groups (rule_in was (is_live w file)) (rows_of w)) (unread_under w.groups (rule_in policy (is_live w file)) (rows_of w))
 governed w file was policy k filed there given = record {
-  had = λ owner number own. grind (arith, nat_tests, own, ripe_at_near w file number (in_order_of w k), filed);
+  had = λ owner number own. let same : owner ≡ file = grind (arith, nat_tests, own) in rw same (moment_is w (in_order_of w k) file number (rule_in was (is_live w file)) (ap (option_map (λ (p : Policy). rule_in p (is_live w file))) filed));
   has = λ owner number own. let same : owner ≡ file = grind (arith, nat_tests, own) in rw same (policy_own w file policy k given there number);
   others = λ owner number other. policy_others w file policy k owner number other;
 }

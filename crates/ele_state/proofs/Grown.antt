@@ -48,24 +48,24 @@ module _ (rows : Rows) (file : ℕ) where
 
 -- ---- where a sound state's file has it
 
-module _ (rows : Rows) (file : ℕ) (sound : IsSound rows) (there : 0 < next_of rows.files.files file) where
+module _ (rows : Rows) (file : ℕ) (sound : IsSound rows) (there : 0 < next_of rows.files.files file) (policy : Policy) (filed : policy_of rows.files.files file ≡ Some policy) where
   abbrev grows : MayGrow (world_of rows) file
   grows = may_grow (world_of rows) file sound.formed there
 
   -- none of the keys was there that come with it
-  pub none_new : (j : Key) → comes (coming rows file false) j ≡ true → has_key j rows.queue ≡ false
-  none_new j is = sound.tracked.queue j ∙ none_there (world_of rows) file 0 [] grows false refl j is
+  pub none_new : (j : Key) → comes (coming rows policy file false) j ≡ true → has_key j rows.queue ≡ false
+  none_new j is = sound.tracked.queue j ∙ none_there (world_of rows) file 0 [] grows policy filed false refl j is
 
-  grown_queue : (source : Source) → IsSource rows.files file source → (after : List Key) → ((j : Key) → has_key j after ≡ (comes (coming rows file false) j || has_key j rows.queue)) → IsQueued (after_changes (world_of rows) (appending rows.files rows.moment file source)) after
-  grown_queue (Draft handle opened) is after = finished_queue (world_of rows) handle file is.reads opened is.changed sound.formed rows.queue after sound.tracked.queue
-  grown_queue (Version number) is after = appended_queue (world_of rows) file rows.moment (cells_of_version rows.files file number) grows false refl rows.queue after sound.tracked.queue
+  grown_queue : (source : Source) → IsSource rows.files file source → (after : List Key) → ((j : Key) → has_key j after ≡ (comes (coming rows policy file false) j || has_key j rows.queue)) → IsQueued (after_changes (world_of rows) (appending rows.files rows.moment file source)) after
+  grown_queue (Draft handle opened) is after = finished_queue (world_of rows) handle file is.reads opened is.changed sound.formed policy filed rows.queue after sound.tracked.queue
+  grown_queue (Version number) is after = appended_queue (world_of rows) file rows.moment (cells_of_version rows.files file number) grows policy filed false refl rows.queue after sound.tracked.queue
 
   -- and once all has followed, or been refused, it is tracked
   pub grown_tracked : (source : Source) → IsSource rows.files file source → (now : Rows) (result : Result ℕ NoMemory) → OnOk result (world_of now ≡ after_changes (world_of rows) (appending rows.files rows.moment file source)) → OnErr result (now ≡ record rows { queue = now.queue })
-      → OnOk result ((j : Key) → has_key j now.queue ≡ (comes (coming rows file false) j || has_key j rows.queue)) → OnErr result ((j : Key) → has_key j now.queue ≡ has_key j rows.queue)
+      → OnOk result ((j : Key) → has_key j now.queue ≡ (comes (coming rows policy file false) j || has_key j rows.queue)) → OnErr result ((j : Key) → has_key j now.queue ≡ has_key j rows.queue)
       → IsBooked now.files now.book → now.limits ≡ rows.limits → IsTracked now
   grown_tracked source is now result ok err come same booked limits = record { queue = by result ok err come same; book = booked; bounds = rw limits sound.tracked.bounds } where
     by : (result : Result ℕ NoMemory) → OnOk result (world_of now ≡ after_changes (world_of rows) (appending rows.files rows.moment file source)) → OnErr result (now ≡ record rows { queue = now.queue })
-        → OnOk result ((j : Key) → has_key j now.queue ≡ (comes (coming rows file false) j || has_key j rows.queue)) → OnErr result ((j : Key) → has_key j now.queue ≡ has_key j rows.queue) → IsQueued (world_of now) now.queue
+        → OnOk result ((j : Key) → has_key j now.queue ≡ (comes (coming rows policy file false) j || has_key j rows.queue)) → OnErr result ((j : Key) → has_key j now.queue ≡ has_key j rows.queue) → IsQueued (world_of now) now.queue
     by (Ok number) ok err come same = subst (λ (v : World). IsQueued v now.queue) (sym ok) (grown_queue source is now.queue come)
     by (Err refused) ok err come same = subst (λ (v : World). IsQueued v now.queue) (sym (ap world_of err)) (λ j. same j ∙ sound.tracked.queue j)

@@ -1,6 +1,6 @@
 -- The moments of versions that were current at marks: which change with the groups, and that the queue follows.
-use Rattle.ele_state.proofs.Words.{get_or, length, take, ◌+◌, ◌<◌, ◌≤◌, ◌||◌, HasParts, false≢true, is_live, option_and_then, ripe_past, unmarked_moment, AllByRecursion, AllLater, AreChanges, ArePlaced, Bool, Cover, Dropped, GroupChange, HasLeaving, IsQueued, IsSound, IsInfoOf, Joined, Left, List, MakeGroup, Marked, MarksMove, None, Option, Rows, Some, VersionInfo, Unmarked, VersionRow, World, [], after_change, all-found, all_found, ap, append-nil, arith, change_of, cond, cover_after, cover_of, covers_moment, drop_moves, false, files_of, filter, filter-append, find, found_passes, had_life, if_changed, in_order_of, is_covered, is_moment, is_one, is_open, is_touched, is_version, leave_moves, list_any, lives_at, mark_moves, member_moves, moments_by, moments_of, nat_tests, option_map, option_map_or, placed_of, refl, ripe_at, ripe_at_near, info_of, sym, true, unmark_moves, world_of, ℕ, ◌&&◌, ◌==◌, ◌∙◌, ◌∷◌, ◌≡◌}
-use Rattle.ele_state.proofs.Questions.{covered_told}
+use Rattle.ele_state.proofs.Words.{get_or, length, take, ◌+◌, ◌<◌, ◌≤◌, ◌||◌, HasParts, false≢true, option_and_then, ripe_past, AllByRecursion, AllLater, AreChanges, ArePlaced, Bool, Cover, Dropped, GroupChange, HasLeaving, IsQueued, IsSound, IsInfoOf, Joined, Left, List, MakeGroup, Marked, MarksMove, None, Option, Rows, Some, VersionInfo, Unmarked, VersionRow, World, [], after_change, all-found, all_found, ap, append-nil, arith, change_of, cond, cover_after, cover_of, covers_moment, drop_moves, false, files_of, filter, filter-append, find, found_passes, had_life, if_changed, in_order_of, is_covered, is_moment, is_one, is_open, is_touched, is_version, leave_moves, list_any, lives_at, mark_moves, member_moves, moments_by, moments_of, nat_tests, option_map, option_map_or, placed_of, refl, ripe_at, ripe_at_near, info_of, sym, true, unmark_moves, world_of, ℕ, ◌&&◌, ◌==◌, ◌∙◌, ◌∷◌, ◌≡◌}
+use Rattle.ele_state.proofs.Questions.{covered_told, unmarked}
 use Rattle.ele_state.proofs.Changes.{Move, found_is, passing, none_changes, one_changes, one_stays, same_change}
 use Rattle.ele_model.proofs.Versions.{IsFound}
 use Rattle.std.proofs.lemmas.List.{take_all}
@@ -52,13 +52,13 @@ module _ (rows : Rows) (file mark : ℕ) (sound : IsSound rows) where
     module _ (info : VersionInfo) (lives : Some info ≡ option_map info_of (find (had_life file mark) rows.files.versions)) where
       -- the moment of the one that was by what is told of it
       abbrev told_by : (ℕ → ℕ → Option ℕ → Cover) → Option ℕ
-      told_by cover = cond (is_open rows.files.handles file info.number) None (option_and_then (λ ended. option_and_then (ripe_past (cover file info.closed (Some ended))) (unmarked_moment rows.files (is_live w file) file info.number info.closed ended)) info.ended)
+      told_by cover = cond (is_open rows.files.handles file info.number) None (option_and_then (λ ended. option_and_then (ripe_past (cover file info.closed (Some ended))) (unmarked w file info ended)) info.ended)
 
       told_moment : (cover : ℕ → ℕ → Option ℕ → Cover) → moments_by w cover file info.number ≡ told_by cover
-      told_moment cover = ap (cond (is_open rows.files.handles file info.number) None) (covered_told rows.files file info (lived_told info lives) (cover file) (is_live w file))
+      told_moment cover = ap (cond (is_open rows.files.handles file info.number) None) (covered_told w file info (lived_told info lives) (cover file))
 
       had : ripe_at w file info.number ≡ told_by (cover_of rows.groups)
-      had = ripe_at_near w file info.number (in_order_of w sound.formed) ∙ told_moment (cover_of rows.groups)
+      had = ripe_at_near w (in_order_of w sound.formed) file info.number ∙ told_moment (cover_of rows.groups)
 
       -- where it keeps it, and where it gets another
       pub stays : told_by (cover_after change rows.groups) ≡ told_by (cover_of rows.groups) → AreChanges touched (ripe_at w) after []

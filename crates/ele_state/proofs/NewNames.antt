@@ -1,5 +1,5 @@
 -- Names that come, move and go.
-use Rattle.ele_state.proofs.Words.{Directory, MayHaveMore, any-found, floor_for, floor_in, found_passes, is_live_name_of, list_any, list_any-append, or-false, policy_of, AllByRecursion, AreApart, File, FileRow, Files, IsNameRow, IsQueued, IsSound, IsThere, HasParts, List, NameRow, Names, Ok, Rows, Some, Target, World, [], all-both, all-weaker, ap, apart_from_new, append-nil, arith, bytes_eq-Decides, dies, false, false≢true, filter, filter-all, filter-append, in_order_of, is_live_name, is_moment, is_some, is_target_file, last_names, live_target, moments_stay, nat_tests, next_of, not, parent_now, refl, sym, true, update_first, walk_now, world_of, ℕ, ◌++◌, ◌+◌, ◌∙◌, ◌∷◌, ◌≡◌}
+use Rattle.ele_state.proofs.Words.{Directory, MayHaveMore, any-found, Bool, Policy, Rule, least_newer, option_map, option_map_or, rule_in, found_passes, is_live_name_of, list_any, list_any-append, or-false, policy_of, AllByRecursion, AreApart, File, FileRow, Files, IsNameRow, IsQueued, IsSound, IsThere, HasParts, List, NameRow, Names, Ok, Rows, Some, Target, World, [], all-both, all-weaker, ap, apart_from_new, append-nil, arith, bytes_eq-Decides, dies, false, false≢true, filter, filter-all, filter-append, in_order_of, is_live_name, is_moment, is_some, is_target_file, last_names, live_target, moments_stay, nat_tests, next_of, not, parent_now, refl, sym, true, update_first, walk_now, world_of, ℕ, ◌++◌, ◌+◌, ◌∙◌, ◌∷◌, ◌≡◌}
 use Rattle.ele_state.proofs.Changes.{any_is}
 use Rattle.ele_lists.proofs.Cuts.{update_first-front}
 use Rattle.ele_names.specs.Rows.{Follows, born_row}
@@ -31,15 +31,15 @@ name_goes rows directory name sound = grind (arith, nat_tests, filter-append, ap
 pub placed_stands : (rows : List NameRow) (path : List (List ℕ)) (directory : ℕ) (name : List ℕ) (target : Target) → parent_now rows path ≡ Ok (directory, name) → walk_now rows path ≡ Ok target → live_target rows directory name ≡ Some target
 placed_stands rows path directory name target = last_names rows path (directory, name) target
 
--- the queue stays right whatever the names are, while each file is as live as it was, or has no floor
-pub queue_stays : (rows : Rows) (names : List NameRow) → IsSound rows → ((file : ℕ) → floor_for (record (world_of rows) { names = names }) file ≡ floor_for (world_of rows) file) → IsQueued (record (world_of rows) { names = names }) rows.queue
-queue_stays rows names sound floors k = sound.tracked.queue k ∙ ap (is_moment k.ripe) (sym (moments_stay (world_of rows) (record (world_of rows) { names = names }) (in_order_of (world_of rows) sound.formed) refl refl refl refl k.file k.number (floors k.file)))
+-- the queue stays right whatever the names are, while the rule of each file asks for as many newer versions
+pub queue_stays : (rows : Rows) (names : List NameRow) → IsSound rows → ((file : ℕ) → least_newer (record (world_of rows) { names = names }) file ≡ least_newer (world_of rows) file) → IsQueued (record (world_of rows) { names = names }) rows.queue
+queue_stays rows names sound asked k = sound.tracked.queue k ∙ ap (is_moment k.ripe) (sym (moments_stay (world_of rows) (record (world_of rows) { names = names }) (in_order_of (world_of rows) sound.formed) refl refl refl refl k.file k.number (asked k.file)))
 
 abbrev pub SameLive : List NameRow → List NameRow → Type 0
 SameLive before after = (file : ℕ) → list_any (is_live_name_of file) after ≡ list_any (is_live_name_of file) before
 
 pub names_queue : (rows : Rows) (names : List NameRow) → IsSound rows → SameLive rows.names names → IsQueued (record (world_of rows) { names = names }) rows.queue
-names_queue rows names sound same = queue_stays rows names sound (λ file. ap (floor_in (policy_of rows.files.files file)) (same file))
+names_queue rows names sound same = queue_stays rows names sound (λ file. ap (λ (live : Bool). option_map_or (λ (rule : Rule). rule.newer) (option_map (λ (policy : Policy). rule_in policy live) (policy_of rows.files.files file)) 0) (same file))
 
 -- a name more of a directory leaves each file as live
 directory_live : (w : World) (directory : ℕ) (name : List ℕ) (id : ℕ) → SameLive w.names (w.names ++ born_row directory name (Directory id) w.now ∷ [])

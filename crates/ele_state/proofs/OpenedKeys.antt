@@ -1,5 +1,5 @@
 -- Which keys the versions have, once a handle was opened or closed.
-use Rattle.ele_state.proofs.Words.{◌≡◌, ◌<◌, ◌∷◌, [], sym, subst, list_any, Change, HasNoIdle, HasParts, IsSettled, IsTracked, StartDraft, change_keeps, change_settles, changed_at, has_draft, is_draft, next_of, shown_of, versions_made, ℕ, ◌+◌, Bool, true, false, cond, ◌&&◌, ◌==◌, List, Option, None, Ok, refl, ◌∙◌, arith, nat_tests, world_of, IsSound, IsQueued, IsRekeyed, Rows, Key, has_key, opened_by, with_rows, OpenHandle, ShutHandle, after_change, ripe_at, free_moment, AreInOrder, in_order_of, World, is_live, is_open, reads_by, Draft, Version, opened_others, opened_own, read_moment, shut_others, shut_own, has_row, any-found}
+use Rattle.ele_state.proofs.Words.{◌≡◌, ◌<◌, ◌∷◌, [], sym, subst, list_any, Change, HasNoIdle, HasParts, IsSettled, IsTracked, StartDraft, change_keeps, change_settles, changed_at, has_draft, is_draft, next_of, shown_of, versions_made, ℕ, ◌+◌, Bool, true, false, cond, ◌&&◌, ◌==◌, List, Option, None, Ok, refl, ◌∙◌, arith, nat_tests, world_of, IsSound, IsQueued, IsRekeyed, Rows, Key, has_key, opened_by, with_rows, OpenHandle, ShutHandle, after_change, cover_of, ripe_at, free_moment, AreInOrder, in_order_of, World, is_open, reads_by, Draft, Version, opened_others, opened_own, read_moment, shut_others, shut_own, has_row, any-found}
 use Rattle.ele_state.proofs.Questions.{ripe_told}
 use Rattle.ele_state.proofs.Following.{entry_follows}
 use Rattle.ele_state.proofs.SoundAfter.{settled_by}
@@ -49,7 +49,7 @@ module _ (w : World) (file number : ℕ) (queue : List Key) (queued : IsQueued w
   put_back is_read between after came went k = grind (arith, nat_tests)
 
 -- a handle that reads takes the key
-pub read_queue : (rows : Rows) (handle file number : ℕ) (after : List Key) → IsSound rows → IsRekeyed file number (free_moment rows.groups rows.files.files (is_live (world_of rows) file) rows.files.versions file number) None rows.queue after
+pub read_queue : (rows : Rows) (handle file number : ℕ) (after : List Key) → IsSound rows → IsRekeyed file number (free_moment (world_of rows) (cover_of rows.groups file) file number) None rows.queue after
     → IsQueued (after_change (world_of rows) (OpenHandle handle (Version file number))) after
 read_queue rows handle file number after sound edited =
     let w = world_of rows in
@@ -71,7 +71,7 @@ module _ (rows : Rows) (handle file number : ℕ) (reads : reads_by rows.files.h
   v = after_change w (ShutHandle handle)
 
   abbrev free : Option ℕ
-  free = free_moment rows.groups rows.files.files (is_live (world_of rows) file) rows.files.versions file number
+  free = free_moment w (cover_of w.groups file) file number
 
   told : ripe_at w file number ≡ cond (is_open w.handles file number) None free
   told = ripe_told rows file number sound

@@ -1,5 +1,5 @@
 -- What is told of one version, and of the first that are due.
-use Rattle.ele_state.proofs.Words.{Bool, Cover, IsInfoOf, Policy, find, floor_in, is_version, moment_under, near_moment, newer_held, next_closing, ripe_past, unmarked_moment, AllLater, ArePlaced, VersionRow, is_live, met_before, option_and_then, with_newer, ◌-◌, ◌==◌, ◌≡◌, ℕ, ◌≤◌, false, ◌&&◌, List, cond, Option, Some, None, refl, ap, sym, ◌∙◌, arith, nat_le, slice_get, filter_map, option_map, option_map_or, nat_tests, world_of, IsSound, former_moment, gained_moment, Rows, Key, has_key, is_ripe_by, Held, VersionInfo, ripe_at, free_moment, newest_of, due_key, first_due, cover_of, GroupRow, info_of, World, is_open, policy_of, in_order_of, ripe_at_near, is_due_is, scan_members}
+use Rattle.ele_state.proofs.Words.{Cover, IsInfoOf, Rule, case_in, case_moment, few_enough, find, is_version, moment_under, ripe_case, ripe_past, rows_of, rule_of, subst, AllLater, ArePlaced, VersionRow, option_and_then, with_newer, ◌-◌, ◌==◌, ◌≡◌, ℕ, ◌≤◌, false, ◌&&◌, List, cond, Option, Some, None, refl, ap, sym, ◌∙◌, arith, nat_le, slice_get, filter_map, option_map, option_map_or, nat_tests, world_of, IsSound, former_moment, gained_moment, Rows, Key, has_key, is_ripe_by, Held, VersionInfo, ripe_at, free_moment, newest_of, due_key, first_due, cover_of, GroupRow, info_of, World, is_open, in_order_of, ripe_at_near, is_due_is, scan_members}
 use Rattle.ele_state.proofs.Changes.{passing}
 use Rattle.ele_moment.specs.Last.{last_moment}
 use Rattle.ele_due.specs.InOrder.{in_order}
@@ -33,41 +33,69 @@ pub due_by_key : (rows : Rows) (file number : ℕ) → IsSound rows → is_due (
 due_by_key rows file number sound = grind (arith, nat_tests, is_due_is (world_of rows) file number sound.formed)
 
 -- the ripe moment of a version, by whether a handle reads it
-pub ripe_told : (rows : Rows) (file number : ℕ) → IsSound rows → ripe_at (world_of rows) file number ≡ cond (is_open rows.files.handles file number) None (free_moment rows.groups rows.files.files (is_live (world_of rows) file) rows.files.versions file number)
-ripe_told rows file number sound = ripe_at_near (world_of rows) file number (in_order_of (world_of rows) sound.formed)
+pub ripe_told : (rows : Rows) (file number : ℕ) → IsSound rows → ripe_at (world_of rows) file number ≡ cond (is_open rows.files.handles file number) None (free_moment (world_of rows) (cover_of rows.groups file) file number)
+ripe_told rows file number sound = ripe_at_near (world_of rows) (in_order_of (world_of rows) sound.formed) file number
 
 -- the moment that the version gets that gains, by what is told of it
-abbrev gained_by : List GroupRow → Held → ℕ → ℕ → ℕ → ℕ → ℕ → Option ℕ → Option ℕ
-gained_by groups h file floor now number closed ended = cond (is_open h.handles file number) None (gained_moment (cover_of groups file) (policy_of h.files file) floor now closed ended)
+abbrev gained_by : List GroupRow → Held → Rule → ℕ → ℕ → VersionInfo → Option ℕ
+gained_by groups h rule file now info = cond (is_open h.handles file info.number) None (gained_moment (cover_of groups file) rule now info.closed info.ended)
 
-pub former_told : (groups : List GroupRow) (h : Held) (file floor now : ℕ) (gaining : VersionInfo) → option_map info_of (with_newer h.versions file (floor - 1)) ≡ Some gaining
-    → option_and_then (former_moment groups h file floor now) (with_newer h.versions file (floor - 1)) ≡ gained_by groups h file floor now gaining.number gaining.closed gaining.ended
-former_told groups h file floor now gaining told = grind (arith, nat_tests, told)
+pub former_told : (groups : List GroupRow) (h : Held) (rule : Rule) (file now : ℕ) (gaining : VersionInfo) → option_map info_of (with_newer h.versions file (rule.newer - 1)) ≡ Some gaining
+    → option_and_then (former_moment groups h rule file now) (with_newer h.versions file (rule.newer - 1)) ≡ gained_by groups h rule file now gaining
+former_told groups h rule file now gaining told = grind (arith, nat_tests, told)
 
--- with one newer version fewer a floor isn't met
-pub met_alone : (floor : ℕ) → (floor == 0) ≡ met_before floor
-met_alone floor = grind (arith, nat_tests)
+-- one fewer than a rule asks for are enough where it asks for none
+pub none_enough : (rule : Rule) → (rule.newer == 0) ≡ few_enough rule
+none_enough rule = grind (arith, nat_tests)
 
--- where no floor is in force, or one version is enough, the newest gains
-pub newest_gains : (versions : List VersionRow) (file floor : ℕ) (newest : Option VersionInfo) → AllLater ArePlaced versions → option_map info_of (newest_of versions file) ≡ newest → floor ≤ 1 → newest ≡ option_map info_of (with_newer versions file (floor - 1))
-newest_gains versions file floor newest placed is few = grind (arith, nat_tests, is, few, newest_newer versions file placed)
+-- where a rule asks for none or one, the newest gains
+pub newest_gains : (versions : List VersionRow) (file asked : ℕ) (newest : Option VersionInfo) → AllLater ArePlaced versions → option_map info_of (newest_of versions file) ≡ newest → asked ≤ 1 → newest ≡ option_map info_of (with_newer versions file (asked - 1))
+newest_gains versions file asked newest placed is few = grind (arith, nat_tests, is, few, newest_newer versions file placed)
 
 -- what is told of a held version tells its moment
 module _ (h : Held) (file : ℕ) (info : VersionInfo) (told : IsInfoOf h file info) where
-  pub under_told : (cover : ℕ → Option ℕ → Cover) (policy : Option Policy) (floor : ℕ)
-      → moment_under cover policy floor h.versions file info.number ≡ option_and_then (near_moment cover policy (next_closing h.versions file info.number) (nat_le floor (newer_held h.versions file info.number)) info.closed) info.ended
-  under_told cover policy floor = grind (arith, nat_tests, told)
+  pub under_told : (cover : ℕ → Option ℕ → Cover) (rule : Rule) → moment_under cover rule h.versions file info.number ≡ option_and_then (case_moment cover (case_in rule h.versions file info.number info.closed)) info.ended
+  under_told cover rule = grind (arith, nat_tests, told)
 
-  -- with a cover it is that without one, or the cover's end
-  pub covered_told : (cover : ℕ → Option ℕ → Cover) (live : Bool)
-      → moment_under cover (policy_of h.files file) (floor_in (policy_of h.files file) live) h.versions file info.number ≡ option_and_then (λ ended. option_and_then (ripe_past (cover info.closed (Some ended))) (unmarked_moment h live file info.number info.closed ended)) info.ended
-  covered_told cover live = grind (arith, nat_tests, under_told cover (policy_of h.files file) (floor_in (policy_of h.files file) live))
+-- the moment by its policy alone, if its file has one
+abbrev pub unmarked : World → ℕ → VersionInfo → ℕ → Option ℕ
+unmarked w file info ended = option_and_then (λ rule. ripe_case (case_in rule w.versions file info.number info.closed) ended) (rule_of w file)
+
+-- with a cover it is that one, or the cover's end
+pub covered_told : (w : World) (file : ℕ) (info : VersionInfo) → IsInfoOf (rows_of w) file info → (cover : ℕ → Option ℕ → Cover)
+    → free_moment w cover file info.number ≡ option_and_then (λ ended. option_and_then (ripe_past (cover info.closed (Some ended))) (unmarked w file info ended)) info.ended
+covered_told w file info told cover = by (rule_of w file) info.ended (λ rule. under_told (rows_of w) file info told cover rule) where
+  by : (r : Option Rule) (e : Option ℕ)
+      → ((rule : Rule) → moment_under cover rule w.versions file info.number ≡ option_and_then (case_moment cover (case_in rule w.versions file info.number info.closed)) e)
+      → option_and_then (λ rule. moment_under cover rule w.versions file info.number) r ≡ option_and_then (λ ended. option_and_then (ripe_past (cover info.closed (Some ended))) (option_and_then (λ rule. ripe_case (case_in rule w.versions file info.number info.closed) ended) r)) e
+  by None None under = refl
+  by None (Some ended) under = refl
+  by (Some rule) None under = under rule
+  by (Some rule) (Some ended) under = under rule
 
 -- which a file's row has, if it is found under a number
 pub told_under : (h : Held) (file number : ℕ) (info : VersionInfo) → Some info ≡ option_map info_of (find (is_version file number) h.versions) → (info.number ≡ number) × IsInfoOf h file info
 told_under h file number info found = grind (arith, nat_tests, found, passing (is_version file number) h.versions)
 
--- so it does that which it has while no handle reads it
-pub free_told : (groups : List GroupRow) (h : Held) (live : Bool) (file number : ℕ) (info : VersionInfo) → Some info ≡ option_map info_of (find (is_version file number) h.versions)
-    → free_moment groups h.files live h.versions file number ≡ option_and_then (λ ended. option_and_then (ripe_past (cover_of groups file info.closed (Some ended))) (unmarked_moment h live file info.number info.closed ended)) info.ended
-free_told groups h live file number info found = let told = told_under h file number info found in rw (← told.0) (covered_told h file info told.1 (cover_of groups file) live)
+-- so a found version's info and its file's rule tell its moment
+module _ (w : World) (cover : ℕ → Option ℕ → Cover) (file number : ℕ) where
+  pub unheld_free : None ≡ option_map info_of (find (is_version file number) w.versions) → free_moment w cover file number ≡ None
+  unheld_free none = by (rule_of w file) where
+    by : (r : Option Rule) → option_and_then (λ rule. moment_under cover rule w.versions file number) r ≡ None
+    by None = refl
+    by (Some rule) = grind (arith, nat_tests, none)
+
+  pub unruled_free : rule_of w file ≡ None → free_moment w cover file number ≡ None
+  unruled_free none = rw none refl
+
+  module _ (info : VersionInfo) (found : Some info ≡ option_map info_of (find (is_version file number) w.versions)) where
+    told_free : free_moment w cover file number ≡ option_and_then (λ ended. option_and_then (ripe_past (cover info.closed (Some ended))) (unmarked w file info ended)) info.ended
+    told_free =
+        let told = told_under (rows_of w) file number info found in
+        subst (λ (n : ℕ). free_moment w cover file n ≡ option_and_then (λ ended. option_and_then (ripe_past (cover info.closed (Some ended))) (unmarked w file info ended)) info.ended) told.0 (covered_told w file info told.1 cover)
+
+    pub unended_free : info.ended ≡ None → free_moment w cover file number ≡ None
+    unended_free none = told_free ∙ rw none refl
+
+    pub free_told : (rule : Rule) (ended : ℕ) → info.ended ≡ Some ended → rule_of w file ≡ Some rule → free_moment w cover file number ≡ case_moment cover (case_in rule w.versions file info.number info.closed) ended
+    free_told rule ended ends ruled = told_free ∙ rw (ends, ruled) refl

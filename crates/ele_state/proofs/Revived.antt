@@ -1,9 +1,9 @@
 -- A file that has a name again, and a version like its last one.
-use Rattle.ele_state.proofs.Words.{File, IsLawful, IsReady, Key, MayGrow, Policy, and-false, Cell, cond, cover_of, false≢true, floor_for, floor_of, former_moment, has_key, in_order_of, freed_moment, is_freed, is_live_name_of, is_moment, comes, coming, list_any-append, moments_stay, nat_le, near_floored, near_moment, near_unmet, newer_held, not, option_and_then, or-false, policy_is, policy_of, ripe_at, ripe_at_near, unread_under, unwrap_or, with_newer, with_version, ◌&&◌, ◌==◌, ◌||◌, ◌+◌, ◌∙◌, ap, subst, sym, after_change, after_changes, Append, Revive, IsHome, IsQueued, Shown, live_target, shown_of, ◌≡◌, ℕ, ◌-◌, ◌<◌, ◌≤◌, ◌++◌, Bool, true, false, List, ◌∷◌, Option, None, Some, is_some, refl, arith, find, list_any, option_map, option_map_or, nat_tests, world_of, IsSound, MayAppend, MayRevive, Rows, info_of, cells_of_version, all-found, found_passes, born_row, is_draft, is_version, may_grow, Versions, World, is_held, is_live, next_of, version_cells, versions_made, FileRow, VersionInfo, VersionRow, is_entry, is_open, gained_moment, []}
+use Rattle.ele_state.proofs.Words.{File, IsLawful, IsReady, Key, MayGrow, Policy, and-false, Cell, cond, cover_of, false≢true, Rule, case_moment, case_of, few_enough, moment_is, ripe_past, rule_in, rule_of, former_moment, has_key, in_order_of, freed_moment, is_freed, is_live_name_of, is_moment, comes, coming, list_any-append, moments_stay, nat_le, newer_held, not, option_and_then, or-false, policy_is, policy_of, ripe_at, unread_under, unwrap_or, with_newer, with_version, ◌&&◌, ◌==◌, ◌||◌, ◌+◌, ◌∙◌, ap, subst, sym, after_change, after_changes, Append, Revive, IsHome, IsQueued, Shown, live_target, shown_of, ◌≡◌, ℕ, ◌-◌, ◌<◌, ◌≤◌, ◌++◌, Bool, true, false, List, ◌∷◌, Option, None, Some, is_some, refl, arith, find, list_any, option_map, option_map_or, nat_tests, world_of, IsSound, MayAppend, MayRevive, Rows, info_of, cells_of_version, all-found, found_passes, born_row, is_draft, is_version, may_grow, Versions, World, is_held, is_live, next_of, version_cells, versions_made, FileRow, VersionInfo, VersionRow, is_entry, is_open, gained_moment, []}
 use Rattle.ele_state.proofs.Appended.{appended_keys, none_there}
 use Rattle.ele_state.proofs.Changes.{any_is}
 use Rattle.ele_state.proofs.Freed.{freed_is, just_more, none_freed, none_more, one_more}
-use Rattle.ele_state.proofs.Governed.{floored}
+use Rattle.ele_state.proofs.Governed.{asked}
 use Rattle.ele_state.proofs.Grown.{ready}
 use Rattle.ele_state.proofs.SoundAfter.{named as may_named}
 use Rattle.ele_state.specs.declared.append.Source.TheVariants.{Version}
@@ -79,80 +79,100 @@ module _ (rows : Rows) (directory : ℕ) (name : List ℕ) (file : ℕ) (sound :
     abbrev v : World
     v = with_version u file rows.moment cells
 
-    abbrev floor : ℕ
-    floor = floor_of policy
+    abbrev rule : Rule
+    rule = rule_in policy true
+
+    abbrev least : ℕ
+    least = rule.newer
 
     abbrev free : ℕ → Option ℕ
-    free n = unread_under w.groups (record { policy = policy; floor = 0 }) rows.files file n
+    free n = unread_under w.groups (rule_in policy false) rows.files file n
 
     abbrev met : Key → ℕ → Bool
     met k limit = nat_le limit (newer_held w.versions file k.number)
 
     abbrev came : Key → Bool
-    came k = comes (coming named file true) k
+    came k = comes (coming named policy file true) k
 
     abbrev freed : Key → Bool
-    freed k = is_freed w.groups rows.files file policy rows.moment (floor - 1) k
+    freed k = is_freed w.groups rows.files file policy rows.moment (least - 1) k
 
     given : IsLawful policy
     given = let all = policy_is w.files file (policies_of w sound.formed) in rw filed at all
 
-    -- without the name no floor was in force
+    -- without the name none were asked for
+    ruled_before : rule_of w file ≡ Some (rule_in policy false)
+    ruled_before = rw (may.nameless, filed) refl
+
     had : (k : Key) → (k.file == file) ≡ true → has_key k rows.queue ≡ is_moment k.ripe (free k.number)
-    had k own = grind (arith, nat_tests, own, sound.tracked.queue k, ripe_at_near w file k.number (in_order_of w sound.formed), may.nameless, filed)
+    had k own = grind (arith, nat_tests, own, sound.tracked.queue k, moment_is w (in_order_of w sound.formed) file k.number (rule_in policy false) ruled_before)
 
     -- with it those have no key that have too few newer ones
-    named_has : (k : Key) → is_moment k.ripe (ripe_at u k.file k.number) ≡ ((not (k.file == file) || met k floor) && has_key k rows.queue)
-    named_has k = grind (arith, nat_tests, had k, sound.tracked.queue k, ripe_at_near u file k.number (in_order_of w sound.formed), live_now, filed, floored w.groups policy floor rows.files file k.number given, moments_stay w u (in_order_of w sound.formed) refl refl refl refl k.file k.number, others_live k.file)
+    ruled_now : rule_of u file ≡ Some rule
+    ruled_now = rw (live_now, filed) refl
 
-    -- without a floor the keys come that do with any version, and with one none
-    floor_now : floor_for u file ≡ floor
-    floor_now = rw (live_now, filed) refl
+    own_named : (n : ℕ) → ripe_at u file n ≡ cond (nat_le least (newer_held w.versions file n)) (free n) None
+    own_named n = moment_is u (in_order_of w sound.formed) file n rule ruled_now ∙ asked w.groups policy rows.files file n given
 
-    gives : floor ≡ 0 → (not true || (floor_for u file == 0)) ≡ true
-    gives none = rw (floor_now, none) refl
+    others_stay : (f n : ℕ) → (f == file) ≡ false → ripe_at u f n ≡ ripe_at w f n
+    others_stay f n other = moments_stay w u (in_order_of w sound.formed) refl refl refl refl f n (ap (λ (live : Bool). option_map_or (λ (r : Rule). r.newer) (option_map (λ (p : Policy). rule_in p live) (policy_of w.files f)) 0) (others_live f other))
 
-    none_come : 1 ≤ floor → (k : Key) → came k ≡ false
+    named_has : (k : Key) → is_moment k.ripe (ripe_at u k.file k.number) ≡ ((not (k.file == file) || met k least) && has_key k rows.queue)
+    named_has k = grind (arith, nat_tests, had k, sound.tracked.queue k, own_named k.number, others_stay k.file k.number)
+
+    -- where it asks for none the keys come that do with any version, and else none
+    gives : least ≡ 0 → (not true || ((rule_in policy (is_live u file)).newer == 0)) ≡ true
+    gives none = rw (live_now, none) refl
+
+    none_come : 1 ≤ least → (k : Key) → came k ≡ false
     none_come some k =
-        let forced : (floor == 0) ≡ false = grind (arith, nat_tests, some) in
-        rw (floor_now, live_now, forced) (grind (arith, nat_tests, and-false))
+        let forced : (least == 0) ≡ false = grind (arith, nat_tests, some) in
+        rw (live_now, forced) (grind (arith, nat_tests, and-false))
 
-    still : floor ≡ 0 → (k : Key) → is_moment k.ripe (ripe_at u k.file k.number) ≡ has_key k rows.queue
+    still : least ≡ 0 → (k : Key) → is_moment k.ripe (ripe_at u k.file k.number) ≡ has_key k rows.queue
     still none k = grind (arith, nat_tests, named_has k, none)
 
-    -- with one the held version that gains has the moment that it had without
-    gained : 1 ≤ floor → (row : VersionRow) → former_moment w.groups rows.files file floor rows.moment row ≡ freed_moment w.groups rows.files file policy rows.moment row.number row.closed row.ended
-    gained some row = rw filed (ap (cond (is_open w.handles file row.number) None) (by row.ended)) where
-      by : (e : Option ℕ) → gained_moment (cover_of w.groups file) (Some policy) floor rows.moment row.closed e ≡ near_moment (cover_of w.groups file) (Some policy) None true row.closed (unwrap_or e rows.moment)
-      by None = near_floored (cover_of w.groups file) (Some policy) true (Some rows.moment) None true row.closed rows.moment given some
-      by (Some ended) = grind (arith, nat_tests, near_unmet (cover_of w.groups file) (Some policy) true (floor - 1) None row.closed ended given, near_floored (cover_of w.groups file) (Some policy) true (Some rows.moment) None true row.closed ended given some)
+    -- where it asks for some the held version that gains has the moment that it had without
+    beside_new : 1 ≤ least → (closed ended : ℕ) → case_moment (cover_of w.groups file) (case_of policy closed (Some rows.moment) true) ended ≡ case_moment (cover_of w.groups file) (case_of policy closed None true) ended
+    beside_new some closed ended = ap (option_and_then (ripe_past (cover_of w.groups file closed (Some ended)))) (given.ripe_floored (case_of policy closed (Some rows.moment) true) ended None some)
 
-    gains : 1 ≤ floor → (k : Key) → comes (coming named file false) k ≡ one_more w.groups rows.files file policy rows.moment (sound.formed.holds Versions).placed (floor - 1) k
-    gains some k = rw (floor_now, live_now) (by (with_newer w.versions file (floor - 1)) refl) where
-      by : (o : Option VersionRow) → with_newer w.versions file (floor - 1) ≡ o
-          → (is_entry file (option_map_or (λ row. row.number) o 0) (option_and_then (former_moment w.groups rows.files file floor rows.moment) o) k || (is_entry file (next_of w.files file) None k || false)) ≡ one_more w.groups rows.files file policy rows.moment (sound.formed.holds Versions).placed (floor - 1) k
-      by None none = rw (none_more w.groups rows.files file policy rows.moment (sound.formed.holds Versions).placed (floor - 1) k none) (grind (arith, nat_tests, and-false, or-false))
-      by (Some row) found = rw (gained some row, just_more w.groups rows.files file policy rows.moment (sound.formed.holds Versions).placed (floor - 1) k row found) (grind (arith, nat_tests, and-false, or-false))
+    too_few : 1 ≤ least → (closed ended : ℕ) → case_moment (cover_of w.groups file) (case_of policy closed None (few_enough rule)) ended ≡ None
+    too_few some closed ended =
+        let few : few_enough rule ≡ false = grind (arith, nat_tests, some) in
+        rw few (ap (option_and_then (ripe_past (cover_of w.groups file closed (Some ended)))) (given.ripe_unmet (case_of policy closed None false) ended (least - 1) true few))
 
-    split : (own its has : Bool) (newer : ℕ) → 1 ≤ floor → (own ≡ true → its ≡ has) → (not (own && (not (nat_le (floor - 1) newer) && its)) && has) ≡ ((own && ((newer == floor - 1) && its)) || ((not own || nat_le floor newer) && has))
+    gained : 1 ≤ least → (row : VersionRow) → former_moment w.groups rows.files rule file rows.moment row ≡ freed_moment w.groups rows.files file policy rows.moment row.number row.closed row.ended
+    gained some row = ap (cond (is_open w.handles file row.number) None) (by row.ended) where
+      by : (e : Option ℕ) → gained_moment (cover_of w.groups file) rule rows.moment row.closed e ≡ case_moment (cover_of w.groups file) (case_of policy row.closed None true) (unwrap_or e rows.moment)
+      by None = beside_new some row.closed rows.moment
+      by (Some ended) = rw (too_few some row.closed ended) (beside_new some row.closed ended)
+
+    gains : 1 ≤ least → (k : Key) → comes (coming named policy file false) k ≡ one_more w.groups rows.files file policy rows.moment (sound.formed.holds Versions).placed (least - 1) k
+    gains some k = rw live_now (by (with_newer w.versions file (least - 1)) refl) where
+      by : (o : Option VersionRow) → with_newer w.versions file (least - 1) ≡ o
+          → (is_entry file (option_map_or (λ row. row.number) o 0) (option_and_then (former_moment w.groups rows.files rule file rows.moment) o) k || (is_entry file (next_of w.files file) None k || false)) ≡ one_more w.groups rows.files file policy rows.moment (sound.formed.holds Versions).placed (least - 1) k
+      by None none = rw (none_more w.groups rows.files file policy rows.moment (sound.formed.holds Versions).placed (least - 1) k none) (grind (arith, nat_tests, and-false, or-false))
+      by (Some row) found = rw (gained some row, just_more w.groups rows.files file policy rows.moment (sound.formed.holds Versions).placed (least - 1) k row found) (grind (arith, nat_tests, and-false, or-false))
+
+    split : (own its has : Bool) (newer : ℕ) → 1 ≤ least → (own ≡ true → its ≡ has) → (not (own && (not (nat_le (least - 1) newer) && its)) && has) ≡ ((own && ((newer == least - 1) && its)) || ((not own || nat_le least newer) && has))
     split own its has newer some same = grind (arith, nat_tests)
 
     pub revived_absent : (k : Key) → came k ≡ true → has_key k rows.queue ≡ false
-    revived_absent k is = by floor refl where
-      by : (m : ℕ) → floor ≡ m → has_key k rows.queue ≡ false
-      by zero none = sym (still none k) ∙ none_there u file 0 [] named_grows true (gives none) k is
+    revived_absent k is = by least refl where
+      by : (m : ℕ) → least ≡ m → has_key k rows.queue ≡ false
+      by zero none = sym (still none k) ∙ none_there u file 0 [] named_grows policy filed true (gives none) k is
       by (suc m) a = absurd (false≢true (sym (none_come (omega (arith, a)) k) ∙ is))
 
     pub revived_queue : (between after : List Key) → ((k : Key) → has_key k between ≡ (came k || has_key k rows.queue)) → ((k : Key) → has_key k after ≡ (not (freed k) && has_key k between)) → IsQueued v after
-    revived_queue between after arrived went k = went k ∙ rw (arrived k) (by floor refl) where
-      by : (m : ℕ) → floor ≡ m → (not (freed k) && (came k || has_key k rows.queue)) ≡ is_moment k.ripe (ripe_at v k.file k.number)
+    revived_queue between after arrived went k = went k ∙ rw (arrived k) (by least refl) where
+      by : (m : ℕ) → least ≡ m → (not (freed k) && (came k || has_key k rows.queue)) ≡ is_moment k.ripe (ripe_at v k.file k.number)
       by zero none =
-          let least : floor - 1 ≡ 0 = omega (arith, none) in
-          rw (least, none_freed w.groups rows.files file policy rows.moment k) (ap (λ b. came k || b) (sym (still none k)) ∙ appended_keys u file rows.moment cells named_grows true (gives none) k)
+          let least : least - 1 ≡ 0 = omega (arith, none) in
+          rw (least, none_freed w.groups rows.files file policy rows.moment k) (ap (λ b. came k || b) (sym (still none k)) ∙ appended_keys u file rows.moment cells named_grows policy filed true (gives none) k)
       by (suc m) a =
-          let some : 1 ≤ floor = omega (arith, a) in
+          let some : 1 ≤ least = omega (arith, a) in
           let own = λ (own : (k.file == file) ≡ true). ap (is_moment k.ripe) (freed_is w.groups rows.files file policy rows.moment given some k.number (has_ended k.number)) ∙ sym (had k own) in
-          rw (none_come some k) (split (k.file == file) _ (has_key k rows.queue) (newer_held w.versions file k.number) some own ∙ rw (← named_has k, ← gains some k) (appended_keys u file rows.moment cells named_grows false refl k))
+          rw (none_come some k) (split (k.file == file) _ (has_key k rows.queue) (newer_held w.versions file k.number) some own ∙ rw (← named_has k, ← gains some k) (appended_keys u file rows.moment cells named_grows policy filed false refl k))
 
 -- ---- with the name
 

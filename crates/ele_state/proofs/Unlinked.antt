@@ -1,8 +1,8 @@
 -- What the end of a file's name leaves of the keys and of the book.
-use Rattle.ele_state.proofs.Words.{is_some, ◌&&◌, ◌==◌, ◌||◌, Bool, IsLawful, None, Option, Policy, ap, cond, ended_at, ended_in_order, floor_in, floor_of, has_key, in_order_of, is_moment, nat_le, newer_held, next_closing, no_floor, not, option_and_then, policy_is, policy_of, refl, ripe_at, ripe_at_near, subst, unread_under, ◌≡◌, ℕ, ◌-◌, ◌<◌, true, false, List, Some, None, sym, ◌∙◌, arith, find, count_by, nat_tests, IsQueued, held_world, IsBooked, IsSound, Rows, world_of, Key, Held, current_ended, all-found, found_passes, any-count, count-update_first, Book, EndFileName, after_change, with_end, without_name, is_live_name, live_target, Names, World, is_live, is_live_name_of, is_version, next_of, NameRow, File, ended_moment, other_moments, target_live, VersionRow, Versions, all-weaker, any-found, freed_moment, is_freed, no_moment, not_found, ◌≤◌}
+use Rattle.ele_state.proofs.Words.{is_some, ◌&&◌, ◌==◌, ◌||◌, Bool, IsLawful, None, Option, Policy, ap, cond, ended_at, ended_in_order, moment_is, none_asked, option_map, option_map_or, Rule, rule_in, has_key, in_order_of, is_moment, nat_le, newer_held, next_closing, not, option_and_then, policy_is, policy_of, refl, ripe_at, subst, unread_under, ◌≡◌, ℕ, ◌-◌, ◌<◌, true, false, List, Some, None, sym, ◌∙◌, arith, find, count_by, nat_tests, IsQueued, held_world, IsBooked, IsSound, Rows, world_of, Key, Held, current_ended, all-found, found_passes, any-count, count-update_first, Book, EndFileName, after_change, with_end, without_name, is_live_name, live_target, Names, World, is_live, is_live_name_of, is_version, next_of, NameRow, File, ended_moment, other_moments, target_live, VersionRow, Versions, all-weaker, any-found, freed_moment, is_freed, no_moment, not_found, ◌≤◌}
 use Rattle.ele_state.proofs.Changes.{any_is}
 use Rattle.ele_state.proofs.Freed.{freed_is}
-use Rattle.ele_state.proofs.Governed.{floored, unheld}
+use Rattle.ele_state.proofs.Governed.{asked, unheld}
 use Rattle.ele_state.proofs.NewNames.{names_queue}
 use Rattle.ele_model.proofs.Basics.{find-update_other}
 use Rattle.ele_model.proofs.NameMoments.{others_live as others_as_live}
@@ -62,14 +62,14 @@ module _ (rows : Rows) (directory : ℕ) (name : List ℕ) (file : ℕ) (sound :
     abbrev last : ℕ
     last = next_of w.files file - 1
 
-    abbrev floor : ℕ
-    floor = floor_of policy
+    abbrev least : ℕ
+    least = (rule_in policy true).newer
 
     abbrev newer : ℕ → ℕ
     newer n = newer_held w.versions file n
 
     abbrev free : ℕ → Option ℕ
-    free n = unread_under w.groups (record { policy = policy; floor = 0 }) rows.files file n
+    free n = unread_under w.groups (rule_in policy false) rows.files file n
 
     given : IsLawful policy
     given = let all = policy_is w.files file (policies_of w sound.formed) in rw filed at all
@@ -80,19 +80,19 @@ module _ (rows : Rows) (directory : ℕ) (name : List ℕ) (file : ℕ) (sound :
     current : HasCurrent w file
     current = has_current w file sound.formed live_before
 
-    -- what it was with the floor
-    was : (n : ℕ) → ripe_at w file n ≡ cond (nat_le floor (newer n)) (free n) None
-    was n = ripe_at_near w file n (in_order_of w sound.formed) ∙ rw (filed, live_before) (floored w.groups policy floor rows.files file n given (omega arith))
+    -- what it was with the name
+    was : (n : ℕ) → ripe_at w file n ≡ cond (nat_le least (newer n)) (free n) None
+    was n = moment_is w (in_order_of w sound.formed) file n (rule_in policy true) (rw (filed, live_before) refl) ∙ asked w.groups policy rows.files file n given
 
     -- and what it is without
-    unfloored : (n : ℕ) → (n == last) ≡ false → ripe_at v file n ≡ free n
-    unfloored n apart =
+    unasked : (n : ℕ) → (n == last) ≡ false → ripe_at v file n ≡ free n
+    unasked n apart =
         let ended_next : next_closing (with_end w file) file n ≡ next_closing w.versions file n = next_closing-ended (is_version file last) w.now w.versions file n in
         let found : find (is_version file n) (with_end w file) ≡ find (is_version file n) w.versions = find-update_other (is_version file last) (is_version file n) (ended_at w.now) w.versions (λ row is. grind (arith, nat_tests, apart, is)) in
-        ripe_at_near v file n (ended_in_order w directory name file sound.formed) ∙ rw (dead, filed, no_floor (newer_held (with_end w file) file n), no_floor (newer n), ended_next, found) refl
+        moment_is v (ended_in_order w directory name file sound.formed) file n (rule_in policy false) (rw (dead, filed) refl) ∙ rw (dead, none_asked (newer_held (with_end w file) file n), none_asked (newer n), ended_next, found) refl
 
     others : (f n : ℕ) → (f == file) ≡ false → ripe_at v f n ≡ ripe_at w f n
-    others f n other = other_moments w directory name file sound.formed f n (rw other refl) (ap (floor_in (policy_of w.files f)) (others_as_live w directory name file stands f other))
+    others f n other = other_moments w directory name file sound.formed f n (rw other refl) (ap (λ (live : Bool). option_map_or (λ (rule : Rule). rule.newer) (option_map (λ (p : Policy). rule_in p live) (policy_of w.files f)) 0) (others_as_live w directory name file stands f other))
 
     -- ---- the newest version is the current one
 
@@ -121,12 +121,12 @@ module _ (rows : Rows) (directory : ℕ) (name : List ℕ) (file : ℕ) (sound :
 
     -- ---- the keys of the newest versions
 
-    module _ (newest : ℕ) (is : newest ≡ max floor 1) where
+    module _ (newest : ℕ) (is : newest ≡ max least 1) where
       abbrev then_is : ℕ → Option ℕ
       then_is n = option_and_then (λ row. freed_moment w.groups rows.files file policy rows.moment row.number row.closed row.ended) (find (is_version file n) w.versions)
 
       last_is : ripe_at v file last ≡ then_is last
-      last_is = grind (arith, nat_tests, ended_moment w directory name file current sound.formed dead, filed, current.found, current.no_end, found_passes (is_version file last) w.versions current.row current.found)
+      last_is = grind (arith, nat_tests, ended_moment w directory name file current sound.formed dead policy filed, current.found, current.no_end, found_passes (is_version file last) w.versions current.row current.found)
 
       -- those of so many of the newest versions are told by them alone, and weren't there, and the others stay
       record IsFreed (n : ℕ) : Type 0 where
@@ -141,12 +141,12 @@ module _ (rows : Rows) (directory : ℕ) (name : List ℕ) (file : ℕ) (sound :
             let few : nat_le newest (newer last) ≡ false = grind (arith, nat_tests, none_newer, is) in
             rw same (record { now = rw few last_is; before = λ h. no_moment w directory name file current })
         by false apart None none =
-            let gone : free n ≡ None = unheld w.groups rows.files file n (record { policy = policy; floor = 0 }) none in
-            record { now = unfloored n apart ∙ rw (was n, gone, none) (grind (arith, nat_tests)); before = λ h. was n ∙ rw gone (grind (arith, nat_tests)) }
+            let gone : free n ≡ None = unheld w.groups rows.files file n (rule_in policy false) none in
+            record { now = unasked n apart ∙ rw (was n, gone, none) (grind (arith, nat_tests)); before = λ h. was n ∙ rw gone (grind (arith, nat_tests)) }
         by false apart (Some row) found =
             let some = some_newer n row found apart in
-            let alone = λ (floored : 1 ≤ floor). freed_is w.groups rows.files file policy rows.moment given floored n (λ r its. has_ended n r its apart) in
-            record { now = grind (arith, nat_tests, unfloored n apart, was n, some, is, alone); before = grind (arith, nat_tests, was n, some, is) }
+            let alone = λ (some_asked : 1 ≤ least). freed_is w.groups rows.files file policy rows.moment given some_asked n (λ r its. has_ended n r its apart) in
+            record { now = grind (arith, nat_tests, unasked n apart, was n, some, is, alone); before = grind (arith, nat_tests, was n, some, is) }
 
       -- ---- the queue
 

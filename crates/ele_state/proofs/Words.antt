@@ -5,7 +5,7 @@ pub use Rattle.ele_state.specs.Inside.{IsSettled, IsSound, IsTracked, shown_of, 
 pub use Rattle.ele_state.specs.Shown.{Shown}
 pub use Rattle.ele_state.specs.Source.{IsReady, IsRoomy, IsSource, appending, coming, source_cells}
 pub use Rattle.ele_state.specs.declared.append.Source.{Source}
-pub use Rattle.ele_state.specs.Queued.{AreChanges, IsQueued, IsRekeyed, IsInfoOf, Rule, former_moment, freed_moment, gained_moment, is_alone, is_entry, is_freed, is_one, is_own, met_before, new_keys, HasLeaving, change_of, comes, cover_after, files_of, goes, if_changed, moments_by, moments_of, unmarked_moment, own_moment, rule_in, unread_under}
+pub use Rattle.ele_state.specs.Queued.{AreChanges, IsQueued, IsRekeyed, IsInfoOf, few_enough, former_moment, freed_moment, gained_moment, is_alone, is_entry, is_freed, is_one, is_own, new_keys, HasLeaving, change_of, comes, cover_after, files_of, goes, if_changed, moments_by, moments_of, unread_under}
 pub use Rattle.ele_state.specs.Tracked.{IsBooked, IsFew, IsOwed, IsOwedBy, blocks_of, held_world, of_file, one_version, only_blocks}
 pub use Rattle.ele_state.specs.declared.keys.KeyChange.{KeyChange}
 pub use Rattle.ele_state.specs.declared.mark.GroupChange.{GroupChange}
@@ -32,7 +32,7 @@ pub use Rattle.ele_model.proofs.Keeps.{all_keep, change_keeps, event_keeps}
 pub use Rattle.ele_model.proofs.KeptNames.{apart_from_new, put_under_keeps}
 pub use Rattle.ele_model.proofs.Meant.{is_at, is_meant, meant_held}
 pub use Rattle.ele_model.proofs.NameMoments.{ended_in_order, ended_moment, moments_stay, no_moment, other_moments}
-pub use Rattle.ele_model.proofs.Neighbours.{AreInOrder, floor_for, in_order_of, near_floored, near_unmet, no_floor, ripe_at_near}
+pub use Rattle.ele_model.proofs.Neighbours.{AreInOrder, in_order_of, least_newer, moment_is, none_asked, ripe_at_near}
 pub use Rattle.ele_model.proofs.NoIdle.{LeavesRows, change_settles, no_idle_stays}
 pub use Rattle.ele_model.proofs.OpenMoments.{open_still, opened_others, opened_own, read_moment, shut_others, shut_own}
 pub use Rattle.ele_model.proofs.Readers.{has_row}
@@ -44,9 +44,12 @@ pub use Rattle.ele_model.proofs.Usages.{changes_removed, created_usage, only_at_
 pub use Rattle.ele_model.proofs.Views.{placed_of, policy_is}
 pub use Rattle.ele_model.proofs.Versions.{all_found}
 pub use Rattle.ele_model.proofs.Walks.{file_live, file_of, file_there, last_names, live_target-push as name_stands, target_live}
-pub use Rattle.ele_model.proofs.Words.{cover_of, cover_without, longer, ripe_past, AddMark, AddMember, AddName, Append, AreApart, ArePlaced, Bounded, ChangesOnly, Counted, Directories, Drafts, DropGroup, DropIdle, EndDraft, EndFileName, EndName, Files, Fits, Groups, Handles, IsEvent, IsFile, IsGroup, IsLawful, IsNameRow, IsThere, HasParts, IsWithin, MakeFile, MoveName, Names, OpenHandle, SetFilePolicy, RemoveMark, RemoveMember, Revive, ShutHandle, StartDraft, Take, Versions, World, after_change, after_changes, born_row, bytes_in, content_of, covers_moment, dies, due_key, ended_at, file_at, file_by, file_now, file_usage, file_written, first_due, forgotten, free_moment, fresh_world, had_life, has_draft, has_key, is_draft, is_file, is_file_of, is_held, is_idle, is_kind, is_live, is_live_name, is_live_name_of, is_moment, is_open, is_ripe_by, is_target_file, is_version, is_version_after, is_version_of, kind_of, live_target, lives_at, longest_content, members_of, moment_under, near_moment, newest_of, next_closing, next_of, next_version, nothing, only_at, parent_now, plus, policy_of, reads_by, returning_name, ripe_at, step, target_at, usages, version_at, version_found, version_meant, file_view, walk_meant, walk_now, with_end, with_version, without_file, without_name, Change, Homes, IsHoused, IsDirectoryThere, is_named, last_dead, SetDirectoryDefault, MakeDirectory, Time, WriteDraft, TruncateDraft, MakeGroup}
-pub use Rattle.ele_policy.specs.FloorOf.{floor_of}
-pub use Rattle.ele_model.specs.Neighbours.{floor_in, newer_held, with_newer}
+pub use Rattle.ele_model.proofs.Words.{cover_of, cover_without, longer, ripe_past, AddMark, AddMember, AddName, Append, AreApart, ArePlaced, Bounded, ChangesOnly, Counted, Directories, Drafts, DropGroup, DropIdle, EndDraft, EndFileName, EndName, Files, Fits, Groups, Handles, IsEvent, IsFile, IsGroup, IsLawful, IsNameRow, IsThere, HasParts, IsWithin, MakeFile, MoveName, Names, OpenHandle, SetFilePolicy, RemoveMark, RemoveMember, Revive, ShutHandle, StartDraft, Take, Versions, World, after_change, after_changes, born_row, bytes_in, content_of, covers_moment, dies, due_key, ended_at, file_at, file_by, file_now, file_usage, file_written, first_due, forgotten, free_moment, fresh_world, had_life, has_draft, has_key, is_draft, is_file, is_file_of, is_held, is_idle, is_kind, is_live, is_live_name, is_live_name_of, is_moment, is_open, is_ripe_by, is_target_file, is_version, is_version_after, is_version_of, kind_of, live_target, lives_at, longest_content, members_of, moment_under, newest_of, next_closing, next_of, next_version, nothing, only_at, parent_now, plus, policy_of, reads_by, returning_name, ripe_at, step, target_at, usages, version_at, version_found, version_meant, file_view, walk_meant, walk_now, with_end, with_version, without_file, without_name, Change, Homes, IsHoused, IsDirectoryThere, is_named, last_dead, SetDirectoryDefault, MakeDirectory, Time, WriteDraft, TruncateDraft, MakeGroup}
+pub use Rattle.ele_model.proofs.Words.{rule_in}
+pub use Rattle.ele_policy.specs.Ripe.{case_of, ripe_case}
+pub use Rattle.ele_policy.specs.declared.rule.Case.{Case}
+pub use Rattle.ele_policy.specs.declared.rule.Rule.{Rule}
+pub use Rattle.ele_model.specs.Neighbours.{case_in, case_moment, newer_held, rule_of, with_newer}
 pub use Rattle.ele_model.specs.May.{May, MayAppend, MayHaveMore, MayName, MayRevive}
 pub use Rattle.ele_model.specs.GroupRows.{has_member}
 pub use Rattle.ele_model.specs.NoIdleStays.{HasNoIdle}

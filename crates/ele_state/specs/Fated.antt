@@ -1,8 +1,9 @@
 -- What a policy makes of a version that it alone decides about. No public clause cites this module.
-use Rattle.std.specs.Prelude.{◌≡◌, ℕ, nat_le, Bool, true, false, List, Option, Some, find, option_and_then, slice_get}
+use Rattle.std.specs.Prelude.{◌≡◌, ℕ, nat_le, true, false, List, Option, Some, find, option_and_then, slice_get}
 use Rattle.std.specs.Option.{option_map_or}
-use Rattle.ele_policy.specs.Cause.{IsCause, closing_of}
-use Rattle.ele_policy.specs.Ripe.{ripe_near}
+use Rattle.ele_policy.specs.Cause.{IsCause}
+use Rattle.ele_policy.specs.Ripe.{ripe_case}
+use Rattle.ele_policy.specs.declared.rule.Case.{Case}
 use Rattle.ele_policy.specs.declared.cause.Cause.{Cause}
 use Rattle.ele_policy.specs.declared.cause.Newer.{Newer}
 use Rattle.ele_policy.specs.declared.policy.Policy.{Policy}
@@ -32,11 +33,10 @@ newer_of info = record { number = info.number; closed = info.closed }
 abbrev pub IsCauseBy : Policy → ℕ → ℕ → Option Newer → ℕ → Cause → Type 0
 IsCauseBy policy closed ended next since cause = (newer : List Newer) → slice_get newer 0 ≡ next → IsCause policy closed ended newer since cause
 
--- of a version that closed and ended then, with that next one, where the floor is met or not, at the moment, and with that cover,
--- which doesn't last then
-abbrev pub IsFreeFate : Cover → Policy → ℕ → ℕ → Option Newer → Bool → ℕ → Fate → Type 0
-IsFreeFate cover policy closed ended next met now (Kept until level) =
-    (until ≡ option_and_then (ripe_past cover) (ripe_near policy closed (closing_of next) met ended)) × (option_map_or (λ m. nat_le m now) until false ≡ false) × (level ≡ level_reached (Some policy) (Some ended) now)
-IsFreeFate cover policy closed ended next met now (Due since cause) =
-    (option_and_then (ripe_past cover) (ripe_near policy closed (closing_of next) met ended) ≡ Some since) × (nat_le since now ≡ true) × IsCauseBy policy closed ended next since cause
-IsFreeFate cover policy closed ended next met now other = ⊥
+-- of a version of that case, with that next one, which ended then, at the moment, and with that cover, which doesn't last then
+abbrev pub IsFreeFate : Cover → Case → Option Newer → ℕ → ℕ → Fate → Type 0
+IsFreeFate cover case next ended now (Kept until level) =
+    (until ≡ option_and_then (ripe_past cover) (ripe_case case ended)) × (option_map_or (λ m. nat_le m now) until false ≡ false) × (level ≡ level_reached (Some case.policy) (Some ended) now)
+IsFreeFate cover case next ended now (Due since cause) =
+    (option_and_then (ripe_past cover) (ripe_case case ended) ≡ Some since) × (nat_le since now ≡ true) × IsCauseBy case.policy case.closed ended next since cause
+IsFreeFate cover case next ended now other = ⊥

@@ -9,12 +9,13 @@ use Rattle.ele_due.specs.declared.key.Key.{Key}
 use Rattle.ele_due.specs.HasKey.{has_key}
 use Rattle.ele_files.specs.Held.{Held}
 use Rattle.ele_policy.specs.declared.policy.Policy.{Policy}
-use Rattle.ele_policy.specs.Ripe.{ripe_near}
+use Rattle.ele_policy.specs.Ripe.{case_of}
+use Rattle.ele_policy.specs.FloorOf.{rule_in}
+use Rattle.ele_policy.specs.declared.rule.Rule.{Rule}
 use Rattle.ele_model.specs.declared.cover.Cover.{Cover}
-use Rattle.ele_model.specs.declared.rows.FileRow.{FileRow}
 use Rattle.ele_model.specs.declared.rows.GroupRow.{GroupRow}
 use Rattle.ele_model.specs.Due.{ripe_at}
-use Rattle.ele_model.specs.Neighbours.{floor_in, is_moment, moment_under, near_moment, newer_held, next_closing, with_newer}
+use Rattle.ele_model.specs.Neighbours.{case_moment, free_moment, is_moment, moment_under, newer_held, with_newer}
 use Rattle.ele_model.specs.Cover.{cover_of, cover_until, longer}
 use Rattle.ele_model.specs.Change.{Change, AddMark, AddMember, DropGroup, RemoveMark, RemoveMember}
 use Rattle.ele_model.specs.GroupRows.{has_member, is_marked_at}
@@ -22,7 +23,7 @@ use Rattle.ele_model.specs.GroupsAsked.{cover_with, cover_without, marks_of, mem
 use Rattle.ele_model.specs.Told.{info_of}
 use Rattle.ele_model.specs.declared.rows.VersionInfo.{VersionInfo}
 use Rattle.ele_model.specs.declared.rows.VersionRow.{VersionRow}
-use Rattle.ele_model.specs.World.{World, policy_of, next_of, is_live, is_open, is_version}
+use Rattle.ele_model.specs.World.{World, next_of, is_open, is_version}
 
 -- the queue has the key of each version that has a ripe moment, and no other
 abbrev pub IsQueued : World → List Key → Type 0
@@ -67,62 +68,56 @@ is_one file number owner n = (owner == file) && (n == number)
 abbrev pub is_own : ℕ → ℕ → ℕ → Bool
 is_own file owner number = owner == file
 
--- ---- what an append touches: the file's next version, and the held one that with it has as many newer ones as the floor in force
--- asks; where none is in force, the newest
+-- ---- what an append touches: the file's next version, and the held one that with it has as many newer ones as the file's rule asks
+-- for; where that asks for none, the newest
 
--- whether with one newer version fewer than it the floor is met, as none is
-abbrev pub met_before : ℕ → Bool
-met_before floor = nat_le floor (floor - 1)
+-- whether one fewer than the rule asks for are enough, as they are where it asks for none
+abbrev pub few_enough : Rule → Bool
+few_enough rule = nat_le rule.newer (rule.newer - 1)
 
 -- what that one gets as the next version closes beside it, which ends it unless it has ended; none where it keeps the moment that
 -- it had alone
-abbrev pub gained_moment : (ℕ → Option ℕ → Cover) → Option Policy → ℕ → ℕ → ℕ → Option ℕ → Option ℕ
-gained_moment cover policy floor now closed ended =
-    if is_some (option_and_then (near_moment cover policy None (met_before floor) closed) ended) then None
-    else near_moment cover policy (Some now) true closed (unwrap_or ended now)
+abbrev pub gained_moment : (ℕ → Option ℕ → Cover) → Rule → ℕ → ℕ → Option ℕ → Option ℕ
+gained_moment cover rule now closed ended =
+    if is_some (option_and_then (case_moment cover (case_of rule.policy closed None (few_enough rule))) ended) then None
+    else case_moment cover (case_of rule.policy closed (Some now) true) (unwrap_or ended now)
 
 -- so does the file's version of that row; none where a handle reads it
-abbrev pub former_moment : List GroupRow → Held → ℕ → ℕ → ℕ → VersionRow → Option ℕ
-former_moment groups h file floor now row =
-    if is_open h.handles file row.number then None else gained_moment (cover_of groups file) (policy_of h.files file) floor now row.closed row.ended
+abbrev pub former_moment : List GroupRow → Held → Rule → ℕ → ℕ → VersionRow → Option ℕ
+former_moment groups h rule file now row =
+    if is_open h.handles file row.number then None else gained_moment (cover_of groups file) rule now row.closed row.ended
 
--- that of the file's next version, which closes now and ends at once where the file isn't live
-abbrev pub own_moment : List GroupRow → List FileRow → ℕ → ℕ → Bool → Option ℕ
-own_moment groups files file now live = if live then None else near_moment (cover_of groups file) (policy_of files file) None true now now
+-- the key of that one; where the file has a name again, it had its key while none were asked for
+abbrev pub former_key : List GroupRow → Held → Rule → ℕ → ℕ → Bool → KeyChange
+former_key groups h rule file now again =
+    let gaining = if not again || (rule.newer == 0) then with_newer h.versions file (rule.newer - 1) else None in
+    record { file = file; number = option_map_or (λ row. row.number) gaining 0; was = None; is = option_and_then (former_moment groups h rule file now) gaining }
 
--- the keys of both; where the file has a name again, that one had its key before the floor was in force
-abbrev pub new_keys : List GroupRow → Held → ℕ → ℕ → Bool → Bool → List KeyChange
-new_keys groups h file now again live =
-    let floor = floor_in (policy_of h.files file) live in
-    let gaining = if not again || (floor == 0) then with_newer h.versions file (floor - 1) else None in
-    record { file = file; number = option_map_or (λ row. row.number) gaining 0; was = None; is = option_and_then (former_moment groups h file floor now) gaining }
-    ∷ record { file = file; number = next_of h.files file; was = None; is = own_moment groups h.files file now live } ∷ []
+-- and that of the file's next version, which closes now, and may end at once
+abbrev pub own_key : List GroupRow → Held → Rule → ℕ → ℕ → Bool → KeyChange
+own_key groups h rule file now ends =
+    record { file = file; number = next_of h.files file; was = None; is = if ends then case_moment (cover_of groups file) (case_of rule.policy now None true) now else None }
 
--- ---- what another policy touches, or another floor in force
+-- both, in a file under the policy, which is live or not: without a live name it ends at once
+abbrev pub new_keys : List GroupRow → Held → Policy → Bool → ℕ → ℕ → Bool → List KeyChange
+new_keys groups h policy live file now again =
+    former_key groups h (rule_in policy live) file now again ∷ own_key groups h (rule_in policy live) file now (not live) ∷ []
 
--- a policy, and the floor that is in force under it
-pub record Rule : Type 0 where
-  pub policy : Policy
-  pub floor : ℕ
+-- ---- what another rule touches
 
--- that floor in a file that is live or not
-abbrev pub rule_in : Policy → Bool → Rule
-rule_in policy live = record { policy = policy; floor = floor_in (Some policy) live }
-
--- the moment of a version of the file under the policy, while that floor is in force; none where a handle reads it
+-- the moment of a version of the file under the rule; none where a handle reads it
 abbrev pub unread_under : List GroupRow → Rule → Held → ℕ → ℕ → Option ℕ
-unread_under groups rule h file number =
-    if is_open h.handles file number then None else moment_under (cover_of groups file) (Some rule.policy) rule.floor h.versions file number
+unread_under groups rule h file number = if is_open h.handles file number then None else moment_under (cover_of groups file) rule h.versions file number
 
 -- the version of these info is held
 abbrev pub IsInfoOf : Held → ℕ → VersionInfo → Type 0
 IsInfoOf h file info = option_map info_of (find (is_version file info.number) h.versions) ≡ Some info
 
--- the moment of a version of the file under the policy where no floor keeps it and none is newer, or newer ones don't matter; it
--- ends now if it hasn't; none where a handle reads it
+-- the moment of a version of the file under the policy where it asks for no newer ones and none is newer, or newer ones don't matter;
+-- it ends now if it hasn't; none where a handle reads it
 abbrev pub freed_moment : List GroupRow → Held → ℕ → Policy → ℕ → ℕ → ℕ → Option ℕ → Option ℕ
 freed_moment groups h file policy now number closed ended =
-    if is_open h.handles file number then None else near_moment (cover_of groups file) (Some policy) None true closed (unwrap_or ended now)
+    if is_open h.handles file number then None else case_moment (cover_of groups file) (case_of policy closed None true) (unwrap_or ended now)
 
 -- so has the key, of one of the file's newest versions, so many
 abbrev pub is_freed : List GroupRow → Held → ℕ → Policy → ℕ → ℕ → Key → Bool
@@ -174,12 +169,4 @@ cover_after (Dropped name) groups file closed ended = cover_without groups name 
 
 -- the moments of the world's versions, if these covers keep them
 abbrev pub moments_by : World → (ℕ → ℕ → Option ℕ → Cover) → ℕ → ℕ → Option ℕ
-moments_by w cover file number =
-    let policy = policy_of w.files file in
-    if is_open w.handles file number then None else moment_under (cover file) policy (floor_in policy (is_live w file)) w.versions file number
-
--- when the file's version of that number ripens, which closed and ended then, in a file that is live or not, where no mark keeps it
-abbrev pub unmarked_moment : Held → Bool → ℕ → ℕ → ℕ → ℕ → Option ℕ
-unmarked_moment h live file number closed ended =
-    let met = nat_le (floor_in (policy_of h.files file) live) (newer_held h.versions file number) in
-    option_and_then (λ policy. ripe_near policy closed (next_closing h.versions file number) met ended) (policy_of h.files file)
+moments_by w cover file number = if is_open w.handles file number then None else free_moment w (cover file) file number

@@ -7,6 +7,7 @@ use Rattle.ele_files.specs.Closing.{IsPast, finishing, opening_by}
 use Rattle.ele_files.specs.Held.{Held, cells_of_draft, cells_of_version}
 use Rattle.ele_lists.specs.Lists.{AllLater}
 use Rattle.ele_policy.specs.declared.policy.Kind.{Kind}
+use Rattle.ele_policy.specs.declared.policy.Policy.{Policy}
 use Rattle.ele_state.specs.Inside.{world_of}
 use Rattle.ele_state.specs.Queued.{new_keys}
 use Rattle.ele_state.specs.Tracked.{IsFew}
@@ -57,6 +58,6 @@ pub record IsRoomy (made : ℕ) (book : Book) : Type 0 where
   pub versions : made ≤ 1000000
   pub sums : (k : Kind) → IsFew (sums_of book k)
 
--- the keys that come with it, where the file has a name again or had one
-abbrev pub coming : Rows → ℕ → Bool → List KeyChange
-coming rows file again = new_keys rows.groups rows.files file rows.moment again (is_live (world_of rows) file)
+-- the keys that come with it under the policy, where the file has a name again or had one
+abbrev pub coming : Rows → Policy → ℕ → Bool → List KeyChange
+coming rows policy file again = new_keys rows.groups rows.files policy (is_live (world_of rows) file) file rows.moment again

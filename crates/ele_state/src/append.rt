@@ -9,22 +9,24 @@ ghost use Rattle.ele_files.specs.FileHead.{Stands};
 ghost use Rattle.ele_lists.specs.Lists.{AllLater};
 ghost use Rattle.ele_model.specs.Change.{after_changes};
 ghost use Rattle.ele_model.specs.Cover.{cover_of};
-ghost use Rattle.ele_model.specs.Neighbours.{near_moment, with_newer};
+ghost use Rattle.ele_model.specs.Neighbours.{case_moment, with_newer};
 ghost use Rattle.ele_model.specs.Told.{info_of};
 ghost use Rattle.ele_model.specs.WellFormed.{ArePlaced};
-ghost use Rattle.ele_model.specs.World.{next_of, policy_of};
+ghost use Rattle.ele_model.specs.World.{next_of};
+ghost use Rattle.ele_policy.specs.Ripe.{case_of};
 ghost use Rattle.ele_state.specs.Inside.{world_of};
-ghost use Rattle.ele_state.specs.Queued.{comes, former_moment, new_keys};
+ghost use Rattle.ele_state.specs.Queued.{comes, few_enough, former_key, former_moment, own_key};
 ghost use Rattle.ele_state.specs.Source.{IsReady, IsRoomy, appending, coming, source_cells};
 ghost use Rattle.ele_state.specs.Tracked.{IsBooked};
 
 use crate::book::{blocks, charge_blocks, one_version};
-use crate::keys::{KeyChange, floor_in, near_moment, new_key, put_changed, take_back};
+use crate::keys::{KeyChange, new_key, put_changed, take_back};
+use crate::moments::case_moment;
 use crate::rows::Rows;
 use ele_files::{FileHead, Files, NewVersion};
 use ele_groups::Groups;
 use ele_model::{FileId, Handle, Moment, NoMemory, VersionInfo, VersionNo};
-use ele_policy::Policy;
+use ele_policy::{Case, Rule};
 
 // Where the content of a file's next version comes from: the draft that was opened then, of which the handle is the last one;
 // or the version of that number, which is held.
@@ -46,105 +48,105 @@ pub fn head(files: &Files, file: FileId) -> FileHead
     head
 }
 
-// Whether the policy has a ripe moment for a version without a newer one, where the floor is met or not.
-fn ripens_alone(
-    groups: &Groups,
-    file: FileId,
-    policy: &Policy,
-    floor_met: bool,
-    info: &VersionInfo,
-) -> bool
-    ensures { result ≡ is_some (option_and_then
-        (near_moment (cover_of groups.now file) (Some policy.now) None floor_met info.now.closed)
-        info.now.ended) }
+// A version of the rule's file that closed then, beside that next one, with enough newer ones or not.
+fn case_of(rule: &Rule, closed: Moment, next_closed: Option<Moment>, enough: bool) -> Case
+    ensures { result ≡ case_of rule.now.policy closed next_closed enough }
+{
+    Case {
+        policy: rule.policy,
+        closed,
+        next_closed,
+        enough,
+    }
+}
+
+// Whether a version without a newer one has a ripe moment under the rule, where as few are enough as it asks for but one.
+fn ripens_alone(groups: &Groups, file: FileId, rule: &Rule, info: &VersionInfo) -> bool
+    ensures { result ≡ is_some (option_and_then (case_moment (cover_of groups.now file)
+        (case_of rule.now.policy info.now.closed None (few_enough rule.now))) info.now.ended) }
 {
     match info.ended {
         Some(ended) => {
-            near_moment(groups, file, policy, &None, floor_met, info.closed, ended).is_some()
+            let case = &case_of(rule, info.closed, None, rule.newer == 0);
+            case_moment(groups, file, case, ended).is_some()
         }
         None => false,
     }
 }
 
-// What is told of the held version of a file that stands so that with the next one has as many newer ones as the floor asks; of
-// the newest where there is none.
+// What is told of the held version of a file that stands so that with the next one has as many newer ones as its rule asks for; of
+// the newest where that asks for none.
 #[tactic(auto, using(crate::proofs::Words::nat_tests, crate::proofs::Questions::newest_gains))]
-fn gaining(files: &Files, file: FileId, head: &FileHead, floor: u64) -> Option<VersionInfo>
+fn gaining(files: &Files, file: FileId, head: &FileHead, rule: &Rule) -> Option<VersionInfo>
     requires stands { Stands files.now file head.now }
     requires placed { AllLater ArePlaced files.now.versions }
-    ensures { result ≡ option_map info_of (with_newer files.now.versions file (floor - 1)) }
+    ensures { result ≡ option_map info_of (with_newer files.now.versions file (rule.now.newer - 1)) }
 {
-    if floor <= 1 {
+    if rule.newer <= 1 {
         return head.newest;
     }
-    files.with_newer(file, floor - 1)
+    files.with_newer(file, rule.newer - 1)
 }
 
 // The ripe moment that the version gets, of which these are the info, as the next one closes now; none where a handle reads it, or
-// where it keeps the one that it had alone, as it does without a floor under every policy that looks at no other version.
-#[tactic(auto, using(crate::proofs::Questions::former_told, crate::proofs::Questions::met_alone, crate::proofs::Words::nat_tests))]
-fn former_moment(
-    files: &Files,
-    groups: &Groups,
-    file: FileId,
-    policy: &Policy,
-    floor: u64,
-    gaining: &VersionInfo,
-    now: Moment,
-) -> Option<Moment>
-    requires policy { policy_of files.now.files file ≡ Some policy.now }
-    requires gaining { option_map info_of (with_newer files.now.versions file (floor - 1))
+// where it keeps the one that it had alone, as it does under every rule that asks for no newer ones and looks at no other version.
+#[tactic(auto, using(crate::proofs::Questions::former_told, crate::proofs::Words::nat_tests))]
+fn former_moment(rows: &Rows, file: FileId, rule: &Rule, gaining: &VersionInfo) -> Option<Moment>
+    requires { option_map info_of (with_newer rows.now.files.versions file (rule.now.newer - 1))
         ≡ Some gaining.now }
-    ensures { result ≡ option_and_then (former_moment groups.now files.now file floor now)
-        (with_newer files.now.versions file (floor - 1)) }
+    ensures { result ≡ option_and_then
+        (former_moment rows.now.groups rows.now.files rule.now file rows.now.moment)
+        (with_newer rows.now.files.versions file (rule.now.newer - 1)) }
 {
-    if files.is_open(file, gaining.number) {
+    if rows.files.is_open(file, gaining.number) {
         return None;
     }
-    if ripens_alone(groups, file, policy, floor == 0, gaining) {
+    if ripens_alone(&rows.groups, file, rule, gaining) {
         return None;
     }
-    let (closed, ended) = (gaining.closed, gaining.ended.unwrap_or(now));
-    near_moment(groups, file, policy, &Some(now), true, closed, ended)
+    let case = &case_of(rule, gaining.closed, Some(rows.moment), true);
+    case_moment(
+        &rows.groups,
+        file,
+        case,
+        gaining.ended.unwrap_or(rows.moment),
+    )
 }
 
-// The keys that come with the next version of a file that stands so, which closes now. Where the file has a name again, the one that
-// gains under its floor had its key while none was in force.
+// The key that the held version gets that gains as the next one comes; none where the file has a name again whose rule asks for newer
+// ones: that version had its key while none were asked for.
 #[tactic(auto, using(crate::proofs::Words::nat_tests))]
-fn new_keys(
-    files: &Files,
-    groups: &Groups,
-    file: FileId,
-    head: &FileHead,
-    now: Moment,
-    again: bool,
-    is_live: bool,
-) -> [KeyChange; 2]
-    requires stands { Stands files.now file head.now }
-    requires placed { AllLater ArePlaced files.now.versions }
-    ensures { result ≡ new_keys groups.now files.now file now again is_live }
+fn former_key(rows: &Rows, file: FileId, head: &FileHead, rule: &Rule, again: bool) -> KeyChange
+    requires stands { Stands rows.now.files file head.now }
+    requires placed { AllLater ArePlaced rows.now.files.versions }
+    ensures { result
+        ≡ former_key rows.now.groups rows.now.files rule.now file rows.now.moment again }
 {
-    let policy = &head.policy;
-    let floor = floor_in(policy, is_live);
-    let own = if is_live {
-        None
-    } else {
-        near_moment(groups, file, policy, &None, true, now, now)
-    };
-    if again && floor != 0 {
-        return [
-            new_key(file, VersionNo(0), None),
-            new_key(file, head.next, own),
-        ];
+    if again && rule.newer != 0 {
+        return new_key(file, VersionNo(0), None);
     }
-    let (number, former) = match &gaining(files, file, head, floor) {
-        Some(gaining) => {
-            let former = former_moment(files, groups, file, policy, floor, gaining, now);
-            (gaining.number, former)
-        }
-        None => (VersionNo(0), None),
+    match &gaining(&rows.files, file, head, rule) {
+        Some(gaining) => new_key(
+            file,
+            gaining.number,
+            former_moment(rows, file, rule, gaining),
+        ),
+        None => new_key(file, VersionNo(0), None),
+    }
+}
+
+// The key of the file's next version, which closes now, if it ends at once.
+fn own_key(rows: &Rows, file: FileId, head: &FileHead, rule: &Rule, ends: bool) -> KeyChange
+    requires { Stands rows.now.files file head.now }
+    ensures { result ≡ own_key rows.now.groups rows.now.files rule.now file rows.now.moment ends }
+{
+    let now = rows.moment;
+    let moment = if ends {
+        case_moment(&rows.groups, file, &case_of(rule, now, None, true), now)
+    } else {
+        None
     };
-    [new_key(file, number, former), new_key(file, head.next, own)]
+    new_key(file, head.next, moment)
 }
 
 // The file's next version stands in the files. The answer is its number and its length.
@@ -180,7 +182,7 @@ pub fn append(
     source: Source,
 ) -> Result<VersionNo, NoMemory>
     requires booked { IsBooked rows.old.files rows.old.book }
-    requires absent { (k : Key) → comes (coming rows.old file again) k ≡ true
+    requires absent { (k : Key) → comes (coming rows.old head.now.policy file again) k ≡ true
         → has_key k rows.old.queue ≡ false }
     requires roomy { IsRoomy rows.old.made.versions rows.old.book }
     requires stands { Stands rows.old.files file head.now }
@@ -190,7 +192,7 @@ pub fn append(
         (appending rows.old.files rows.old.moment file source)) }
     ensures err { OnErr result (rows.new ≡ record rows.old { queue = rows.new.queue }) }
     ensures come { OnOk result ((k : Key) → has_key k rows.new.queue
-        ≡ (comes (coming rows.old file again) k || has_key k rows.old.queue)) }
+        ≡ (comes (coming rows.old head.now.policy file again) k || has_key k rows.old.queue)) }
     ensures same { OnErr result
         ((k : Key) → has_key k rows.new.queue ≡ has_key k rows.old.queue) }
     ensures book { IsBooked rows.new.files rows.new.book }
@@ -200,7 +202,11 @@ pub fn append(
     let now = rows.moment;
     let kind = head.policy.kind();
     let before = blocks(&rows.files);
-    let changes = new_keys(&rows.files, &rows.groups, file, head, now, again, is_live);
+    let rule = &head.policy.rule_in(is_live);
+    let changes = [
+        former_key(rows, file, head, rule, again),
+        own_key(rows, file, head, rule, !is_live),
+    ];
     // All keys come before the version does, so that one that is refused is still without trace.
     put_changed(&mut rows.queue, &changes)?;
     let put = put_version(&mut rows.files, file, source, now, is_live);

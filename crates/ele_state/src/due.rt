@@ -6,7 +6,7 @@ ghost use Rattle.ele_model.specs.Scan.{scan, first_due};
 ghost use Rattle.ele_model.specs.Usage.{usages};
 
 use crate::State;
-use crate::keys::free_moment;
+use crate::moments::free_moment;
 use ele_model::{FileId, Key, KeyList, ListOf, Moment, NoMemory, VersionNo};
 use ele_usage::Usage;
 
@@ -27,8 +27,7 @@ impl State {
         if rows.files.is_open(file, number) {
             return false;
         }
-        let is_live = rows.names.is_live(file);
-        match free_moment(&rows.files, &rows.groups, is_live, file, number) {
+        match free_moment(rows, file, number) {
             Some(ripe) => {
                 let key = Key { ripe, file, number };
                 is_ripe(&key, rows.moment) && rows.queue.holds(&key)

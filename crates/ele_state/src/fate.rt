@@ -16,14 +16,14 @@ ghost use Rattle.ele_state.specs.Inside.{world_of, IsSound};
 ghost use Rattle.ele_state.specs.Queued.{IsInfoOf};
 
 use crate::State;
-use crate::keys::floor_in;
+use crate::moments::rule;
 use crate::rows::Rows;
 use ele_groups::Groups;
 use ele_model::{
     Cover, Fate, FileId, KeyList, ListOf, MarkRow, Moment, Name, NoMemory, Policy, Refusal,
     TaggedPath, VersionInfo, VersionNo,
 };
-use ele_policy::{Newer, cause_of, ripe};
+use ele_policy::{Case, Newer, cause_of};
 
 // Whether the mark covers what was current from the one moment until the other, and is in force.
 fn keeps_at(closed: Moment, ended: Moment, now: Moment, mark: &MarkRow) -> bool
@@ -138,27 +138,19 @@ fn ripe_past(cover: Cover, ripe: Option<Moment>) -> Option<Moment>
     cover.ripe_past(ripe?)
 }
 
-// What the policy makes at the moment of a version that closed and ended then, beside that next one, where the floor is met or not,
-// and that marks keep no more.
+// What the policy makes at the moment of a version of that case, which ended then, beside that next one, and which marks keep no more.
 #[tactic(auto, using(crate::proofs::Words::nat_tests, crate::proofs::Fated::due_alone))]
-fn free_fate(
-    cover: Cover,
-    policy: &Policy,
-    closed: Moment,
-    ended: Moment,
-    next: &Option<Newer>,
-    floor_met: bool,
-    now: Moment,
-) -> Fate
-    ensures { IsFreeFate cover policy.now closed ended next.now floor_met now result }
+fn free_fate(cover: Cover, case: &Case, next: &Option<Newer>, ended: Moment, now: Moment) -> Fate
+    requires { case.now.next_closed ≡ closing_of next.now }
+    ensures { IsFreeFate cover case.now next.now ended now result }
 {
+    let policy = &case.policy;
     policy.lemma_valid();
-    let next_closed = closing_of(next);
-    let until = ripe_past(cover, ripe(policy, closed, ended, next_closed, floor_met));
+    let until = ripe_past(cover, case.ripe(ended));
     if let Some(since) = until {
         if since <= now {
             since.lemma_in_range();
-            let cause = cause_of(policy, closed, ended, *next, since);
+            let cause = cause_of(policy, case.closed, ended, *next, since);
             return Fate::Due { since, cause };
         }
     }
@@ -184,14 +176,17 @@ fn fate_of(rows: &Rows, file: FileId, info: &VersionInfo) -> Fate
     if let Some((group, mark)) = first_mark(&rows.groups, &cover, file, closed, ended, now) {
         return Fate::Marked { group, mark };
     }
-    let Some(policy) = rows.files.policy_of(file) else {
+    let Some(rule) = rule(rows, file) else {
         unreachable!()
     };
-    let next = rows.files.next_held(file, number);
-    let floor = floor_in(&policy, rows.names.is_live(file));
-    let floor_met = rows.files.has_newer(file, number, floor);
-    let next = newer_of(&next);
-    free_fate(cover, &policy, closed, ended, &next, floor_met, now)
+    let next = newer_of(&rows.files.next_held(file, number));
+    let case = Case {
+        policy: rule.policy,
+        closed,
+        next_closed: closing_of(&next),
+        enough: rows.files.has_newer(file, number, rule.newer),
+    };
+    free_fate(cover, &case, &next, ended, now)
 }
 
 impl State {

@@ -20,6 +20,7 @@ mod file;
 mod group;
 mod keys;
 mod mark;
+mod moments;
 mod name;
 mod path;
 mod policy;

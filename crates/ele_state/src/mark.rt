@@ -11,17 +11,17 @@ ghost use Rattle.ele_model.specs.Cover.{cover_by, cover_of, longer};
 ghost use Rattle.ele_model.specs.Due.{ripe_at};
 ghost use Rattle.ele_model.specs.GroupRows.{group_named};
 ghost use Rattle.ele_model.specs.May.{May};
-ghost use Rattle.ele_model.specs.World.{is_live};
+ghost use Rattle.ele_model.specs.Neighbours.{rule_of};
 ghost use Rattle.ele_model.specs.declared.cover.Cover.TheVariants.{Free};
 ghost use Rattle.ele_state.specs.Inside.{world_of, IsSound, IsTracked};
 ghost use Rattle.ele_state.specs.Queued.{AreChanges, HasLeaving, change_of, cover_after, files_of, if_changed, moments_by, moments_of};
 
-use crate::keys::{
-    KeyChange, add_change, put_changed, remove_old_keys, take_back, unmarked_moment,
-};
+use crate::keys::{KeyChange, add_change, put_changed, remove_old_keys, take_back};
+use crate::moments::{case, rule};
 use crate::rows::Rows;
 use ele_groups::Groups;
 use ele_model::{Cover, FileId, MarkRow, Moment, Name, NoMemory};
+use ele_policy::Rule;
 
 // A change of the group of that name, by which marks keep versions for longer, or less long.
 #[derive(Clone, Copy)]
@@ -84,12 +84,12 @@ fn covers(
     }
 }
 
-// How the moment changes of the file's version that was current at the mark, in a file that is live or not; none where it doesn't.
+// How the moment changes of the version that was current at the mark of the file that has that rule; none where it doesn't.
 // Where marks keep it for as long, nothing else is asked.
 fn change_at(
     rows: &Rows,
     change: &GroupChange,
-    live: bool,
+    rule: &Option<Rule>,
     file: FileId,
     mark: Moment,
 ) -> Option<KeyChange>
@@ -97,7 +97,7 @@ fn change_at(
     requires leaving { HasLeaving change.now rows.now.groups }
     requires member { list_any (λ member. member == file) (files_of change.now rows.now.groups)
         ≡ true }
-    requires live { live ≡ is_live (world_of rows.now) file }
+    requires rule { rule.now ≡ rule_of (world_of rows.now) file }
     ensures { AreChanges (is_touched (file ∷ []) (mark ∷ []) rows.now.files.versions)
         (ripe_at (world_of rows.now))
         (moments_by (world_of rows.now) (cover_after change.now rows.now.groups))
@@ -109,7 +109,10 @@ fn change_at(
     if covers.0 == covers.1 || rows.files.is_open(file, info.number) {
         return None;
     }
-    let ripe = unmarked_moment(&rows.files, live, file, &info, ended)?;
+    let rule = (*rule)?;
+    // The borrow checker's proof wants a local of the type that a rule holds.
+    let _policy = rule.policy;
+    let ripe = case(&rows.files, file, rule, &info).ripe(ended)?;
     Some(KeyChange {
         file,
         number: info.number,
@@ -135,9 +138,9 @@ fn changes_by(
 {
     let mut changes = Vec::new(rows.alloc);
     for file in files {
-        let live = rows.names.is_live(*file);
+        let rule = &rule(rows, *file);
         for mark in marks {
-            add_change(&mut changes, change_at(rows, change, live, *file, *mark))?;
+            add_change(&mut changes, change_at(rows, change, rule, *file, *mark))?;
         }
     }
     Ok(changes)

@@ -129,7 +129,7 @@ impl State {
     }
 }
 
-// The only name of the file dies, and its current version ends; with the name no floor is in force any more, and the versions that
+// The only name of the file dies, and its current version ends; without a name its rule asks for no newer ones, and the versions that
 // it kept have their keys.
 #[tactic(auto, using(crate::proofs::Words::nat_tests, crate::proofs::ClosedSteps::past, crate::proofs::Unlinked::name_there, crate::proofs::Unlinked::last_ends, crate::proofs::Unlinked::ended_queue, crate::proofs::Unlinked::ended_book))]
 fn end_last_name(
@@ -150,9 +150,9 @@ fn end_last_name(
     let Some(policy) = rows.files.policy_of(file) else {
         unreachable!()
     };
-    let floor = policy.floor().number();
+    let asked = policy.rule_in(true).newer;
     // The newest version ends, and is the current one.
-    let changes = freed(rows, file, &policy, floor.max(1))?;
+    let changes = freed(rows, file, &policy, asked.max(1))?;
     put_changed(&mut rows.queue, &changes)?;
     rows.names.kill_found(directory, name, found, rows.moment);
     rows.files.end_current(file, rows.moment);

@@ -16,7 +16,8 @@ use crate::State;
 use crate::append::{Source, append, head};
 use crate::book::{blocks, follow_blocks};
 use crate::file::drop_idle;
-use crate::keys::{free_moment, put, take};
+use crate::keys::{put, take};
+use crate::moments::free_moment;
 use crate::rows::Rows;
 use ele_model::{ByteList, FileId, Handle, Moment, NoMemory, Reads, Refusal, VersionNo};
 use ele_sessions::FoundHandle;
@@ -93,8 +94,7 @@ impl State {
             ≡ after_change self.old.world (OpenHandle handle (Version file number))) }
         ensures err { OnErr result (self.new.world ≡ self.old.world) }
     {
-        let is_live = self.rows.names.is_live(file);
-        let moment = free_moment(&self.rows.files, &self.rows.groups, is_live, file, number);
+        let moment = free_moment(&self.rows, file, number);
         let handle = self.rows.files.open_read(file, number)?;
         take(&mut self.rows.queue, file, number, moment);
         Ok(handle)
@@ -208,8 +208,7 @@ fn unread(
     ensures err { OnErr result (world_of rows.new ≡ world_of rows.old) }
     ensures tracked { IsTracked rows.new }
 {
-    let is_live = rows.names.is_live(file);
-    let moment = &free_moment(&rows.files, &rows.groups, is_live, file, number);
+    let moment = &free_moment(rows, file, number);
     put(&mut rows.queue, file, number, *moment)?;
     rows.files.leave(handle);
     if !rows.files.is_open(file, number) {

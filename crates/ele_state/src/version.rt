@@ -104,9 +104,9 @@ impl State {
     {
         let head = head(&self.rows.files, file);
         let last = head.next.before();
-        let floor = head.policy.floor().number();
-        // With the name the floor is in force, and the new version counts.
-        let gone = freed(&self.rows, file, &head.policy, floor.saturating_sub(1))?;
+        // With the name the rule asks for newer ones again, and the new version is one.
+        let asked = head.policy.rule_in(true).newer;
+        let gone = freed(&self.rows, file, &head.policy, asked.saturating_sub(1))?;
         // The name comes first: it can be taken back without memory.
         self.rows
             .names

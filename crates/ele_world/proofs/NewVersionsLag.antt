@@ -1,7 +1,7 @@
 -- A new file and a file's next version, in a world and in one that lags behind it.
-use Rattle.ele_model.proofs.Basics.{◌≡◌, ◌==◌, ◌<◌, ◌-◌, ◌+◌, ℕ, Bool, true, false, cond, not, ◌||◌, List, [], ◌∷◌, None, Some, Option, refl, ap, sym, subst, ◌∙◌, arith, nat_tests, filter, list_any, nat_le, IfSome, option_map_or, unwrap_or, option_and_then, update_first, AllLater}
+use Rattle.ele_model.proofs.Basics.{◌≡◌, ◌==◌, ◌<◌, ◌-◌, ◌+◌, ℕ, Bool, true, false, cond, not, ◌||◌, List, [], ◌∷◌, None, Some, Option, refl, ap, sym, subst, ◌∙◌, arith, nat_tests, filter, list_any, nat_le, option_map_or, unwrap_or, option_and_then, update_first, AllLater}
 use Rattle.ele_model.proofs.Basics.{later-weaker, list_any-append, list_any-insert_before, list_any-update_first, false≢true, all-weaker, all-not_found, find, found_passes, not_found}
-use Rattle.ele_model.proofs.Words.{cover_of, ripe_past, Append, Cell, Change, Files, IsLawful, HasParts, MakeFile, Policy, Versions, World, after_change, ended_at, is_file, is_live_name_of, is_open, is_version, is_version_after, near_moment, newer_held, ripe_near, next_of, next_version, numbered_on, policy_of, ripe_at, with_end, with_version, ArePlaced}
+use Rattle.ele_model.proofs.Words.{cover_of, ripe_past, Append, Cell, Change, Files, IsLawful, HasParts, MakeFile, Policy, Versions, World, after_change, ended_at, is_file, is_live_name_of, is_open, is_version, is_version_after, Rule, case_moment, case_of, newer_held, ripe_case, rule_of, next_of, next_version, numbered_on, ripe_at, with_end, with_version, ArePlaced}
 use Rattle.ele_world.proofs.Words.{Cover, Always, Free, Until, VersionRow}
 use Rattle.ele_model.specs.Due.{ripe_of}
 use Rattle.ele_world.specs.Less.{less}
@@ -16,14 +16,13 @@ use Rattle.ele_model.proofs.KeptVersions.{behind_too, ended_versions}
 use Rattle.ele_world.proofs.LagsKeeps.{stays_name, stays_file, live_same, next_same}
 use Rattle.ele_model.proofs.MadeMoments.{moment_stays}
 use Rattle.ele_model.proofs.Elements.{any_none}
-use Rattle.ele_model.proofs.Neighbours.{floor_for}
+use Rattle.ele_model.proofs.Neighbours.{AreInOrder, in_force, in_order_of, least_newer, unmet_moment}
 use Rattle.ele_model.proofs.RipeAt.{is_due_is, ripe_at_is}
-use Rattle.ele_model.proofs.Views.{policies_of, policy_is}
 
 -- a version that is due with no newer one beside it is so from the same moment on beside one
-near_keeps : (policy : Policy) (closed ended nearest at : ℕ) (met : Bool) → IsLawful policy → (o : Option ℕ) → ripe_near policy closed None met ended ≡ o → option_map_or (λ m. nat_le m at) o false ≡ true → ripe_near policy closed (Some nearest) true ended ≡ o
-near_keeps policy closed ended nearest at met is None e due = absurd (false≢true due)
-near_keeps policy closed ended nearest at met is (Some m) e due = is.ripe_keeps closed ended m nearest met e
+case_keeps : (policy : Policy) (closed ended nearest at : ℕ) (enough : Bool) → IsLawful policy → (o : Option ℕ) → ripe_case (case_of policy closed None enough) ended ≡ o → option_map_or (λ m. nat_le m at) o false ≡ true → ripe_case (case_of policy closed (Some nearest) true) ended ≡ o
+case_keeps policy closed ended nearest at enough is None e due = absurd (false≢true due)
+case_keeps policy closed ended nearest at enough is (Some m) e due = is.ripe_keeps (case_of policy closed None enough) ended m nearest e
 
 past_due : (c : Cover) (o : Option ℕ) (now : ℕ) → option_map_or (λ m. nat_le m now) (option_and_then (ripe_past c) o) false ≡ true → option_map_or (λ m. nat_le m now) o false ≡ true
 past_due c None now due = absurd (false≢true due)
@@ -31,14 +30,14 @@ past_due Free (Some m) now due = due
 past_due Always (Some m) now due = absurd (false≢true due)
 past_due (Until end) (Some m) now due = grind (arith, nat_tests, due)
 
-beside_one : (read : Bool) (cover : ℕ → Option ℕ → Cover) (policy : Option Policy) (met : Bool) (closed now : ℕ) (ended : Option ℕ) → IfSome policy IsLawful
-    → option_map_or (λ m. nat_le m now) (cond read None (option_and_then (near_moment cover policy None met closed) ended)) false ≡ true
-    → cond read None (near_moment cover policy (Some now) true closed (unwrap_or ended now)) ≡ cond read None (option_and_then (near_moment cover policy None met closed) ended)
-beside_one true cover policy met closed now ended given due = absurd (false≢true due)
-beside_one false cover policy met closed now None given due = absurd (false≢true due)
-beside_one false cover None met closed now (Some ended) given due = grind (arith, nat_tests, due, false≢true)
-beside_one false cover (Some policy) met closed now (Some ended) given due =
-    ap (option_and_then (ripe_past (cover closed (Some ended)))) (near_keeps policy closed ended now now met given (ripe_near policy closed None met ended) refl (past_due (cover closed (Some ended)) (ripe_near policy closed None met ended) now due))
+beside_one : (read : Bool) (cover : ℕ → Option ℕ → Cover) (policy : Policy) (enough : Bool) (closed now : ℕ) (ended : Option ℕ) → IsLawful policy
+    → option_map_or (λ m. nat_le m now) (cond read None (option_and_then (case_moment cover (case_of policy closed None enough)) ended)) false ≡ true
+    → cond read None (case_moment cover (case_of policy closed (Some now) true) (unwrap_or ended now)) ≡ cond read None (option_and_then (case_moment cover (case_of policy closed None enough)) ended)
+beside_one true cover policy enough closed now ended given due = absurd (false≢true due)
+beside_one false cover policy enough closed now None given due = absurd (false≢true due)
+beside_one false cover policy enough closed now (Some ended) given due =
+    let alone = ripe_case (case_of policy closed None enough) ended in
+    ap (option_and_then (ripe_past (cover closed (Some ended)))) (case_keeps policy closed ended now now enough given alone refl (past_due (cover closed (Some ended)) alone now due))
 
 module _ (gone : ℕ → ℕ → Bool) (dropped : ℕ → Bool) (u v : World) (b : Behind gone dropped u v) where
   abbrev behind : World
@@ -118,14 +117,24 @@ module _ (gone : ℕ → ℕ → Bool) (dropped : ℕ → Bool) (u v : World) (b
     -- ---- what was due stays due
 
     -- the one that has another one beside it now
-    gaining_stays : (row : VersionRow) → find (is_version file row.number) v.versions ≡ Some row → newer_held v.versions file row.number ≡ floor_for v file - 1 → gone file row.number ≡ true → ripe_at appended file row.number ≡ ripe_at v file row.number
-    gaining_stays row found least named =
-        let was = gaining_was v file opened cells may row found least in
-        gaining_is v file opened cells may row found least
-        ∙ beside_one (is_open v.handles file row.number) (cover_of v.groups file) (policy_of v.files file) (nat_le (floor_for v file) (floor_for v file - 1)) row.closed v.now row.ended (policy_is v.files file (policies_of v b.formed)) (rw was at (sym (is_due_is v file row.number b.formed) ∙ b.due file row.number named))
-        ∙ sym was
+    gaining_stays : (row : VersionRow) → find (is_version file row.number) v.versions ≡ Some row → newer_held v.versions file row.number ≡ least_newer v file - 1 → gone file row.number ≡ true → ripe_at appended file row.number ≡ ripe_at v file row.number
+    gaining_stays row found least named = by (rule_of v file) refl where
+      ordered : AreInOrder v.files v.versions
+      ordered = in_order_of v b.formed
 
-    ripe_own : (n : ℕ) → gone file n ≡ true → (o : Option VersionRow) → find (is_version file n) v.versions ≡ o → ((n == next) || has_newer v.versions file (floor_for v file - 1) n) ≡ true → ripe_at appended file n ≡ ripe_at v file n
+      is_ripe : option_map_or (λ m. nat_le m v.now) (ripe_at v file row.number) false ≡ true
+      is_ripe = sym (is_due_is v file row.number b.formed) ∙ b.due file row.number named
+
+      by : (r : Option Rule) → rule_of v file ≡ r → ripe_at appended file row.number ≡ ripe_at v file row.number
+      by None unruled = absurd (false≢true (sym (ap (λ (o : Option ℕ). option_map_or (λ m. nat_le m v.now) o false) (unmet_moment v file row.number ordered (rw unruled refl))) ∙ is_ripe))
+      by (Some rule) ruled =
+          let few : newer_held v.versions file row.number ≡ rule.newer - 1 = rw ruled at least in
+          let was = gaining_was v file opened cells may row found rule ruled few in
+          gaining_is v file opened cells may row found rule ruled few
+          ∙ beside_one (is_open v.handles file row.number) (cover_of v.groups file) rule.policy (nat_le rule.newer (rule.newer - 1)) row.closed v.now row.ended (in_force v file rule ordered ruled).lawful (rw was at is_ripe)
+          ∙ sym was
+
+    ripe_own : (n : ℕ) → gone file n ≡ true → (o : Option VersionRow) → find (is_version file n) v.versions ≡ o → ((n == next) || has_newer v.versions file (least_newer v file - 1) n) ≡ true → ripe_at appended file n ≡ ripe_at v file n
     ripe_own n named o found so = by (n == next) refl o found where
       by : (l : Bool) → (n == next) ≡ l → (o : Option VersionRow) → find (is_version file n) v.versions ≡ o → ripe_at appended file n ≡ ripe_at v file n
       by true is o found = let same : n ≡ next = grind (arith, nat_tests, is) in absurd (false≢true (sym next_stays ∙ rw same at named))

@@ -1,4 +1,4 @@
-use Rattle.ele_state.proofs.Words.{File, IsQueued, Revive, World, ap, floor_of, comes, has_key, is_freed, not, placed_of, refl, shown_of, subst, sym, world_of, ◌&&◌, ◌-◌, ◌∙◌, ◌≡◌, []}
+use Rattle.ele_state.proofs.Words.{File, IsQueued, Revive, World, ap, Rule, rule_in, true, comes, has_key, is_freed, not, placed_of, refl, shown_of, subst, sym, world_of, ◌&&◌, ◌-◌, ◌∙◌, ◌≡◌, []}
 use Rattle.ele_state.proofs.Grown.{roomy}
 use Rattle.ele_state.proofs.NewNames.{follows_new}
 use Rattle.ele_state.proofs.Revived.{held_ready, held_there, revived_absent, revived_queue, revived_world, revives}
@@ -33,12 +33,12 @@ invariant_of-self-in-Ok c =
     let policy = c.head-head.result.policy in
     let may = revives rows _ c.self.view_is c.args.directory c.args.name c.args.file c.requires.home c.requires.free c.requires.names c.requires.versions c.requires.dead c.requires.held in
     let last = rw (← c.head-head.ensures.next) at c.before-last.ensures in
-    let floor : c.saturating_sub.result ≡ floor_of policy - 1 = c.saturating_sub.ensures ∙ ap (λ n. n - 1) (c.number-floor.ensures.value ∙ c.floor.ensures) in
+    let newest : c.saturating_sub.result ≡ (rule_in policy true).newer - 1 = c.saturating_sub.ensures ∙ ap (λ (rule : Rule). rule.newer - 1) c.rule_in-asked.ensures in
     let ok = rw c.in_ok-add.ensures.ok at c.in-Ok.ensures.ok in
     settled_by rows (shown_of rows) refl c.self.invariant (Revive c.args.directory c.args.name c.args.file) may tt _ (revived_world rows c.args.directory c.args.name c.args.file c.before-last.result (world_of c.append.new.rows) last ok) (record {
       queue = subst (λ (w : World). IsQueued w c.take_back.new.queue) (sym ok)
           (revived_queue rows c.args.directory c.args.name c.args.file c.self.invariant.sound may _ policy c.head-head.ensures.policy c.append.new.rows.queue c.take_back.new.queue (rw c.in_ok-add.ensures.ok at c.in-Ok.ensures.come)
-          (λ k. c.take_back.ensures k ∙ ap (λ b. not b && has_key k c.append.new.rows.queue) (ap (λ changes. comes changes k) c.deref.ensures.value ∙ c.in_ok-gone.ensures k ∙ ap (λ f. is_freed rows.groups rows.files c.args.file policy rows.moment f k) floor)));
+          (λ k. c.take_back.ensures k ∙ ap (λ b. not b && has_key k c.append.new.rows.queue) (ap (λ changes. comes changes k) c.deref.ensures.value ∙ c.in_ok-gone.ensures k ∙ ap (λ f. is_freed rows.groups rows.files c.args.file policy rows.moment f k) newest)));
       book = c.append.ensures.book;
       bounds = rw c.append.ensures.limits c.self.invariant.sound.tracked.bounds;
     })

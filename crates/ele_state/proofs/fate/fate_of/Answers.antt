@@ -18,7 +18,7 @@ returns-in-Some-first_mark c =
     fate_told c.args.rows.now c.args.file c.args.info.now c.requires.held (Marked _ _) (rw c.in-Some.is refl, sym c.is_open.ensures ∙ c.if-is_open.false, marked)
 
 pub unreachable-requires : goal.unreachable-requires
-unreachable-requires c = fate_ungoverned c.args.rows.now c.requires.sound c.args.file c.args.info.now c.requires.held (sym c.policy_of.ensures ∙ c.in_default-policy_of.is)
+unreachable-requires c = fate_ungoverned c.args.rows.now c.requires.sound c.args.file c.args.info.now c.requires.held (sym c.rule.ensures ∙ c.in_default-rule.is)
 
 pub returns : goal.returns
 returns c = fate_made c.args.rows.now c.requires.sound c.args.file c.args.info.now c.requires.held (record {
@@ -26,6 +26,6 @@ returns c = fate_made c.args.rows.now c.requires.sound c.args.file c.args.info.n
   ends = c.in-Some.is;
   unread = sym c.is_open.ensures ∙ c.if-is_open.false;
   unmarked = c.in_default-first_mark.ensures.none;
-  policy = c.in-Some-policy_of.policy;
-  filed = sym c.policy_of.ensures ∙ c.in-Some-policy_of.is;
-}) c.free_fate.result (rw (c.cover-cover.ensures, c.newer_of-next.ensures, c.next_held-next.ensures, c.has_newer-floor_met.ensures, c.floor_in-floor.ensures, c.is_live.ensures) at c.free_fate.ensures)
+  rule = c.in-Some-rule.rule;
+  ruled = sym c.rule.ensures ∙ c.in-Some-rule.is;
+}) c.free_fate.result (rw (c.cover-cover.ensures, c.closing_of.ensures, c.newer_of-next.ensures, c.next_held.ensures, c.has_newer.ensures) at c.free_fate.ensures)

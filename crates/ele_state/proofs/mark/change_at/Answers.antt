@@ -18,15 +18,22 @@ returns-then-eq c = stays c.args.rows.now c.args.file c.args.mark c.requires.sou
   | then-eq-via-else-eq+then-is_open w ↦ rw (sym w.is_open.ensures ∙ w.if-is_open.true) refl
 ])
 
+pub returns-in_err-rule : goal.returns-in_err-rule
+returns-in_err-rule c =
+    let unruled = sym c.requires.rule ∙ c.in_err-rule.was in
+    rw c.from_residual-in_err-rule.ensures (stays c.args.rows.now c.args.file c.args.mark c.requires.sound c.args.change.now c.in_ok-info.info c.in_ok-info.ensures (rw (c.in_ok-ended.was, unruled) refl))
+
 pub returns-in_err-ripe : goal.returns-in_err-ripe
 returns-in_err-ripe c =
-    rw c.from_residual-in_err-ripe.ensures (stays c.args.rows.now c.args.file c.args.mark c.requires.sound c.args.change.now c.in_ok-info.info c.in_ok-info.ensures
-    (rw (c.in_ok-ended.was, ← c.requires.live, ← c.unmarked_moment.ensures, c.in_err-ripe.was) refl))
+    let ruled = sym c.requires.rule ∙ c.in_ok-rule.was in
+    let ripe = rw c.case.ensures at (sym c.ripe.ensures.near ∙ c.in_err-ripe.was) in
+    rw c.from_residual-in_err-ripe.ensures (stays c.args.rows.now c.args.file c.args.mark c.requires.sound c.args.change.now c.in_ok-info.info c.in_ok-info.ensures (rw (c.in_ok-ended.was, ruled, ripe) refl))
 
 pub returns : goal.returns
 returns c =
     let unread = sym c.is_open.ensures ∙ c.if-is_open.false in
-    let ripe = sym c.unmarked_moment.ensures ∙ c.in_ok-ripe.was in
+    let ruled = sym c.requires.rule ∙ c.in_ok-rule.was in
+    let ripe = rw c.case.ensures at (sym c.ripe.ensures.near ∙ c.in_ok-ripe.was) in
     changes c.args.rows.now c.args.file c.args.mark c.requires.sound c.args.change.now c.in_ok-info.info c.in_ok-info.ensures c.ripe_past.result c.ripe_past-2.result
-    (rw (unread, c.in_ok-ended.was, ← c.requires.live, ripe, ← c.covers.ensures.was) (sym c.ripe_past.ensures))
-    (rw (unread, c.in_ok-ended.was, ← c.requires.live, ripe, ← c.covers.ensures.is) (sym c.ripe_past-2.ensures))
+    (rw (unread, c.in_ok-ended.was, ruled, ripe, ← c.covers.ensures.was) (sym c.ripe_past.ensures))
+    (rw (unread, c.in_ok-ended.was, ruled, ripe, ← c.covers.ensures.is) (sym c.ripe_past-2.ensures))

@@ -1,4 +1,4 @@
-use Rattle.ele_state.proofs.Words.{IsInfoOf, refl, rule_in, ◌∙◌}
+use Rattle.ele_state.proofs.Words.{IsInfoOf, refl, ◌∙◌}
 use Rattle.ele_lists.proofs.Taken.{all-at}
 use Rattle.ele_state.proofs.Changes.{both_change}
 use Rattle.ele_state.proofs.Governed.{all_under, one_more, stamps_told}
@@ -13,10 +13,10 @@ change_under-requires c =
 
 pub loop-info-preserved : goal.loop-info-preserved
 loop-info-preserved c =
-    let more = one_more c.args.rows.now.groups c.args.rows.now.files c.args.file (rule_in c.args.was.now c.is_live-is_live.result) (rule_in c.args.is.now c.is_live-is_live.result) c.as_slice-info-items.result.now c.loop-info.info-index c.info-item.result c.loop-info-test.true c.info-item.is in
+    let more = one_more c.args.rows.now.groups c.args.rows.now.files c.args.file c.args.was.now c.args.is.now c.as_slice-info-items.result.now c.loop-info.info-index c.info-item.result c.loop-info-test.true c.info-item.is in
     rw c.in_ok-add_change.ensures (both_change _ _ _ _ _ _ _ more c.loop-info.invariant c.change_under.ensures)
 
 pub returns : goal.returns
 returns c =
     let are = rw (take_all c.loop-info.info-index c.as_slice-info-items.result.now c.loop-info-test.false) at c.loop-info.invariant in
-    rw (← c.is_live-is_live.ensures) (all_under c.args.rows.now.groups c.args.rows.now.files c.args.file (rule_in c.args.was.now c.is_live-is_live.result) (rule_in c.args.is.now c.is_live-is_live.result) c.as_slice-info-items.result.now c.loop-info.changes.items (c.as_slice-info-items.ensures ∙ c.in_ok-held.ensures) are)
+    all_under c.args.rows.now.groups c.args.rows.now.files c.args.file c.args.was.now c.args.is.now c.as_slice-info-items.result.now c.loop-info.changes.items (c.as_slice-info-items.ensures ∙ c.in_ok-held.ensures) are

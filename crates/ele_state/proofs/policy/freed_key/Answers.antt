@@ -11,5 +11,5 @@ returns-then-is_open c = λ k. freed_more c.args.rows.now.groups c.args.rows.now
 pub returns : goal.returns
 returns c = λ k.
     let unread = sym c.is_open.ensures ∙ c.if-is_open.false in
-    rw c.new_key.ensures (freed_more c.args.rows.now.groups c.args.rows.now.files c.args.file c.args.policy.now c.args.rows.now.moment c.requires c.args.newer k c.in_ok-info.info c.near_moment-moment.result c.in_ok-info.ensures
-    (c.near_moment-moment.ensures ∙ rw (unread, c.unwrap_or-ended.ensures) refl))
+    rw c.new_key.ensures (freed_more c.args.rows.now.groups c.args.rows.now.files c.args.file c.args.policy.now c.args.rows.now.moment c.requires c.args.newer k c.in_ok-info.info c.case_moment-moment.result c.in_ok-info.ensures
+    (c.case_moment-moment.ensures ∙ rw (unread, c.unwrap_or-ended.ensures) refl))

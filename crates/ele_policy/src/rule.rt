@@ -1,0 +1,81 @@
+//! A policy as it is in force in a file, and an ended version as it sees it.
+//! A contract sees both as plain data.
+ghost use Rattle.std.specs.Prelude.{◌≡◌, ◌≤◌, ℕ, false, nat_le, IfSome, IfNone};
+ghost use Rattle.ele_moment.specs.Last.{last_moment};
+ghost use Rattle.ele_policy.specs.FloorOf.{rule_in};
+ghost use Rattle.ele_policy.specs.Ripe.{Beside, IsBeside, IsRipe, alone, is_due_by, ripe_by, ripe_case};
+
+use crate::policy::Policy;
+use crate::ripening::ripe_beside;
+use ele_moment::Moment;
+
+/// A file's policy as it is in force now.
+#[derive(Clone, Copy, Debug, PartialEq, Eq)]
+pub struct Rule {
+    pub policy: Policy,
+    /// How many newer held versions have to stand beside one that goes.
+    pub newer: u64,
+}
+
+impl Policy {
+    /// The policy as it is in force in a file that is live or not: without a live name it keeps no floor.
+    pub fn rule_in(self, is_live: bool) -> Rule
+        ensures { result ≡ rule_in self is_live }
+    {
+        let newer = if is_live { self.floor().number() } else { 0 };
+        Rule {
+            policy: self,
+            newer,
+        }
+    }
+}
+
+/// A version that has ended, as the rule of its file sees it.
+#[derive(Clone, Copy, Debug, PartialEq, Eq)]
+pub struct Case {
+    pub policy: Policy,
+    pub closed: Moment,
+    /// When the next held version of the file closed, if there is one, which isn't before.
+    pub next_closed: Option<Moment>,
+    /// Whether enough newer ones are held.
+    pub enough: bool,
+}
+
+impl Case {
+    // The ripe moment with enough newer ones.
+    fn ripe_with_enough(&self, ended: Moment) -> Option<Moment>
+        ensures { result ≡ ripe_by self.now.policy self.now.closed (alone self.now.next_closed) ended }
+    {
+        match self.next_closed {
+            Some(next) => ripe_beside(&self.policy, self.closed, ended, &[next], false),
+            None => ripe_beside(&self.policy, self.closed, ended, &[], false),
+        }
+    }
+
+    // By the policy's kind: `Safe` alone asks how many newer ones are held.
+    fn ripe_if_enough(&self, ended: Moment) -> Option<Moment>
+        ensures { result ≡ ripe_case self.now ended }
+    {
+        match self.policy {
+            Policy::Safe(_, _) if !self.enough => None,
+            _ => self.ripe_with_enough(ended),
+        }
+    }
+
+    /// The first moment at which the policy lets a version of this case go that ended then: whatever else stands beside it, the
+    /// answer is the same. None where that would be past the last moment, or is never.
+    #[tactic(auto, using(crate::proofs::Waits::is_ripe, crate::proofs::Waits::ripe_from, crate::proofs::Waits::ripe_never))]
+    pub fn ripe(&self, ended: Moment) -> Option<Moment>
+        ensures value { IsRipe self.now ended result }
+        ensures near { result ≡ ripe_case self.now ended }
+        ensures from_then { IfSome result
+            (λ m. (beside : Beside) → IsBeside self.now beside
+            → (at : ℕ) → is_due_by self.now.policy self.now.closed beside ended at ≡ nat_le m at) }
+        ensures never { IfNone result
+            ((beside : Beside) → IsBeside self.now beside → (at : ℕ) → at ≤ last_moment
+            → is_due_by self.now.policy self.now.closed beside ended at ≡ false) }
+    {
+        self.policy.lemma_valid();
+        self.ripe_if_enough(ended)
+    }
+}

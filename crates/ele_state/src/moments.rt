@@ -1,0 +1,53 @@
+//! The moments at which versions ripen while no handle reads them, by the rules of their files and the marks of their groups.
+ghost use Rattle.std.specs.Prelude.{◌≡◌};
+ghost use Rattle.ele_model.specs.Cover.{cover_of};
+ghost use Rattle.ele_model.specs.Neighbours.{case_in, case_moment, free_moment, rule_of};
+ghost use Rattle.ele_state.specs.Inside.{world_of};
+
+use crate::rows::Rows;
+use ele_files::Files;
+use ele_groups::Groups;
+use ele_model::{FileId, Moment, VersionInfo, VersionNo};
+use ele_policy::{Case, Rule};
+
+// The file's policy as it is in force now, if the file is there.
+pub fn rule(rows: &Rows, file: FileId) -> Option<Rule>
+    ensures { result ≡ rule_of (world_of rows.now) file }
+{
+    let policy = rows.files.policy_of(file)?;
+    Some(policy.rule_in(rows.names.is_live(file)))
+}
+
+// The case under the rule of the file's version of these info.
+pub fn case(files: &Files, file: FileId, rule: Rule, info: &VersionInfo) -> Case
+    ensures { result ≡ case_in rule files.now.versions file info.now.number info.now.closed }
+{
+    Case {
+        policy: rule.policy,
+        closed: info.closed,
+        next_closed: files.next_closing(file, info.number),
+        enough: files.has_newer(file, info.number, rule.newer),
+    }
+}
+
+// When a version of the file of that case ripens which ended then: not before the latest end of the marks that cover it; none where
+// one keeps it for ever, or where it is never due.
+pub fn case_moment(groups: &Groups, file: FileId, case: &Case, ended: Moment) -> Option<Moment>
+    ensures { result ≡ case_moment (cover_of groups.now file) case.now ended }
+{
+    let ripe = case.ripe(ended)?;
+    groups.cover(file, case.closed, Some(ended)).ripe_past(ripe)
+}
+
+// When the file's version of that number ripens; none where it isn't held or has no end.
+pub fn free_moment(rows: &Rows, file: FileId, number: VersionNo) -> Option<Moment>
+    ensures { result ≡ free_moment (world_of rows.now) (cover_of rows.now.groups file) file number }
+{
+    let info = rows.files.info(file, number)?;
+    let ended = info.ended?;
+    let rule = rule(rows, file)?;
+    // The borrow checker's proof wants a local of the type that a rule holds.
+    let _policy = rule.policy;
+    let case = case(&rows.files, file, rule, &info);
+    case_moment(&rows.groups, file, &case, ended)
+}
