@@ -93,7 +93,7 @@ def gate_environment():
 
 
 def run_gate(room):
-    """Runs `rt ci` in a room, and returns whether all is proved, and what it said. What was proved before on this machine it takes."""
+    """Runs `rt ci` in a room, and returns whether all is proved, and what it said.."""
     pipes = {"stdin": subprocess.DEVNULL, "stdout": subprocess.PIPE, "stderr": subprocess.STDOUT, "encoding": "utf-8", "errors": "replace"}
     ran = subprocess.run(["rt", "ci"], cwd=room, env=gate_environment(), check=False, **pipes)
     return ran.returncode == 0, ran.stdout
