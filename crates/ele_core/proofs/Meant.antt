@@ -30,12 +30,3 @@ numbered w file number row meant = numbered_found w.versions file number row (ma
 -- and it is held
 pub numbered_held : (w : World) (file number : ℕ) (row : VersionRow) → version_meant w.files w.versions file (tag.Number number) ≡ Ok row → is_held w file number ≡ true
 numbered_held w file number row meant = let found = numbered w file number row meant in any-found (is_version file number) (is_version file number) w.versions row found (found_passes (is_version file number) w.versions row found)
-
--- ---- the version that a tagged path means
-
--- what becomes of it is its fate
-pub fate_is : (w : World) (tagged : TaggedPath) (found : ℕ × VersionInfo) (fate : Fate) → Ok found ≡ found_of (version_at w tagged) → HasFate w found.0 found.1.number fate → MeansFate w tagged fate
-fate_is w tagged found fate h has = by (version_at w tagged) refl h where
-  by : (r : Result VersionRow Refusal) → version_at w tagged ≡ r → Ok found ≡ found_of r → MeansFate w tagged fate
-  by (Ok row) is h = let same : found ≡ (row.file, info_of row) = cc in record { row = row; means = is; has = subst (λ (f : ℕ × VersionInfo). HasFate w f.0 f.1.number fate) same has }
-  by (Err refusal) is h = absurd cc

@@ -2,21 +2,15 @@
 ghost use Rattle.ele_model.specs.Why.{IsWhy};
 
 use crate::Core;
-use crate::halt::check;
 use ele_model::{Explain, Fate, KeyList, Moment, NoMemory, Refusal, TaggedPath};
 
 impl Core {
     /// What becomes of the version that the path and its tag mean, and why, as `fate` tells it. It takes no memory. Refused:
     /// `Future`, `NoEntry`, `NotDirectory`, `IsDirectory`, `NoVersion`, `Forgotten`.
-    #[tactic(auto, using(crate::proofs::Meant::fate_is))]
     pub fn fate_at(&self, tagged: &TaggedPath) -> Result<Fate, Refusal>
         ensures { IsWhy self.now.world tagged.now result }
     {
-        let (file, info) = check!(self.state.version_at(tagged));
-        match self.state.fate(file, info.number) {
-            Some(fate) => Ok(fate),
-            None => unreachable!(),
-        }
+        self.state.fate_at(tagged)
     }
 }
 

@@ -1,6 +1,4 @@
 //! The events of handles and drafts.
-ghost use Rattle.std.specs.Prelude.{◌≡◌, ◌+◌, nat_lt};
-ghost use Rattle.ele_content.specs.Content.{longest_content};
 ghost use Rattle.ele_core.specs.Does.{Does, done};
 ghost use Rattle.ele_model.specs.declared.event.Event.TheVariants as event;
 ghost use Rattle.ele_model.specs.declared.reply.Reply.TheVariants as reply;
@@ -8,16 +6,7 @@ ghost use Rattle.ele_model.specs.declared.reply.Reply.TheVariants as reply;
 use crate::Core;
 use crate::halt::{Halt, check, refuse_if};
 use ele_model::{ByteList, Handle, Path, Refusal, TaggedPath, VersionNo, Which};
-
-/// How many bytes a content may have.
-const LONGEST_CONTENT: u64 = 1_048_576;
-
-// Whether a content that goes on for so many bytes behind the offset would be too long.
-fn is_too_long(offset: u64, length: u64) -> bool
-    ensures { result ≡ nat_lt longest_content (offset + length) }
-{
-    offset > LONGEST_CONTENT || length > LONGEST_CONTENT - offset
-}
+use ele_state::is_too_long;
 
 impl Core {
     /// A handle is opened by which the file at the path is written. Refused: `NoEntry`, `NotDirectory`, `IsDirectory`, `Full`.
@@ -56,7 +45,7 @@ impl Core {
             return Ok(());
         }
         check!(refuse_if(is_too_long(offset, bytes.len() as u64), Refusal::TooBig));
-        Ok(self.state.write(handle, file, offset, bytes)?)
+        Ok(self.state.write(file, offset, bytes)?)
     }
 
     /// The draft under the handle gets so many bytes. Refused: `NoHandle`, `NotWriter`, `TooBig`.
@@ -66,7 +55,7 @@ impl Core {
     {
         let file = check!(self.state.file_by(handle));
         check!(refuse_if(is_too_long(0, size), Refusal::TooBig));
-        Ok(self.state.truncate(handle, file, size)?)
+        Ok(self.state.truncate(file, size)?)
     }
 
     /// Closes the handle; the last one of a changed draft makes it the file's next version, and the answer is its number.
@@ -75,7 +64,7 @@ impl Core {
     pub fn close(&mut self, handle: Handle) -> Result<Option<VersionNo>, Halt>
         ensures { Does reply.Closed self.old.world (event.Close handle) result self.new.world }
     {
-        let reads = check!(self.state.reads_by(handle));
-        Ok(self.state.close(handle, reads)?)
+        let found = check!(self.state.handle(handle));
+        Ok(self.state.close(&found)?)
     }
 }
