@@ -3,14 +3,14 @@
  * One table holds the files with their current contents. When a file gets another content, a trigger copies the one that it
  * had into the table of versions. A draft lies in this program and not in the database. Each event is a transaction of its
  * own, or with the word `thousand` 1,000 lines are one. */
-#include <inttypes.h>
+#define _GNU_SOURCE
 #include <sqlite3.h>
 #include <stdio.h>
 #include <stdlib.h>
 #include <string.h>
 #include <time.h>
 
-enum { LONGEST_LINE = 8194, LONGEST_CONTENT = 1048576, LONGEST_ROW = 112, TRANSACTION = 1000 };
+enum { LONGEST_LINE = 8194, LONGEST_CONTENT = 1048576, LONGEST_ROW = 128, TRANSACTION = 1000 };
 
 static const char SCHEMA[] =
     "CREATE TABLE files (id INTEGER PRIMARY KEY, name TEXT NOT NULL UNIQUE, number INTEGER NOT NULL,"
@@ -97,23 +97,49 @@ static int digit(char letter) {
     return letter <= '9' ? letter - '0' : letter - 'a' + 10;
 }
 
+static void print(const char *text) {
+    fputs_unlocked(text, stdout);
+}
+
+/* Writes the number and the letter at the place, and returns the place after them. `printf` would take as long as a query. */
+static char *put_number(char *at, sqlite3_int64 number, char letter) {
+    char digits[20];
+    int count = 0;
+    do digits[count++] = (char)('0' + number % 10);
+    while ((number /= 10) > 0);
+    while (count > 0) *at++ = digits[--count];
+    *at++ = letter;
+    return at;
+}
+
+static void print_number(sqlite3_int64 number, char letter) {
+    char text[24];
+    fwrite_unlocked(text, 1, (size_t)(put_number(text, number, letter) - text), stdout);
+}
+
+static void print_line(const char *words, sqlite3_int64 number) {
+    print(words);
+    print_number(number, '\n');
+}
+
 static void print_bytes(const unsigned char *bytes, int length) {
     static char text[2 * LONGEST_CONTENT];
     for (int at = 0; at < length; at++) {
         text[2 * at] = "0123456789abcdef"[bytes[at] >> 4];
         text[2 * at + 1] = "0123456789abcdef"[bytes[at] & 15];
     }
-    printf("ok bytes %d ", length);
-    if (length == 0) putchar('-');
-    fwrite(text, 1, 2 * (size_t)length, stdout);
-    putchar('\n');
+    print("ok bytes ");
+    print_number(length, ' ');
+    if (length == 0) print("-");
+    fwrite_unlocked(text, 1, 2 * (size_t)length, stdout);
+    print("\n");
 }
 
 static void create(const char *path) {
     sqlite3_stmt *statement = with_text(CREATE, path);
     bind(statement, 2, now);
     run(statement);
-    printf("ok file %" PRId64 "\n", (int64_t)++files);
+    print_line("ok file ", ++files);
 }
 
 static void move_clock(sqlite3_int64 moment) {
@@ -121,8 +147,10 @@ static void move_clock(sqlite3_int64 moment) {
     struct tm parts;
     char text[32];
     now = moment;
-    strftime(text, sizeof text, "%Y-%m-%dT%H:%M:%SZ", gmtime_r(&seconds, &parts));
-    printf("ok now %" PRId64 " %s\n", (int64_t)now, text);
+    strftime(text, sizeof text, "%Y-%m-%dT%H:%M:%SZ\n", gmtime_r(&seconds, &parts));
+    print("ok now ");
+    print_number(now, ' ');
+    print(text);
 }
 
 static void open_write(const char *path) {
@@ -136,7 +164,7 @@ static void open_write(const char *path) {
     draft.length = sqlite3_column_bytes(statement, 2);
     if (draft.length > 0) memcpy(draft.bytes, content, (size_t)draft.length);
     sqlite3_reset(statement);
-    printf("ok handle %" PRId64 "\n", (int64_t)draft.handle);
+    print_line("ok handle ", draft.handle);
 }
 
 static void resize(int length) {
@@ -150,7 +178,7 @@ static void write_bytes(int offset, const char *text) {
     if (offset + count > draft.length) resize(offset + count);
     for (int at = 0; at < count; at++)
         draft.bytes[offset + at] = (unsigned char)(digit(text[2 * at]) << 4 | digit(text[2 * at + 1]));
-    puts("ok done");
+    print("ok done\n");
 }
 
 static void close_write(void) {
@@ -160,7 +188,7 @@ static void close_write(void) {
     bind(statement, 4, now);
     check(sqlite3_bind_blob(statement, 5, draft.bytes, draft.length, SQLITE_STATIC), "bind");
     run(statement);
-    printf("ok closed version %" PRId64 "\n", (int64_t)draft.number + 1);
+    print_line("ok closed version ", draft.number + 1);
 }
 
 /* Prints the content that was current at the moment. */
@@ -180,33 +208,41 @@ static void read_at(const char *path, sqlite3_int64 moment) {
     sqlite3_reset(current);
 }
 
+/* Writes the columns from the first on, an end or `-` among them, as a row of an answer. */
+static char *put_row(char *at, sqlite3_stmt *row, int first, int is_current) {
+    *at++ = '-';
+    *at++ = ' ';
+    for (int column = first; column < first + 3; column++) at = put_number(at, sqlite3_column_int64(row, column), ' ');
+    if (!is_current) at = put_number(at, sqlite3_column_int64(row, first + 3), ' ');
+    if (is_current) at = stpcpy(at, "- ");
+    return put_number(at, sqlite3_column_int64(row, first + 4 - is_current), '\n');
+}
+
 /* Collects the rows, since their count is printed before them. */
 static void list(const char *path) {
     static char *rows;
     static size_t capacity;
     size_t length = 0;
-    int count = 1;
+    int count = 1, status;
     sqlite3_stmt *last = with_text(LAST, path);
     find_row(last);
     sqlite3_stmt *row = with_number(LIST, sqlite3_column_int64(last, 0));
-    for (; sqlite3_step(row) == SQLITE_ROW; count++) {
+    do {
+        status = sqlite3_step(row);
         if (capacity < length + LONGEST_ROW && !(rows = realloc(rows, capacity = 2 * length + LONGEST_ROW))) fail("memory");
-        int64_t cells[5];
-        for (int at = 0; at < 5; at++) cells[at] = sqlite3_column_int64(row, at);
-        const char *form = "- %" PRId64 " %" PRId64 " %" PRId64 " %" PRId64 " %" PRId64 "\n";
-        length += (size_t)sprintf(rows + length, form, cells[0], cells[1], cells[2], cells[3], cells[4]);
-    }
-    printf("ok versions %d\n", count);
-    fwrite(rows, 1, length, stdout);
-    printf("- %" PRId64 " %" PRId64, (int64_t)sqlite3_column_int64(last, 1), (int64_t)sqlite3_column_int64(last, 2));
-    printf(" %" PRId64 " - %" PRId64 "\n", (int64_t)sqlite3_column_int64(last, 3), (int64_t)sqlite3_column_int64(last, 4));
+        char *end = status == SQLITE_ROW ? put_row(rows + length, row, 0, 0) : put_row(rows + length, last, 1, 1);
+        length = (size_t)(end - rows);
+        count += status == SQLITE_ROW;
+    } while (status == SQLITE_ROW);
+    print_line("ok versions ", count);
+    fwrite_unlocked(rows, 1, length, stdout);
     sqlite3_reset(row);
     sqlite3_reset(last);
 }
 
 static void pass(void) {
     run(with_number(PASS, now - kept_for));
-    printf("ok pass finished %d\n", sqlite3_changes(base));
+    print_line("ok pass finished ", sqlite3_changes(base));
 }
 
 /* Returns the rest of the line, if it begins with the words. */
@@ -252,7 +288,7 @@ static void answer(char *line) {
         pass();
     } else if ((rest = after(line, "default / safe:"))) {
         kept_for = atoll(rest);
-        puts("ok done");
+        print("ok done\n");
     } else {
         fail("there is no such command");
     }
@@ -260,7 +296,7 @@ static void answer(char *line) {
 
 static void answer_all(int in_thousands) {
     static char line[LONGEST_LINE];
-    for (long count = 0; fgets(line, sizeof line, stdin); count++) {
+    for (long count = 0; fgets_unlocked(line, sizeof line, stdin); count++) {
         if (in_thousands && count % TRANSACTION == 0) {
             if (count > 0) run(statements[COMMIT]);
             run(statements[BEGIN]);
