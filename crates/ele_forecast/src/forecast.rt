@@ -3,7 +3,7 @@
 ghost use Rattle.std.specs.Prelude.{◌≡◌, ◌≤◌, ℕ, ◌<◌, ◌+◌, ◌^◌, ◌++◌, ◌∷◌, List, [], Some, None, OnOk, slice_get, true, not};
 ghost use Rattle.ele_lists.specs.Lists.{AllLater};
 ghost use Rattle.ele_policy.specs.Cause.{IsCause};
-ghost use Rattle.ele_policy.specs.FloorOf.{meets_floor};
+ghost use Rattle.ele_policy.specs.Rule.{meets_floor};
 ghost use Rattle.ele_policy.specs.Ripe.{alone, ripe_by};
 ghost use Rattle.ele_policy.specs.declared.cause.Newer.{Newer};
 ghost use Rattle.ele_model.specs.FileView.{FileView};

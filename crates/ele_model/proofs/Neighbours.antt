@@ -56,7 +56,7 @@ module _ (cover : ℕ → Option ℕ → Cover) (rule : Rule) (is : IsInForce ru
   -- where some are asked for it doesn't matter which is the next
   pub case_floored : (other : Option ℕ) → 1 ≤ rule.newer → case_moment cover (record case { policy = rule.policy }) ended ≡ case_moment cover (record case { policy = rule.policy; next_closed = other }) ended
   case_floored other some =
-      ap (option_and_then (ripe_past (cover case.closed (Some ended)))) (is.lawful.ripe_floored case ended other (by is.live (rw is.newer_is at some))) where
+      ap (option_and_then (ripe_past (cover case.closed (Some ended)))) (is.lawful.ripe_counted case ended other (by is.live (rw is.newer_is at some))) where
         by : (live : Bool) → 1 ≤ (rule_in rule.policy live).newer → 1 ≤ floor_of rule.policy
         by true h = h
         by false h = absurd (omega (arith, h))

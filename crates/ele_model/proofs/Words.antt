@@ -7,7 +7,7 @@ pub use Rattle.ele_due.specs.HasKey.{has_key}
 pub use Rattle.ele_due.specs.Key.{is_key, is_ripe_by}
 pub use Rattle.ele_due.specs.declared.key.Key.{Key}
 pub use Rattle.ele_moment.specs.Last.{last_moment}
-pub use Rattle.ele_policy.specs.FloorOf.{floor_of, meets_floor, rule_in}
+pub use Rattle.ele_policy.specs.Rule.{floor_of, meets_floor, rule_in}
 pub use Rattle.ele_policy.specs.Lawful.{IsLawful, PoliciesAreLawful}
 pub use Rattle.ele_policy.specs.Policy.{IsPolicy, is_kind, kind_of}
 pub use Rattle.ele_policy.specs.Ripe.{Beside, candidates, case_beside, case_of, earliest_of, is_due_by, lets_go, ripe_case}

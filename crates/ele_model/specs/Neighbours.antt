@@ -6,7 +6,7 @@ use Rattle.std.specs.Option.{option_map, option_map_or}
 use Rattle.ele_lists.specs.Last.{last_passing}
 use Rattle.ele_policy.specs.declared.rule.Case.{Case}
 use Rattle.ele_policy.specs.declared.rule.Rule.{Rule}
-use Rattle.ele_policy.specs.FloorOf.{rule_in}
+use Rattle.ele_policy.specs.Rule.{rule_in}
 use Rattle.ele_policy.specs.Ripe.{case_of, ripe_case}
 use Rattle.ele_model.specs.declared.cover.Cover.{Cover}
 use Rattle.ele_model.specs.declared.rows.VersionRow.{VersionRow}

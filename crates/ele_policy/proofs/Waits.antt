@@ -14,7 +14,7 @@ use Rattle.ele_policy.specs.declared.rule.Case.{Case}
 use Rattle.ele_policy.specs.Lawful.{PoliciesAreLawful}
 use Rattle.ele_policy.specs.Ladder.{Rung, ground, climbs, level_of, rung_at, shares}
 use Rattle.ele_policy.specs.Policy.{IsPolicy}
-use Rattle.ele_policy.specs.FloorOf.{counts_newer, floor_of, meets_floor}
+use Rattle.ele_policy.specs.Rule.{counts_newer, floor_of, meets_floor}
 use Rattle.ele_policy.specs.Ripe.{Beside, IsBeside, IsRipe, alone, case_of, lets_go, is_due_by, candidates, earliest_of, ripe_by, ripe_case}
 use Rattle.ele_policy.specs.Wait.{has_newer, wait, in_time, ripe_after}
 use Rattle.ele_policy.proofs.Earliest.{earliest_from, earliest_same, is_candidate, never_due}
@@ -228,14 +228,14 @@ module _ (case : Case) (ended : ℕ) (given : IsPolicy case.policy) where
 -- ---- the laws of one policy's cases
 
 -- with a floor whether enough are held tells all
-ripe_floored : (policy : Policy) (case : Case) (ended : ℕ) (other : Option ℕ) → IsPolicy policy → 1 ≤ floor_of policy → ripe_case (record case { policy = policy }) ended ≡ ripe_case (record case { policy = policy; next_closed = other }) ended
-ripe_floored (Safe interval floor) case ended other given some =
+ripe_counted : (policy : Policy) (case : Case) (ended : ℕ) (other : Option ℕ) → IsPolicy policy → 1 ≤ floor_of policy → ripe_case (record case { policy = policy }) ended ≡ ripe_case (record case { policy = policy; next_closed = other }) ended
+ripe_counted (Safe interval floor) case ended other given some =
     case_is (record case { policy = Safe interval floor }) ended given
     ∙ grind (arith, nat_tests, waits_alone interval floor case.closed case.next_closed, waits_alone interval floor case.closed other)
     ∙ sym (case_is (record case { policy = Safe interval floor; next_closed = other }) ended given)
-ripe_floored One case ended other given some = absurd (omega (arith, some))
-ripe_floored All case ended other given some = absurd (omega (arith, some))
-ripe_floored (Landmarks rungs) case ended other given some = absurd (omega (arith, some))
+ripe_counted One case ended other given some = absurd (omega (arith, some))
+ripe_counted All case ended other given some = absurd (omega (arith, some))
+ripe_counted (Landmarks rungs) case ended other given some = absurd (omega (arith, some))
 
 ripe_unmet : (policy : Policy) (case : Case) (ended newer : ℕ) (live : Bool) → meets_floor policy live newer ≡ false → ripe_case (record case { policy = policy; enough = false }) ended ≡ None
 ripe_unmet (Safe interval floor) case ended newer live unmet = refl
@@ -262,7 +262,7 @@ policies_are_lawful policy given = record {
   given = given;
   due_from = λ closed ended at beside fits. due_from policy closed ended at beside given fits;
   ripe_seen = λ case ended beside stands. ripe_seen (record case { policy = policy }) ended given beside stands;
-  ripe_floored = λ case ended other some. ripe_floored policy case ended other given some;
+  ripe_counted = λ case ended other some. ripe_counted policy case ended other given some;
   ripe_unmet = λ case ended newer live unmet. ripe_unmet policy case ended newer live unmet;
   ripe_keeps = λ case ended m nearest is. ripe_keeps policy case ended m nearest given is;
   lets_go_without = λ live xs gone ys closed age gone_age longer goes. lets_go_without policy live xs gone ys closed age gone_age given longer goes;

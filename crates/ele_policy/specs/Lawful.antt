@@ -4,7 +4,7 @@ use Rattle.std.specs.Option.{option_map_or}
 use Rattle.ele_moment.specs.Last.{last_moment}
 use Rattle.ele_policy.specs.declared.policy.Policy.{Policy}
 use Rattle.ele_policy.specs.declared.rule.Case.{Case}
-use Rattle.ele_policy.specs.FloorOf.{floor_of, meets_floor}
+use Rattle.ele_policy.specs.Rule.{floor_of, meets_floor}
 use Rattle.ele_policy.specs.Policy.{IsPolicy}
 use Rattle.ele_policy.specs.Ripe.{Beside, IsBeside, is_due_by, lets_go, ripe_by, ripe_case}
 
@@ -18,7 +18,7 @@ pub record IsLawful (policy : Policy) : Type 0 where
   pub ripe_seen : (case : Case) (ended : ℕ) (beside : Beside) → IsBeside (record case { policy = policy }) beside
       → ripe_by policy case.closed beside ended ≡ ripe_case (record case { policy = policy }) ended
   -- under a policy with a floor whether enough newer ones are held tells it alone
-  pub ripe_floored : (case : Case) (ended : ℕ) (other : Option ℕ) → 1 ≤ floor_of policy
+  pub ripe_counted : (case : Case) (ended : ℕ) (other : Option ℕ) → 1 ≤ floor_of policy
       → ripe_case (record case { policy = policy }) ended ≡ ripe_case (record case { policy = policy; next_closed = other }) ended
   -- where they aren't, there is none
   pub ripe_unmet : (case : Case) (ended newer : ℕ) (live : Bool) → meets_floor policy live newer ≡ false

@@ -1,7 +1,7 @@
 pub mod Interval
 pub mod Ladder
 pub mod Floor
-pub mod FloorOf
+pub mod Rule
 pub mod Policy
 pub mod PolicyText
 pub mod Ripe

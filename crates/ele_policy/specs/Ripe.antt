@@ -7,7 +7,7 @@ use Rattle.ele_lists.specs.Lists.{AllLater}
 use Rattle.ele_policy.specs.declared.policy.Policy.{Policy}
 use Rattle.ele_policy.specs.declared.policy.Policy.TheVariants.{One, All, Safe, Landmarks}
 use Rattle.ele_policy.specs.declared.rule.Case.{Case}
-use Rattle.ele_policy.specs.FloorOf.{counts_newer, meets_floor}
+use Rattle.ele_policy.specs.Rule.{counts_newer, meets_floor}
 use Rattle.ele_policy.specs.Ladder.{level_of, rung_at, shares}
 
 -- what stands beside a version in its file: when the newer held ones closed, in order, and whether the file is live

@@ -5,7 +5,7 @@ use Rattle.std.specs.Option.{option_map}
 use Rattle.ele_moment.specs.Last.{last_moment}
 use Rattle.ele_policy.specs.declared.policy.Policy.{Policy}
 use Rattle.ele_policy.specs.declared.policy.Policy.TheVariants.{One, All, Safe, Landmarks}
-use Rattle.ele_policy.specs.FloorOf.{meets_floor}
+use Rattle.ele_policy.specs.Rule.{meets_floor}
 use Rattle.ele_policy.specs.Ladder.{Rung, shares}
 use Rattle.ele_policy.specs.Ripe.{Beside}
 

@@ -1,7 +1,7 @@
 //! The policies of files, and their kinds.
 //! A contract sees both as plain data.
 ghost use Rattle.std.specs.Prelude.{◌≡◌, Some};
-ghost use Rattle.ele_policy.specs.FloorOf.{floor_of};
+ghost use Rattle.ele_policy.specs.Rule.{floor_of};
 ghost use Rattle.ele_policy.specs.Lawful.{IsLawful};
 ghost use Rattle.ele_policy.specs.Policy.{kind_of, IsPolicy};
 ghost use Rattle.ele_policy.specs.PolicyText.{kind_word, policy_word};

@@ -2,7 +2,7 @@
 //! A contract sees both as plain data.
 ghost use Rattle.std.specs.Prelude.{◌≡◌, ◌≤◌, ℕ, false, nat_le, IfSome, IfNone};
 ghost use Rattle.ele_moment.specs.Last.{last_moment};
-ghost use Rattle.ele_policy.specs.FloorOf.{rule_in};
+ghost use Rattle.ele_policy.specs.Rule.{rule_in};
 ghost use Rattle.ele_policy.specs.Ripe.{Beside, IsBeside, IsRipe, alone, is_due_by, ripe_by, ripe_case};
 
 use crate::policy::Policy;

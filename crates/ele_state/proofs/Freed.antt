@@ -19,7 +19,7 @@ module _ (groups : List GroupRow) (h : Held) (file : ℕ) (policy : Policy) (now
   module _ (given : IsLawful policy) (some : 1 ≤ (rule_in policy true).newer) where
     alone : (nearest : Option ℕ) (closed : ℕ) (e : Option ℕ) → is_some e ≡ true → case_moment (cover_of groups file) (case_of policy closed None true) (unwrap_or e now) ≡ option_and_then (case_moment (cover_of groups file) (case_of policy closed nearest true)) e
     alone nearest closed None is = absurd (false≢true is)
-    alone nearest closed (Some ended) is = ap (option_and_then (ripe_past (cover_of groups file closed (Some ended)))) (given.ripe_floored (case_of policy closed None true) ended nearest some)
+    alone nearest closed (Some ended) is = ap (option_and_then (ripe_past (cover_of groups file closed (Some ended)))) (given.ripe_counted (case_of policy closed None true) ended nearest some)
 
     pub freed_is : (n : ℕ) → ((row : VersionRow) → find (is_version file n) h.versions ≡ Some row → is_some row.ended ≡ true) → option_and_then its (find (is_version file n) h.versions) ≡ unread_under groups (rule_in policy false) h file n
     freed_is n ended = by (find (is_version file n) h.versions) refl where

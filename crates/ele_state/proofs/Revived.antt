@@ -134,7 +134,7 @@ module _ (rows : Rows) (directory : ℕ) (name : List ℕ) (file : ℕ) (sound :
 
     -- where it asks for some the held version that gains has the moment that it had without
     beside_new : 1 ≤ least → (closed ended : ℕ) → case_moment (cover_of w.groups file) (case_of policy closed (Some rows.moment) true) ended ≡ case_moment (cover_of w.groups file) (case_of policy closed None true) ended
-    beside_new some closed ended = ap (option_and_then (ripe_past (cover_of w.groups file closed (Some ended)))) (given.ripe_floored (case_of policy closed (Some rows.moment) true) ended None some)
+    beside_new some closed ended = ap (option_and_then (ripe_past (cover_of w.groups file closed (Some ended)))) (given.ripe_counted (case_of policy closed (Some rows.moment) true) ended None some)
 
     too_few : 1 ≤ least → (closed ended : ℕ) → case_moment (cover_of w.groups file) (case_of policy closed None (few_enough rule)) ended ≡ None
     too_few some closed ended =

@@ -10,7 +10,7 @@ use Rattle.ele_due.specs.HasKey.{has_key}
 use Rattle.ele_files.specs.Held.{Held}
 use Rattle.ele_policy.specs.declared.policy.Policy.{Policy}
 use Rattle.ele_policy.specs.Ripe.{case_of}
-use Rattle.ele_policy.specs.FloorOf.{rule_in}
+use Rattle.ele_policy.specs.Rule.{rule_in}
 use Rattle.ele_policy.specs.declared.rule.Rule.{Rule}
 use Rattle.ele_model.specs.declared.cover.Cover.{Cover}
 use Rattle.ele_model.specs.declared.rows.GroupRow.{GroupRow}
