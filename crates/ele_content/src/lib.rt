@@ -3,5 +3,7 @@
 #![tactic(auto)]
 
 mod cell;
+mod longest;
 
 pub use cell::Cell;
+pub use longest::is_too_long;

@@ -5,8 +5,8 @@ ghost use Rattle.ele_model.specs.declared.reply.Reply.TheVariants as reply;
 
 use crate::Core;
 use crate::halt::{Halt, check, refuse_if};
+use ele_content::is_too_long;
 use ele_model::{ByteList, Handle, Path, Refusal, TaggedPath, VersionNo, Which};
-use ele_state::is_too_long;
 
 impl Core {
     /// A handle is opened by which the file at the path is written. Refused: `NoEntry`, `NotDirectory`, `IsDirectory`, `Full`.

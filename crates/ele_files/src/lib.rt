@@ -8,7 +8,7 @@ mod files;
 mod meant;
 
 pub use ele_inode_log::Meter;
-pub use ele_sessions::{FoundHandle, is_too_long};
+pub use ele_sessions::FoundHandle;
 pub use file::NewVersion;
 pub use files::neighbours::FileHead;
 pub use files::{Files, RemovedVersion};

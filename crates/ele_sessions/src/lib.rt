@@ -10,7 +10,6 @@ mod entries;
 mod fault;
 mod found_handle;
 mod leaving;
-mod longest;
 mod opening;
 mod sessions;
 
@@ -18,5 +17,4 @@ pub use closing::Closing;
 pub use ele_model::Reads;
 pub use fault::SessionFault;
 pub use found_handle::FoundHandle;
-pub use longest::is_too_long;
 pub use sessions::Sessions;

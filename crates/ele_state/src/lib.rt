@@ -32,7 +32,6 @@ mod version;
 pub use crate::path::{directory_in, file_in};
 use crate::rows::{Made, Rows};
 use ele_due::DueQueue;
-pub use ele_files::is_too_long;
 use ele_files::{Files, Meter};
 use ele_groups::Groups;
 use ele_model::{

@@ -14,9 +14,9 @@ ghost use Rattle.ele_sessions.specs.Sessions.{draft_by, draft_of, handle_file, i
 use crate::changing::{truncate_draft, write_draft};
 use crate::entries::written_by;
 use crate::fault::SessionFault;
-use crate::longest::is_too_long;
 use crate::sessions::Sessions;
 use ele_blocks::BlockStore;
+use ele_content::is_too_long;
 use ele_moment::{FileId, Handle, NoMemory};
 
 impl Sessions {
