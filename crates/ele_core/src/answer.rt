@@ -4,14 +4,19 @@ ghost use Rattle.ele_core.specs.Does.{Does, removed, revived, stat_told};
 ghost use Rattle.ele_core.specs.Reads.{IsRead};
 ghost use Rattle.ele_core.specs.declared.halt.Halt.TheVariants as halt;
 ghost use Rattle.ele_model.specs.declared.reply.Reply.{Reply};
-ghost use Rattle.ele_model.specs.declared.reply.Reply.TheVariants.{Done};
+ghost use Rattle.ele_model.specs.declared.event.Event.TheVariants as event;
+ghost use Rattle.ele_model.specs.declared.reply.Reply.TheVariants.{Done, UsageList};
 ghost use Rattle.ele_model.specs.Ready.{takes_no_memory};
 ghost use Rattle.ele_model.specs.Run.{IsEvent};
+ghost use Rattle.ele_model.specs.Usage.{usages};
 
 use crate::Core;
-use crate::halt::Halt;
+use crate::halt::{Halt, check};
 use crate::question::Stat;
-use ele_model::{Event, Key, Reply, VersionNo};
+use ele_model::{
+    Boxed, DirectoryRow, Event, FileStat, Key, NoMemory, Reply, TaggedPath, VersionNo,
+};
+use std::alloc::Global;
 
 // The reply to a clean.
 fn removed(key: Option<Key>) -> Reply
@@ -33,13 +38,17 @@ fn revived(number: Option<VersionNo>) -> Reply
     }
 }
 
-// The reply to a stat.
-fn stat_told(stat: Stat) -> Reply
-    ensures { result ≡ stat_told stat }
+// The reply to a stat. Each is taken apart, since no proof is made of a box where no value has the types of its fields.
+fn stat_told(alloc: Global, stat: Stat) -> Result<Reply, NoMemory>
+    ensures { IfOk result (λ reply. reply ≡ stat_told stat) }
 {
     match stat {
-        Stat::File(found) => Reply::FileStat(found),
-        Stat::Directory(row) => Reply::DirStat(row),
+        Stat::File(FileStat { file, info, policy }) => {
+            Boxed::new(alloc, FileStat { file, info, policy }).map(Reply::FileStat)
+        }
+        Stat::Directory(DirectoryRow { id, default }) => {
+            Boxed::new(alloc, DirectoryRow { id, default }).map(Reply::DirStat)
+        }
     }
 }
 
@@ -51,6 +60,24 @@ fn done(_unit: ()) -> Reply
 }
 
 impl Core {
+    // What a stat is replied, apart.
+    #[inline(never)]
+    fn stat_reply(&self, tagged: &TaggedPath) -> Result<Reply, Halt>
+        ensures { Does (λ reply. reply)
+            self.now.world (event.Stat tagged.now) result self.now.world }
+    {
+        let stat = check!(self.stat(tagged));
+        Ok(stat_told(self.state.allocator(), stat)?)
+    }
+
+    // What the files of each kind of policy use, apart.
+    fn usage_reply(&self) -> Result<Reply, NoMemory>
+        ensures { IfOk result (λ reply. reply ≡ UsageList (usages self.now.world)) }
+    {
+        let usage = Boxed::new(self.state.allocator(), self.usage())?;
+        Ok(Reply::UsageList(usage))
+    }
+
     // What the event answers, and its change. What only sets the clock or asks the queue is answered without the room on the
     // stack that the many kinds of the others take.
     pub(crate) fn answer(&mut self, event: &Event) -> Result<Reply, Halt>
@@ -95,22 +122,22 @@ impl Core {
             Event::Truncate(handle, size) => self.truncate(*handle, *size).map(done),
             Event::Close(handle) => self.close(*handle).map(Reply::Closed),
             Event::Revert(path, number) => self.revert(path, *number).map(Reply::Version),
-            Event::SetPolicy(path, policy) => self.set_policy(path, *policy).map(done),
-            Event::SetDefault(path, policy) => Ok(done(self.set_default(path, *policy)?)),
-            Event::GroupMake(name) => self.make_group(name).map(done),
-            Event::GroupDrop(name) => self.drop_group(name).map(done),
-            Event::GroupAdd(name, path) => self.add_to_group(name, path).map(done),
-            Event::GroupRemove(name, path) => self.remove_from_group(name, path).map(done),
-            Event::Mark(name, moment, until) => self.mark(name, *moment, until).map(done),
-            Event::Unmark(name, moment) => self.unmark(name, *moment).map(done),
+            Event::SetPolicy(path, policy) => self.set_policy(path, *policy.get()).map(done),
+            Event::SetDefault(path, policy) => Ok(done(self.set_default(path, *policy.get())?)),
+            Event::GroupMake(name) => self.make_group(name.get()).map(done),
+            Event::GroupDrop(name) => self.drop_group(name.get()).map(done),
+            Event::GroupAdd(name, path) => self.add_to_group(name.get(), path).map(done),
+            Event::GroupRemove(name, path) => self.remove_from_group(name.get(), path).map(done),
+            Event::Mark(name, moment, until) => self.mark(name.get(), *moment, until).map(done),
+            Event::Unmark(name, moment) => self.unmark(name.get(), *moment).map(done),
             Event::CleanOne => Ok(removed(self.clean_one())),
             Event::Read(source) => self.read(source).map(Reply::Bytes),
-            Event::Stat(tagged) => Ok(stat_told(self.stat(tagged)?)),
+            Event::Stat(tagged) => self.stat_reply(tagged),
             Event::Versions(at) => self.versions(at).map(Reply::Rows),
             Event::List(at) => self.list(at).map(Reply::NameList),
             Event::Restorable => Ok(Reply::RestoreList(self.dead_names()?)),
             Event::Due => Ok(Reply::DueList(self.due_keys()?)),
-            Event::UsageAll => Ok(Reply::UsageList(self.usage())),
+            Event::UsageAll => Ok(self.usage_reply()?),
             Event::GroupsAll => Ok(Reply::GroupList(self.groups()?)),
         }
     }

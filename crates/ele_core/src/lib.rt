@@ -31,11 +31,11 @@ mod version;
 pub use crate::halt::Halt;
 pub use crate::question::Stat;
 pub use ele_model::{
-    ByteList, Cause, Cell, Counts, DeadName, DeadNameList, DirId, DirectoryRow, DraftRow, Event,
-    Fate, FileId, FileRow, FileStat, Flat, GroupList, GroupRow, Handle, HandleRow, Key, KeyList,
-    Kind, Ladder, LimitNumbers, Limits, ListOf, MarkRow, Moment, Name, NameList, NameRow, NoMemory,
-    PassEnd, Path, PathAt, Policy, Reads, Refusal, Reply, Rows, Source, StampsList, Stop, Tag,
-    TaggedPath, Target, Usage, VersionInfo, VersionNo, VersionRow, Which, laws,
+    Boxed, ByteList, Cause, Cell, Counts, DeadName, DeadNameList, DirId, DirectoryRow, DraftRow,
+    Event, Fate, FileId, FileRow, FileStat, Flat, GroupList, GroupRow, Handle, HandleRow, Key,
+    KeyList, Kind, Ladder, LimitNumbers, Limits, ListOf, MarkRow, Moment, Name, NameList, NameRow,
+    NoMemory, PassEnd, Path, PathAt, Policy, Reads, Refusal, Reply, Rows, Source, StampsList, Stop,
+    Tag, TaggedPath, Target, Usage, VersionInfo, VersionNo, VersionRow, Which, laws,
 };
 pub use ele_moment::{BadMoment, BadName};
 pub use ele_path::{PathAtFault, PathFault};
@@ -78,7 +78,7 @@ impl Core {
     /// Takes the event: answers it, and makes its change.
     ///
     /// `NoMemory` where memory is refused, and then the world is as it was, and the event isn't one that is refused: its checks
-    /// come first. `clock`, `tick`, `rmdir`, `default`, `clean`, `stat` and `usage` take none.
+    /// come first. `clock`, `tick`, `rmdir`, `default` and `clean` take none.
     pub fn apply(&mut self, event: &Event) -> Result<Reply, NoMemory>
         ensures step { IfOk result
             (λ reply. (reply, self.new.world) ≡ step self.old.world event.now) }

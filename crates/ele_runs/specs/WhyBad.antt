@@ -4,7 +4,7 @@ use Rattle.ele_printer.specs.declared.fault.LineFault.{LineFault}
 use Rattle.ele_runs.specs.Explained.{asked_by}
 use Rattle.ele_runs.specs.declared.options.RunOptions.{RunOptions}
 use Rattle.ele_script.specs.FirstFault.{IsFirstFault, IsOfKind}
-use Rattle.ele_script.specs.Memory.{TakesMemory, word_takes}
+use Rattle.ele_script.specs.Memory.{WordTakesMemory, word_takes}
 use Rattle.ele_script.specs.Reason.{IsReason, IsWordReason}
 use Rattle.ele_script.specs.ReasonText.{reason_text}
 use Rattle.ele_script.specs.declared.kind.WordKind.{WordKind}
@@ -26,7 +26,7 @@ IsToldReason options (Some line) why = IsReasonBy (asked_by options (Some line))
 -- read these
 abbrev pub HasNone : Option (WordKind × List ℕ) → List ℕ → Type 0
 HasNone (Some asked) line = IsOfKind asked.0 asked.1 ⊎ (word_takes asked.0 asked.1 ≡ true)
-HasNone None line = ((fault : LineFault) → ¬ IsFirstFault line fault) ⊎ TakesMemory (words_of line)
+HasNone None line = ((fault : LineFault) → ¬ IsFirstFault line fault) ⊎ WordTakesMemory (words_of line)
 
 abbrev pub IsUntold : RunOptions → Option (List ℕ) → Type 0
 IsUntold options None = ⊥

@@ -100,6 +100,11 @@ impl State {
         })
     }
 
+    /// The allocator behind the rows.
+    pub fn allocator(&self) -> Global {
+        self.rows.alloc
+    }
+
     /// The moment that it is. The world is well formed, its limits are within theirs, and it has no file of which nothing is
     /// left, so the laws of `ele_world` hold.
     pub fn now(&self) -> Moment

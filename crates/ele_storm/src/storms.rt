@@ -10,7 +10,7 @@ use crate::halves::run;
 use crate::meet::Meet;
 use crate::plan::StormPlan;
 use crate::worker::make;
-use ele_model::{Event, Ladder, NoMemory, Path, Policy, Step};
+use ele_model::{Boxed, Event, Ladder, NoMemory, Path, Policy, Step};
 use ele_shared_history::{Seat, Shared};
 use std::alloc::Global;
 use std::sync::Wait;
@@ -58,7 +58,8 @@ fn prepare<C: Step, R: Wait>(
     ensures seen { SeesMore seat.old seat.new }
 {
     let root = root(alloc)?;
-    make(rt, shared, seat, Event::SetDefault(root, policy()))?;
+    let policy = Boxed::new(alloc, policy())?;
+    make(rt, shared, seat, Event::SetDefault(root, policy))?;
     for writer in 0..plan.writers {
         let path = file_of(alloc, u64::from(writer) + 1)?;
         make(rt, shared, seat, Event::Create(path))?;

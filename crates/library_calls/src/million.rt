@@ -1,5 +1,5 @@
 //! How long it takes to remove all due versions of a core that holds as many versions as it may.
-use ele_core::{Core, Event, Limits, Path, Policy, Reply, VersionNo};
+use ele_core::{Boxed, Core, Event, Limits, Path, Policy, Reply, VersionNo};
 use std::alloc::Global;
 use std::test::Fail;
 use std::time::Instant;
@@ -36,7 +36,8 @@ fn make(alloc: Global, core: &mut Core, file: u32) -> Result<(), Fail> {
 /// Makes all files, below a root that keeps one version.
 fn fill(alloc: Global, core: &mut Core) -> Result<(), Fail> {
     let root = Path::read(alloc, b"/")?;
-    reply_to(core, &Event::SetDefault(root, Policy::One))?;
+    let one = Boxed::new(alloc, Policy::One)?;
+    reply_to(core, &Event::SetDefault(root, one))?;
     for file in 0..FILES {
         make(alloc, core, file)?;
     }
