@@ -27,7 +27,7 @@ module _ (rows : Rows) (file : ℕ) where
   h = rows.files
 
   grown_owed : IsBooked h rows.book → (source : Source) (after : Held) (book : Book) (bytes before : ℕ) → after ≡ rows_after w h (appending h rows.moment file source) → bytes ≡ length (content_of (source_cells h file source)) → before ≡ blocks_of h → HasAdded after file rows.book book bytes → IsOwed after book file before
-  grown_owed booked (Draft handle opened) = version_owed rows file (next_version w file opened (cells_of_draft h file)) (remove_first (is_draft file) h.drafts) (remove_first (is_handle handle) h.handles) refl (drafts-removed file h.drafts) booked
+  grown_owed booked (Draft handle opened) = version_owed rows file (next_version w file opened (cells_of_draft h file)) (remove_first (is_draft file) h.drafts) (remove_first (is_handle handle.row.number) h.handles) refl (drafts-removed file h.drafts) booked
   grown_owed booked (Version number) = version_owed rows file (next_version w file rows.moment (cells_of_version h file number)) h.drafts h.handles refl refl booked
 
   grown_policy : (source : Source) (after : Held) → after ≡ rows_after w h (appending h rows.moment file source) → policy_of after.files file ≡ policy_of h.files file
@@ -57,7 +57,7 @@ module _ (rows : Rows) (file : ℕ) (sound : IsSound rows) (there : 0 < next_of 
   none_new j is = sound.tracked.queue j ∙ none_there (world_of rows) file 0 [] grows policy filed false refl j is
 
   grown_queue : (source : Source) → IsSource rows.files file source → (after : List Key) → ((j : Key) → has_key j after ≡ (comes (coming rows policy file false) j || has_key j rows.queue)) → IsQueued (after_changes (world_of rows) (appending rows.files rows.moment file source)) after
-  grown_queue (Draft handle opened) is after = finished_queue (world_of rows) handle file is.reads opened is.changed sound.formed policy filed rows.queue after sound.tracked.queue
+  grown_queue (Draft handle opened) is after = finished_queue (world_of rows) handle.row.number file is.reads opened is.changed sound.formed policy filed rows.queue after sound.tracked.queue
   grown_queue (Version number) is after = appended_queue (world_of rows) file rows.moment (cells_of_version rows.files file number) grows policy filed false refl rows.queue after sound.tracked.queue
 
   -- and once all has followed, or been refused, it is tracked

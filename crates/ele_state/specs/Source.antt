@@ -8,6 +8,8 @@ use Rattle.ele_files.specs.Held.{Held, cells_of_draft, cells_of_version}
 use Rattle.ele_lists.specs.Lists.{AllLater}
 use Rattle.ele_policy.specs.declared.policy.Kind.{Kind}
 use Rattle.ele_policy.specs.declared.policy.Policy.{Policy}
+use Rattle.ele_sessions.specs.Found.{StandsAt}
+use Rattle.ele_sessions.specs.declared.found_handle.FoundHandle.{FoundHandle}
 use Rattle.ele_state.specs.Inside.{world_of}
 use Rattle.ele_state.specs.Queued.{new_keys}
 use Rattle.ele_state.specs.Tracked.{IsFew}
@@ -23,7 +25,7 @@ use Rattle.ele_model.specs.declared.rows.Reads.TheVariants as reads
 
 -- the changes by which the file gets the version
 abbrev pub appending : Held → ℕ → ℕ → Source → List Change
-appending h now file (Draft handle opened) = finishing h handle file opened
+appending h now file (Draft handle opened) = finishing h handle.row.number file opened
 appending h now file (Version number) = Append file now (cells_of_version h file number) ∷ []
 
 -- the cells that it gets
@@ -32,9 +34,10 @@ source_cells h file (Draft handle opened) = cells_of_draft h file
 source_cells h file (Version number) = cells_of_version h file number
 
 -- the last handle of a changed draft, or a held version of a file without a draft
-pub record IsLast (h : Held) (file handle opened : ℕ) : Type 0 where
-  pub reads : reads_by h.handles handle ≡ Ok (reads.Draft file)
-  pub changed : opening_by h handle ≡ Some opened
+pub record IsLast (h : Held) (file : ℕ) (handle : FoundHandle) (opened : ℕ) : Type 0 where
+  pub stands : StandsAt h.handles handle
+  pub reads : reads_by h.handles handle.row.number ≡ Ok (reads.Draft file)
+  pub changed : opening_by h handle.row.number ≡ Some opened
 
 pub record IsHeldAlone (h : Held) (file number : ℕ) : Type 0 where
   pub held : IsSome (find (is_version file number) h.versions)

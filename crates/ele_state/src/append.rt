@@ -25,14 +25,15 @@ use crate::moments::case_moment;
 use crate::rows::Rows;
 use ele_files::{FileHead, Files, NewVersion};
 use ele_groups::Groups;
-use ele_model::{FileId, Handle, Moment, NoMemory, VersionInfo, VersionNo};
+use ele_model::{FileId, Moment, NoMemory, VersionInfo, VersionNo};
 use ele_policy::{Case, Rule};
+use ele_sessions::FoundHandle;
 
 // Where the content of a file's next version comes from: the draft that was opened then, of which the handle is the last one;
 // or the version of that number, which is held.
 #[derive(Clone, Copy)]
 pub enum Source {
-    Draft(Handle, Moment),
+    Draft(FoundHandle, Moment),
     Version(VersionNo),
 }
 
@@ -166,7 +167,7 @@ fn put_version(
     ensures err { OnErr result (files.new ≡ files.old) }
 {
     match source {
-        Source::Draft(handle, opened) => files.finish(handle, file, opened, now, is_live),
+        Source::Draft(handle, opened) => files.finish(&handle, file, opened, now, is_live),
         Source::Version(number) => files.restore(file, number, now, is_live),
     }
 }

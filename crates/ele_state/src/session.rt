@@ -154,20 +154,23 @@ impl State {
 #[tactic(auto, using(crate::proofs::ClosedSteps::numbered, crate::proofs::ClosedSteps::past, crate::proofs::ClosedSteps::writes_file))]
 fn finish(
     rows: &mut Rows,
-    handle: Handle,
+    handle: &FoundHandle,
     file: FileId,
     opened: Moment,
 ) -> Result<Option<VersionNo>, NoMemory>
     requires sound { IsSound rows.old }
-    requires reads { reads_by rows.old.files.handles handle ≡ Ok (Draft file) }
-    requires changed { opening_by rows.old.files handle ≡ Some opened }
+    requires stands { StandsAt rows.old.files.handles handle.now }
+    requires reads { reads_by rows.old.files.handles handle.now.row.number ≡ Ok (Draft file) }
+    requires changed { opening_by rows.old.files handle.now.row.number ≡ Some opened }
     ensures step { IfOk result
-        (λ number. (Closed number, world_of rows.new) ≡ step (world_of rows.old) (event.Close handle)) }
+        (λ number. (Closed number, world_of rows.new)
+        ≡ step (world_of rows.old) (event.Close handle.now.row.number)) }
     ensures err { OnErr result (world_of rows.new ≡ world_of rows.old) }
     ensures tracked { IsTracked rows.new }
 {
     let head = head(&rows.files, file);
-    let number = append(rows, file, &head, false, Source::Draft(handle, opened))?;
+    let source = Source::Draft(*handle, opened);
+    let number = append(rows, file, &head, false, source)?;
     Ok(Some(number))
 }
 
@@ -234,7 +237,7 @@ fn unwrite(
     ensures tracked { IsTracked rows.new }
 {
     match rows.files.changed_draft(handle) {
-        Some(opened) => finish(rows, handle.row.number, file, opened),
+        Some(opened) => finish(rows, handle, file, opened),
         None => Ok(leave(rows, handle, file)),
     }
 }

@@ -2,7 +2,7 @@
 //! A contract sees the rows of all files before and after.
 ghost use Rattle.std.specs.Prelude.{◌≡◌, ◌<◌, ◌≤◌, ◌+◌, ◌^◌, Some, Ok, OnOk, OnErr, IfOk, length};
 ghost use Rattle.std.specs.List.{AllByRecursion};
-ghost use Rattle.std.specs.Option.{ForSome, option_and_then};
+ghost use Rattle.std.specs.Option.{ForSome};
 ghost use Rattle.ele_blocks.specs.LivesIn.{LivesIn};
 ghost use Rattle.ele_content.specs.Content.{content_of};
 ghost use Rattle.ele_files.specs.Appending.{IsGivenUp, opening_of};
@@ -14,7 +14,7 @@ ghost use Rattle.ele_sessions.specs.Found.{StandsAt};
 use crate::file::NewVersion;
 use crate::files::{Files, place_of};
 use ele_blocks::{BlockMap, BlockStore};
-use ele_moment::{FileId, Handle, Moment, NoMemory};
+use ele_moment::{FileId, Moment, NoMemory};
 use ele_sessions::{Closing, FoundHandle};
 
 // When the draft was opened that the closing makes a version; none where it makes none.
@@ -24,16 +24,6 @@ fn opening_of(closing: Closing) -> Option<Moment>
     match closing {
         Closing::Changed(_, opened) => Some(opened),
         _ => None,
-    }
-}
-
-// The map of a draft that goes.
-fn map_of(closed: Option<(Closing, Option<BlockMap>)>) -> Option<BlockMap>
-    ensures { result ≡ option_and_then (λ answer. answer.1) closed }
-{
-    match closed {
-        Some(answer) => answer.1,
-        None => None,
     }
 }
 
@@ -75,21 +65,22 @@ impl Files {
     #[tactic(auto, using(std::proofs::lemmas::Bool::Decides::nat_tests, crate::proofs::Closes::not_missing))]
     pub fn finish(
         &mut self,
-        handle: Handle,
+        handle: &FoundHandle,
         file: FileId,
         opened: Moment,
         now: Moment,
         is_live: bool,
     ) -> Result<NewVersion, NoMemory>
-        requires file { file_by self.old.handles handle ≡ Ok file }
-        requires changed { opening_by self.old handle ≡ Some opened }
+        requires stands { StandsAt self.old.handles handle.now }
+        requires file { file_by self.old.handles handle.now.row.number ≡ Ok file }
+        requires changed { opening_by self.old handle.now.row.number ≡ Some opened }
         requires numbered { AllByRecursion (λ row. row.next < 2 ^ 62) self.old.files }
         requires past { AllByRecursion (IsPast now) self.old.versions }
         ensures number { IfOk result (λ made. made.number ≡ next_of self.old.files file) }
         ensures length { IfOk result
             (λ made. made.length ≡ length (content_of (cells_of_draft self.old file))) }
         ensures ok { OnOk result (Became self.old now file is_live
-            (finishing self.old handle file opened) self.new) }
+            (finishing self.old handle.now.row.number file opened) self.new) }
         ensures err { OnErr result (self.new ≡ self.old) }
     {
         let Some(at) = place_of(&self.files, file) else {
@@ -97,9 +88,8 @@ impl Files {
         };
         let held = self.files[at].get_mut();
         held.log.reserve()?;
-        let Some(map) = map_of(self.sessions.close(handle)) else {
-            unreachable!()
-        };
+        let (_closing, map) = self.sessions.close_found(handle);
+        let Some(map) = map else { unreachable!() };
         Ok(held.append(opened, now, is_live, map))
     }
 }
