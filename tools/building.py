@@ -99,6 +99,40 @@ def run_gate(room):
     return ran.returncode == 0, ran.stdout
 
 
+def kit_file(path):
+    """Returns a file or folder of the kit."""
+    found = Path(shutil.which("rt")).resolve().parent.parent / path
+    if not found.exists():
+        raise Unavailable(f"the kit has no {found}")
+    return found
+
+
+def library_of(crate):
+    """Returns where the gate leaves what it built of a crate of this repository."""
+    return ROOT / "crates" / crate / "out" / "rlib" / f"{crate}.rlib"
+
+
+def has_libraries(crates):
+    """Whether the gate's libraries of these crates are here, and no source is newer."""
+    parts = [ROOT / "crates" / crate / part for crate in crates for part in PARTS]
+    sources = [ROOT / "HANDLES", ROOT / "crates.txt", *(it for part in parts for it in part.rglob("*"))]
+    built = [library_of(it) for it in crates]
+    return all(it.exists() for it in built) and max(it.stat().st_mtime for it in sources) < min(it.stat().st_mtime for it in built)
+
+
+def prove_above(folder, name, uses):
+    """Proves the library `name` in a folder, which uses these crates of the repository, over what the gate built of them. Returns
+    whether it is proved, and what was said."""
+    kit = ["--extern", f"std={kit_file('rlibs/std.rlib')}", "-L", f"dependency={kit_file('rlibs')}"]
+    own = [word for it in sorted(uses) for word in ("--extern", f"{it}={library_of(it)}")]
+    own += [word for it in sorted(with_below(uses)) for word in ("-L", f"dependency={library_of(it).parent}")]
+    logic = ["--antt-project", kit_file("rattle/logic/antt-project.json"), "--logic-built", kit_file("logic_built")]
+    words = [kit_file("bin/rattle"), "check", "--crate-name", name, "src/lib.rt", *kit, *own, *logic, "--links", f"{name}=", "--jobs", "1"]
+    pipes = {"stdin": subprocess.DEVNULL, "stdout": subprocess.PIPE, "stderr": subprocess.STDOUT, "encoding": "utf-8", "errors": "replace"}
+    ran = subprocess.run(words, cwd=folder, check=False, preexec_fn=end_with_parent, **pipes)
+    return ran.returncode == 0 and "\nlogic=proved " in ran.stdout, ran.stdout
+
+
 def end_with_parent():
     """Has the process that calls this ended when the one that started it is, also if that one is killed."""
     set_parent_death_signal = 1
