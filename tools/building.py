@@ -17,8 +17,6 @@ OUT = ROOT / "out"
 NAME = "elephant"
 # The proved program.
 PROGRAM = OUT / NAME
-# What it was made of: the commit, the kit, and a sum and a path for each source. Written last, so without it there is no program.
-STAMP = OUT / "stamp"
 PARTS = ("src", "specs", "proofs")
 # A check takes up to 3.5 GB, in MB.
 CHECK_MEMORY = 3500
@@ -143,9 +141,9 @@ def sum_of(data):
     return hashlib.sha256(data).hexdigest()[:32]
 
 
-def source_sums():
-    """Returns a sum for each file that the proof of the program reads, by path from the top of the repository."""
-    crates = program_crates()
+def source_sums(crate=NAME):
+    """Returns a sum for each file that the proof of the crate and of those below it reads, by path from the top of the repository."""
+    crates = with_below([crate])
     sums = {"crates.txt": sum_of("".join(sorted(crate_rows(crates))).encode())}
     files = [ROOT / "HANDLES"]
     for crate in crates:
@@ -212,24 +210,56 @@ def write_whole(path, data, mode=0o644):
     os.replace(file.name, path)
 
 
-def install(built, sums):
-    """Makes a program that was proved from sources with these sums the one that `./elephant` runs."""
-    STAMP.unlink(missing_ok=True)
-    write_whole(PROGRAM, Path(built).read_bytes(), 0o755)
-    write_stamp(sums)
+class Product:
+    """What is proved and built of a crate: files in out/, each with its mode, and a stamp of what they were made of: the commit, the
+    kit, and a sum and a path for each source. The stamp is written last, so without it nothing is there."""
+
+    def __init__(self, what, crate, stamp, files, command):
+        self.what, self.crate, self.stamp, self.files, self.command = what, crate, stamp, files, command
+
+    def sums(self):
+        return source_sums(self.crate)
+
+    def install(self, built, sums):
+        """Makes these bytes, which were built from sources with these sums, the files of out/."""
+        self.stamp.unlink(missing_ok=True)
+        for path, mode in self.files.items():
+            write_whole(path, built[path], mode)
+        self.write_stamp(sums)
+
+    def write_stamp(self, sums):
+        lines = [commit(), kit(), *(f"{it} {path}" for path, it in sums.items())]
+        write_whole(self.stamp, "".join(f"{line}\n" for line in lines).encode())
+
+    def read_stamp(self):
+        """Returns the commit, the kit and the sums of the sources that it was proved with, or None if it isn't there."""
+        is_there = (os.access(it, os.X_OK if mode & 0o100 else os.R_OK) for it, mode in self.files.items())
+        if not (self.stamp.is_file() and all(is_there)):
+            return None
+        first, made_by, *rows = self.stamp.read_text(encoding="utf-8").splitlines()
+        return first, made_by, {path: it for it, path in (row.split(" ", 1) for row in rows)}
+
+    def state(self):
+        """Returns whether it was proved from the present sources by the present kit, and a line that says so."""
+        found = self.read_stamp()
+        if not found:
+            return False, f"there is no proved {self.what} here: '{self.command}' proves and builds it"
+        first, made_by, built = found
+        changed = changed_since(self.sums(), built)
+        # Without rt the kit can't have been changed for another one that would count.
+        if not changed and shutil.which("rt") and kit() != made_by:
+            changed = [f"the kit ({made_by})"]
+        if changed:
+            more = f" and {len(changed) - 3} more" if len(changed) > 3 else ""
+            paths = f"{', '.join(changed[:3])}{more}"
+            return False, f"the proved {self.what} is of other sources: {paths} changed since; '{self.command}' proves the present ones"
+        if first != commit():
+            # Only files that the proof doesn't read have changed: the next start needn't look.
+            self.write_stamp(built)
+        return True, f"the proved {self.what} is that of the present sources"
 
 
-def write_stamp(sums):
-    lines = [commit(), kit(), *(f"{it} {path}" for path, it in sums.items())]
-    write_whole(STAMP, "".join(f"{line}\n" for line in lines).encode())
-
-
-def read_stamp():
-    """Returns the commit, the kit and the sums of the sources that the built program was proved with, or None if there is none."""
-    if not (STAMP.is_file() and os.access(PROGRAM, os.X_OK)):
-        return None
-    first, made_by, *rows = STAMP.read_text(encoding="utf-8").splitlines()
-    return first, made_by, {path: it for it, path in (row.split(" ", 1) for row in rows)}
+BUILT_PROGRAM = Product("program", NAME, OUT / "stamp", {PROGRAM: 0o755}, "./elephant prove")
 
 
 def changed_since(sums, built):

@@ -5,3 +5,4 @@ pub mod Appending
 pub mod Meant
 pub mod Met
 pub mod FileHead
+pub mod Beside

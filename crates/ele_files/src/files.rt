@@ -22,7 +22,7 @@ mod copies;
 mod dropping;
 mod governing;
 pub mod neighbours;
-mod newer;
+pub mod newer;
 mod restoring;
 mod usage;
 mod versions;

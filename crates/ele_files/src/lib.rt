@@ -11,4 +11,5 @@ pub use ele_inode_log::Meter;
 pub use ele_sessions::FoundHandle;
 pub use file::NewVersion;
 pub use files::neighbours::FileHead;
+pub use files::newer::Beside;
 pub use files::{Files, RemovedVersion};

@@ -64,6 +64,12 @@ module _ {X : Type 0} (p : X → Bool) where
   last_passing (x ∷ []) all = rw all.0 refl
   last_passing (x ∷ y ∷ xs) all = grind (arith, find_last-cons x (y ∷ xs), last_passing (y ∷ xs), either y xs)
 
+  -- the last of all, if it passes
+  pub find_last-end : (xs : List X) (x : X) → last_of xs ≡ Some x → p x ≡ true → find p (reverse xs) ≡ Some x
+  find_last-end [] x is passes = absurd cc
+  find_last-end (y ∷ []) x is passes = grind (arith, find_last-cons y [])
+  find_last-end (y ∷ z ∷ xs) x is passes = grind (arith, find_last-cons y (z ∷ xs), find_last-end (z ∷ xs) x)
+
   -- of a list cut in two, all passing before the cut and none behind it
   pub find_last-parted : (before behind : List X) → AllByRecursion (λ x. p x ≡ true) before → AllByRecursion (λ x. p x ≡ false) behind → find p (reverse (before ++ behind)) ≡ last_of before
   find_last-parted before behind passes fails = grind (arith, reverse-append, before, behind, find-append, not_found, all-reverse, last_passing, passes)

@@ -10,5 +10,6 @@ pub mod Numbering
 pub mod Added
 pub mod Gone
 pub mod Told
+pub mod Dead
 pub mod Leads
 pub mod Lemmas

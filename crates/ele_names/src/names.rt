@@ -3,11 +3,11 @@
 ghost use Rattle.std.specs.Prelude.{◌≡◌, ℕ, ◌+◌, ◌≤◌, ◌<◌, ◌^◌, ◌++◌, ◌∷◌, [], List, Some, None, true, false, not, map, filter, is_none, is_some, length, slice_get, IsTrue, IsSome, IfSome, IfNone, IfOk, OnOk, OnErr};
 ghost use Rattle.std.specs.BTreeMap.{is_at, insert_entry};
 ghost use Rattle.std.specs.Cmp.Lexicographic.{slice_cmp};
-ghost use Rattle.std.specs.List.{count_by, list_any, AllByRecursion};
+ghost use Rattle.std.specs.List.{IsDistinct, count_by, list_any, AllByRecursion};
 ghost use Rattle.std.specs.List.Sorted.{IsStrictlySortedBy};
 ghost use Rattle.std.specs.Map.{keys_of, lookup};
 ghost use Rattle.std.specs.Option.{option_map, option_map_or};
-ghost use Rattle.std.specs.Ordering.{nat_cmp};
+ghost use Rattle.std.specs.Ordering.{eq_by_cmp, nat_cmp};
 ghost use Rattle.ele_lists.specs.Last.{last_passing};
 ghost use Rattle.ele_lists.specs.Lists.{AllLater, update_first};
 ghost use Rattle.ele_moment.specs.Last.{last_moment};
@@ -25,6 +25,7 @@ use crate::table::{Table, lives_past};
 use ele_model::{NameRow, Target};
 use ele_moment::{DirId, FileId, Moment, Name, NoMemory};
 use std::alloc::Global;
+use std::cmp::Ordering;
 use std::collections::BTreeMap;
 use std::marker::Model;
 
@@ -282,18 +283,28 @@ impl Names {
             → lookup (is_at (name_cmp (directory, name))) (map by_name items.items)
             ≡ last_dead self.now directory name) }
     {
-        let mut found = BTreeMap::new(self.alloc);
+        let mut found = self.dead_unsorted()?;
+        sort_by_name(&mut found);
+        Ok(found)
+    }
+
+    // The same, in no order.
+    fn dead_unsorted(&self) -> Result<Vec<(DirId, Name, Target)>, NoMemory>
+        ensures apart { IfOk result
+            (λ items. IsDistinct (eq_by_cmp name_cmp) (keys_of (map by_name items.items))) }
+        ensures found { IfOk result (λ items. (directory : ℕ) (name : List ℕ)
+            → lookup (is_at (name_cmp (directory, name))) (map by_name items.items)
+            ≡ last_dead self.now directory name) }
+    {
+        let mut found = Vec::new(self.alloc);
         // The keys stand by number.
         let mut number: u64 = 0;
         for (directory, name) in self.live_names.by_name.keys() {
             let target = self.last_dead_by(number, *directory, name);
-            put_some(&mut found, (*directory, *name), target)?;
+            push_some(&mut found, *directory, name, target)?;
             number = number.wrapping_add(1);
         }
-        let items = found
-            .into_iter()
-            .map(|((directory, name), target)| (directory, name, target));
-        Ok(items.collect(self.alloc)?)
+        Ok(found)
     }
 
     /// Whether no name in the directory is live.
@@ -366,4 +377,41 @@ fn put_some<K: Ord + Drop>(
         let _was = found.insert(key, target)?;
     }
     Ok(())
+}
+
+// Adds the name with the target, if there is one.
+fn push_some(
+    found: &mut Vec<(DirId, Name, Target)>,
+    directory: DirId,
+    name: &Name,
+    target: Option<Target>,
+) -> Result<(), NoMemory>
+    ensures { OnOk result (found.new.items ≡ option_map_or
+        (λ target. found.old.items ++ (directory, name.now, target) ∷ []) target found.old.items) }
+{
+    if let Some(target) = target {
+        found.push((directory, *name, target))?;
+    }
+    Ok(())
+}
+
+// Puts names, each of which stands there once, in order.
+fn sort_by_name(found: &mut Vec<(DirId, Name, Target)>)
+    requires { IsDistinct (eq_by_cmp name_cmp) (keys_of (map by_name found.old.items)) }
+    ensures sorted { IsStrictlySortedBy name_cmp (keys_of (map by_name found.new.items)) }
+    ensures found { (directory : ℕ) (name : List ℕ)
+        → lookup (is_at (name_cmp (directory, name))) (map by_name found.new.items)
+        ≡ lookup (is_at (name_cmp (directory, name))) (map by_name found.old.items) }
+{
+    found.sort_unstable_by(|one, other| by_directory(one, other));
+}
+
+// The order of two names, by directory and then by their bytes.
+fn by_directory(one: &(DirId, Name, Target), other: &(DirId, Name, Target)) -> Ordering
+    ensures { result ≡ name_cmp (one.now.0, one.now.1) (other.now.0, other.now.1) }
+{
+    match one.0.cmp(&other.0) {
+        Ordering::Equal => one.1.cmp(&other.1),
+        order => order,
+    }
 }

@@ -1,9 +1,11 @@
 -- The bytes of a line, word after word.
 use Rattle.ele_printer.proofs.Basics.{nat_tests, arith, ◌==◌, true, ◌≡◌, ℕ, ◌+◌, ◌<◌, List, [], ◌∷◌, ◌++◌, length, map, take, drop, get_or, ◌/◌, ◌%◌, refl, sym, ap, ◌∙◌, append_assoc, codes, decimal, decimal_digit, drop_more, append-nil, take-append-drop, join_with_byte, flat_map, IsFirstAndRest, encode_lower, lower_digits}
-use Rattle.ele_printer.proofs.Prelude.{Rung, line_text, ladder_word, pair_word, bytes_text, kind_words, usage_line, usage_lines, numbers_word, mark_word, marks_word, group_line}
+use Rattle.ele_printer.proofs.Prelude.{Rung, line_text, ladder_word, pair_word, bytes_text, kind_words, usage_line, usage_lines, numbers_word, mark_word, marks_word, group_line, end_word, file_text, rest_text, times_text, version_line}
 use Rattle.ele_usage.specs.declared.usage.Usage.{Usage}
 use Rattle.ele_model.specs.declared.rows.GroupRow.{GroupRow}
 use Rattle.ele_model.specs.declared.rows.MarkRow.{MarkRow}
+use Rattle.ele_model.specs.declared.rows.FileStat.{FileStat}
+use Rattle.ele_model.specs.declared.rows.VersionInfo.{VersionInfo}
 use Rattle.hex.specs.Hex.{encode_with}
 
 -- what follows a word of a line
@@ -72,6 +74,27 @@ digits_none (byte ∷ bytes) none = grind (arith, nat_tests)
 -- the line of bytes in its parts
 pub bytes_line : (n digits : List ℕ) → line_text (codes "ok bytes" ∷ n ∷ digits ∷ []) ≡ codes "ok bytes " ++ (n ++ ((32 ∷ []) ++ (digits ++ 10 ∷ [])))
 bytes_line n digits = line_is (codes "ok bytes") (n ∷ digits ∷ [])
+
+-- the line of a word and a number in its parts
+pub number_line : (first : List ℕ) (number : ℕ) → line_text (first ∷ decimal number ∷ []) ≡ first ++ ((32 ∷ decimal number) ++ 10 ∷ [])
+number_line first number = line_is first (decimal number ∷ [])
+
+-- the line of a moment in its parts
+pub now_line : (seconds : ℕ) (stamp : List ℕ) → line_text (codes "ok now" ∷ decimal seconds ∷ stamp ∷ []) ≡ (codes "ok now " ++ decimal seconds) ++ ((32 ∷ stamp) ++ 10 ∷ [])
+now_line seconds stamp = line_is (codes "ok now") (decimal seconds ∷ stamp ∷ []) ∙ sym (append_assoc (codes "ok now ") (decimal seconds) ((32 ∷ stamp) ++ 10 ∷ []))
+
+-- the line of a number and a name in its parts
+pub named_line : (first name : List ℕ) (number : ℕ) → line_text (first ∷ decimal number ∷ name ∷ []) ≡ join_with_byte 32 (first ∷ decimal number ∷ []) ++ ((32 ∷ name) ++ 10 ∷ [])
+named_line first name number = last_word first name (decimal number ∷ [])
+
+-- the line of a version in its parts
+pub version_parts : (info : VersionInfo) → version_line info
+    ≡ join_with_byte 32 (codes "-" ∷ map decimal (info.number ∷ info.opened ∷ info.closed ∷ [])) ++ ((32 ∷ end_word info.ended) ++ ((codes " " ++ decimal info.length) ++ 10 ∷ []))
+version_parts info = grind (arith, nat_tests, line_is, append_assoc)
+
+-- the text of a file's version in its parts
+pub file_parts : (stat : FileStat) → file_text stat ≡ (codes "ok file " ++ decimal stat.file) ++ (times_text stat.info ++ rest_text stat.info stat.policy)
+file_parts stat = grind (arith, nat_tests, line_is, append_assoc)
 
 -- the lines of usage in their parts
 pub usages_are : (us : List Usage) (d : Usage) → length us ≡ 4 → usage_lines kind_words us ≡ usage_line (codes "one") (get_or us 0 d) ++ (usage_line (codes "all") (get_or us 1 d) ++ (usage_line (codes "safe") (get_or us 2 d) ++ usage_line (codes "landmarks") (get_or us 3 d)))

@@ -1,45 +1,62 @@
--- The words that name the commands.
+-- The commands: the words that name each, and the kinds of the words behind these.
 use Rattle.std.specs.Prelude.{ℕ, List, [], ◌∷◌, codes}
 use Rattle.ele_printer.specs.declared.command.Command.{Command}
-use Rattle.ele_printer.specs.declared.command.Command.TheVariants.{Clock, Tick, MakeDir, RemoveDir, Create, Link, Unlink, Rename, Undelete, OpenWrite, OpenRead, Write, Truncate, Close, Revert, SetPolicy, Default, GroupMake, GroupDrop, GroupAdd, GroupRemove, Mark, Unmark, Clean, Read, Stat, Versions, ListNames, Restorable, Due, Usage, Groups, Pass, History, Trim}
+use Rattle.ele_printer.specs.declared.command.Command.TheVariants as command
+use Rattle.ele_printer.specs.declared.kind.WordKind.{WordKind}
+use Rattle.ele_printer.specs.declared.kind.WordKind.TheVariants.{Number, Handle, Version, Moment, End, Name, Path, Tagged, Timed, Source, Bytes, Policy}
+
+pub record Row : Type 0 where
+  pub words : List (List ℕ)
+  pub kinds : List WordKind
+
+abbrev pub takes : List (List ℕ) → List WordKind → Row
+takes words kinds = record { words = words; kinds = kinds }
+
+-- a command's row; a last word that is an end may be left out
+abbrev pub row : Command → Row
+row command.Clock = takes (codes "clock" ∷ []) (Moment ∷ [])
+row command.Close = takes (codes "close" ∷ []) (Handle ∷ [])
+row command.Clean = takes (codes "clean" ∷ []) []
+row command.Create = takes (codes "create" ∷ []) (Path ∷ [])
+row command.Due = takes (codes "due" ∷ []) []
+row command.Default = takes (codes "default" ∷ []) (Path ∷ Policy ∷ [])
+row command.GroupMake = takes (codes "group" ∷ codes "make" ∷ []) (Name ∷ [])
+row command.GroupDrop = takes (codes "group" ∷ codes "drop" ∷ []) (Name ∷ [])
+row command.GroupAdd = takes (codes "group" ∷ codes "add" ∷ []) (Name ∷ Path ∷ [])
+row command.GroupRemove = takes (codes "group" ∷ codes "remove" ∷ []) (Name ∷ Path ∷ [])
+row command.Groups = takes (codes "groups" ∷ []) []
+row command.History = takes (codes "history" ∷ []) []
+row command.Link = takes (codes "link" ∷ []) (Path ∷ Path ∷ [])
+row command.ListNames = takes (codes "list" ∷ []) (Timed ∷ [])
+row command.Mark = takes (codes "mark" ∷ []) (Name ∷ Moment ∷ End ∷ [])
+row command.MakeDir = takes (codes "mkdir" ∷ []) (Path ∷ [])
+row command.OpenWrite = takes (codes "open" ∷ codes "write" ∷ []) (Path ∷ [])
+row command.OpenRead = takes (codes "open" ∷ codes "read" ∷ []) (Tagged ∷ [])
+row command.Pass = takes (codes "pass" ∷ []) (Number ∷ [])
+row command.SetPolicy = takes (codes "policy" ∷ []) (Path ∷ Policy ∷ [])
+row command.Read = takes (codes "read" ∷ []) (Source ∷ [])
+row command.Rename = takes (codes "rename" ∷ []) (Path ∷ Path ∷ [])
+row command.Revert = takes (codes "revert" ∷ []) (Path ∷ Version ∷ [])
+row command.RemoveDir = takes (codes "rmdir" ∷ []) (Path ∷ [])
+row command.Restorable = takes (codes "restorable" ∷ []) []
+row command.Stat = takes (codes "stat" ∷ []) (Tagged ∷ [])
+row command.Tick = takes (codes "tick" ∷ []) (Number ∷ [])
+row command.Truncate = takes (codes "truncate" ∷ []) (Handle ∷ Number ∷ [])
+row command.Trim = takes (codes "trim" ∷ []) []
+row command.Unlink = takes (codes "unlink" ∷ []) (Path ∷ [])
+row command.Undelete = takes (codes "undelete" ∷ []) (Path ∷ [])
+row command.Unmark = takes (codes "unmark" ∷ []) (Name ∷ Moment ∷ [])
+row command.Usage = takes (codes "usage" ∷ []) []
+row command.Versions = takes (codes "versions" ∷ []) (Timed ∷ [])
+row command.Write = takes (codes "write" ∷ []) (Handle ∷ Number ∷ Bytes ∷ [])
 
 -- the words that name a command
 abbrev pub command_words : Command → List (List ℕ)
-command_words Clock = codes "clock" ∷ []
-command_words Tick = codes "tick" ∷ []
-command_words MakeDir = codes "mkdir" ∷ []
-command_words RemoveDir = codes "rmdir" ∷ []
-command_words Create = codes "create" ∷ []
-command_words Link = codes "link" ∷ []
-command_words Unlink = codes "unlink" ∷ []
-command_words Rename = codes "rename" ∷ []
-command_words Undelete = codes "undelete" ∷ []
-command_words OpenWrite = codes "open" ∷ codes "write" ∷ []
-command_words OpenRead = codes "open" ∷ codes "read" ∷ []
-command_words Write = codes "write" ∷ []
-command_words Truncate = codes "truncate" ∷ []
-command_words Close = codes "close" ∷ []
-command_words Revert = codes "revert" ∷ []
-command_words SetPolicy = codes "policy" ∷ []
-command_words Default = codes "default" ∷ []
-command_words GroupMake = codes "group" ∷ codes "make" ∷ []
-command_words GroupDrop = codes "group" ∷ codes "drop" ∷ []
-command_words GroupAdd = codes "group" ∷ codes "add" ∷ []
-command_words GroupRemove = codes "group" ∷ codes "remove" ∷ []
-command_words Mark = codes "mark" ∷ []
-command_words Unmark = codes "unmark" ∷ []
-command_words Clean = codes "clean" ∷ []
-command_words Read = codes "read" ∷ []
-command_words Stat = codes "stat" ∷ []
-command_words Versions = codes "versions" ∷ []
-command_words ListNames = codes "list" ∷ []
-command_words Restorable = codes "restorable" ∷ []
-command_words Due = codes "due" ∷ []
-command_words Usage = codes "usage" ∷ []
-command_words Groups = codes "groups" ∷ []
-command_words Pass = codes "pass" ∷ []
-command_words History = codes "history" ∷ []
-command_words Trim = codes "trim" ∷ []
+command_words command = (row command).words
+
+-- the kinds of the words behind its name
+abbrev pub kinds_of : Command → List WordKind
+kinds_of command = (row command).kinds
 
 -- a name of one word, or of two
 abbrev pub name_of : List ℕ → List ℕ → List (List ℕ)

@@ -17,7 +17,7 @@ use Rattle.ele_model.specs.declared.event.Source.TheVariants as source
 use Rattle.ele_printer.specs.Command.{command_words}
 use Rattle.ele_printer.specs.Parts.{parts_of}
 use Rattle.ele_printer.specs.Printed.{bytes_word}
-use Rattle.ele_printer.specs.Value.{Value, Number, Moment, Name, Path, Tagged, Timed, Source, Bytes, Policy}
+use Rattle.ele_printer.specs.Value.{Value, Number, Handle, Version, Moment, End, Name, Path, Tagged, Timed, Source, Bytes, Policy}
 
 -- the word of what is read
 abbrev pub source_word : AnySource → List ℕ
@@ -27,7 +27,10 @@ source_word (source.Of handle) = decimal handle
 -- the word of a value: numbers and moments in decimal digits, bytes in hexadecimal ones
 abbrev pub value_word : Value → List ℕ
 value_word (Number n) = decimal n
+value_word (Handle n) = decimal n
+value_word (Version n) = decimal n
 value_word (Moment m) = decimal m
+value_word (End m) = decimal m
 value_word (Name name) = name
 value_word (Path names) = path_word names
 value_word (Tagged tagged) = tagged_word tagged.path tagged.tag
@@ -53,7 +56,10 @@ IsTag (Numbered number) = number < 2 ^ 64
 -- what their types say of values
 abbrev pub IsValue : Value → Type 0
 IsValue (Number n) = n < 2 ^ 64
+IsValue (Handle n) = n < 2 ^ 64
+IsValue (Version n) = n < 2 ^ 64
 IsValue (Moment m) = m ≤ last_moment
+IsValue (End m) = m ≤ last_moment
 IsValue (Name name) = IsName name
 IsValue (Path names) = IsPath names
 IsValue (Tagged tagged) = IsPath tagged.path × IsTag tagged.tag

@@ -13,6 +13,7 @@ use Rattle.ele_model.specs.declared.reply.Reply.{Reply}
 use Rattle.ele_model.specs.declared.reply.Reply.TheVariants.{Done, Nothing, Now, Directory, File, Handle, Version, Closed, Removed, Bytes, FileStat, DirStat, Rows, NameList, RestoreList, DueList, UsageList, GroupList, Refused}
 use Rattle.ele_policy.specs.PolicyText.{kind_word, policy_word}
 use Rattle.ele_policy.specs.declared.policy.Kind.TheVariants as kind
+use Rattle.ele_policy.specs.declared.policy.Policy.{Policy}
 use Rattle.ele_model.specs.declared.rows.DeadName.{DeadName}
 use Rattle.ele_model.specs.declared.rows.DirectoryRow.{DirectoryRow}
 use Rattle.ele_model.specs.declared.rows.FileStat.{FileStat as AnyFileStat}
@@ -77,6 +78,14 @@ abbrev pub file_text : AnyFileStat → List ℕ
 file_text stat =
     line_text (codes "ok file" ∷ decimal stat.file ∷ codes "version" ∷ decimal stat.info.number ∷ codes "opened" ∷ decimal stat.info.opened ∷ codes "closed" ∷ decimal stat.info.closed
     ∷ codes "ended" ∷ end_word stat.info.ended ∷ codes "length" ∷ decimal stat.info.length ∷ codes "policy" ∷ policy_word stat.policy ∷ [])
+
+-- of that text the words of the version and of its times, and those behind them, each with a space in front
+abbrev pub times_text : VersionInfo → List ℕ
+times_text info =
+    (codes " version " ++ decimal info.number) ++ ((codes " opened " ++ decimal info.opened) ++ ((codes " closed " ++ decimal info.closed) ++ (codes " ended" ++ 32 ∷ end_word info.ended)))
+
+abbrev pub rest_text : VersionInfo → Policy → List ℕ
+rest_text info policy = (codes " length " ++ decimal info.length) ++ (codes " policy" ++ ((32 ∷ policy_word policy) ++ 10 ∷ []))
 
 -- the text of a directory, with the policy that it gives
 abbrev pub directory_text : DirectoryRow → List ℕ

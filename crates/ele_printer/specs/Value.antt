@@ -7,7 +7,10 @@ use Rattle.ele_model.specs.declared.event.Source.{Source as AnySource}
 
 pub data Value : Type 0 where
   Number : ℕ → Value
+  Handle : ℕ → Value
+  Version : ℕ → Value
   Moment : ℕ → Value
+  End : ℕ → Value
   Name : List ℕ → Value
   Path : List (List ℕ) → Value
   Tagged : TaggedPath → Value
@@ -19,4 +22,4 @@ pub data Value : Type 0 where
 -- what a word for an end stands for, where there is one
 abbrev pub end_values : Option ℕ → List Value
 end_values None = []
-end_values (Some end) = Moment end ∷ []
+end_values (Some end) = End end ∷ []

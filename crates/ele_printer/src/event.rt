@@ -131,7 +131,7 @@ fn put_write<W: Write>(
     printer: &mut Printer<'_, W>,
 ) -> Result<(), WriteFault>
     ensures { PutsParts W.contents printer.old printer.new
-        (Command.Write, Number handle.now ∷ Number offset.now ∷ Bytes bytes.now ∷ []) result }
+        (Command.Write, value.Handle handle.now ∷ Number offset.now ∷ Bytes bytes.now ∷ []) result }
 {
     lemma_bytes(bytes);
     put_two(Command::Write, handle, offset, printer)?;
@@ -162,7 +162,7 @@ fn put_ended<W: Write>(
     printer: &mut Printer<'_, W>,
 ) -> Result<(), WriteFault>
     ensures { PutsParts W.contents printer.old printer.new
-        (Command.Mark, value.Name name.now ∷ value.Moment moment.now ∷ value.Moment end.now ∷ [])
+        (Command.Mark, value.Name name.now ∷ value.Moment moment.now ∷ value.End end.now ∷ [])
         result }
 {
     end.lemma_value();

@@ -7,11 +7,10 @@ ghost use Rattle.ele_printer.specs.Prints.{Prints};
 
 use crate::event::put_event_line;
 use crate::fault::WriteFault;
-use crate::printer::{Printer, put_line};
-use crate::reply::put_number;
+use crate::numbers::{put_number, put_number_line};
+use crate::printer::Printer;
 use crate::row::{Row, put_lines};
 use ele_model::Entry;
-use itoa::Buffer;
 use std::io::Write;
 
 /// Puts the text of a history: how many entries were folded, how many are stored, and the line of
@@ -54,9 +53,5 @@ fn put_numbers<W: Write>(
     ensures { Prints W.contents printer.old printer.new
         (line_text (first.now ∷ decimal one ∷ decimal other ∷ [])) result }
 {
-    let mut before = Buffer::new();
-    let mut behind = Buffer::new();
-    let one = before.format(one).as_bytes();
-    let other = behind.format(other).as_bytes();
-    put_line(first, &[one, other], printer)
+    put_number_line(first, &[one, other], printer)
 }

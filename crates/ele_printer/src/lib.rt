@@ -1,5 +1,5 @@
-//! The printing half of the script's language: the words that name a command, and the text of each
-//! reply. A contract sees replies as bytes, and a writer as those that it is known to hold.
+//! The printing half of the script's language: the words that name a command and what it takes, and
+//! the text of each reply. A contract sees replies as bytes, and a writer as those that it is known to hold.
 #![tactic(auto)]
 
 mod command;
@@ -7,6 +7,8 @@ mod event;
 mod fault;
 mod group_rows;
 mod history;
+mod kind;
+mod numbers;
 mod path_words;
 mod printer;
 mod refusal;
@@ -17,10 +19,11 @@ mod text;
 mod why;
 mod word;
 
-pub use command::Command;
+pub use command::{Command, ROWS, Row};
 pub use event::put_event;
 pub use fault::{LineFault, WriteFault};
 pub use history::{put_history, put_trimmed};
+pub use kind::WordKind;
 pub use printer::{Printer, put, put_line, put_word, put_words};
 pub use reply::{put_answer, put_fault, put_in_front, put_pass, put_reply, put_stop};
 pub use text::{write_event_text, write_named, write_placed, write_reply};

@@ -7,10 +7,11 @@ ghost use Rattle.hex.specs.Hex.{encode_lower};
 
 use crate::fault::{LineFault, WriteFault};
 use crate::group_rows::put_groups;
-use crate::printer::{Printer, put_line};
+use crate::numbers::{put_number, put_number_line, put_numbers};
+use crate::printer::{Printer, put_line, put_word};
 use crate::refusal::put_refusal;
 use crate::row::{Row, put_rows};
-use crate::rows::{put_directory, put_file, put_names, put_number_word, put_versions};
+use crate::rows::{put_directory, put_file, put_listed, put_names, put_number_word, put_versions};
 use ele_model::{DeadName, Key, PassEnd, Reply, Stop, Target, Usage, VersionNo};
 use itoa::Buffer;
 use std::io::Write;
@@ -59,8 +60,8 @@ pub fn put_answer<W: Write>(reply: &Reply, printer: &mut Printer<'_, W>) -> Resu
         printer.new text result }
 {
     match reply {
-        Reply::Done => put_line(b"ok done", &[], printer),
-        Reply::Nothing => put_line(b"ok nothing", &[], printer),
+        Reply::Done => printer.put(b"ok done\n"),
+        Reply::Nothing => printer.put(b"ok nothing\n"),
         Reply::Now(moment) => put_now(moment.seconds(), &moment.text(), printer),
         Reply::Directory(directory) => put_number(b"ok directory", directory.0, printer),
         Reply::File(file) => put_number(b"ok file", file.0, printer),
@@ -90,9 +91,9 @@ fn put_now<W: Write>(
     ensures { Prints W.contents printer.old printer.new
         (line_text (codes "ok now" ∷ decimal seconds ∷ stamp.now ∷ [])) result }
 {
-    let mut digits = Buffer::new();
-    let digits = digits.format(seconds).as_bytes();
-    put_line(b"ok now", &[digits, stamp], printer)
+    put_listed(b"ok now ", seconds, printer)?;
+    put_word(stamp, printer)?;
+    printer.put_byte(b'\n')
 }
 
 // Puts the line of a closing, with the version that it made, if it made one.
@@ -106,19 +107,6 @@ fn put_closed<W: Write>(
         Some(number) => put_number(b"ok closed version", number.0, printer),
         None => put_line(b"ok closed", &[], printer),
     }
-}
-
-/// Puts a line of a first word and a number.
-pub(crate) fn put_number<W: Write>(
-    first: &[u8],
-    number: u64,
-    printer: &mut Printer<'_, W>,
-) -> Result<(), WriteFault>
-    ensures { Prints W.contents printer.old printer.new
-        (line_text (first.now ∷ decimal number ∷ [])) result }
-{
-    let mut digits = Buffer::new();
-    put_line(first, &[digits.format(number).as_bytes()], printer)
 }
 
 /// Puts a line of a first word, a number and two words more.
@@ -151,13 +139,8 @@ fn put_key<W: Write>(first: &[u8], key: Key, printer: &mut Printer<'_, W>) -> Re
     ensures { Prints W.contents printer.old printer.new
         (line_text (first.now ∷ key_words key)) result }
 {
-    let mut ripe = Buffer::new();
-    let mut file = Buffer::new();
-    let mut number = Buffer::new();
-    let ripe = ripe.format(key.ripe.seconds()).as_bytes();
-    let file = file.format(key.file.0).as_bytes();
-    let number = number.format(key.number.0).as_bytes();
-    put_line(first, &[ripe, file, number], printer)
+    let numbers = [key.ripe.seconds(), key.file.0, key.number.0];
+    put_number_line(first, &numbers, printer)
 }
 
 // Puts how many keys there are, and the line of each.
@@ -308,9 +291,9 @@ pub(crate) fn put_named<W: Write>(
     ensures { Prints W.contents printer.old printer.new
         (line_text (first.now ∷ decimal number ∷ name.now ∷ [])) result }
 {
-    let mut digits = Buffer::new();
-    let number = digits.format(number).as_bytes();
-    put_line(first, &[number, name.as_bytes()], printer)
+    put_numbers(first, &[number as u64], printer)?;
+    put_word(name.as_bytes(), printer)?;
+    printer.put_byte(b'\n')
 }
 
 /// Puts the line of a stop that came in a reply's place. At a fault of the writer it took a front

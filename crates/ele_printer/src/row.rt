@@ -6,8 +6,8 @@ ghost use Rattle.ele_printer.specs.Prints.{Prints};
 ghost use Rattle.ele_printer.specs.Printed.{line_text};
 
 use crate::fault::WriteFault;
+use crate::numbers::put_number;
 use crate::printer::Printer;
-use crate::reply::put_number;
 use std::io::Write;
 
 /// What is told in a line of its own.

@@ -3,9 +3,10 @@
 ghost use Rattle.std.specs.Prelude.{◌≡◌, ◌∷◌, [], ◌++◌, map, decimal, codes};
 ghost use Rattle.ele_policy.specs.PolicyText.{floor_word, ladder_word, pair_word, policy_word};
 ghost use Rattle.ele_printer.specs.Prints.{Prints};
-ghost use Rattle.ele_printer.specs.Printed.{line_text, end_word, file_text, directory_text, version_line, versions_text, name_line, names_text};
+ghost use Rattle.ele_printer.specs.Printed.{line_text, end_word, file_text, directory_text, rest_text, times_text, version_line, versions_text, name_line, names_text};
 
 use crate::fault::WriteFault;
+use crate::numbers::put_numbers;
 use crate::printer::{Printer, put_line, put_words};
 use crate::row::{Row, put_rows};
 use ele_model::{DirectoryRow, FileStat, Target, VersionInfo};
@@ -21,24 +22,34 @@ pub(crate) fn put_file<W: Write>(
 ) -> Result<(), WriteFault>
     ensures { Prints W.contents printer.old printer.new (file_text stat.now) result }
 {
-    let info = stat.info;
-    let mut file = Buffer::new();
-    let mut number = Buffer::new();
-    let mut opened = Buffer::new();
-    let mut closed = Buffer::new();
-    let mut ended = Buffer::new();
-    let mut length = Buffer::new();
-    let file = file.format(stat.file.0).as_bytes();
-    let number = number.format(info.number.0).as_bytes();
-    let opened = opened.format(info.opened.seconds()).as_bytes();
-    let closed = closed.format(info.closed.seconds()).as_bytes();
-    let ended = end_digits(info.ended, &mut ended);
-    let length = length.format(info.length).as_bytes();
-    let words: [&[u8]; 12] = [
-        file, b"version", number, b"opened", opened, b"closed", closed, b"ended", ended, b"length",
-        length, b"policy",
-    ];
-    put_with_policy(b"ok file", &words, &stat.policy, printer)
+    put_listed(b"ok file ", stat.file.0, printer)?;
+    put_times(&stat.info, printer)?;
+    put_rest(&stat.info, &stat.policy, printer)
+}
+
+// Puts the number of a version, and when it was opened, closed and ended.
+fn put_times<W: Write>(info: &VersionInfo, printer: &mut Printer<'_, W>) -> Result<(), WriteFault>
+    ensures { Prints W.contents printer.old printer.new (times_text info.now) result }
+{
+    put_listed(b" version ", info.number.0, printer)?;
+    put_listed(b" opened ", info.opened.seconds(), printer)?;
+    put_listed(b" closed ", info.closed.seconds(), printer)?;
+    printer.put(b" ended")?;
+    put_end(info.ended, printer)
+}
+
+// Puts the length of a version and the policy of its file, and a line feed.
+fn put_rest<W: Write>(
+    info: &VersionInfo,
+    policy: &Policy,
+    printer: &mut Printer<'_, W>,
+) -> Result<(), WriteFault>
+    ensures { Prints W.contents printer.old printer.new (rest_text info.now policy.now) result }
+{
+    put_listed(b" length ", info.length, printer)?;
+    printer.put(b" policy")?;
+    put_policy(policy, printer)?;
+    printer.put_byte(b'\n')
 }
 
 /// Puts the line of a directory.
@@ -140,12 +151,17 @@ fn put_pair<W: Write>(
 }
 
 /// Puts a number.
+#[tactic(auto, using(std::proofs::lemmas::Fmt::decimal_digit))]
 pub(crate) fn put_number_word<W: Write>(
     number: u64,
     printer: &mut Printer<'_, W>,
 ) -> Result<(), WriteFault>
     ensures { Prints W.contents printer.old printer.new (decimal number) result }
 {
+    // Many numbers that are told are small.
+    if number < 10 {
+        return printer.put_byte(b'0' + number as u8);
+    }
     let mut digits = Buffer::new();
     printer.put(digits.format(number).as_bytes())
 }
@@ -162,13 +178,13 @@ pub(crate) fn put_listed<W: Write>(
     put_number_word(number, printer)
 }
 
-// An end in text.
-fn end_digits<'d>(ended: Option<Moment>, digits: &'d mut Buffer) -> &'d [u8]
-    ensures { result.now ≡ end_word ended }
+// Puts a space and an end.
+fn put_end<W: Write>(ended: Option<Moment>, printer: &mut Printer<'_, W>) -> Result<(), WriteFault>
+    ensures { Prints W.contents printer.old printer.new (32 ∷ end_word ended) result }
 {
     match ended {
-        Some(moment) => digits.format(moment.seconds()).as_bytes(),
-        None => b"-",
+        Some(moment) => put_listed(b" ", moment.seconds(), printer),
+        None => printer.put(b" -"),
     }
 }
 
@@ -186,17 +202,11 @@ impl Row for VersionInfo {
     ghost row_line = { version_line };
 
     fn put_row<W: Write>(&self, printer: &mut Printer<'_, W>) -> Result<(), WriteFault> {
-        let mut number = Buffer::new();
-        let mut opened = Buffer::new();
-        let mut closed = Buffer::new();
-        let mut ended = Buffer::new();
-        let mut length = Buffer::new();
-        let number = number.format(self.number.0).as_bytes();
-        let opened = opened.format(self.opened.seconds()).as_bytes();
-        let closed = closed.format(self.closed.seconds()).as_bytes();
-        let ended = end_digits(self.ended, &mut ended);
-        let length = length.format(self.length).as_bytes();
-        put_line(b"-", &[number, opened, closed, ended, length], printer)
+        let before = [self.number.0, self.opened.seconds(), self.closed.seconds()];
+        put_numbers(b"-", &before, printer)?;
+        put_end(self.ended, printer)?;
+        put_listed(b" ", self.length, printer)?;
+        printer.put_byte(b'\n')
     }
 }
 

@@ -43,7 +43,7 @@ impl Word for u64 {
 }
 
 impl Word for Handle {
-    ghost value = { of.Number };
+    ghost value = { of.Handle };
 
     fn lemma_value(&self) {
         lemma_number(self.0);
@@ -55,7 +55,7 @@ impl Word for Handle {
 }
 
 impl Word for VersionNo {
-    ghost value = { of.Number };
+    ghost value = { of.Version };
 
     fn lemma_value(&self) {
         lemma_number(self.0);

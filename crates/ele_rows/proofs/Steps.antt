@@ -1,5 +1,5 @@
 -- What `grind` takes beside the facts at the goals of a function, for functions that need no more.
-use Rattle.ele_rows.proofs.Words.{All-weaker, IsKeyInRange, all-got, chunk-far, chunk-near, chunk_read, entry_cmp, flat, flat-change_last, flat-remove_empty, flat-set_last, flat-taken, found_of_group, get_or-set_same, greatest, has, has_chunk, last-before_some, last-flat, last-slice_get, last_of, last_room-change, last_room-here, last_room-set, least, length-set, length-update_last, nat_tests, nil_from_length, of_group, recursion_from_All, room_needs, rows-here, set, slice_get-get_or, slice_get_read, take_all, update_last, update_last-set, with_items_is}
+use Rattle.ele_rows.proofs.Words.{All-weaker, IsKeyInRange, all-got, chunk-far, chunk-near, chunk_read, entry_cmp, find_last-end, flat, flat-change_last, flat-remove_empty, flat-set_last, flat-taken, found_of_group, get_or-set_same, greatest, has, has_chunk, last-before_some, last-flat, last-slice_get, last_of, last_room-change, last_room-here, last_room-set, least, length-set, length-update_last, nat_tests, nil_from_length, of_group, recursion_from_All, room_needs, rows-here, set, slice_get-get_or, slice_get_read, take_all, update_last, update_last-set, with_items_is}
 
 pub ruleset change_last_steps = (with_items_is, flat, update_last, length-update_last)
 
@@ -22,3 +22,5 @@ pub ruleset row_before_steps = last-before_some
 pub ruleset row_from_end_steps = (nat_tests, slice_get-get_or, slice_get_read, take_all, chunk-near, chunk-far)
 
 pub ruleset take_out_steps = (has_chunk, chunk_read, slice_get_read, set, length-set, get_or-set_same, nil_from_length, nat_tests, flat, flat-remove_empty, flat-taken, rows-here, last_room-set)
+
+pub ruleset last_before_steps = find_last-end

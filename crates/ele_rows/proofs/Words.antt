@@ -5,7 +5,7 @@ pub use Rattle.ele_lists.proofs.Basics.{All-weaker, IsKeyInRange, IsPartitionPoi
 pub use Rattle.ele_rows.proofs.Basics.{entry_cmp, flat, has}
 pub use Rattle.ele_lists.proofs.Cuts.{remove_first-unfound}
 pub use Rattle.ele_lists.proofs.Edits.{all-weaker, not_found}
-pub use Rattle.ele_lists.proofs.Ends.{find-parted, find_last-parted, last-slice_get, length-update_last, update_last-set}
+pub use Rattle.ele_lists.proofs.Ends.{find-parted, find_last-end, find_last-parted, last-slice_get, length-update_last, update_last-set}
 pub use Rattle.ele_rows.proofs.Groups.{found_of_group, greatest, in_group, last_of_group, least, of_group}
 pub use Rattle.ele_lists.proofs.Keys.{end-gap, end-missing, place-found, place-gap, place-missing, place-there, rises-parted}
 pub use Rattle.ele_rows.proofs.Parted.{before_sinks}

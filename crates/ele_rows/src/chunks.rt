@@ -155,7 +155,19 @@ impl<T: Drop> Chunks<T> {
     }
 
     /// The last row before the cut.
+    #[tactic(auto, using(crate::proofs::Steps::last_before_steps))]
     pub fn last_before<C: Cut<T>>(&self, cut: &C) -> Option<&T>
+        requires { AllLater (Sinks (C.before cut.now)) self.now.rows }
+        ensures { option_copied result ≡ find (C.before cut.now) (reverse self.now.rows) }
+    {
+        match self.last() {
+            Some(last) if cut.is_behind(last) => Some(last),
+            _ => self.last_at_seam(cut),
+        }
+    }
+
+    // The last row before the cut, by a search.
+    fn last_at_seam<C: Cut<T>>(&self, cut: &C) -> Option<&T>
         requires { AllLater (Sinks (C.before cut.now)) self.now.rows }
         ensures { option_copied result ≡ find (C.before cut.now) (reverse self.now.rows) }
     {

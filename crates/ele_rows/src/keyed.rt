@@ -30,12 +30,26 @@ pub fn place_of<T: Keyed>(rows: &[T], key: u64) -> Result<usize, usize>
 /// The place of the row of that key, if no number between the first row's key and this one is
 /// missing. Rows that are numbered as they are made stand so until one leaves, and this look spares
 /// the search.
-pub(crate) fn place_if_dense<T: Keyed>(rows: &[T], key: u64) -> Option<usize>
+fn place_if_dense<T: Keyed>(rows: &[T], key: u64) -> Option<usize>
     requires { Rises T.key rows.now }
     ensures { IfSome result (λ at. position (stands_by T.key key) rows.now ≡ Some at) }
 {
     let first = rows.first()?.key();
     let at = usize::try_from(key.checked_sub(first)?).ok()?;
+    match rows.get(at) {
+        Some(row) if row.key() == key => Some(at),
+        _ => None,
+    }
+}
+
+/// The place of the row of that key, if no number between this one and the last row's key is
+/// missing. The oldest rows leave first where rows leave, and those behind them stand so.
+pub(crate) fn place_if_dense_behind<T: Keyed>(rows: &[T], key: u64) -> Option<usize>
+    requires { Rises T.key rows.now }
+    ensures { IfSome result (λ at. position (stands_by T.key key) rows.now ≡ Some at) }
+{
+    let behind = usize::try_from(rows.last()?.key().checked_sub(key)?).ok()?;
+    let at = rows.len().checked_sub(behind)?.checked_sub(1)?;
     match rows.get(at) {
         Some(row) if row.key() == key => Some(at),
         _ => None,

@@ -10,7 +10,7 @@ ghost use Rattle.ele_rows.specs.Chunks.{IsPlaceOf, flat, AreFilled, AreShort, ro
 
 use crate::chunks::LONGEST_CHUNK;
 use crate::cut::{Change, Cut};
-use crate::keyed::{BeforeKey, place_if_dense};
+use crate::keyed::{BeforeKey, place_if_dense_behind};
 use ele_lists::Keyed;
 
 /// Whether the last chunk has room for one row more.
@@ -160,25 +160,31 @@ pub fn find_key<T: Keyed>(chunks: &[Vec<T>], key: u64) -> Option<(usize, usize)>
 }
 
 // The place of the row of that key, if one look finds it: rows that are numbered as they are made
-// stand where their numbers tell until one among them leaves.
+// stand where their numbers tell until one behind them leaves.
 fn find_dense<T: Keyed>(chunks: &[Vec<T>], key: u64) -> Option<(usize, usize)>
     requires { Rises T.key (flat chunks.now) }
     ensures { IfSome result (λ at. IsPlaceOf (stands_by T.key key) chunks.now at.0 at.1) }
 {
     let chunk = likely_chunk(chunks, key)?;
-    let place = place_if_dense(chunks.get(chunk)?, key)?;
+    let place = place_if_dense_behind(chunks.get(chunk)?, key)?;
     Some((chunk, place))
 }
 
-// The first chunk, if the key is in it, or the one that the key tells, counted from the last, if no
-// key is missing and the chunks between have as many rows as they may.
+// The last chunk, if the key is in it where none is missing behind it: most calls ask for one of the
+// last rows. Else the first chunk, if the key is in it, or the one that the key tells if the chunks
+// between have as many rows as they may.
 fn likely_chunk<T: Keyed>(chunks: &[Vec<T>], key: u64) -> Option<usize> {
+    let last = chunks.len().checked_sub(1)?;
+    let rows = chunks[last].len() as u64;
+    let behind = chunks[last].last()?.key().saturating_sub(key);
+    if behind < rows {
+        return Some(last);
+    }
     if key <= chunks.first()?.last()?.key() {
         return Some(0);
     }
-    let last = chunks.len() - 1;
-    let before = chunks[last].first()?.key().saturating_sub(key);
-    last.checked_sub(usize::try_from(before.div_ceil(LONGEST_CHUNK as u64)).ok()?)
+    let between = usize::try_from(behind - rows).ok()? / LONGEST_CHUNK;
+    last.checked_sub(between)?.checked_sub(1)
 }
 
 /// Takes out the row at the place, and hands back its chunk if that was the last row there.

@@ -36,6 +36,10 @@ impl<K: Eq + Hash + Copy> Tally<K> {
     pub fn count(&self, key: K) -> u64
         ensures { result ≡ counted K.eq self.now key }
     {
+        if self.counts.is_empty() {
+            // No key has to be hashed.
+            return 0;
+        }
         self.counts.get(&key).copied().unwrap_or(0)
     }
 

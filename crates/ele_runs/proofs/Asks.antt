@@ -7,7 +7,7 @@ use Rattle.ele_runs.specs.Explained.{asked_by}
 use Rattle.ele_runs.specs.Said.{AsksBy}
 use Rattle.ele_runs.specs.declared.options.RunOptions.{RunOptions}
 use Rattle.ele_script.specs.Question.{AsksQuestion, asked_in}
-use Rattle.ele_script.specs.declared.kind.WordKind.{WordKind}
+use Rattle.ele_printer.specs.declared.kind.WordKind.{WordKind}
 use Rattle.ele_script.specs.declared.question.Question.{Question}
 
 -- by whether the manner explains

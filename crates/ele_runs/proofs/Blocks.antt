@@ -10,7 +10,7 @@ use Rattle.ele_model.specs.declared.refusal.Stop.TheVariants.{NoMemory}
 use Rattle.ele_model.specs.declared.reply.Reply.TheVariants as reply
 use Rattle.ele_script.specs.Spells.{Asks, AsksEvent}
 use Rattle.ele_script.specs.Question.{ReadsQuestion, asked_in}
-use Rattle.ele_script.specs.declared.kind.WordKind.{WordKind}
+use Rattle.ele_printer.specs.declared.kind.WordKind.{WordKind}
 use Rattle.ele_script.specs.declared.question.Question.{Question}
 use Rattle.ele_script.specs.FirstFault.{IsFirstFault}
 use Rattle.ele_printer.specs.Printed.{stop_text, bad_text}

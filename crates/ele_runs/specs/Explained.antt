@@ -11,8 +11,8 @@ use Rattle.ele_runs.specs.Block.{IsBlock}
 use Rattle.ele_runs.specs.declared.options.RunOptions.{RunOptions}
 use Rattle.ele_script.specs.FirstFault.{IsWordFault}
 use Rattle.ele_script.specs.Question.{asked_in}
-use Rattle.ele_script.specs.declared.kind.WordKind.{WordKind}
-use Rattle.ele_script.specs.declared.kind.WordKind.TheVariants.{Moment as MomentWord, Tagged as TaggedWord}
+use Rattle.ele_printer.specs.declared.kind.WordKind.{WordKind}
+use Rattle.ele_printer.specs.declared.kind.WordKind.TheVariants.{Moment as MomentWord, Tagged as TaggedWord}
 use Rattle.ele_path.specs.Tagged.{SpellsTaggedPath}
 use Rattle.ele_path.specs.declared.tagged.TaggedPath.{TaggedPath}
 use Rattle.ele_model.specs.Why.{IsAhead, IsWhy}

@@ -1,4 +1,4 @@
--- What a line was answered, before it is told. No public clause cites this module.
+-- What a line was answered, before it is told.
 use Rattle.std.specs.Prelude.{◌≡◌, ℕ, ◌+◌, ◌-◌, ◌==◌, Bool, true, ◌&&◌, List, [], ◌∷◌, ◌++◌, decimal, length, Option, Some, Result, Ok, Err, slice_get, if◌then◌else◌}
 use Rattle.ele_history.specs.Past.{Past, trimmed}
 use Rattle.ele_history.specs.Reply.{MayReply}
@@ -16,8 +16,8 @@ use Rattle.ele_runs.specs.declared.said.Said.TheVariants.{Nothing, Bad, Stopped,
 use Rattle.ele_printer.specs.declared.fault.LineFault.{LineFault}
 use Rattle.ele_script.specs.FirstFault.{IsWordFault}
 use Rattle.ele_script.specs.Question.{ReadsQuestion}
-use Rattle.ele_script.specs.declared.kind.WordKind.{WordKind}
-use Rattle.ele_script.specs.declared.kind.WordKind.TheVariants.{Moment as MomentWord, Tagged as TaggedWord}
+use Rattle.ele_printer.specs.declared.kind.WordKind.{WordKind}
+use Rattle.ele_printer.specs.declared.kind.WordKind.TheVariants.{Moment as MomentWord, Tagged as TaggedWord}
 use Rattle.ele_script.specs.declared.question.Question.{Question}
 use Rattle.ele_path.specs.Tagged.{SpellsTaggedPath}
 use Rattle.ele_path.specs.declared.tagged.TaggedPath.{TaggedPath}

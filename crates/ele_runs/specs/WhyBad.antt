@@ -7,7 +7,7 @@ use Rattle.ele_script.specs.FirstFault.{IsFirstFault, IsOfKind}
 use Rattle.ele_script.specs.Memory.{WordTakesMemory, word_takes}
 use Rattle.ele_script.specs.Reason.{IsReason, IsWordReason}
 use Rattle.ele_script.specs.ReasonText.{reason_text}
-use Rattle.ele_script.specs.declared.kind.WordKind.{WordKind}
+use Rattle.ele_printer.specs.declared.kind.WordKind.{WordKind}
 use Rattle.ele_script.specs.Words.{words_of}
 use Rattle.ele_script.specs.declared.reasons.Reason.{Reason}
 use Rattle.ele_script.specs.declared.reasons.Reason.TheVariants.{Cut, TooLong}

@@ -6,8 +6,8 @@ ghost use Rattle.ele_runs.specs.Explained.{asked_by};
 ghost use Rattle.ele_runs.specs.Said.{AsksBy, Explains};
 ghost use Rattle.ele_moment.specs.Spelled.{SpellsMoment};
 ghost use Rattle.ele_script.specs.Question.{ReadsQuestion};
-ghost use Rattle.ele_script.specs.declared.kind.WordKind.{WordKind};
-ghost use Rattle.ele_script.specs.declared.kind.WordKind.TheVariants.{Moment as MomentWord};
+ghost use Rattle.ele_printer.specs.declared.kind.WordKind.{WordKind};
+ghost use Rattle.ele_printer.specs.declared.kind.WordKind.TheVariants.{Moment as MomentWord};
 
 use crate::options::RunOptions;
 use crate::said::Said;

@@ -21,4 +21,5 @@ pub use fault::ShellFault;
 pub use line_buffer::LineBuffer;
 pub use note::{tell_why, why_bad, why_cut};
 pub use options::RunOptions;
+pub use said::{Said, hear_kept};
 pub use script::{run_in, run_over};

@@ -20,7 +20,7 @@ use std::io::Write;
 
 /// What a line was answered. What the history has isn't held twice.
 #[derive(Drop)]
-pub(crate) enum Said {
+pub enum Said {
     /// Nothing, as an empty line is, or a remark that is passed over.
     Nothing,
     /// That it is no command.
@@ -42,7 +42,7 @@ pub(crate) enum Said {
 }
 
 /// Hears a line as it is kept, and answers it.
-pub(crate) fn hear_kept<C: Explain>(
+pub fn hear_kept<C: Explain>(
     alloc: Global,
     options: RunOptions,
     line: Option<&[u8]>,
@@ -145,7 +145,7 @@ impl Said {
     }
 
     /// Puts its text.
-    pub(crate) fn put<C: Explain, W: Write>(
+    pub fn put<C: Explain, W: Write>(
         &self,
         history: &History<C>,
         printer: &mut Printer<'_, W>,

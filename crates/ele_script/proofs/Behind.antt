@@ -1,13 +1,13 @@
 -- Single words and their faults.
-use Rattle.ele_script.proofs.Basics.{◌≡◌, ℕ, List, [], ◌∷◌, true, false, refl, ap, ◌⊎◌, inl, inr, Option, Some, None, OnOk, ok_or}
-use Rattle.ele_script.proofs.Prelude.{SpellsNumber, LineFault, NoMemory, Syntax, IsTaggedFault, fault_of_path, IsTaggedWordFault, begins_path, of_handle, NumberWord, MomentWord, PathWord, SourceWord, PolicyWord, IsOfKind, IsWordFault, IsRefused}
+use Rattle.ele_script.proofs.Basics.{◌≡◌, ℕ, List, [], ◌∷◌, true, false, refl, ap, ◌⊎◌, inl, inr, Option, Some, None, Result, Ok, Err, IfOk, OnOk, ok_or}
+use Rattle.ele_script.proofs.Prelude.{SpellsNumber, LineFault, NoMemory, Syntax, IsTaggedFault, fault_of_path, IsTaggedWordFault, begins_path, of_handle, NumberWord, HandleWord, VersionWord, MomentWord, EndWord, PathWord, SourceWord, PolicyWord, IsOfKind, IsWordFault, IsRefused}
 use Rattle.ele_script.proofs.Prelude.{bad_word}
 use Rattle.std.specs.Prelude.{IfSome}
 use Rattle.ele_path.specs.declared.fault.PathFault.{PathFault}
 use Rattle.ele_path.specs.declared.fault.PathFault.TheVariants as path
 use Rattle.ele_moment.specs.Spelled.{SpellsMoment}
 use Rattle.ele_printer.specs.declared.fault.LineFault.TheVariants.{BadMoment}
-use Rattle.ele_script.specs.Value.{Number, Moment}
+use Rattle.ele_script.specs.Value.{Number, Handle, Version, Moment, End}
 
 -- a word of which a number was read is one of a number
 pub number_kind : (word : List ℕ) (read : Option ℕ) → IfSome read (SpellsNumber word) → OnOk (ok_or read Syntax) (IsOfKind NumberWord word)
@@ -18,6 +18,19 @@ number_kind word (Some n) is = (Number n, refl, is)
 pub moment_kind : (word : List ℕ) (read : Option ℕ) → IfSome read (SpellsMoment word) → OnOk (ok_or read BadMoment) (IsOfKind MomentWord word)
 moment_kind word None is = tt
 moment_kind word (Some m) is = (Moment m, refl, is)
+
+-- a number is that of a handle or of a version, and a moment the end of a mark
+pub handle_kind : (word : List ℕ) (read : Result ℕ LineFault) → IfOk read (SpellsNumber word) → OnOk read (IsOfKind HandleWord word)
+handle_kind word (Ok n) is = (Handle n, refl, is)
+handle_kind word (Err fault) is = tt
+
+pub version_kind : (word : List ℕ) (read : Result ℕ LineFault) → IfOk read (SpellsNumber word) → OnOk read (IsOfKind VersionWord word)
+version_kind word (Ok n) is = (Version n, refl, is)
+version_kind word (Err fault) is = tt
+
+pub end_kind : (word : List ℕ) (read : Result ℕ LineFault) → IfOk read (SpellsMoment word) → OnOk read (IsOfKind EndWord word)
+end_kind word (Ok m) is = (End m, refl, is)
+end_kind word (Err fault) is = tt
 
 -- a path and a word that is no policy
 pub refused_policy : (words : List (List ℕ)) (path word : List ℕ) (fault : LineFault) → words ≡ path ∷ word ∷ [] → IsOfKind PathWord path → IsWordFault PolicyWord word fault → IsRefused true (PathWord ∷ PolicyWord ∷ []) words fault

@@ -19,7 +19,7 @@ use Rattle.ele_printer.specs.Parts.{parts_of}
 use Rattle.ele_printer.specs.Printed.{bytes_word}
 use Rattle.ele_script.specs.declared.reading.Line.TheVariants as asks
 use Rattle.ele_script.specs.EventBack.{EventBack}
-use Rattle.ele_script.specs.Value.{Number, Tagged, Source, Policy}
+use Rattle.ele_script.specs.Value.{Number, Handle, Version, End, Tagged, Source, Policy}
 use Rattle.ele_script.proofs.JoinedWords.{joined_words, joined_worded}
 use Rattle.ele_script.proofs.PlainValues.{are_bytes, values_are}
 use Rattle.ele_script.proofs.PlainWords.{is_word}
@@ -53,7 +53,10 @@ bytes_back (byte ∷ bytes) all =
 -- the word of a value stands for it
 value_back : (value : Value) → IsValue value → SpellsValue (value_word value) value
 value_back (Number n) is = number_back n is
+value_back (Handle n) is = number_back n is
+value_back (Version n) is = number_back n is
 value_back (Moment m) is = moment_back m is
+value_back (End m) is = moment_back m is
 value_back (Name name) is = (refl, is)
 value_back (Path names) is = path_back names is
 value_back (Tagged tagged) is = tagged_back tagged.path tagged.tag is.0 is.1

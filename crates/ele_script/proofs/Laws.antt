@@ -1,6 +1,6 @@
 -- What is true of lines: each asks for one thing, or has a first fault, and not both.
 use Rattle.ele_script.proofs.Basics.{nat_tests, ◌≡◌, ◌≢◌, ◌==◌, None, Some, ℕ, ◌≤◌, true, true≢false, List, [], ◌∷◌, length, refl, sym, ap, ◌∙◌, arith, ◌⊎◌, inl, inr, Result, Ok, Err, IfOk, IfErr, same_Some}
-use Rattle.ele_script.proofs.Prelude.{OneMeaning, Line, Command, LineFault, NoMemory, WordKind, Value, word_kind, kinds_behind, kinds_if, longest_line, words_of, is_worded, SpellsValues, SpellsWords, SpellsLine, Asks, AsksEvent}
+use Rattle.ele_script.proofs.Prelude.{OneMeaning, Line, Command, LineFault, NoMemory, WordKind, Value, word_kind, kinds_behind, kinds_if, kinds_of, longest_line, words_of, is_worded, SpellsValues, SpellsWords, SpellsLine, Asks, AsksEvent}
 use Rattle.ele_script.proofs.Prelude.{IsFirstWordFault, IsFaultOfWords, no_command, of_word, IsFirstFault, too_long, not_worded, of_words, IsEventFault, of_line, no_event}
 use Rattle.ele_printer.specs.Parts.{parts_of}
 use Rattle.ele_model.specs.declared.event.Event.{Event}
@@ -12,9 +12,9 @@ use Rattle.ele_script.proofs.Commands.{one_fit}
 use Rattle.ele_script.proofs.Values.{one_value, faultless_word, one_word_fault}
 
 -- the kinds of values
-abbrev pub kinds_of : List Value → List WordKind
-kinds_of [] = []
-kinds_of (value ∷ values) = word_kind value ∷ kinds_of values
+abbrev pub value_kinds : List Value → List WordKind
+value_kinds [] = []
+value_kinds (value ∷ values) = word_kind value ∷ value_kinds values
 
 tails : {A : Type 0} {x y : A} {xs ys : List A} → x ∷ xs ≡ y ∷ ys → xs ≡ ys
 tails h = cc
@@ -24,14 +24,14 @@ parts_is c d vs us p q =
     let P : Type 0 = Command × List Value in
     ap (λ (e : Command). let r : P = (e, vs) in r) p ∙ ap (λ (ws : List Value). let r : P = (d, ws) in r) q
 
-as_many : (words : List (List ℕ)) (values : List Value) → SpellsValues words values → length words ≡ length (kinds_of values)
+as_many : (words : List (List ℕ)) (values : List Value) → SpellsValues words values → length words ≡ length (value_kinds values)
 as_many (word ∷ words) (v ∷ vs) h = omega (arith, as_many words vs h.1)
 as_many words values h = grind arith
 
 -- what is asked for has the kinds that its words have
-asked_kinds : (asked : Line) → kinds_of (line_parts asked).1 ≡ kinds_if (line_parts asked).0 (length (line_parts asked).1 == 3)
+asked_kinds : (asked : Line) → value_kinds (line_parts asked).1 ≡ kinds_if (line_parts asked).0 (length (line_parts asked).1 == length (kinds_of (line_parts asked).0))
 asked_kinds (asks.Event e) = of_event e where
-  of_event : (e : Event) → kinds_of (parts_of e).1 ≡ kinds_if (parts_of e).0 (length (parts_of e).1 == 3)
+  of_event : (e : Event) → value_kinds (parts_of e).1 ≡ kinds_if (parts_of e).0 (length (parts_of e).1 == length (kinds_of (parts_of e).0))
   of_event (event.Mark name moment None) = refl
   of_event (event.Mark name moment (Some end)) = refl
   of_event e = refl
@@ -39,9 +39,9 @@ asked_kinds (asks.Pass budget) = refl
 asked_kinds asks.History = refl
 asked_kinds asks.Trim = refl
 
-spelled_kinds : (words : List (List ℕ)) (asked : Line) → SpellsValues words (line_parts asked).1 → kinds_of (line_parts asked).1 ≡ kinds_behind (line_parts asked).0 words
-spelled_kinds words asked spells = asked_kinds asked ∙ ap (λ n. kinds_if (line_parts asked).0 (n == 3)) (sym (as_many words (line_parts asked).1 spells ∙ length_kinds (line_parts asked).1)) where
-  length_kinds : (values : List Value) → length (kinds_of values) ≡ length values
+spelled_kinds : (words : List (List ℕ)) (asked : Line) → SpellsValues words (line_parts asked).1 → value_kinds (line_parts asked).1 ≡ kinds_behind (line_parts asked).0 words
+spelled_kinds words asked spells = asked_kinds asked ∙ ap (λ n. kinds_if (line_parts asked).0 (n == length (kinds_of (line_parts asked).0))) (sym (as_many words (line_parts asked).1 spells ∙ length_kinds (line_parts asked).1)) where
+  length_kinds : (values : List Value) → length (value_kinds values) ≡ length values
   length_kinds [] = refl
   length_kinds (value ∷ values) = grind (arith, length_kinds values)
 
@@ -50,7 +50,7 @@ moved fault {c} {d} {xs} {ys} p q h = grind (arith, nat_tests)
 
 module _ (law : OneMeaning) where
   -- words stand for one list of values of their kinds
-  one_list : (words : List (List ℕ)) (vs us : List Value) → kinds_of vs ≡ kinds_of us → SpellsValues words vs → SpellsValues words us → vs ≡ us
+  one_list : (words : List (List ℕ)) (vs us : List Value) → value_kinds vs ≡ value_kinds us → SpellsValues words vs → SpellsValues words us → vs ≡ us
   one_list (word ∷ words) (v ∷ vs) (u ∷ us) k a b = grind (arith, nat_tests, one_value law, tails, one_list words vs us (tails k) a.1 b.1)
   one_list words vs us k a b = grind arith
 
@@ -59,7 +59,7 @@ module _ (law : OneMeaning) where
   one_spelling line a b h k = grind (arith, nat_tests, one_fit, one_list, parts_is, same_Some, spelled_kinds)
 
   -- words that stand for values of their kinds have no fault
-  no_first : (words : List (List ℕ)) (values : List Value) (fault : LineFault) → SpellsValues words values → IsFirstWordFault (kinds_of values) words fault → ⊥
+  no_first : (words : List (List ℕ)) (values : List Value) (fault : LineFault) → SpellsValues words values → IsFirstWordFault (value_kinds values) words fault → ⊥
   no_first (word ∷ words) (v ∷ vs) fault h (inl bad) = faultless_word law (word_kind v) word fault (v, refl, h.0) bad
   no_first (word ∷ words) (v ∷ vs) fault h (inr bad) = no_first words vs fault h.1 bad.1
   no_first words values fault h bad = grind arith

@@ -1,6 +1,6 @@
 -- The command in front of words, by the first letter of the first of them.
-use Rattle.ele_script.proofs.Basics.{nat_tests, arith, ◌≡◌, ◌≢◌, ℕ, List, [], ◌∷◌, map, refl, Some, None}
-use Rattle.ele_script.proofs.Prelude.{Command, find_command, named}
+use Rattle.ele_script.proofs.Basics.{nat_tests, arith, ◌≡◌, ◌≢◌, ℕ, List, [], ◌∷◌, refl, Some, None}
+use Rattle.ele_script.proofs.Prelude.{Command, find_command}
 use Rattle.ele_script.specs.CommandOf.{command_of, first_letter, FindsAll}
 
 -- words without a first letter name none
@@ -10,11 +10,11 @@ no_letter [] none = refl
 no_letter ([] ∷ words) none = refl
 no_letter ((letter ∷ word) ∷ words) none = absurd cc
 
--- the rows of the letter find what the table finds
-pub by_letter : (words : List (List ℕ)) (letter : ℕ) (rows : List Command) → first_letter words ≡ Some letter → FindsAll letter rows → find_command (map named rows) words ≡ command_of words
-by_letter [] letter rows some finds = absurd cc
-by_letter ([] ∷ words) letter rows some finds = absurd cc
-by_letter ((first ∷ word) ∷ words) letter rows some finds =
+-- the table of the letter finds what the table finds
+pub by_letter : (words : List (List ℕ)) (letter : ℕ) (table : List (List (List ℕ) × Command)) → first_letter words ≡ Some letter → FindsAll letter table → find_command table words ≡ command_of words
+by_letter [] letter table some finds = absurd cc
+by_letter ([] ∷ words) letter table some finds = absurd cc
+by_letter ((first ∷ word) ∷ words) letter table some finds =
     let same : first ≡ letter = cc in
     rw same (finds word words)
 

@@ -24,3 +24,4 @@ pub mod WordMeanings
 pub mod EveryLine
 pub mod LineLaws
 pub mod WhyBad
+pub mod Unknown

@@ -16,7 +16,7 @@ use Rattle.ele_printer.specs.EventText.{IsValue, value_word}
 use Rattle.ele_printer.specs.Printed.{bytes_word}
 use Rattle.ele_policy.specs.PolicyText.{floor_word, policy_word}
 use Rattle.ele_path.specs.PathText.{path_word}
-use Rattle.ele_script.specs.Value.{Number, Tagged, Source, Policy}
+use Rattle.ele_script.specs.Value.{Number, Handle, Version, End, Tagged, Source, Policy}
 use Rattle.ele_script.proofs.PolicyBack.{spelled_pairs}
 use Rattle.ele_script.proofs.PlainWords.{all_so, is_inner, is_word, joined_all, name_plain, number_inner, number_is, path_inner, path_some, tagged_is, word_is}
 
@@ -67,7 +67,10 @@ policy_is (policy.Landmarks rungs) is =
 
 value_is : (value : Value) → IsValue value → is_word (value_word value) ≡ true
 value_is (Number n) is = number_is n is
+value_is (Handle n) is = number_is n is
+value_is (Version n) is = number_is n is
 value_is (Moment m) is = number_is m (omega (arith, is))
+value_is (End m) is = number_is m (omega (arith, is))
 value_is (Name name) is = word_is name is.some (name_plain name is)
 value_is (Path names) is = word_is (path_word names) (path_some names) (path_inner names is)
 value_is (Tagged tagged) is = tagged_is tagged.path tagged.tag is.0 is.1

@@ -1,12 +1,12 @@
 -- Words and what they stand for: each one value of a kind.
 use Rattle.ele_script.proofs.Basics.{nat_tests, arith, ◌≡◌, ℕ, List, refl, sym, ap, subst, ◌∙◌, Ok, Err, Result, codes, IfErr, ok_or, decode_of, option_map, same_Some}
-use Rattle.ele_script.proofs.Prelude.{SpellsMoment, OneMeaning, LineFault, BadMoment, WordKind, NumberWord, MomentWord, NameWord, PathWord, TaggedWord, TimedWord, SourceWord, BytesWord}
+use Rattle.ele_script.proofs.Prelude.{SpellsMoment, OneMeaning, LineFault, BadMoment, WordKind, NumberWord, HandleWord, VersionWord, MomentWord, EndWord, NameWord, PathWord, TaggedWord, TimedWord, SourceWord, BytesWord}
 use Rattle.ele_script.proofs.Prelude.{PolicyWord, Value, Moment, Name, Path, Timed, Bytes, word_kind, SpellsBytes, SpellsValue, fault_of_path, fault_of_path_at, IsOfKind, IsWordFault}
 use Rattle.std.specs.Result.{result_ok}
 use Rattle.ele_script.proofs.Moments.{one_number, one_moment}
 use Rattle.ele_script.proofs.PathWords.{one_tagged, one_timed, one_source, faultless_tagged, faultless_source, one_tagged_word, one_source_fault}
 use Rattle.ele_script.proofs.Policies.{one_policy}
-use Rattle.ele_script.specs.Value.{Number, Tagged, Source, Policy}
+use Rattle.ele_script.specs.Value.{Number, Handle, Version, End, Tagged, Source, Policy}
 use Rattle.std.proofs.lemmas.Option.{none-some}
 
 absurd_ok : {A E : Type 0} {x : A} {e : E} → ◌≡◌ {A = Result A E} (Err e) (Ok x) → ⊥
@@ -23,7 +23,10 @@ module _ (law : OneMeaning) where
   -- a word stands for one value of a kind
   pub one_value : (word : List ℕ) (a b : Value) → word_kind a ≡ word_kind b → SpellsValue word a → SpellsValue word b → a ≡ b
   one_value word (Number m) (Number n) k a b = ap Number (one_number word m n a b)
+  one_value word (Handle m) (Handle n) k a b = ap Handle (one_number word m n a b)
+  one_value word (Version m) (Version n) k a b = ap Version (one_number word m n a b)
   one_value word (Moment m) (Moment n) k a b = ap Moment (one_moment word m n a b)
+  one_value word (End m) (End n) k a b = ap End (one_moment word m n a b)
   one_value word (Name m) (Name n) k a b = ap Name (a.0 ∙ sym b.0)
   one_value word (Path m) (Path n) k a b = ap Path (law.one_path word m n a b)
   one_value word (Tagged x) (Tagged y) k a b = ap Tagged (one_tagged law word x y a b)
@@ -35,6 +38,9 @@ module _ (law : OneMeaning) where
 
   -- a word that stands for a value of its kind has no fault
   pub faultless_word : (kind : WordKind) (word : List ℕ) (fault : LineFault) → IsOfKind kind word → IsWordFault kind word fault → ⊥
+  faultless_word HandleWord word fault (Handle n, k, is) bad = bad.1 (Number n, refl, is)
+  faultless_word VersionWord word fault (Version n, k, is) bad = bad.1 (Number n, refl, is)
+  faultless_word EndWord word fault (End m, k, is) bad = bad.1 (Moment m, refl, is)
   faultless_word PathWord word fault (Path names, k, is) bad = none-some _ (ap (λ o. option_map fault_of_path o) (sym (law.faultless_path word names is)) ∙ bad)
   faultless_word TaggedWord word fault (Tagged value, k, is) bad = faultless_tagged law word value fault is bad
   faultless_word TimedWord word fault (Timed value, k, is) bad = law.faultless_at word value bad.0 is bad.1
@@ -45,7 +51,10 @@ module _ (law : OneMeaning) where
   -- a word has one fault of its kind
   pub one_word_fault : (kind : WordKind) (word : List ℕ) (a b : LineFault) → IsWordFault kind word a → IsWordFault kind word b → a ≡ b
   one_word_fault NumberWord word a b x y = x.0 ∙ sym y.0
+  one_word_fault HandleWord word a b x y = x.0 ∙ sym y.0
+  one_word_fault VersionWord word a b x y = x.0 ∙ sym y.0
   one_word_fault MomentWord word a b x y = x.0 ∙ sym y.0
+  one_word_fault EndWord word a b x y = x.0 ∙ sym y.0
   one_word_fault NameWord word a b x y = x.0 ∙ sym y.0
   one_word_fault PathWord word a b x y = same_Some _ _ (sym x ∙ y)
   one_word_fault TaggedWord word a b x y = one_tagged_word law word a b x y

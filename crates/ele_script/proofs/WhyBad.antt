@@ -1,10 +1,10 @@
 -- Why words are no command, and what was found of their first ones.
 use Rattle.ele_script.proofs.Basics.{◌≡◌, ◌≢◌, ℕ, ◌+◌, ◌<◌, ◌≤◌, ◌==◌, Bool, true, List, [], ◌∷◌, ◌++◌, zero, suc, length, take, drop, refl, true≢false, sym, ap, ◌∙◌, arith, inl, inr, append_assoc, length-append, take-append-drop, subst, map, length-map, Option, Some, None, Result, Ok, Err, IfOk}
-use Rattle.ele_script.proofs.Prelude.{OneMeaning, Command, LineFault, WordKind, command_words, kinds_behind, kinds_if, longest_line, words_of, is_worded}
+use Rattle.ele_script.proofs.Prelude.{OneMeaning, Command, LineFault, WordKind, command_words, kinds_behind, kinds_if, kinds_of, longest_line, words_of, is_worded}
 use Rattle.ele_script.proofs.Prelude.{IsFirstWordFault, FitsCommand, IsFaultOfWords, IsFirstFault, too_long, not_worded, of_words, no_command, of_word}
 use Rattle.ele_script.specs.CommandOf.{command_of}
 use Rattle.ele_script.specs.Memory.{any_takes}
-use Rattle.ele_script.specs.Reason.{IsFirstBadWord, IsReasonOfWords, fault_of, unknown_number}
+use Rattle.ele_script.specs.Reason.{IsFirstBadWord, IsReasonOfWords, IsUnknown, fault_of}
 use Rattle.ele_script.specs.Reason as why
 use Rattle.ele_script.specs.ReasonFound.{AreOfKinds, IsCommand, TakesBehind}
 use Rattle.ele_script.specs.declared.reasons.Reason.{Reason}
@@ -23,7 +23,7 @@ first_fault before kinds words reason bad = absurd bad
 
 -- the reason of words is that of their fault
 pub words_fault : (words : List (List ℕ)) (reason : Reason) → IsReasonOfWords words reason → IsFaultOfWords words (fault_of reason)
-words_fault words reason (why.no_command none is) = no_command (λ c xs fits. none c xs fits.are) (rw is refl)
+words_fault words reason (why.no_command number none unknown is) = no_command (λ c xs fits. none c xs fits.are) (rw is refl)
 words_fault words reason (why.miscounted command arguments are count is) =
     no_command (λ c xs fits. let same = one_fit words c command xs arguments fits.are are in count (rw (sym same.0, sym same.1) fits.count)) (rw is refl)
 words_fault words reason (why.of_word command arguments fits bad) =
@@ -44,14 +44,14 @@ take_short (suc n) (x ∷ xs) lt = ap (λ ys. x ∷ ys) (take_short n xs (omega 
 -- where the first of the words fit a command they are all
 pub all_fit : (words : List (List ℕ)) (command : Command) (arguments : List (List ℕ)) → FitsCommand (take 5 words) command arguments → take 5 words ≡ words
 all_fit words command arguments fits =
-    take_short 5 words (omega (arith, ap length fits.are, length-append (command_words command) arguments, fits.count, few_words command (length arguments == 3)))
+    take_short 5 words (omega (arith, ap length fits.are, length-append (command_words command) arguments, fits.count, few_words command (length arguments == length (kinds_of command))))
 
 take_front : (command : Command) (arguments : List (List ℕ)) → (rest : List (List ℕ)) × (take 5 (command_words command ++ arguments) ≡ command_words command ++ rest)
 take_front command arguments = (take (5 - length (command_words command)) arguments, grind arith)
 
-unknown_first : (words : List (List ℕ)) → unknown_number (take 5 words) ≡ unknown_number words
-unknown_first [] = refl
-unknown_first (word ∷ words) = refl
+unknown_first : (words : List (List ℕ)) (number : ℕ) → IsUnknown (take 5 words) number → IsUnknown words number
+unknown_first [] number is = is
+unknown_first (word ∷ words) number is = is
 
 few_name : (command : Command) → length (command_words command) ≤ 2
 few_name command = grind arith
@@ -69,12 +69,12 @@ miscounted_all words command arguments are count same = by_rest (drop 5 words) r
   by_rest [] none = count (rw (none, append-nil arguments) at same)
   by_rest (word ∷ rest) more =
       let many = taken_all 5 words word rest more in
-      omega (arith, same, many, ap length are, length-append (command_words command) arguments, length-append arguments (drop 5 words), ap length more, few_name command, few_kinds command (length (arguments ++ drop 5 words) == 3))
+      omega (arith, same, many, ap length are, length-append (command_words command) arguments, length-append arguments (drop 5 words), ap length more, few_name command, few_kinds command (length (arguments ++ drop 5 words) == length (kinds_of command)))
 
 -- the reason of the first words is that of all
 pub all_reason : (words : List (List ℕ)) (reason : Reason) → IsReasonOfWords (take 5 words) reason → IsReasonOfWords words reason
-all_reason words reason (why.no_command none is) =
-    why.no_command (λ c xs are. let front = take_front c xs in none c front.0 (ap (λ (ws : List (List ℕ)). take 5 ws) are ∙ front.1)) (is ∙ ap NoCommand (unknown_first words))
+all_reason words reason (why.no_command number none unknown is) =
+    why.no_command number (λ c xs are. let front = take_front c xs in none c front.0 (ap (λ (ws : List (List ℕ)). take 5 ws) are ∙ front.1)) (unknown_first words number unknown) is
 all_reason words reason (why.miscounted command arguments are count is) =
     let parts : words ≡ command_words command ++ (arguments ++ drop 5 words) =
     sym (take-append-drop 5 words) ∙ ap (λ (ws : List (List ℕ)). ws ++ drop 5 words) are ∙ append_assoc (command_words command) arguments (drop 5 words) in
@@ -104,11 +104,11 @@ faultless_line law line first short worded is command fault (of_words also whole
     command_faultless law (words_of line) fault (subst IsCommand (all_fit (words_of line) found.command found.arguments found.fits) found) bad
 
 -- words in front of which no command is found are none
-pub unknown_reason : (words : List (List ℕ)) (number : ℕ) → command_of words ≡ None → number ≡ unknown_number words → IsReasonOfWords words (NoCommand number)
-unknown_reason words number none is = why.no_command (λ c xs are. absurd (let found = ap command_of are ∙ command_of-words c xs in grind (arith, none, found))) (ap NoCommand is)
+pub unknown_reason : (words : List (List ℕ)) (number : ℕ) → command_of words ≡ None → IsUnknown words number → IsReasonOfWords words (NoCommand number)
+unknown_reason words number none unknown = why.no_command number (λ c xs are. absurd (let found = ap command_of are ∙ command_of-words c xs in grind (arith, none, found))) unknown refl
 
 -- the kinds behind a command, by how many words stand there
-pub kinds_are : {A : Type 0} (command : Command) (bytes : A → List ℕ) (behind : List A) (kinds : List WordKind) → kinds ≡ kinds_if command (length behind == 3) → kinds ≡ kinds_behind command (map bytes behind)
+pub kinds_are : {A : Type 0} (command : Command) (bytes : A → List ℕ) (behind : List A) (kinds : List WordKind) → kinds ≡ kinds_if command (length behind == length (kinds_of command)) → kinds ≡ kinds_behind command (map bytes behind)
 kinds_are command bytes behind kinds is = rw (length-map behind bytes) is
 
 -- other words than it takes stand behind a command

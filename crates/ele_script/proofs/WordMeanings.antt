@@ -1,14 +1,14 @@
 -- The words behind a command: what they stand for, or the first fault of them.
 use Rattle.ele_script.proofs.Basics.{◌≡◌, ℕ, List, [], ◌∷◌, length, codes, refl, arith, ◌⊎◌, inl, inr, Result, Ok, Err, decode_of, option_map, ap, dec_lt}
-use Rattle.ele_script.proofs.Prelude.{LineFault, BadMoment, Syntax, WordKind, NumberWord, MomentWord, NameWord, PathWord, TaggedWord, TimedWord, SourceWord, BytesWord, PolicyWord, Value, Moment, Name, Path, Timed, Bytes, SpellsNumber, SpellsBytes}
+use Rattle.ele_script.proofs.Prelude.{LineFault, BadMoment, Syntax, WordKind, NumberWord, HandleWord, VersionWord, MomentWord, EndWord, NameWord, PathWord, TaggedWord, TimedWord, SourceWord, BytesWord, PolicyWord, Value, Moment, Name, Path, Timed, Bytes, SpellsNumber, SpellsBytes}
 use Rattle.ele_script.proofs.Prelude.{fault_of_path, SpellsValues, IsOfKind, IsWordFault, IsFirstWordFault}
 use Rattle.ele_printer.specs.declared.fault.LineFault.TheVariants.{BadName}
 use Rattle.ele_moment.specs.Name.{IsName}
 use Rattle.ele_path.specs.FirstFault.{is_name}
 use Rattle.ele_path.proofs.Names.{is_name-decides}
-use Rattle.ele_script.specs.Value.{Number, Tagged, Source, Policy}
+use Rattle.ele_script.specs.Value.{Number, Handle, Version, End, Tagged, Source, Policy}
 use Rattle.ele_script.proofs.Decided.{dec_same, told}
-use Rattle.ele_script.proofs.Laws.{kinds_of}
+use Rattle.ele_script.proofs.Laws.{value_kinds}
 use Rattle.ele_script.proofs.Moments.{dec_moment, dec_number}
 use Rattle.ele_script.proofs.PathMeanings.{path_meaning, tagged_meaning, timed_meaning, source_meaning}
 use Rattle.ele_script.proofs.PolicyMeanings.{policy_meaning}
@@ -48,7 +48,10 @@ WordMeaning kind word = IsOfKind kind word ⊎ ((fault : LineFault) × IsWordFau
 
 word_meaning : (kind : WordKind) (word : List ℕ) → WordMeaning kind word
 word_meaning NumberWord word = elim (dec_number word) [ yes n ↦ inl (Number n.0, refl, n.1) | no none ↦ inr (Syntax, (refl, λ is. none (number_of word is))) ]
+word_meaning HandleWord word = elim (dec_number word) [ yes n ↦ inl (Handle n.0, refl, n.1) | no none ↦ inr (Syntax, (refl, λ is. none (number_of word is))) ]
+word_meaning VersionWord word = elim (dec_number word) [ yes n ↦ inl (Version n.0, refl, n.1) | no none ↦ inr (Syntax, (refl, λ is. none (number_of word is))) ]
 word_meaning MomentWord word = elim (dec_moment word) [ yes m ↦ inl (Moment m.0, refl, m.1) | no none ↦ inr (BadMoment, (refl, λ is. none (moment_of word is))) ]
+word_meaning EndWord word = elim (dec_moment word) [ yes m ↦ inl (End m.0, refl, m.1) | no none ↦ inr (BadMoment, (refl, λ is. none (moment_of word is))) ]
 word_meaning NameWord word = elim (told (is_name word) (is_name-decides word)) [ yes is ↦ inl (Name word, refl, (refl, is)) | no none ↦ inr (BadName, (refl, λ is. none (name_of word is))) ]
 word_meaning PathWord word = elim (path_meaning word) [ inl names ↦ inl (Path names.0, refl, names.1) | inr bad ↦ inr (fault_of_path bad.0, ap (option_map fault_of_path) bad.1) ]
 word_meaning TaggedWord word = elim (tagged_meaning word) [ inl value ↦ inl (Tagged value.0, refl, value.1) | inr bad ↦ inr bad ]
@@ -58,7 +61,7 @@ word_meaning BytesWord word = elim (dec_bytes word) [ yes bytes ↦ inl (Bytes b
 word_meaning PolicyWord word = elim (policy_meaning word) [ inl policy ↦ inl (Policy policy.0, refl, policy.1) | inr bad ↦ inr bad ]
 
 abbrev pub WordsMeaning : List WordKind → List (List ℕ) → Type 0
-WordsMeaning kinds words = ((values : List Value) × (kinds_of values ≡ kinds) × SpellsValues words values) ⊎ ((fault : LineFault) × IsFirstWordFault kinds words fault)
+WordsMeaning kinds words = ((values : List Value) × (value_kinds values ≡ kinds) × SpellsValues words values) ⊎ ((fault : LineFault) × IsFirstWordFault kinds words fault)
 
 word_more : (kind : WordKind) (kinds : List WordKind) (word : List ℕ) (words : List (List ℕ)) → WordMeaning kind word → WordsMeaning kinds words → WordsMeaning (kind ∷ kinds) (word ∷ words)
 word_more kind kinds word words (inr bad) more = inr (bad.0, inl bad.1)

@@ -1,9 +1,11 @@
 -- The command that words begin with, looked for in a table. No public clause cites this module.
 use Rattle.std.specs.Prelude.{◌≡◌, ℕ, List, [], ◌∷◌, Option, Some, None, map, if◌then◌else◌}
+use Rattle.std.specs.Borrow.{Bor}
 use Rattle.std.specs.Str.{bytes_eq}
 use Rattle.ele_printer.specs.declared.command.Command.{Command}
-use Rattle.ele_printer.specs.declared.command.Command.TheVariants.{Clock, Tick, MakeDir, RemoveDir, Create, Link, Unlink, Rename, Undelete, OpenWrite, OpenRead, Write, Truncate, Close, Revert, SetPolicy, Default, GroupMake, GroupDrop, GroupAdd, GroupRemove, Mark, Unmark, Clean, Read, Stat, Versions, ListNames, Restorable, Due, Usage, Groups, Pass, History, Trim}
-use Rattle.ele_printer.specs.Command.{command_words}
+use Rattle.ele_printer.specs.declared.command.TheConstants.{ROWS}
+use Rattle.ele_printer.specs.declared.kind.WordKind.{WordKind}
+use Rattle.ele_printer.specs.Command.{command_words, name_of}
 
 -- what stands behind a name
 abbrev pub behind : List (List ℕ) → List (List ℕ) → Option (List (List ℕ))
@@ -20,10 +22,9 @@ abbrev pub find_command : List (List (List ℕ) × Command) → List (List ℕ) 
 find_command [] words = None
 find_command (named ∷ table) words = or_next named.1 (behind named.0 words) (find_command table words)
 
+-- all commands
 abbrev pub commands : List Command
-commands =
-    Close ∷ Clock ∷ Clean ∷ Create ∷ Due ∷ Default ∷ GroupMake ∷ GroupDrop ∷ GroupAdd ∷ GroupRemove ∷ Groups ∷ History ∷ Link ∷ ListNames ∷ Mark ∷ MakeDir ∷ OpenWrite ∷ OpenRead ∷ Pass ∷ SetPolicy
-    ∷ Read ∷ Rename ∷ Revert ∷ RemoveDir ∷ Restorable ∷ Stat ∷ Tick ∷ Truncate ∷ Trim ∷ Unlink ∷ Undelete ∷ Unmark ∷ Usage ∷ Versions ∷ Write ∷ []
+commands = map (λ row. row.0) ROWS
 
 -- a command with its name
 abbrev pub named : Command → List (List ℕ) × Command
@@ -33,12 +34,16 @@ named command = (command_words command, command)
 unfoldable pub command_of : List (List ℕ) → Option (Command × List (List ℕ))
 command_of words = find_command (map named commands) words
 
+-- a row's command with its name
+abbrev pub entry : Command × Bor (List ℕ) × Bor (List ℕ) × Bor (List WordKind) → List (List ℕ) × Command
+entry row = (name_of row.1.now row.2.now, row.0)
+
 -- the first letter of the words, if the first of them has one
 abbrev pub first_letter : List (List ℕ) → Option ℕ
 first_letter ((letter ∷ word) ∷ words) = Some letter
 first_letter words = None
 
--- of words that begin with the letter, these rows find the command
-abbrev pub FindsAll : ℕ → List Command → Type 0
-FindsAll letter rows =
-    (word : List ℕ) (words : List (List ℕ)) → find_command (map named rows) ((letter ∷ word) ∷ words) ≡ command_of ((letter ∷ word) ∷ words)
+-- of words that begin with the letter, this table finds the command
+abbrev pub FindsAll : ℕ → List (List (List ℕ) × Command) → Type 0
+FindsAll letter table =
+    (word : List ℕ) (words : List (List ℕ)) → find_command table ((letter ∷ word) ∷ words) ≡ command_of ((letter ∷ word) ∷ words)

@@ -6,7 +6,7 @@ use Rattle.ele_printer.specs.declared.command.Command.{Command}
 use Rattle.ele_printer.specs.declared.fault.LineFault.{LineFault}
 use Rattle.ele_printer.specs.declared.fault.LineFault.TheVariants.{BadName, BadMoment, Syntax, LineTooLong}
 use Rattle.ele_printer.specs.LineFault.{fault_of_path}
-use Rattle.ele_script.specs.Value.{WordKind, NumberWord, MomentWord, NameWord, PathWord, TaggedWord, TimedWord, SourceWord, BytesWord, PolicyWord, Value, word_kind, SpellsValue}
+use Rattle.ele_script.specs.Value.{WordKind, NumberWord, HandleWord, VersionWord, MomentWord, EndWord, NameWord, PathWord, TaggedWord, TimedWord, SourceWord, BytesWord, PolicyWord, Value, word_kind, SpellsValue}
 use Rattle.ele_script.specs.PolicyWord.{ReadsPolicy}
 use Rattle.ele_script.specs.PathWord.{IsTaggedWordFault, IsTimedWordFault, IsSourceFault}
 use Rattle.ele_printer.specs.Command.{command_words}
@@ -21,10 +21,13 @@ use Rattle.ele_model.specs.declared.event.Event.{Event}
 abbrev pub IsOfKind : WordKind → List ℕ → Type 0
 IsOfKind kind word = (value : Value) × (word_kind value ≡ kind) × SpellsValue word value
 
--- the fault of a word that stands for no value of its kind
+-- the fault of a word that stands for no value of its kind; a handle and a version are numbers, and an end is a moment
 abbrev pub IsWordFault : WordKind → List ℕ → LineFault → Type 0
 IsWordFault NumberWord word fault = (fault ≡ Syntax) × ¬ IsOfKind NumberWord word
+IsWordFault HandleWord word fault = (fault ≡ Syntax) × ¬ IsOfKind NumberWord word
+IsWordFault VersionWord word fault = (fault ≡ Syntax) × ¬ IsOfKind NumberWord word
 IsWordFault MomentWord word fault = (fault ≡ BadMoment) × ¬ IsOfKind MomentWord word
+IsWordFault EndWord word fault = (fault ≡ BadMoment) × ¬ IsOfKind MomentWord word
 IsWordFault NameWord word fault = (fault ≡ BadName) × ¬ IsOfKind NameWord word
 IsWordFault PathWord word fault = option_map fault_of_path (path_fault word) ≡ Some fault
 IsWordFault TaggedWord word fault = IsTaggedWordFault word fault

@@ -3,7 +3,7 @@ use Rattle.std.specs.Prelude.{◌≡◌, ℕ, List, ◌∷◌, ◌++◌, ◌||�
 use Rattle.std.specs.List.{list_any}
 use Rattle.ele_printer.specs.declared.command.Command.{Command}
 use Rattle.ele_printer.specs.declared.command.Command.TheVariants.{Read}
-use Rattle.ele_script.specs.Value.{WordKind, NumberWord, MomentWord, NameWord, PathWord, TaggedWord, TimedWord, SourceWord, BytesWord, PolicyWord}
+use Rattle.ele_script.specs.Value.{WordKind, NumberWord, HandleWord, VersionWord, MomentWord, EndWord, NameWord, PathWord, TaggedWord, TimedWord, SourceWord, BytesWord, PolicyWord}
 use Rattle.ele_script.specs.PathWord.{begins_path}
 use Rattle.ele_printer.specs.Command.{command_words}
 use Rattle.ele_script.specs.Command.{kinds_behind}
@@ -12,7 +12,10 @@ use Rattle.ele_script.specs.Command.{kinds_behind}
 -- path; a source may be a path
 abbrev pub takes_memory : WordKind → Bool
 takes_memory NumberWord = false
+takes_memory HandleWord = false
+takes_memory VersionWord = false
 takes_memory MomentWord = false
+takes_memory EndWord = false
 takes_memory NameWord = true
 takes_memory PathWord = true
 takes_memory TaggedWord = true

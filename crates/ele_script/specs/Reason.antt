@@ -1,16 +1,14 @@
 -- Why a line is no command, and which word of it is at fault.
 use Rattle.std.specs.Prelude.{◌≡◌, ◌≢◌, ℕ, ◌+◌, ◌<◌, ◌≤◌, ◌==◌, ◌&&◌, nat_le, not, Bool, false, List, [], ◌∷◌, ◌++◌, length, true, Some, ◌⊎◌, if◌then◌else◌}
-use Rattle.std.specs.List.{find, list_all, list_any}
-use Rattle.std.specs.Str.{bytes_eq}
+use Rattle.std.specs.List.{find, list_all}
 use Rattle.ele_printer.specs.Command.{command_words}
 use Rattle.ele_printer.specs.declared.command.Command.{Command}
 use Rattle.ele_printer.specs.declared.fault.LineFault.{LineFault}
 use Rattle.ele_printer.specs.declared.fault.LineFault.TheVariants.{Syntax, LineTooLong}
 use Rattle.ele_script.specs.Command.{kinds_behind}
-use Rattle.ele_script.specs.CommandOf.{commands}
 use Rattle.ele_script.specs.FirstFault.{FitsCommand, IsOfKind, IsWordFault}
 use Rattle.ele_script.specs.PathWord.{begins_path}
-use Rattle.ele_script.specs.Value.{WordKind, NumberWord, MomentWord, NameWord, PathWord, TaggedWord, TimedWord, SourceWord, BytesWord, PolicyWord}
+use Rattle.ele_script.specs.Value.{WordKind, NumberWord, HandleWord, VersionWord, MomentWord, EndWord, NameWord, PathWord, TaggedWord, TimedWord, SourceWord, BytesWord, PolicyWord}
 use Rattle.ele_script.specs.Words.{ends_word, is_worded, longest_line, words_of}
 use Rattle.ele_script.specs.declared.reasons.Detail.{Detail}
 use Rattle.ele_script.specs.declared.reasons.Detail.TheVariants.{LeadingZero, TooLarge, NoSlash, Other}
@@ -43,7 +41,10 @@ path_detail word = if begins_path word then Other else NoSlash
 -- what can be told of a word that isn't of its kind
 abbrev pub detail_of : WordKind → List ℕ → Detail
 detail_of NumberWord word = digits_detail word
+detail_of HandleWord word = digits_detail word
+detail_of VersionWord word = digits_detail word
 detail_of MomentWord word = digits_detail word
+detail_of EndWord word = digits_detail word
 detail_of NameWord word = Other
 detail_of PathWord word = path_detail word
 detail_of TaggedWord word = path_detail word
@@ -73,16 +74,15 @@ pub record HasUnfit (words : List (List ℕ)) (reason : Reason) : Type 0 where
   pub unfit : IsUnfit (length front) word reason
 
 -- the word begins the name of a command
-abbrev pub begins_command : List ℕ → Command → Bool
-begins_command word command = begins (command_words command) where
-  begins : List (List ℕ) → Bool
-  begins [] = false
-  begins (first ∷ names) = bytes_eq word first
+pub record BeginsCommand (word : List ℕ) : Type 0 where
+  pub command : Command
+  pub rest : List (List ℕ)
+  pub are : command_words command ≡ word ∷ rest
 
 -- the number of the word that makes the words no command: the second where the first begins the name of one
-abbrev pub unknown_number : List (List ℕ) → ℕ
-unknown_number [] = 1
-unknown_number (word ∷ words) = if list_any (begins_command word) commands then 2 else 1
+abbrev pub IsUnknown : List (List ℕ) → ℕ → Type 0
+IsUnknown [] number = number ≡ 1
+IsUnknown (word ∷ words) number = (BeginsCommand word × (number ≡ 2)) ⊎ ((¬ BeginsCommand word) × (number ≡ 1))
 
 -- the reason of a word that isn't of its kind, with its number
 abbrev pub IsWordReason : ℕ → WordKind → List ℕ → Reason → Type 0
@@ -97,7 +97,7 @@ IsFirstBadWord before kinds words reason = ⊥
 
 -- the reason of plain words: they begin with no command, other words than it takes stand behind it, or the first bad word
 pub data IsReasonOfWords (words : List (List ℕ)) (reason : Reason) : Type 0 where
-  no_command : ((command : Command) (arguments : List (List ℕ)) → words ≢ command_words command ++ arguments) → reason ≡ NoCommand (unknown_number words) → IsReasonOfWords words reason
+  no_command : (number : ℕ) → ((command : Command) (arguments : List (List ℕ)) → words ≢ command_words command ++ arguments) → IsUnknown words number → reason ≡ NoCommand number → IsReasonOfWords words reason
   miscounted : (command : Command) (arguments : List (List ℕ)) → words ≡ command_words command ++ arguments → length arguments ≢ length (kinds_behind command arguments) → reason ≡ Words command
       → IsReasonOfWords words reason
   of_word : (command : Command) (arguments : List (List ℕ)) → FitsCommand words command arguments → IsFirstBadWord (length (command_words command)) (kinds_behind command arguments) arguments reason

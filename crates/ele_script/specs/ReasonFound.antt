@@ -1,5 +1,8 @@
 -- Words that have no reason, and which of the first ones are read with memory. No public clause cites this module.
-use Rattle.std.specs.Prelude.{◌≡◌, ℕ, true, List, ◌∷◌}
+use Rattle.std.specs.Prelude.{◌≡◌, ℕ, Bool, true, false, List, [], ◌∷◌}
+use Rattle.std.specs.Borrow.{Bor}
+use Rattle.std.specs.List.{list_any}
+use Rattle.std.specs.Str.{bytes_eq}
 use Rattle.ele_printer.specs.declared.command.Command.{Command}
 use Rattle.ele_script.specs.Command.{kinds_behind}
 use Rattle.ele_script.specs.FirstFault.{FitsCommand, IsOfKind}
@@ -24,3 +27,8 @@ pub record TakesBehind (words : List (List ℕ)) : Type 0 where
   pub arguments : List (List ℕ)
   pub fits : FitsCommand words command arguments
   pub takes : any_takes (kinds_behind command arguments) arguments ≡ true
+
+-- the first of the words begins the name in a row
+abbrev pub begin_row : List (List ℕ) → List (Command × Bor (List ℕ) × Bor (List ℕ) × Bor (List WordKind)) → Bool
+begin_row [] rows = false
+begin_row (word ∷ words) rows = list_any (λ row. bytes_eq word row.1.now) rows

@@ -1,56 +1,47 @@
 -- How the reason is told why a line is no command.
-use Rattle.std.specs.Prelude.{ℕ, ◌==◌, List, ◌++◌, codes, decimal, if◌then◌else◌}
-use Rattle.ele_printer.specs.declared.command.Command.{Command}
-use Rattle.ele_printer.specs.declared.command.Command.TheVariants.{Clock, Tick, MakeDir, RemoveDir, Create, Link, Unlink, Rename, Undelete, OpenWrite, OpenRead, Write, Truncate, Close, Revert, SetPolicy, Default, GroupMake, GroupDrop, GroupAdd, GroupRemove, Mark, Unmark, Clean, Read, Stat, Versions, ListNames, Restorable, Due, Usage, Groups, Pass, History, Trim}
+use Rattle.std.specs.Prelude.{ℕ, ◌==◌, Bool, true, false, List, [], ◌∷◌, ◌++◌, codes, decimal, if◌then◌else◌}
+use Rattle.ele_printer.specs.Command.{kinds_of}
 use Rattle.ele_printer.specs.declared.fault.LineFault.{LineFault}
 use Rattle.ele_printer.specs.declared.fault.LineFault.TheVariants.{BadName, BadPath, BadMoment, BadLadder}
-use Rattle.ele_script.specs.Value.{WordKind, NumberWord, MomentWord, NameWord, TimedWord, SourceWord, BytesWord, PolicyWord}
+use Rattle.ele_script.specs.Value.{WordKind, NumberWord, HandleWord, VersionWord, MomentWord, EndWord, NameWord, PathWord, TaggedWord, TimedWord, SourceWord, BytesWord, PolicyWord}
 use Rattle.ele_script.specs.declared.reasons.Detail.{Detail}
 use Rattle.ele_script.specs.declared.reasons.Detail.TheVariants.{LeadingZero, TooLarge, NoSlash, Other}
 use Rattle.ele_script.specs.declared.reasons.Reason.{Reason}
 use Rattle.ele_script.specs.declared.reasons.Reason.TheVariants.{TooLong, Cut, Empty, Byte, NoCommand, Words, Word}
 
--- what a command takes behind its name
-abbrev pub takes_text : Command → List ℕ
-takes_text Clock = codes "the command takes a moment"
-takes_text Tick = codes "the command takes a number"
-takes_text Pass = codes "the command takes a number"
-takes_text Close = codes "the command takes a handle"
-takes_text MakeDir = codes "the command takes a path"
-takes_text RemoveDir = codes "the command takes a path"
-takes_text Create = codes "the command takes a path"
-takes_text Unlink = codes "the command takes a path"
-takes_text Undelete = codes "the command takes a path"
-takes_text OpenWrite = codes "the command takes a path"
-takes_text Link = codes "the command takes two paths"
-takes_text Rename = codes "the command takes two paths"
-takes_text OpenRead = codes "the command takes a path with a tag"
-takes_text Stat = codes "the command takes a path with a tag"
-takes_text Write = codes "the command takes a handle, a number and bytes"
-takes_text Truncate = codes "the command takes a handle and a number"
-takes_text Revert = codes "the command takes a path and a version"
-takes_text SetPolicy = codes "the command takes a path and a policy"
-takes_text Default = codes "the command takes a path and a policy"
-takes_text GroupMake = codes "the command takes a group"
-takes_text GroupDrop = codes "the command takes a group"
-takes_text GroupAdd = codes "the command takes a group and a path"
-takes_text GroupRemove = codes "the command takes a group and a path"
-takes_text Mark = codes "the command takes a group and one moment or two"
-takes_text Unmark = codes "the command takes a group and a moment"
-takes_text Read = codes "the command takes a path with a tag, or a handle"
-takes_text Versions = codes "the command takes a path at a moment"
-takes_text ListNames = codes "the command takes a path at a moment"
-takes_text Clean = codes "the command takes no words"
-takes_text Restorable = codes "the command takes no words"
-takes_text Due = codes "the command takes no words"
-takes_text Usage = codes "the command takes no words"
-takes_text Groups = codes "the command takes no words"
-takes_text History = codes "the command takes no words"
-takes_text Trim = codes "the command takes no words"
+-- what a word of the kind is called
+abbrev pub kind_text : WordKind → List ℕ
+kind_text NumberWord = codes "a number"
+kind_text HandleWord = codes "a handle"
+kind_text VersionWord = codes "a version"
+kind_text MomentWord = codes "a moment"
+kind_text EndWord = codes "an end"
+kind_text NameWord = codes "a group"
+kind_text PathWord = codes "a path"
+kind_text TaggedWord = codes "a path with a tag"
+kind_text TimedWord = codes "a path at a moment"
+kind_text SourceWord = codes "a path with a tag, or a handle"
+kind_text BytesWord = codes "bytes"
+kind_text PolicyWord = codes "a policy"
+
+-- the kinds behind the first one
+abbrev pub behind_text : List WordKind → List ℕ
+behind_text [] = []
+behind_text (MomentWord ∷ EndWord ∷ []) = codes " and one moment or two"
+behind_text (last ∷ []) = codes " and " ++ kind_text last
+behind_text (kind ∷ kinds) = codes ", " ++ kind_text kind ++ behind_text kinds
+
+-- what a command takes behind its name, by the kinds of its words
+abbrev pub takes_text : List WordKind → List ℕ
+takes_text [] = codes "no words"
+takes_text (PathWord ∷ PathWord ∷ []) = codes "two paths"
+takes_text (kind ∷ kinds) = kind_text kind ++ behind_text kinds
 
 -- what is wrong with a word that has no other fault than Syntax
 abbrev pub syntax_text : WordKind → List ℕ
 syntax_text NumberWord = codes "not a number"
+syntax_text HandleWord = codes "not a number"
+syntax_text VersionWord = codes "not a number"
 syntax_text SourceWord = codes "neither a path nor a handle"
 syntax_text TimedWord = codes "only a moment may stand behind the path"
 syntax_text BytesWord = codes "neither - nor an even number of hexadecimal digits"
@@ -66,11 +57,14 @@ other_text kind BadMoment = codes "not a moment"
 other_text kind BadLadder = codes "a policy has no such numbers"
 other_text kind fault = syntax_text kind
 
+abbrev pub is_moment : WordKind → Bool
+is_moment MomentWord = true
+is_moment EndWord = true
+is_moment kind = false
+
 abbrev pub word_text : WordKind → LineFault → Detail → List ℕ
-word_text MomentWord fault LeadingZero = codes "a moment has no leading zero"
-word_text kind fault LeadingZero = codes "a number has no leading zero"
-word_text MomentWord fault TooLarge = codes "a moment is at most 253402300799"
-word_text kind fault TooLarge = codes "a number is at most 18446744073709551615"
+word_text kind fault LeadingZero = if is_moment kind then codes "a moment has no leading zero" else codes "a number has no leading zero"
+word_text kind fault TooLarge = if is_moment kind then codes "a moment is at most 253402300799" else codes "a number is at most 18446744073709551615"
 word_text kind fault NoSlash = codes "a path begins with a slash"
 word_text kind fault Other = other_text kind fault
 
@@ -88,7 +82,7 @@ cause_text Cut = codes "it has no line feed"
 cause_text (Empty number) = codes "one space too many stands here"
 cause_text (Byte number byte) = byte_text byte
 cause_text (NoCommand number) = codes "there is no such command"
-cause_text (Words command) = takes_text command
+cause_text (Words command) = codes "the command takes " ++ takes_text (kinds_of command)
 cause_text (Word number kind fault detail) = word_text kind fault detail
 
 abbrev pub place_text : Reason → List ℕ

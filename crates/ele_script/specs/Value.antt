@@ -7,9 +7,9 @@ use Rattle.ele_moment.specs.Spelled.{SpellsMoment}
 use Rattle.ele_path.specs.Path.{SpellsPath}
 use Rattle.ele_path.specs.Tagged.{SpellsTaggedPath}
 use Rattle.ele_path.specs.PathAt.{SpellsPathAt}
-pub use Rattle.ele_printer.specs.Value.{Value, Number, Moment, Name, Path, Tagged, Timed, Source, Bytes, Policy}
-pub use Rattle.ele_script.specs.declared.kind.WordKind.{WordKind}
-pub use Rattle.ele_script.specs.declared.kind.WordKind.TheVariants.{Number as NumberWord, Moment as MomentWord, Name as NameWord, Path as PathWord, Tagged as TaggedWord, Timed as TimedWord, Source as SourceWord, Bytes as BytesWord, Policy as PolicyWord}
+pub use Rattle.ele_printer.specs.Value.{Value, Number, Handle, Version, Moment, End, Name, Path, Tagged, Timed, Source, Bytes, Policy}
+pub use Rattle.ele_printer.specs.declared.kind.WordKind.{WordKind}
+pub use Rattle.ele_printer.specs.declared.kind.WordKind.TheVariants.{Number as NumberWord, Handle as HandleWord, Version as VersionWord, Moment as MomentWord, End as EndWord, Name as NameWord, Path as PathWord, Tagged as TaggedWord, Timed as TimedWord, Source as SourceWord, Bytes as BytesWord, Policy as PolicyWord}
 use Rattle.ele_model.specs.declared.event.Source.{Source as AnySource}
 use Rattle.ele_model.specs.declared.event.Source.TheVariants as source
 use Rattle.ele_script.specs.PolicyWord.{ReadsPolicy}
@@ -17,7 +17,10 @@ use Rattle.ele_script.specs.PolicyWord.{ReadsPolicy}
 -- the kind of words that stand for such a value
 abbrev pub word_kind : Value → WordKind
 word_kind (Number n) = NumberWord
+word_kind (Handle n) = HandleWord
+word_kind (Version n) = VersionWord
 word_kind (Moment m) = MomentWord
+word_kind (End m) = EndWord
 word_kind (Name name) = NameWord
 word_kind (Path names) = PathWord
 word_kind (Tagged tagged) = TaggedWord
@@ -42,7 +45,10 @@ SpellsSource word (source.Of handle) = SpellsNumber word handle
 -- the word stands for the value
 abbrev pub SpellsValue : List ℕ → Value → Type 0
 SpellsValue word (Number n) = SpellsNumber word n
+SpellsValue word (Handle n) = SpellsNumber word n
+SpellsValue word (Version n) = SpellsNumber word n
 SpellsValue word (Moment m) = SpellsMoment word m
+SpellsValue word (End m) = SpellsMoment word m
 SpellsValue word (Name name) = SpellsName word name
 SpellsValue word (Path names) = SpellsPath word names
 SpellsValue word (Tagged tagged) = SpellsTaggedPath word tagged

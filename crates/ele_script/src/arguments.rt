@@ -1,7 +1,7 @@
 //! The words behind a command, by their number and kinds. A contract sees a word as its bytes, and
 //! what it spells as itself.
 ghost use Rattle.std.specs.Prelude.{◌≡◌, ◌≢◌, ◌∷◌, [], map, length, IfOk, IfErr};
-ghost use Rattle.ele_script.specs.Value.{NumberWord, MomentWord, NameWord, PathWord, TaggedWord, TimedWord, SourceWord, BytesWord, PolicyWord};
+ghost use Rattle.ele_script.specs.Value.{NumberWord, HandleWord, VersionWord, MomentWord, EndWord, NameWord, PathWord, TaggedWord, TimedWord, SourceWord, BytesWord, PolicyWord};
 ghost use Rattle.ele_script.specs.Value as value;
 ghost use Rattle.ele_script.specs.Reads.{Reads};
 
@@ -69,6 +69,14 @@ pub(crate) fn number(words: &[&[u8]]) -> Result<u64, LineFault>
     word::number(one(words)?)
 }
 
+/// A handle.
+pub(crate) fn handle(words: &[&[u8]]) -> Result<u64, LineFault>
+    ensures { Reads (HandleWord ∷ []) (λ handle. value.Handle handle ∷ [])
+        (map (λ word. word.now) words.now) result }
+{
+    word::handle(one(words)?)
+}
+
 /// A moment.
 pub(crate) fn moment(words: &[&[u8]]) -> Result<Moment, LineFault>
     ensures { Reads (MomentWord ∷ []) (λ moment. value.Moment moment ∷ [])
@@ -118,14 +126,14 @@ pub(crate) fn source(alloc: Global, words: &[&[u8]]) -> Result<Source, LineFault
     word::source(alloc, one(words)?)
 }
 
-/// Two numbers.
-pub(crate) fn two_numbers(words: &[&[u8]]) -> Result<(u64, u64), LineFault>
-    ensures { Reads (NumberWord ∷ NumberWord ∷ [])
-        (λ both. value.Number both.0 ∷ value.Number both.1 ∷ [])
+/// A handle and a number.
+pub(crate) fn handle_and_number(words: &[&[u8]]) -> Result<(u64, u64), LineFault>
+    ensures { Reads (HandleWord ∷ NumberWord ∷ [])
+        (λ both. value.Handle both.0 ∷ value.Number both.1 ∷ [])
         (map (λ word. word.now) words.now) result }
 {
     let (first, second) = two(words)?;
-    let first = word::number(first)?;
+    let first = word::handle(first)?;
     Ok((first, word::number(second)?))
 }
 
@@ -140,15 +148,15 @@ pub(crate) fn two_paths(alloc: Global, words: &[&[u8]]) -> Result<(Path, Path), 
     Ok((first, word::path(alloc, second)?))
 }
 
-/// A path and a number.
-pub(crate) fn path_and_number(alloc: Global, words: &[&[u8]]) -> Result<(Path, u64), LineFault>
-    ensures { Reads (PathWord ∷ NumberWord ∷ [])
-        (λ both. value.Path both.0 ∷ value.Number both.1 ∷ [])
+/// A path and a version's number.
+pub(crate) fn path_and_version(alloc: Global, words: &[&[u8]]) -> Result<(Path, u64), LineFault>
+    ensures { Reads (PathWord ∷ VersionWord ∷ [])
+        (λ both. value.Path both.0 ∷ value.Version both.1 ∷ [])
         (map (λ word. word.now) words.now) result }
 {
     let (first, second) = two(words)?;
     let first = word::path(alloc, first)?;
-    Ok((first, word::number(second)?))
+    Ok((first, word::version(second)?))
 }
 
 /// A path and a policy.
@@ -196,33 +204,33 @@ pub(crate) fn name_and_moment(
     Ok((Boxed::new(alloc, first)?, second))
 }
 
-/// A name and two moments.
-pub(crate) fn name_and_two_moments(
+/// A name, a moment and an end.
+pub(crate) fn name_moment_and_end(
     alloc: Global,
     words: &[&[u8]],
 ) -> Result<(Boxed<Name>, Moment, Moment), LineFault>
-    ensures { Reads (NameWord ∷ MomentWord ∷ MomentWord ∷ [])
-        (λ all. value.Name all.0 ∷ value.Moment all.1 ∷ value.Moment all.2 ∷ [])
+    ensures { Reads (NameWord ∷ MomentWord ∷ EndWord ∷ [])
+        (λ all. value.Name all.0 ∷ value.Moment all.1 ∷ value.End all.2 ∷ [])
         (map (λ word. word.now) words.now) result }
 {
     let (first, second, third) = three(words)?;
     let first = word::name(first)?;
     let second = word::moment(second)?;
-    let third = word::moment(third)?;
+    let third = word::end(third)?;
     Ok((Boxed::new(alloc, first)?, second, third))
 }
 
-/// Two numbers and bytes.
-pub(crate) fn two_numbers_and_bytes(
+/// A handle, a number and bytes.
+pub(crate) fn handle_number_and_bytes(
     alloc: Global,
     words: &[&[u8]],
 ) -> Result<(u64, u64, ByteList), LineFault>
-    ensures { Reads (NumberWord ∷ NumberWord ∷ BytesWord ∷ [])
-        (λ all. value.Number all.0 ∷ value.Number all.1 ∷ value.Bytes all.2 ∷ [])
+    ensures { Reads (HandleWord ∷ NumberWord ∷ BytesWord ∷ [])
+        (λ all. value.Handle all.0 ∷ value.Number all.1 ∷ value.Bytes all.2 ∷ [])
         (map (λ word. word.now) words.now) result }
 {
     let (first, second, third) = three(words)?;
-    let first = word::number(first)?;
+    let first = word::handle(first)?;
     let second = word::number(second)?;
     Ok((first, second, word::bytes(alloc, third)?))
 }

@@ -1,23 +1,22 @@
 //! Why words are no command, and a line. A contract sees a line as its bytes, and a reason as itself.
 ghost use Rattle.std.specs.Prelude.{◌≡◌, ◌⊎◌, ◌+◌, ◌<◌, ◌≤◌, ◌^◌, true, map, length, Err, IfOk, IfErr, IfSome, IfNone, OnOk, OnErr};
 ghost use Rattle.std.specs.List.{list_all, list_any};
+ghost use Rattle.std.specs.Str.{bytes_eq};
 ghost use Rattle.ele_script.specs.FirstFault.{IsFirstFault, IsOfKind, IsWordFault};
 ghost use Rattle.ele_script.specs.Memory.{WordTakesMemory, any_takes, word_takes};
 ghost use Rattle.ele_printer.specs.Command.{command_words};
-ghost use Rattle.ele_script.specs.CommandOf.{commands};
-ghost use Rattle.ele_script.specs.Reason.{IsFirstBadWord, IsReason, IsReasonOfWords, IsWordReason, begins_command, digits_detail, detail_of, fault_of, is_digit, path_detail, unknown_number};
-ghost use Rattle.ele_script.specs.ReasonFound.{AreOfKinds, IsCommand, TakesBehind};
+ghost use Rattle.ele_script.specs.Reason.{IsFirstBadWord, IsReason, IsReasonOfWords, IsUnknown, IsWordReason, digits_detail, detail_of, fault_of, is_digit, path_detail};
+ghost use Rattle.ele_script.specs.ReasonFound.{AreOfKinds, IsCommand, TakesBehind, begin_row};
 ghost use Rattle.ele_script.specs.Words.{words_of};
 
-use crate::command::{COMMANDS, read_command};
+use crate::command::{kinds_for, read_command};
 use crate::cut::first_words;
-use crate::kind::{WordKind, kinds};
 use crate::reading::LONGEST_LINE;
 use crate::reasons::{Detail, Reason};
 use crate::word::{self, begins_path};
 use ele_moment::NoMemory;
 use ele_path::one_meaning;
-use ele_printer::{Command, LineFault};
+use ele_printer::{Command, LineFault, ROWS, Row, WordKind};
 use std::alloc::Global;
 
 /// Why a line is no command, without its line feed, and which of its words is at fault; none where it
@@ -53,7 +52,7 @@ fn words_reason(alloc: Global, words: &[&[u8]]) -> Result<Option<Reason>, NoMemo
     let Some((command, behind)) = read_command(words) else {
         return Ok(Some(Reason::NoCommand(unknown_number(words))));
     };
-    let kinds = kinds(command, behind.len() == 3);
+    let kinds = kinds_for(command, behind.len());
     if behind.len() != kinds.len() {
         return Ok(Some(Reason::Words(command)));
     }
@@ -70,21 +69,26 @@ fn name_length(command: Command) -> u64
 
 // The number of the word that makes the words no command.
 fn unknown_number(words: &[&[u8]]) -> u64
-    ensures { result ≡ unknown_number (map (λ word. word.now) words.now) }
+    ensures { IsUnknown (map (λ word. word.now) words.now) result }
 {
-    match words.first() {
-        Some(first) if begins_command(first) => 2,
-        _ => 1,
-    }
+    if begins_command(words, &ROWS) { 2 } else { 1 }
 }
 
-// Whether the word begins the name of a command.
-fn begins_command(word: &[u8]) -> bool
-    ensures { result ≡ list_any (begins_command word.now) commands }
+// Whether the first of the words begins the name in a row, if there is one.
+fn begins_command(words: &[&[u8]], rows: &[Row]) -> bool
+    ensures { result ≡ begin_row (map (λ word. word.now) words.now) rows.now }
 {
-    COMMANDS
-        .iter()
-        .any(|command| word == command.words().0.as_bytes())
+    let Some((word, _)) = words.split_first() else {
+        return false;
+    };
+    begins_name(word, rows)
+}
+
+// Whether the word begins the name in a row.
+fn begins_name(word: &[u8], rows: &[Row]) -> bool
+    ensures { result ≡ list_any (λ row. bytes_eq word.now row.1.now) rows.now }
+{
+    rows.iter().any(|(_, first, _, _)| word == first.as_bytes())
 }
 
 // The first of the words that isn't of its kind, where so many stand before them.
@@ -150,8 +154,17 @@ fn read_word(alloc: Global, kind: WordKind, word: &[u8]) -> Result<(), LineFault
         WordKind::Number => {
             word::number(word)?;
         }
+        WordKind::Handle => {
+            word::handle(word)?;
+        }
+        WordKind::Version => {
+            word::version(word)?;
+        }
         WordKind::Moment => {
             word::moment(word)?;
+        }
+        WordKind::End => {
+            word::end(word)?;
         }
         WordKind::Name => {
             word::name(word)?;
@@ -183,7 +196,11 @@ fn detail(kind: WordKind, word: &[u8]) -> Detail
     ensures { result ≡ detail_of kind word.now }
 {
     match kind {
-        WordKind::Number | WordKind::Moment => digits_detail(word),
+        WordKind::Number
+        | WordKind::Handle
+        | WordKind::Version
+        | WordKind::Moment
+        | WordKind::End => digits_detail(word),
         WordKind::Path | WordKind::Tagged | WordKind::Timed => path_detail(word),
         WordKind::Source => {
             if begins_path(word) {

@@ -1,70 +1,31 @@
-//! The command in front of the words of a line.
-ghost use Rattle.std.specs.Prelude.{◌≡◌, ◌∷◌, [], map};
+//! The command in front of the words of a line, and the kinds of the words behind it.
+ghost use Rattle.std.specs.Prelude.{◌≡◌, ◌==◌, ◌∷◌, [], length, map};
 ghost use Rattle.std.specs.Option.{option_map};
-ghost use Rattle.ele_printer.specs.Command.{name_of};
-ghost use Rattle.ele_script.specs.CommandOf.{behind, command_of, FindsAll, find_command, first_letter, named};
+ghost use Rattle.ele_printer.specs.Command.{kinds_of, name_of};
+ghost use Rattle.ele_script.specs.Command.{kinds_if};
+ghost use Rattle.ele_script.specs.CommandOf.{behind, command_of, entry, FindsAll, find_command, first_letter};
 
-use ele_printer::Command;
+use ele_printer::{Command, ROWS, Row, WordKind};
 
-/// All commands, by the first letters of their names; of those with one first letter the ones that
-/// come often stand in front.
-pub(crate) static COMMANDS: [Command; 35] = [
-    Command::Close,
-    Command::Clock,
-    Command::Clean,
-    Command::Create,
-    Command::Due,
-    Command::Default,
-    Command::GroupMake,
-    Command::GroupDrop,
-    Command::GroupAdd,
-    Command::GroupRemove,
-    Command::Groups,
-    Command::History,
-    Command::Link,
-    Command::ListNames,
-    Command::Mark,
-    Command::MakeDir,
-    Command::OpenWrite,
-    Command::OpenRead,
-    Command::Pass,
-    Command::SetPolicy,
-    Command::Read,
-    Command::Rename,
-    Command::Revert,
-    Command::RemoveDir,
-    Command::Restorable,
-    Command::Stat,
-    Command::Tick,
-    Command::Truncate,
-    Command::Trim,
-    Command::Unlink,
-    Command::Undelete,
-    Command::Unmark,
-    Command::Usage,
-    Command::Versions,
-    Command::Write,
-];
-
-// The rows of the commands whose names begin with the letter.
-fn rows(letter: u8) -> &'static [Command]
-    ensures { FindsAll letter result.now }
+// The rows from the first one on whose name begins with the letter.
+fn rows_from(letter: u8) -> &'static [Row]
+    ensures { FindsAll letter (map entry result.now) }
 {
     match letter {
-        b'c' => &COMMANDS[0..4],
-        b'd' => &COMMANDS[4..6],
-        b'g' => &COMMANDS[6..11],
-        b'h' => &COMMANDS[11..12],
-        b'l' => &COMMANDS[12..14],
-        b'm' => &COMMANDS[14..16],
-        b'o' => &COMMANDS[16..18],
-        b'p' => &COMMANDS[18..20],
-        b'r' => &COMMANDS[20..25],
-        b's' => &COMMANDS[25..26],
-        b't' => &COMMANDS[26..29],
-        b'u' => &COMMANDS[29..33],
-        b'v' => &COMMANDS[33..34],
-        b'w' => &COMMANDS[34..35],
+        b'c' => &ROWS[Command::Clock as usize..],
+        b'd' => &ROWS[Command::Due as usize..],
+        b'g' => &ROWS[Command::GroupMake as usize..],
+        b'h' => &ROWS[Command::History as usize..],
+        b'l' => &ROWS[Command::Link as usize..],
+        b'm' => &ROWS[Command::Mark as usize..],
+        b'o' => &ROWS[Command::OpenWrite as usize..],
+        b'p' => &ROWS[Command::Pass as usize..],
+        b'r' => &ROWS[Command::Read as usize..],
+        b's' => &ROWS[Command::Stat as usize..],
+        b't' => &ROWS[Command::Tick as usize..],
+        b'u' => &ROWS[Command::Unlink as usize..],
+        b'v' => &ROWS[Command::Versions as usize..],
+        b'w' => &ROWS[Command::Write as usize..],
         _ => &[],
     }
 }
@@ -78,28 +39,27 @@ fn first_letter(words: &[&[u8]]) -> Option<u8>
     Some(*letter)
 }
 
-/// The command in front of the words, and the words behind it.
+/// The command in front of the words, and the words behind it. It is inlined, so that what it finds
+/// stays in registers.
+#[inline(always)]
 #[tactic(auto, using(crate::proofs::Letters::no_letter, crate::proofs::Letters::by_letter))]
 pub(crate) fn read_command<'w, 'l>(words: &'w [&'l [u8]]) -> Option<(Command, &'w [&'l [u8]])>
     ensures { option_map (λ x. (x.0, map (λ word. word.now) x.1.now)) result
         ≡ command_of (map (λ word. word.now) words.now) }
 {
     let letter = first_letter(words)?;
-    find_command(rows(letter), words)
+    find_command(rows_from(letter), words)
 }
 
-// The first command of a table whose name stands in front of the words.
-fn find_command<'w, 'l>(
-    table: &[Command],
-    words: &'w [&'l [u8]],
-) -> Option<(Command, &'w [&'l [u8]])>
+// The command of the first row whose name stands in front of the words.
+fn find_command<'w, 'l>(rows: &[Row], words: &'w [&'l [u8]]) -> Option<(Command, &'w [&'l [u8]])>
     ensures { option_map (λ x. (x.0, map (λ word. word.now) x.1.now)) result
-        ≡ find_command (map named table.now) (map (λ word. word.now) words.now) }
+        ≡ find_command (map entry rows.now) (map (λ word. word.now) words.now) }
 {
-    for command in table {
-        let (first, second) = command.words();
+    for row in rows {
+        let (command, first, second, _) = *row;
         if let Some(rest) = behind(words, first, second) {
-            return Some((*command, rest));
+            return Some((command, rest));
         }
     }
     None
@@ -127,4 +87,16 @@ fn behind_word<'w, 'l>(words: &'w [&'l [u8]], name: &str) -> Option<&'w [&'l [u8
         return None;
     }
     Some(rest)
+}
+
+/// The kinds of the words behind a command where so many stand there: with an end only if each kind
+/// has its word.
+pub(crate) fn kinds_for(command: Command, count: usize) -> &'static [WordKind]
+    ensures { result.now ≡ kinds_if command (count == length (kinds_of command)) }
+{
+    let kinds = command.kinds();
+    match kinds {
+        [shorter @ .., WordKind::End] if count != kinds.len() => shorter,
+        _ => kinds,
+    }
 }

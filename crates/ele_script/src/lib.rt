@@ -7,7 +7,6 @@ mod arguments;
 mod bad_word;
 mod command;
 mod cut;
-mod kind;
 pub mod line_laws;
 mod pairs;
 pub mod policy_laws;
@@ -19,10 +18,9 @@ mod writing;
 
 pub use bad_word::{reason, word_reason};
 pub use ele_printer::{
-    LineFault, Printer, WriteFault, put, put_ahead, put_answer, put_fault, put_history, put_pass,
-    put_reply, put_stop, put_trimmed, put_why, write_named, write_placed, write_reply,
+    LineFault, Printer, WordKind, WriteFault, put, put_ahead, put_answer, put_fault, put_history,
+    put_pass, put_reply, put_stop, put_trimmed, put_why, write_named, write_placed, write_reply,
 };
-pub use kind::WordKind;
 pub use question::{Question, question_word, read_question};
 pub use reading::{LONGEST_LINE, Line, read_event, read_line};
 pub use reasons::{Detail, Reason};

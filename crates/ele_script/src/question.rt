@@ -5,12 +5,11 @@ ghost use Rattle.std.specs.Option.{option_map};
 ghost use Rattle.ele_script.specs.Question.{AsksQuestion, ReadsQuestion, asked_in};
 ghost use Rattle.ele_script.specs.Value.{MomentWord, TaggedWord};
 
-use crate::kind::WordKind;
 use crate::reading::words_in;
 use crate::word;
 use ele_model::Moment;
 use ele_path::TaggedPath;
-use ele_printer::LineFault;
+use ele_printer::{LineFault, WordKind};
 use std::alloc::Global;
 
 /// What a line asks to be explained, where a run explains.

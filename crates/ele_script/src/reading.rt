@@ -9,9 +9,9 @@ ghost use Rattle.ele_script.specs.Reads.{ReadsLine};
 ghost use Rattle.ele_script.specs.FirstFault.{IsFirstFault, IsEventFault, IsFaultOfWords};
 
 use crate::arguments::{
-    moment, name, name_and_moment, name_and_path, name_and_two_moments, nothing, number, path,
-    path_and_number, path_and_policy, path_at, source, tagged, two_numbers, two_numbers_and_bytes,
-    two_paths,
+    handle, handle_and_number, handle_number_and_bytes, moment, name, name_and_moment,
+    name_and_path, name_moment_and_end, nothing, number, path, path_and_policy, path_and_version,
+    path_at, source, tagged, two_paths,
 };
 use crate::command::read_command;
 use arrayvec::ArrayVec;
@@ -188,16 +188,16 @@ fn line_behind_any(alloc: Global, command: Command, words: &[&[u8]]) -> Result<L
         Command::OpenWrite => path(alloc, words).map(|path| Line::Event(Event::OpenWrite(path))),
         Command::OpenRead => tagged(alloc, words).map(|path| Line::Event(Event::OpenRead(path))),
         Command::Write => {
-            let read = two_numbers_and_bytes(alloc, words);
+            let read = handle_number_and_bytes(alloc, words);
             read.map(|(handle, at, bytes)| Line::Event(Event::Write(Handle(handle), at, bytes)))
         }
         Command::Truncate => {
-            let read = two_numbers(words);
+            let read = handle_and_number(words);
             read.map(|(handle, size)| Line::Event(Event::Truncate(Handle(handle), size)))
         }
-        Command::Close => number(words).map(|handle| Line::Event(Event::Close(Handle(handle)))),
+        Command::Close => handle(words).map(|handle| Line::Event(Event::Close(Handle(handle)))),
         Command::Revert => {
-            let read = path_and_number(alloc, words);
+            let read = path_and_version(alloc, words);
             read.map(|(path, number)| Line::Event(Event::Revert(path, VersionNo(number))))
         }
         Command::SetPolicy => {
@@ -242,7 +242,7 @@ fn mark(alloc: Global, words: &[&[u8]]) -> Result<Line, LineFault>
     ensures { ReadsLine Command.Mark (map (λ word. word.now) words.now) result }
 {
     if words.len() == 3 {
-        let read = name_and_two_moments(alloc, words);
+        let read = name_moment_and_end(alloc, words);
         read.map(|(name, at, end)| Line::Event(Event::Mark(name, at, Some(end))))
     } else {
         let read = name_and_moment(alloc, words);

@@ -1,9 +1,9 @@
 //! Why a line is no command. A contract sees a reason as itself, and its text.
 ghost use Rattle.std.specs.Prelude.{◌≡◌, Some};
-ghost use Rattle.ele_script.specs.ReasonText.{syntax_text, other_text, reason_text, takes_text, cause_text, word_text};
+ghost use Rattle.std.specs.Fmt.{WritesOnOk};
+ghost use Rattle.ele_script.specs.ReasonText.{behind_text, byte_text, is_moment, kind_text, other_text, reason_text, syntax_text, takes_text, word_text};
 
-use crate::kind::WordKind;
-use ele_printer::{Command, LineFault};
+use ele_printer::{Command, LineFault, WordKind};
 use std::fmt;
 
 /// What is wrong with a word that isn't of its kind, where more than that can be told.
@@ -44,63 +44,72 @@ pub enum Reason {
     },
 }
 
-impl Reason {
-    // Why, without the place.
-    fn why(self) -> &'static str
-        ensures { result.now ≡ cause_text self }
-    {
-        match self {
-            Reason::TooLong => "a line has at most 8192 bytes",
-            Reason::Cut => "it has no line feed",
-            Reason::Empty(_) => "one space too many stands here",
-            Reason::Byte(_, b'\r') => "a carriage return stands in it",
-            Reason::Byte(_, b'\t') => "a tab stands in it",
-            Reason::Byte(_, _) => "a byte stands in it that is none from space to ~",
-            Reason::NoCommand(_) => "there is no such command",
-            Reason::Words(command) => takes(command),
-            Reason::Word {
-                kind,
-                fault,
-                detail,
-                ..
-            } => word_why(kind, fault, detail),
+/// What a command takes behind its name, by the kinds of its words.
+#[derive(Drop)]
+struct Takes(&'static [WordKind]);
+
+impl fmt::Display for Takes {
+    ghost output = { λ takes. Some (takes_text takes.0.now) };
+
+    fn fmt<W: fmt::Write>(&self, f: &mut fmt::Formatter<W>) -> fmt::Result {
+        match self.0 {
+            [] => f.write_str("no words"),
+            [WordKind::Path, WordKind::Path] => f.write_str("two paths"),
+            [kind, kinds @ ..] => {
+                f.write_str(kind_name(*kind))?;
+                write_behind(kinds, f)
+            }
         }
     }
 }
 
-// What a command takes behind its name.
-fn takes(command: Command) -> &'static str
-    ensures { result.now ≡ takes_text command }
+// Writes the kinds behind the first one.
+fn write_behind<W: fmt::Write>(kinds: &[WordKind], f: &mut fmt::Formatter<W>) -> fmt::Result
+    ensures { WritesOnOk W.write_str_gives f.old result (behind_text kinds.now) f.new }
 {
-    match command {
-        Command::Clock => "the command takes a moment",
-        Command::Tick | Command::Pass => "the command takes a number",
-        Command::Close => "the command takes a handle",
-        Command::MakeDir
-        | Command::RemoveDir
-        | Command::Create
-        | Command::Unlink
-        | Command::Undelete
-        | Command::OpenWrite => "the command takes a path",
-        Command::Link | Command::Rename => "the command takes two paths",
-        Command::OpenRead | Command::Stat => "the command takes a path with a tag",
-        Command::Write => "the command takes a handle, a number and bytes",
-        Command::Truncate => "the command takes a handle and a number",
-        Command::Revert => "the command takes a path and a version",
-        Command::SetPolicy | Command::Default => "the command takes a path and a policy",
-        Command::GroupMake | Command::GroupDrop => "the command takes a group",
-        Command::GroupAdd | Command::GroupRemove => "the command takes a group and a path",
-        Command::Mark => "the command takes a group and one moment or two",
-        Command::Unmark => "the command takes a group and a moment",
-        Command::Read => "the command takes a path with a tag, or a handle",
-        Command::Versions | Command::ListNames => "the command takes a path at a moment",
-        Command::Clean
-        | Command::Restorable
-        | Command::Due
-        | Command::Usage
-        | Command::Groups
-        | Command::History
-        | Command::Trim => "the command takes no words",
+    match kinds {
+        [] => Ok(()),
+        [WordKind::Moment, WordKind::End] => f.write_str(" and one moment or two"),
+        [last] => {
+            f.write_str(" and ")?;
+            f.write_str(kind_name(*last))
+        }
+        [kind, kinds @ ..] => {
+            f.write_str(", ")?;
+            f.write_str(kind_name(*kind))?;
+            write_behind(kinds, f)
+        }
+    }
+}
+
+// What a word of the kind is called.
+fn kind_name(kind: WordKind) -> &'static str
+    ensures { result.now ≡ kind_text kind }
+{
+    match kind {
+        WordKind::Number => "a number",
+        WordKind::Handle => "a handle",
+        WordKind::Version => "a version",
+        WordKind::Moment => "a moment",
+        WordKind::End => "an end",
+        WordKind::Name => "a group",
+        WordKind::Path => "a path",
+        WordKind::Tagged => "a path with a tag",
+        WordKind::Timed => "a path at a moment",
+        WordKind::Source => "a path with a tag, or a handle",
+        WordKind::Bytes => "bytes",
+        WordKind::Policy => "a policy",
+    }
+}
+
+// What is wrong with a word in which this byte stands.
+fn byte_why(byte: u8) -> &'static str
+    ensures { result.now ≡ byte_text byte }
+{
+    match byte {
+        b'\r' => "a carriage return stands in it",
+        b'\t' => "a tab stands in it",
+        _ => "a byte stands in it that is none from space to ~",
     }
 }
 
@@ -109,13 +118,20 @@ fn word_why(kind: WordKind, fault: LineFault, detail: Detail) -> &'static str
     ensures { result.now ≡ word_text kind fault detail }
 {
     match detail {
-        Detail::LeadingZero if kind == WordKind::Moment => "a moment has no leading zero",
+        Detail::LeadingZero if is_moment(kind) => "a moment has no leading zero",
         Detail::LeadingZero => "a number has no leading zero",
-        Detail::TooLarge if kind == WordKind::Moment => "a moment is at most 253402300799",
+        Detail::TooLarge if is_moment(kind) => "a moment is at most 253402300799",
         Detail::TooLarge => "a number is at most 18446744073709551615",
         Detail::NoSlash => "a path begins with a slash",
         Detail::Other => other_why(kind, fault),
     }
+}
+
+// Whether words of the kind are moments.
+fn is_moment(kind: WordKind) -> bool
+    ensures { result ≡ is_moment kind }
+{
+    kind == WordKind::Moment || kind == WordKind::End
 }
 
 // What is wrong with a word of which no more can be told.
@@ -137,12 +153,12 @@ fn syntax_why(kind: WordKind) -> &'static str
     ensures { result.now ≡ syntax_text kind }
 {
     match kind {
-        WordKind::Number => "not a number",
+        WordKind::Number | WordKind::Handle | WordKind::Version => "not a number",
         WordKind::Source => "neither a path nor a handle",
         WordKind::Timed => "only a moment may stand behind the path",
         WordKind::Bytes => "neither - nor an even number of hexadecimal digits",
         WordKind::Policy => "not a policy",
-        WordKind::Moment | WordKind::Name | WordKind::Path | WordKind::Tagged =>
+        WordKind::Moment | WordKind::End | WordKind::Name | WordKind::Path | WordKind::Tagged =>
             "not as it should be",
     }
 }
@@ -151,15 +167,28 @@ impl fmt::Display for Reason {
     ghost output = { λ reason. Some (reason_text reason) };
 
     fn fmt<W: fmt::Write>(&self, f: &mut fmt::Formatter<W>) -> fmt::Result {
-        let why = self.why();
         match *self {
-            Reason::TooLong => write!(f, "length: {why}"),
-            Reason::Cut => write!(f, "end: {why}"),
-            Reason::Words(_) => write!(f, "number of words: {why}"),
-            Reason::Empty(number)
-            | Reason::Byte(number, _)
-            | Reason::NoCommand(number)
-            | Reason::Word { number, .. } => write!(f, "word {number}: {why}"),
+            Reason::TooLong => f.write_str("length: a line has at most 8192 bytes"),
+            Reason::Cut => f.write_str("end: it has no line feed"),
+            Reason::Empty(number) => write!(f, "word {number}: one space too many stands here"),
+            Reason::Byte(number, byte) => {
+                let why = byte_why(byte);
+                write!(f, "word {number}: {why}")
+            }
+            Reason::NoCommand(number) => write!(f, "word {number}: there is no such command"),
+            Reason::Words(command) => {
+                let takes = Takes(command.kinds());
+                write!(f, "number of words: the command takes {takes}")
+            }
+            Reason::Word {
+                number,
+                kind,
+                fault,
+                detail,
+            } => {
+                let why = word_why(kind, fault, detail);
+                write!(f, "word {number}: {why}")
+            }
         }
     }
 }

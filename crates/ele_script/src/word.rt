@@ -5,7 +5,7 @@ ghost use Rattle.ele_moment.specs.Spelled.{SpellsMoment};
 ghost use Rattle.ele_path.specs.Path.{SpellsPath};
 ghost use Rattle.ele_path.specs.Tagged.{SpellsTaggedPath};
 ghost use Rattle.ele_path.specs.PathAt.{SpellsPathAt};
-ghost use Rattle.ele_script.specs.Value.{NumberWord, MomentWord, NameWord, PathWord, TaggedWord, TimedWord, SourceWord, BytesWord, SpellsName, SpellsBytes, SpellsSource};
+ghost use Rattle.ele_script.specs.Value.{NumberWord, HandleWord, VersionWord, MomentWord, EndWord, NameWord, PathWord, TaggedWord, TimedWord, SourceWord, BytesWord, SpellsName, SpellsBytes, SpellsSource};
 ghost use Rattle.ele_script.specs.PolicyWord.{ReadsPolicy, IsSafeWord, SpellsSafe};
 ghost use Rattle.ele_script.specs.PathWord.{begins_path};
 ghost use Rattle.ele_script.specs.FirstFault.{IsOfKind, IsWordFault};
@@ -28,6 +28,26 @@ pub(crate) fn number(word: &[u8]) -> Result<u64, LineFault>
     read_number(word).ok_or(LineFault::Syntax)
 }
 
+/// A number, of a handle.
+#[tactic(auto, using(crate::proofs::Behind::handle_kind))]
+pub(crate) fn handle(word: &[u8]) -> Result<u64, LineFault>
+    ensures found { IfOk result (SpellsNumber word.now) }
+    ensures kind { OnOk result (IsOfKind HandleWord word.now) }
+    ensures fault { IfErr result (IsWordFault HandleWord word.now) }
+{
+    number(word)
+}
+
+/// A number, of a version.
+#[tactic(auto, using(crate::proofs::Behind::version_kind))]
+pub(crate) fn version(word: &[u8]) -> Result<u64, LineFault>
+    ensures found { IfOk result (SpellsNumber word.now) }
+    ensures kind { OnOk result (IsOfKind VersionWord word.now) }
+    ensures fault { IfErr result (IsWordFault VersionWord word.now) }
+{
+    number(word)
+}
+
 /// A moment.
 #[tactic(auto, using(crate::proofs::Values::moment_fault, crate::proofs::Behind::moment_kind))]
 pub(crate) fn moment(word: &[u8]) -> Result<Moment, LineFault>
@@ -36,6 +56,16 @@ pub(crate) fn moment(word: &[u8]) -> Result<Moment, LineFault>
     ensures fault { IfErr result (IsWordFault MomentWord word.now) }
 {
     Moment::read(word).ok().ok_or(LineFault::BadMoment)
+}
+
+/// A moment, at which a mark ends.
+#[tactic(auto, using(crate::proofs::Behind::end_kind))]
+pub(crate) fn end(word: &[u8]) -> Result<Moment, LineFault>
+    ensures found { IfOk result (SpellsMoment word.now) }
+    ensures kind { OnOk result (IsOfKind EndWord word.now) }
+    ensures fault { IfErr result (IsWordFault EndWord word.now) }
+{
+    moment(word)
 }
 
 /// A name.

@@ -10,6 +10,8 @@ use Rattle.ele_policy.specs.declared.cause.Cause.{Cause}
 use Rattle.ele_policy.specs.declared.cause.Newer.{Newer}
 use Rattle.ele_moment.specs.Last.{last_moment}
 use Rattle.ele_policy.specs.Ripe.{alone, is_due_by, ripe_by}
+use Rattle.ele_files.specs.Beside.{IsBeside}
+use Rattle.ele_files.specs.declared.files.newer.Beside.{Beside}
 use Rattle.ele_groups.specs.Rows.{row_of}
 use Rattle.ele_state.specs.Fated.{IsCauseBy, IsFreeFate, MarksAt, newer_of}
 use Rattle.ele_model.proofs.Fates.{nearest_newer, protected_told}
@@ -17,7 +19,7 @@ use Rattle.ele_model.proofs.RipeMoments.{ripens}
 use Rattle.ele_model.specs.Due.{is_due_at, ripe_of}
 use Rattle.ele_model.specs.Fate.{HasCause, HasFate, IsFate, IsMarkedBy, newer_version, newer_versions}
 use Rattle.ele_model.specs.GroupRows.{group_named, has_covering, has_member, is_marked, is_member, keeps_at}
-use Rattle.ele_model.specs.Neighbours.{is_newer_of}
+use Rattle.ele_model.specs.Neighbours.{case_in, is_newer_of}
 use Rattle.ele_model.specs.declared.fate.Fate.{Fate}
 use Rattle.ele_model.specs.declared.fate.Fate.TheVariants.{Current, Open, Marked, Kept, Due}
 
@@ -76,7 +78,14 @@ pub record IsFree (rows : Rows) (file : ℕ) (info : VersionInfo) : Type 0 where
 abbrev pub IsMade : (rows : Rows) (file : ℕ) (info : VersionInfo) → IsFree rows file info → Fate → Type 0
 IsMade rows file info free fate =
     let next = option_map newer_of (option_map info_of (find (is_newer_of file info.number) rows.files.versions)) in
-    IsFreeFate (cover_of rows.groups file info.closed (Some free.ended)) (case_of free.rule.policy info.closed (closing_of next) (nat_le free.rule.newer (newer_held rows.files.versions file info.number))) next free.ended rows.moment fate
+    IsFreeFate (cover_of rows.groups file info.closed (Some free.ended)) (case_in free.rule rows.files.versions file info.number info.closed) next free.ended rows.moment fate
+
+-- what stands beside a version tells when its next one closed
+pub beside_closing : (h : Held) (file : ℕ) (info : VersionInfo) (live : Bool) (beside : Beside) → IsBeside h file info live beside → beside.case.next_closed ≡ closing_of (option_map newer_of beside.next)
+beside_closing h file info live beside is = rw (is.case, is.next) (by (find (is_newer_of file info.number) h.versions)) where
+  by : (o : Option VersionRow) → option_map (λ (r : VersionRow). r.closed) o ≡ closing_of (option_map newer_of (option_map info_of o))
+  by None = refl
+  by (Some next) = refl
 
 -- a rule is of the file's policy
 filed_by : (live : Bool) (o : Option Policy) (rule : Rule) → option_map (λ (policy : Policy). rule_in policy live) o ≡ Some rule → o ≡ Some rule.policy
@@ -108,14 +117,8 @@ module _ (rows : Rows) (sound : IsSound rows) (row : VersionRow) (found : find (
     filed : policy_of w.files row.file ≡ Some free.rule.policy
     filed = filed_by (is_live w row.file) (policy_of w.files row.file) free.rule free.ruled
 
-    abbrev ripe_beside : Option ℕ → Option ℕ
-    ripe_beside closing = case_moment (cover_of w.groups row.file) (case_of free.rule.policy row.closed closing (nat_le free.rule.newer (newer_held w.versions row.file row.number))) free.ended
-
-    ripe_told : ripe_of w row ≡ ripe_beside (closing_of next_newer)
-    ripe_told = sym (ripe_at_is w row.file row.number ∙ rw found refl) ∙ moment_is w (in_order_of w sound.formed) row.file row.number free.rule free.ruled ∙ rw (free.unread, found, free.ends) (ap ripe_beside (by next_row)) where
-      by : (o : Option VersionRow) → option_map (λ (r : VersionRow). r.closed) o ≡ closing_of (option_map newer_of (option_map info_of o))
-      by None = refl
-      by (Some next) = refl
+    ripe_told : ripe_of w row ≡ case_moment (cover_of w.groups row.file) (case_in free.rule w.versions row.file row.number row.closed) free.ended
+    ripe_told = sym (ripe_at_is w row.file row.number ∙ rw found refl) ∙ moment_is w (in_order_of w sound.formed) row.file row.number free.rule free.ruled ∙ rw (free.unread, found, free.ends) refl
 
     due_told : (ripe : Option ℕ) → ripe_of w row ≡ ripe → is_due_at w row w.now ≡ option_map_or (λ m. nat_le m w.now) ripe false
     due_told ripe is = ripens w sound.formed row w.now (sound.formed.holds Now) ∙ ap (λ (o : Option ℕ). option_map_or (λ m. nat_le m w.now) o false) is

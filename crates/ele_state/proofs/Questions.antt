@@ -1,5 +1,5 @@
 -- What is told of one version, and of the first that are due.
-use Rattle.ele_state.proofs.Words.{Cover, IsInfoOf, Rule, case_in, case_moment, few_enough, find, is_version, moment_under, ripe_case, ripe_past, rows_of, rule_of, subst, AllLater, ArePlaced, VersionRow, option_and_then, with_newer, ◌-◌, ◌==◌, ◌≡◌, ℕ, ◌≤◌, false, ◌&&◌, List, cond, Option, Some, None, refl, ap, sym, ◌∙◌, arith, nat_le, slice_get, filter_map, option_map, option_map_or, nat_tests, world_of, IsSound, former_moment, gained_moment, Rows, Key, has_key, is_ripe_by, Held, VersionInfo, ripe_at, free_moment, newest_of, due_key, first_due, cover_of, GroupRow, info_of, World, is_open, in_order_of, ripe_at_near, is_due_is, scan_members}
+use Rattle.ele_state.proofs.Words.{[], ◌∷◌, Cover, IsInfoOf, Rule, case_in, case_moment, few_enough, find, is_version, moment_under, ripe_case, ripe_past, rows_of, rule_of, subst, AllLater, ArePlaced, VersionRow, option_and_then, with_newer, ◌-◌, ◌==◌, ◌≡◌, ℕ, ◌≤◌, false, ◌&&◌, List, cond, Option, Some, None, refl, ap, sym, ◌∙◌, arith, nat_le, slice_get, filter_map, option_map, option_map_or, nat_tests, world_of, IsSound, former_moment, gained_moment, Rows, Key, has_key, is_ripe_by, Held, VersionInfo, ripe_at, free_moment, newest_of, due_key, first_due, cover_of, GroupRow, info_of, World, is_open, in_order_of, ripe_at_near, is_due_is, scan_members}
 use Rattle.ele_state.proofs.Changes.{passing}
 use Rattle.ele_moment.specs.Last.{last_moment}
 use Rattle.ele_due.specs.InOrder.{in_order}
@@ -21,6 +21,13 @@ keys_by rows moment sound fits k = scan_members_at (world_of rows) moment sound.
 pub scan_is : (w : World) → in_order (filter_map (due_key w) w.versions) ≡ scan w
 unfolding scan
 scan_is w = refl
+
+-- none is due where none is the first
+pub none_due : (w : World) → first_due w ≡ None → [] ≡ scan w
+none_due w none = by (scan w) none where
+  by : (keys : List Key) → slice_get keys 0 ≡ None → [] ≡ keys
+  by [] is = refl
+  by (key ∷ keys) is = absurd cc
 
 -- the first of the queue is the first of the scan, if it is ripe
 pub first_is : (rows : Rows) (first : Option Key) → IsSound rows
@@ -48,9 +55,9 @@ former_told groups h rule file now gaining told = grind (arith, nat_tests, told)
 pub none_enough : (rule : Rule) → (rule.newer == 0) ≡ few_enough rule
 none_enough rule = grind (arith, nat_tests)
 
--- where a rule asks for none or one, the newest gains
-pub newest_gains : (versions : List VersionRow) (file asked : ℕ) (newest : Option VersionInfo) → AllLater ArePlaced versions → option_map info_of (newest_of versions file) ≡ newest → asked ≤ 1 → newest ≡ option_map info_of (with_newer versions file (asked - 1))
-newest_gains versions file asked newest placed is few = grind (arith, nat_tests, is, few, newest_newer versions file placed)
+-- the newest has no newer one
+pub newest_told : (versions : List VersionRow) (file : ℕ) (newest : Option VersionInfo) → AllLater ArePlaced versions → option_map info_of (newest_of versions file) ≡ newest → newest ≡ option_map info_of (with_newer versions file 0)
+newest_told versions file newest placed is = grind (arith, nat_tests, is, newest_newer versions file placed)
 
 -- what is told of a held version tells its moment
 module _ (h : Held) (file : ℕ) (info : VersionInfo) (told : IsInfoOf h file info) where

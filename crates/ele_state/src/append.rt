@@ -75,18 +75,17 @@ fn ripens_alone(groups: &Groups, file: FileId, rule: &Rule, info: &VersionInfo) 
     }
 }
 
-// What is told of the held version of a file that stands so that with the next one has as many newer ones as its rule asks for; of
-// the newest where that asks for none.
-#[tactic(auto, using(crate::proofs::Words::nat_tests, crate::proofs::Questions::newest_gains))]
-fn gaining(files: &Files, file: FileId, head: &FileHead, rule: &Rule) -> Option<VersionInfo>
+// What is told of the held version with so many newer ones, of a file that stands so, which tells it of the newest.
+#[tactic(auto, using(crate::proofs::Words::nat_tests, crate::proofs::Questions::newest_told))]
+pub fn with_newer(files: &Files, file: FileId, head: &FileHead, newer: u64) -> Option<VersionInfo>
     requires stands { Stands files.now file head.now }
     requires placed { AllLater ArePlaced files.now.versions }
-    ensures { result ≡ option_map info_of (with_newer files.now.versions file (rule.now.newer - 1)) }
+    ensures { result ≡ option_map info_of (with_newer files.now.versions file newer) }
 {
-    if rule.newer <= 1 {
+    if newer == 0 {
         return head.newest;
     }
-    files.with_newer(file, rule.newer - 1)
+    files.with_newer(file, newer)
 }
 
 // The ripe moment that the version gets, of which these are the info, as the next one closes now; none where a handle reads it, or
@@ -126,7 +125,8 @@ fn former_key(rows: &Rows, file: FileId, head: &FileHead, rule: &Rule, again: bo
     if again && rule.newer != 0 {
         return new_key(file, VersionNo(0), None);
     }
-    match &gaining(&rows.files, file, head, rule) {
+    // Of a rule that asks for none, the newest gains.
+    match &with_newer(&rows.files, file, head, rule.newer.saturating_sub(1)) {
         Some(gaining) => new_key(
             file,
             gaining.number,

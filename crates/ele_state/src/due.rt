@@ -42,6 +42,10 @@ impl State {
     pub fn due(&self) -> Result<KeyList, NoMemory>
         ensures { IfOk result (λ keys. keys ≡ scan self.now.world) }
     {
+        // Most often none is.
+        if self.due_first().is_none() {
+            return Ok(ListOf::new(self.rows.alloc));
+        }
         Ok(ListOf::from_vec(self.rows.queue.until(self.rows.moment)?))
     }
 

@@ -16,7 +16,6 @@ ghost use Rattle.ele_state.specs.Inside.{world_of, IsSound};
 ghost use Rattle.ele_state.specs.Queued.{IsInfoOf};
 
 use crate::State;
-use crate::moments::rule;
 use crate::rows::Rows;
 use ele_groups::Groups;
 use ele_model::{
@@ -176,17 +175,12 @@ fn fate_of(rows: &Rows, file: FileId, info: &VersionInfo) -> Fate
     if let Some((group, mark)) = first_mark(&rows.groups, &cover, file, closed, ended, now) {
         return Fate::Marked { group, mark };
     }
-    let Some(rule) = rule(rows, file) else {
+    let is_live = rows.names.is_live(file);
+    let Some(beside) = rows.files.beside(file, info, is_live) else {
         unreachable!()
     };
-    let next = newer_of(&rows.files.next_held(file, number));
-    let case = Case {
-        policy: rule.policy,
-        closed,
-        next_closed: closing_of(&next),
-        enough: rows.files.has_newer(file, number, rule.newer),
-    };
-    free_fate(cover, &case, &next, ended, now)
+    let next = newer_of(&beside.next);
+    free_fate(cover, &beside.case, &next, ended, now)
 }
 
 impl State {

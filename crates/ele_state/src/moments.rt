@@ -45,9 +45,9 @@ pub fn free_moment(rows: &Rows, file: FileId, number: VersionNo) -> Option<Momen
 {
     let info = rows.files.info(file, number)?;
     let ended = info.ended?;
-    let rule = rule(rows, file)?;
-    // The borrow checker's proof wants a local of the type that a rule holds.
-    let _policy = rule.policy;
-    let case = case(&rows.files, file, rule, &info);
-    case_moment(&rows.groups, file, &case, ended)
+    let is_live = rows.names.is_live(file);
+    let Some(beside) = rows.files.beside(file, &info, is_live) else {
+        return None;
+    };
+    case_moment(&rows.groups, file, &beside.case, ended)
 }

@@ -12,6 +12,7 @@ ghost use Rattle.ele_state.specs.Home.{IsHome, IsPresent};
 ghost use Rattle.ele_state.specs.Inside.{world_of, IsTracked, IsSound};
 
 use crate::State;
+use crate::append::head;
 use crate::keys::put_changed;
 use crate::policy::freed;
 use crate::rows::Rows;
@@ -147,12 +148,10 @@ fn end_last_name(
     ensures err { OnErr result (world_of rows.new ≡ world_of rows.old) }
     ensures tracked { IsTracked rows.new }
 {
-    let Some(policy) = rows.files.policy_of(file) else {
-        unreachable!()
-    };
-    let asked = policy.rule_in(true).newer;
+    let head = head(&rows.files, file);
+    let asked = head.policy.rule_in(true).newer;
     // The newest version ends, and is the current one.
-    let changes = freed(rows, file, &policy, asked.max(1))?;
+    let changes = freed(rows, file, &head, asked.max(1))?;
     put_changed(&mut rows.queue, &changes)?;
     rows.names.kill_found(directory, name, found, rows.moment);
     rows.files.end_current(file, rows.moment);

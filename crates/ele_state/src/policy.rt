@@ -1,6 +1,7 @@
 //! The policy of a file, and the moments that another one changes, or a file's first or last live name.
 ghost use Rattle.std.specs.Prelude.{◌≡◌, ◌<◌, ◌+◌, ◌||◌, IfOk, OnOk, OnErr};
 ghost use Rattle.ele_due.specs.declared.key.Key.{Key};
+ghost use Rattle.ele_files.specs.FileHead.{Stands};
 ghost use Rattle.ele_lists.specs.Lists.{AllLater};
 ghost use Rattle.ele_policy.specs.Policy.{IsPolicy};
 ghost use Rattle.ele_model.specs.Change.{SetFilePolicy, after_change};
@@ -10,9 +11,11 @@ ghost use Rattle.ele_state.specs.Inside.{IsSound};
 ghost use Rattle.ele_state.specs.Queued.{AreChanges, IsInfoOf, comes, if_changed, is_freed, is_one, is_own, unread_under};
 
 use crate::State;
+use crate::append::with_newer;
 use crate::keys::{KeyChange, add_change, new_key, put_changed, remove_old_keys};
 use crate::moments::{case, case_moment};
 use crate::rows::Rows;
+use ele_files::FileHead;
 use ele_model::{FileId, NoMemory, VersionInfo};
 use ele_policy::{Case, Policy, Rule};
 
@@ -100,20 +103,21 @@ fn changes_under(
     Ok(changes)
 }
 
-// The key that the file's version has with so many newer ones, if it is held, under the policy where it asks for no newer ones, as if
-// it were the newest or others didn't matter; it ends now if it hasn't. None where a handle reads it.
-fn freed_key(rows: &Rows, file: FileId, policy: &Policy, newer: u64) -> Option<KeyChange>
-    requires { AllLater ArePlaced rows.now.files.versions }
-    ensures { (k : Key) → is_freed rows.now.groups rows.now.files file policy.now rows.now.moment
-        (newer + 1) k ≡ (is_freed rows.now.groups rows.now.files file policy.now rows.now.moment
-        newer k || comes (if_changed result) k) }
+// The key that the version with so many newer ones has, if it is held, under the policy of the file that stands so where that asks for
+// no newer ones, as if it were the newest or others didn't matter; it ends now if it hasn't. None where a handle reads it.
+fn freed_key(rows: &Rows, file: FileId, head: &FileHead, newer: u64) -> Option<KeyChange>
+    requires stands { Stands rows.now.files file head.now }
+    requires placed { AllLater ArePlaced rows.now.files.versions }
+    ensures { (k : Key) → is_freed rows.now.groups rows.now.files file head.now.policy
+        rows.now.moment (newer + 1) k ≡ (is_freed rows.now.groups rows.now.files file
+        head.now.policy rows.now.moment newer k || comes (if_changed result) k) }
 {
-    let info = rows.files.with_newer(file, newer)?;
+    let info = with_newer(&rows.files, file, head, newer)?;
     if rows.files.is_open(file, info.number) {
         return None;
     }
     let case = &Case {
-        policy: *policy,
+        policy: head.policy,
         closed: info.closed,
         next_closed: None,
         enough: true,
@@ -128,16 +132,17 @@ fn freed_key(rows: &Rows, file: FileId, policy: &Policy, newer: u64) -> Option<K
 pub fn freed(
     rows: &Rows,
     file: FileId,
-    policy: &Policy,
+    head: &FileHead,
     newest: u64,
 ) -> Result<Vec<KeyChange>, NoMemory>
-    requires { AllLater ArePlaced rows.now.files.versions }
+    requires stands { Stands rows.now.files file head.now }
+    requires placed { AllLater ArePlaced rows.now.files.versions }
     ensures { IfOk result (λ changes. (k : Key) → comes changes.items k ≡ is_freed rows.now.groups
-        rows.now.files file policy.now rows.now.moment newest k) }
+        rows.now.files file head.now.policy rows.now.moment newest k) }
 {
     let mut changes = Vec::new(rows.alloc);
     for newer in 0..newest {
-        add_change(&mut changes, freed_key(rows, file, policy, newer))?;
+        add_change(&mut changes, freed_key(rows, file, head, newer))?;
     }
     Ok(changes)
 }

@@ -106,7 +106,7 @@ impl State {
         let last = head.next.before();
         // With the name the rule asks for newer ones again, and the new version is one.
         let asked = head.policy.rule_in(true).newer;
-        let gone = freed(&self.rows, file, &head.policy, asked.saturating_sub(1))?;
+        let gone = freed(&self.rows, file, &head, asked.saturating_sub(1))?;
         // The name comes first: it can be taken back without memory.
         self.rows
             .names

@@ -1,15 +1,59 @@
 //! The held versions behind one: the next, whether there are so many, and the one that has so many.
 //! A contract sees each answer as a look at the rows.
-ghost use Rattle.std.specs.Prelude.{◌≡◌, ◌<◌, ◌≤◌, ◌+◌, ◌^◌, find, nat_le};
-ghost use Rattle.std.specs.Option.{option_map};
+ghost use Rattle.std.specs.Prelude.{◌≡◌, ◌<◌, ◌≤◌, ◌+◌, ◌^◌, ◌-◌, ◌||◌, false, nat_le, nat_lt, None, IfNone, IfSome, find, reverse, slice_get};
+ghost use Rattle.std.specs.Option.{option_map, option_map_or};
+ghost use Rattle.ele_files.specs.Beside.{IsBeside};
+ghost use Rattle.ele_files.specs.Meant.{stamps_in};
+ghost use Rattle.ele_inode_log.specs.Rows.{is_after};
 ghost use Rattle.ele_model.specs.Neighbours.{is_newer_of, newer_held, with_newer};
 ghost use Rattle.ele_model.specs.Told.{info_of};
+ghost use Rattle.ele_model.specs.World.{policy_of};
 
 use crate::files::{Files, file_of};
 use crate::meant::info_of;
-use ele_inode_log::Meter;
+use ele_inode_log::{InodeLog, Meter};
 use ele_model::VersionInfo;
-use ele_moment::{FileId, VersionNo};
+use ele_moment::{FileId, Moment, VersionNo};
+use ele_policy::Case;
+
+/// What a version's ripe moment depends on beside its end.
+#[derive(Clone, Copy)]
+pub struct Beside {
+    /// Its case under the file's policy.
+    pub case: Case,
+    /// The next held version of its file.
+    pub next: Option<VersionInfo>,
+}
+
+// When the version closed.
+fn closing(info: &Option<VersionInfo>) -> Option<Moment>
+    ensures { result ≡ option_map (λ info. info.closed) info.now }
+{
+    Some(info.as_ref()?.closed)
+}
+
+// What is told of the first row with a greater number.
+fn next_in(log: &InodeLog, number: VersionNo) -> Option<VersionInfo>
+    ensures { result ≡ option_map stamps_in (find (is_after number) log.now.rows) }
+{
+    let row = log.next_held(number, &mut Meter::new())?;
+    Some(info_of(row))
+}
+
+// Whether at least so many rows have a greater number.
+#[tactic(auto, using(std::proofs::lemmas::Bool::Decides::nat_tests))]
+fn has_newer(log: &InodeLog, number: VersionNo, count: u64) -> bool
+    ensures { result ≡ (nat_le count 0 || option_map_or (λ row. nat_lt number row.number)
+        (slice_get (reverse log.now.rows) (count - 1)) false) }
+{
+    if count == 0 {
+        return true;
+    }
+    match log.with_newer(count - 1, &mut Meter::new()) {
+        Some(row) => number.0 < row.number.0,
+        None => false,
+    }
+}
 
 impl Files {
     /// What is told of the file's next held version behind the number; none where there is none.
@@ -19,8 +63,7 @@ impl Files {
             ≡ option_map info_of (find (is_newer_of file number) self.now.versions) }
     {
         let held = file_of(&self.files, file)?;
-        let row = held.log.next_held(number, &mut Meter::new())?;
-        Some(info_of(row))
+        next_in(&held.log, number)
     }
 
     /// Whether the file holds at least so many versions with a greater number.
@@ -28,16 +71,29 @@ impl Files {
     pub fn has_newer(&self, file: FileId, number: VersionNo, count: u64) -> bool
         ensures { result ≡ nat_le count (newer_held self.now.versions file number) }
     {
-        if count == 0 {
-            return true;
+        match file_of(&self.files, file) {
+            Some(held) => has_newer(&held.log, number, count),
+            None => count == 0,
         }
-        let Some(held) = file_of(&self.files, file) else {
-            return false;
+    }
+
+    /// What stands beside the file's version of these info, under the file's policy as it is in
+    /// force while the file is live or not, by one look-up; none where there is no such file.
+    #[tactic(auto, using(std::proofs::lemmas::Bool::Decides::nat_tests, crate::proofs::Rows::file_row_found))]
+    pub fn beside(&self, file: FileId, info: &VersionInfo, is_live: bool) -> Option<Beside>
+        ensures some { IfSome result (IsBeside self.now file info.now is_live) }
+        ensures none { IfNone result (policy_of self.now.files file ≡ None) }
+    {
+        let held = file_of(&self.files, file)?;
+        let rule = held.policy.rule_in(is_live);
+        let next = next_in(&held.log, info.number);
+        let case = Case {
+            policy: rule.policy,
+            closed: info.closed,
+            next_closed: closing(&next),
+            enough: has_newer(&held.log, info.number, rule.newer),
         };
-        match held.log.with_newer(count - 1, &mut Meter::new()) {
-            Some(row) => number.0 < row.number.0,
-            None => false,
-        }
+        Some(Beside { case, next })
     }
 
     /// What is told of the file's held version that has so many newer ones; none where there is

@@ -2,11 +2,11 @@ use Rattle.ele_printer.proofs.Basics.{refl}
 use Rattle.ele_printer.proofs.reply.put_answer.Goals as goal
 
 pub returns-in-Done : goal.returns-in-Done
-returns-in-Done g c = rw c.in-Done.is (_, refl, c.put_line.ensures)
+returns-in-Done g c = rw c.in-Done.is (_, refl, c.put.ensures)
 
 pub returns-in-Nothing : goal.returns-in-Nothing
 returns-in-Nothing g c =
-    rw c.in-Nothing.is (_, refl, c.put_line-in-Nothing.ensures)
+    rw c.in-Nothing.is (_, refl, c.put-in-Nothing.ensures)
 
 pub returns-in-Now : goal.returns-in-Now
 returns-in-Now g c = rw c.in-Now.is (_, (_, c.text.ensures.spells, refl), rw c.seconds.ensures.value at c.put_now.ensures)

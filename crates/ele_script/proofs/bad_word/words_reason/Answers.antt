@@ -11,26 +11,26 @@ returns-in_default-clause-some c = unknown_reason _ _ (sym c.in_default.ensures)
 pub returns-then-behind-kinds-clause-some : goal.returns-then-behind-kinds-clause-some
 returns-then-behind-kinds-clause-some c =
     let behind = c.in-Some.behind.now in
-    let kinds = kinds_are c.in-Some.command bytes behind _ c.kinds-kinds.ensures in
+    let kinds = kinds_are c.in-Some.command bytes behind _ c.kinds_for-kinds.ensures in
     words_miscounted _ c.in-Some.command (map bytes behind) (sym c.in-Some.ensures) (λ same. c.if-behind-kinds.true (sym (length-map behind bytes) ∙ same ∙ ap length (sym kinds)))
 
 pub returns-clause-some : goal.returns-clause-some
 returns-clause-some c =
     let behind = c.in-Some.behind.now in
-    let kinds = kinds_are c.in-Some.command bytes behind _ c.kinds-kinds.ensures in
+    let kinds = kinds_are c.in-Some.command bytes behind _ c.kinds_for-kinds.ensures in
     let fits = words_fit _ c.in-Some.command (map bytes behind) (sym c.in-Some.ensures) (length-map behind bytes ∙ c.if-behind-kinds.false ∙ ap length kinds) in
     reason_some _ c.in-Some.command (map bytes behind) _ c.bad_word.result fits c.name_length.ensures.is (rw kinds at c.bad_word.ensures.some)
 
 pub returns-clause-none : goal.returns-clause-none
 returns-clause-none c =
     let behind = c.in-Some.behind.now in
-    let kinds = kinds_are c.in-Some.command bytes behind _ c.kinds-kinds.ensures in
+    let kinds = kinds_are c.in-Some.command bytes behind _ c.kinds_for-kinds.ensures in
     let fits = words_fit _ c.in-Some.command (map bytes behind) (sym c.in-Some.ensures) (length-map behind bytes ∙ c.if-behind-kinds.false ∙ ap length kinds) in
     reason_none _ c.in-Some.command (map bytes behind) c.bad_word.result fits (rw kinds at c.bad_word.ensures.none)
 
 pub returns-clause-memory : goal.returns-clause-memory
 returns-clause-memory c =
     let behind = c.in-Some.behind.now in
-    let kinds = kinds_are c.in-Some.command bytes behind _ c.kinds-kinds.ensures in
+    let kinds = kinds_are c.in-Some.command bytes behind _ c.kinds_for-kinds.ensures in
     let fits = words_fit _ c.in-Some.command (map bytes behind) (sym c.in-Some.ensures) (length-map behind bytes ∙ c.if-behind-kinds.false ∙ ap length kinds) in
     reason_memory _ c.in-Some.command (map bytes behind) c.bad_word.result fits (rw kinds at c.bad_word.ensures.memory)

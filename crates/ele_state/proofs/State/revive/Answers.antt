@@ -8,8 +8,8 @@ use Rattle.ele_state.proofs.State.revive.Goals as goal
 pub head-head-requires : goal.head-head-requires
 head-head-requires c = held_there c.self.inside.rows c.args.file _ c.self.invariant.sound (rw (← c.self.view_is) at c.requires.held)
 
-pub freed-requires : goal.freed-requires
-freed-requires c = placed_of (world_of c.self.inside.rows) c.self.invariant.sound.formed
+pub freed-requires-clause-placed : goal.freed-requires-clause-placed
+freed-requires-clause-placed c = placed_of (world_of c.self.inside.rows) c.self.invariant.sound.formed
 
 pub add-requires : goal.add-requires
 add-requires c = follows_new c.self.inside.rows c.args.directory c.args.name (File c.args.file) c.self.invariant.sound (rw (← c.self.view_is) at c.requires.free)

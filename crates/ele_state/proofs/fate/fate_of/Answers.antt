@@ -1,5 +1,5 @@
 use Rattle.ele_state.proofs.Words.{Groups, refl, sym, ◌∙◌}
-use Rattle.ele_state.proofs.Fated.{fate_made, fate_told, fate_ungoverned}
+use Rattle.ele_state.proofs.Fated.{beside_closing, fate_made, fate_told, fate_ungoverned}
 use Rattle.ele_model.specs.declared.fate.Fate.TheVariants.{Current, Open, Marked}
 use Rattle.ele_state.proofs.fate.fate_of.Goals as goal
 
@@ -18,14 +18,19 @@ returns-in-Some-first_mark c =
     fate_told c.args.rows.now c.args.file c.args.info.now c.requires.held (Marked _ _) (rw c.in-Some.is refl, sym c.is_open.ensures ∙ c.if-is_open.false, marked)
 
 pub unreachable-requires : goal.unreachable-requires
-unreachable-requires c = fate_ungoverned c.args.rows.now c.requires.sound c.args.file c.args.info.now c.requires.held (sym c.rule.ensures ∙ c.in_default-rule.is)
+unreachable-requires c = fate_ungoverned c.args.rows.now c.requires.sound c.args.file c.args.info.now c.requires.held (rw c.in_default-beside.ensures.none refl)
+
+pub free_fate-requires : goal.free_fate-requires
+free_fate-requires c = rw c.newer_of-next.ensures (beside_closing c.args.rows.now.files c.args.file c.args.info.now c.is_live-is_live.result c.in-Some-beside.beside c.in-Some-beside.ensures.some)
 
 pub returns : goal.returns
-returns c = fate_made c.args.rows.now c.requires.sound c.args.file c.args.info.now c.requires.held (record {
-  ended = c.in-Some.ended;
-  ends = c.in-Some.is;
-  unread = sym c.is_open.ensures ∙ c.if-is_open.false;
-  unmarked = c.in_default-first_mark.ensures.none;
-  rule = c.in-Some-rule.rule;
-  ruled = sym c.rule.ensures ∙ c.in-Some-rule.is;
-}) c.free_fate.result (rw (c.cover-cover.ensures, c.closing_of.ensures, c.newer_of-next.ensures, c.next_held.ensures, c.has_newer.ensures) at c.free_fate.ensures)
+returns c =
+    let is = c.in-Some-beside.ensures.some in
+    fate_made c.args.rows.now c.requires.sound c.args.file c.args.info.now c.requires.held (record {
+      ended = c.in-Some.ended;
+      ends = c.in-Some.is;
+      unread = sym c.is_open.ensures ∙ c.if-is_open.false;
+      unmarked = c.in_default-first_mark.ensures.none;
+      rule = is.rule;
+      ruled = rw c.is_live-is_live.ensures at is.ruled;
+    }) c.free_fate.result (rw (c.cover-cover.ensures, c.newer_of-next.ensures, is.next, is.case) at c.free_fate.ensures)

@@ -1,0 +1,91 @@
+/* How long calls of the C library take, in microseconds: a small save with a history and without one, a read of 1 MiB, and a plain
+ * copy of as many bytes. */
+
+#define _POSIX_C_SOURCE 199309L
+#include <elephant.h>
+#include <stdio.h>
+#include <stdlib.h>
+#include <string.h>
+#include <time.h>
+
+enum { SAVES = 30000, READS = 200, ROUNDS = 5, LENGTH = 1 << 20 };
+
+static char bytes[LENGTH], into[LENGTH];
+
+static double now(void) {
+    struct timespec at;
+    clock_gettime(CLOCK_MONOTONIC, &at);
+    return (double)at.tv_sec * 1e6 + (double)at.tv_nsec / 1e3;
+}
+
+static void must(int32_t code) {
+    if (code == ELEPHANT_OK) return;
+    fprintf(stderr, "calls: code %d\n", (int)code);
+    exit(1);
+}
+
+static elephant *with_file(uint32_t history) {
+    elephant *e;
+    uint64_t file;
+    elephant_new(&e);
+    if (!e) exit(1);
+    must(elephant_open_largest(e, history));
+    must(elephant_create(e, "/f", 2, &file));
+    return e;
+}
+
+static void save(elephant *e, const void *content, size_t length) {
+    uint64_t handle, version;
+    must(elephant_open_write(e, "/f", 2, &handle));
+    must(elephant_write(e, handle, 0, content, length));
+    must(elephant_close_handle(e, handle, &version));
+}
+
+static double saves(uint32_t history) {
+    elephant *e = with_file(history);
+    double start = now();
+    for (int at = 0; at < SAVES; at++) save(e, "hello", 5);
+    start = (now() - start) / SAVES;
+    elephant_delete(e);
+    return start;
+}
+
+static double reads(elephant *e) {
+    uint64_t length, copied;
+    double start = now();
+    for (int at = 0; at < READS; at++) {
+        must(elephant_read(e, "/f", 2, ELEPHANT_NOW, 0, &length));
+        must(elephant_take(e, 0, into, sizeof into, &copied));
+        if (copied != LENGTH) exit(1);
+    }
+    return (now() - start) / READS;
+}
+
+static double copies(void) {
+    double start = now();
+    for (int at = 0; at < READS; at++) {
+        memcpy(into, bytes, LENGTH);
+        /* The compiler is not to leave a copy out. */
+        __asm__ volatile("" : : "r"(into) : "memory");
+    }
+    return (now() - start) / READS;
+}
+
+int main(void) {
+    elephant *e = with_file(0);
+    double read = 1e9, copy = 1e9;
+    for (int at = 0; at < LENGTH; at++) bytes[at] = (char)(at * 31 + at / 977);
+    save(e, bytes, LENGTH);
+    reads(e);
+    if (memcmp(into, bytes, LENGTH)) return 1;
+    copies();
+    for (int round = 0; round < ROUNDS; round++) {
+        double once = reads(e);
+        read = once < read ? once : read;
+        once = copies();
+        copy = once < copy ? once : copy;
+    }
+    elephant_delete(e);
+    printf("save_with_history %.4f\nsave %.4f\nread %.4f\ncopy %.4f\n", saves(1), saves(0), read, copy);
+    return 0;
+}

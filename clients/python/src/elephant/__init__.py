@@ -1,0 +1,37 @@
+"""Elephant: a store of files that keep their earlier versions, and forget them by policies.
+
+    from elephant import Store
+
+    with Store(journal="notes.journal") as store:
+        with store.open("/plan", "w") as file:
+            file.write("first\\n")
+        print(store.read("/plan"), store.versions("/plan"))
+
+docs/EMBED.md of the repository describes all of it.
+"""
+
+from ._answers import (
+    ClosedSession, DeadName, DirectoryStat, Entry, Fate, FileStat, Group, History, Current, Due, Kept, Marked, Open, Limits,
+    Mark, Pass, Recovered, Removable, Usage, Version,
+)
+from ._errors import (
+    AlreadyMember, BadLadder, BadLimits, BadMoment, BadName, BadPath, ClockBack, ClockEnd, Closed, Drafting, ElephantError, Exists,
+    Forgotten, Full, Future, GroupExists, HistoryFull, IntoItself, IsDirectory, IsRoot, JournalDamaged, JournalError, JournalLocked,
+    MarkExists, NoEntry, NoGroup, NoHandle, NoHistory, NoMark, NoMemory, NotAhead, NotDirectory, NotEmpty, NotMember, NotPast,
+    NotRestorable, NotWriter, NoVersion, Refused, Stop, Syntax, TooBig, Untold,
+)
+from ._files import File, TextFile
+from ._moments import LAST_MOMENT, Moment
+from ._policies import KeepAll, KeepOne, KeepSafe, Landmarks, Policy
+from ._sessions import Reader, Session
+from ._store import Store
+
+__all__ = [
+    "LAST_MOMENT", "AlreadyMember", "BadLadder", "BadLimits", "BadMoment", "BadName", "BadPath", "ClockBack", "ClockEnd", "Closed",
+    "ClosedSession", "DeadName", "DirectoryStat", "Drafting", "ElephantError", "Entry", "Exists", "Fate", "File", "FileStat", "Forgotten",
+    "Full", "Future", "Group", "GroupExists", "History", "HistoryFull", "IntoItself", "Current", "IsDirectory", "Due", "Kept",
+    "Marked", "Open", "IsRoot", "JournalDamaged", "JournalError", "JournalLocked", "KeepAll", "KeepOne", "KeepSafe", "Landmarks",
+    "Limits", "Mark", "MarkExists", "Moment", "NoEntry", "NoGroup", "NoHandle", "NoHistory", "NoMark", "NoMemory", "NotAhead",
+    "NotDirectory", "NotEmpty", "NotMember", "NotPast", "NotRestorable", "NotWriter", "NoVersion", "Pass", "Policy", "Reader",
+    "Recovered", "Refused", "Removable", "Session", "Stop", "Store", "Syntax", "TextFile", "TooBig", "Untold", "Usage", "Version",
+]

@@ -1,0 +1,190 @@
+"""What a store answers: named tuples."""
+
+from __future__ import annotations
+
+from typing import NamedTuple, Optional, Union
+
+from ._moments import Moment
+from ._policies import Policy
+
+
+class Limits(NamedTuple):
+    """How much a store may ever make. What is removed gives nothing back. These are the largest."""
+
+    events: int = 1_000_000_000
+    files: int = 100_000
+    directories: int = 10_000
+    names: int = 200_000
+    versions: int = 1_000_000
+    handles: int = 1_000_000
+    groups: int = 1_000
+    members: int = 100_000
+    marks: int = 10_000
+
+
+class Version(NamedTuple):
+    """A held version: when its draft was opened, when it became current, and when it ended (None: it has not)."""
+
+    number: int
+    opened: Moment
+    closed: Moment
+    ended: Optional[Moment]
+    length: int
+
+
+class FileStat(NamedTuple):
+    """A file, and one version of it."""
+
+    file: int
+    version: int
+    opened: Moment
+    closed: Moment
+    ended: Optional[Moment]
+    length: int
+    policy: Policy
+
+
+class DirectoryStat(NamedTuple):
+    """A directory, and the policy that it gives the files made in it."""
+
+    directory: int
+    default: Policy
+
+
+class Entry(NamedTuple):
+    """A name in a directory, and the number of its file or directory. `spelled` is how the store spells the name."""
+
+    name: str
+    is_directory: bool
+    number: int
+    spelled: bytes
+
+
+class DeadName(NamedTuple):
+    """A name that `undelete` brings back. `parent` is the number of the directory that it stood in."""
+
+    parent: int
+    name: str
+    is_directory: bool
+    number: int
+    spelled: bytes
+
+
+class Removable(NamedTuple):
+    """A version that may be removed since a moment: the numbers of its file and its own."""
+
+    since: Moment
+    file: int
+    number: int
+
+
+class Usage(NamedTuple):
+    """What the files of one kind of policy use: `bytes` is the sum of the lengths, `blocks` counts what they share once."""
+
+    kind: str
+    files: int
+    versions: int
+    bytes: int
+    blocks: int
+
+
+class Mark(NamedTuple):
+    """A mark of a group at a moment, which ends at `until` (None: never)."""
+
+    at: Moment
+    until: Optional[Moment]
+
+
+class Group(NamedTuple):
+    """A group with the numbers of its files, and its marks. `spelled` is how the store spells the name."""
+
+    name: str
+    members: tuple[int, ...]
+    marks: tuple[Mark, ...]
+    spelled: bytes
+
+
+class Pass(NamedTuple):
+    """How many versions a pass removed, and whether none is left that it could remove."""
+
+    removed: int
+    finished: bool
+
+
+class History(NamedTuple):
+    """How many events were folded, and the lines of those that are stored."""
+
+    folded: int
+    lines: tuple[str, ...]
+
+
+class Current(NamedTuple):
+    """The version has not ended."""
+
+    def __str__(self) -> str:
+        return "current"
+
+
+class Open(NamedTuple):
+    """A handle reads the version."""
+
+    def __str__(self) -> str:
+        return "open"
+
+
+class Marked(NamedTuple):
+    """A mark of the group protects the version, until a moment (None: for good)."""
+
+    group: str
+    at: Moment
+    until: Optional[Moment]
+
+    def __str__(self) -> str:
+        return f"marked {self.group} {self.at}" + ("" if self.until is None else f"/{self.until}")
+
+
+class Kept(NamedTuple):
+    """Its policy keeps the version until a moment (None: whatever the clock says); `level` is the level of a ladder, else None."""
+
+    until: Optional[Moment]
+    level: Optional[int]
+
+    def __str__(self) -> str:
+        return "kept" + ("" if self.until is None else f" until {self.until}") + ("" if self.level is None else f" level {self.level}")
+
+
+class Due(NamedTuple):
+    """The version may be removed since a moment.
+
+    By one of three causes: `age` seconds have passed since its end; version `by` closed in the same span at `level` of the ladder;
+    or neither, as its policy is KeepOne.
+    """
+
+    since: Moment
+    age: Optional[int] = None
+    by: Optional[int] = None
+    level: Optional[int] = None
+
+    def __str__(self) -> str:
+        cause = "at once" if self.age is None else f"by age {self.age}"
+        return f"due {self.since} " + (cause if self.by is None else f"by {self.by} level {self.level}")
+
+
+Fate = Union[Current, Open, Marked, Kept, Due]
+
+
+class ClosedSession(NamedTuple):
+    """A session that a journal left open, and the number of the version that its draft became (None: nothing was changed)."""
+
+    path: str
+    version: Optional[int]
+
+
+class Recovered(NamedTuple):
+    """What opening a journal mended: how many bytes of a change that was cut off it removed, and which sessions it closed."""
+
+    cut: int = 0
+    closed: tuple[ClosedSession, ...] = ()
+
+    def __bool__(self) -> bool:
+        return self != Recovered()

@@ -1,0 +1,169 @@
+"""A store's handle in the shared library: calls on spelled paths and numbers, which raise what is refused."""
+
+from __future__ import annotations
+
+import ctypes
+import operator
+import weakref
+from collections.abc import Callable, Iterator
+from ctypes import byref, c_uint64, c_void_p
+from typing import TYPE_CHECKING, Any, SupportsIndex
+
+from ._answers import Limits, Version
+from ._errors import BadLimits, Forgotten, Full, NoMemory, Untold, error_of
+from ._library import FILE_NAME, KeyRow, LimitsRow, StatRow, VersionRow, library
+from ._moments import Moment, moment_or_none
+from ._names import MOST_NAME
+from ._policies import KeepAll, KeepOne, KeepSafe, Landmarks, Policy
+
+if TYPE_CHECKING:
+    from _typeshed import ReadableBuffer
+
+Call = Callable[..., int]
+_TOLD_MORE = (Forgotten.number, Full.number)
+_LEAST_ROOM = 1 << 12
+
+
+def natural(value: SupportsIndex, what: str) -> int:
+    """Returns a number that the library can be given. Raises ValueError for one that is negative or too great."""
+    number = operator.index(value)
+    if not 0 <= number < 1 << 64:
+        raise ValueError(f"{what} is from 0 to {(1 << 64) - 1}, not {number}")
+    return number
+
+
+def as_bytes(data: ReadableBuffer) -> bytes:
+    """Returns the bytes of anything that has some."""
+    return data if type(data) is bytes else bytes(memoryview(data))
+
+
+class Core:
+    """An open store of the library. One call at a time."""
+
+    def __init__(self, limits: Limits, history: bool) -> None:
+        self.library = library()
+        handle = c_void_p()
+        self.library.elephant_new(byref(handle))
+        if not handle:
+            raise NoMemory(FILE_NAME)
+        self.handle: int = handle.value or 0
+        self.free = weakref.finalize(self, self.library.elephant_delete, handle)
+        self._number = c_uint64()
+        # A number is passed on more quickly than a reference.
+        self.number_at = ctypes.addressof(self._number)
+        self._second = c_uint64()
+        self._room = ctypes.create_string_buffer(_LEAST_ROOM)
+        self._stat_row: Any = StatRow()
+        self._stat_row_at = ctypes.addressof(self._stat_row)
+        self.name_room = ctypes.create_string_buffer(MOST_NAME)
+        row = LimitsRow(*(natural(number, name) for name, number in zip(limits._fields, limits)))
+        code = self.library.elephant_open(self.handle, byref(row), int(history))
+        if code == BadLimits.number:
+            raise BadLimits(f"{limits} has one above its largest")
+        if code:
+            self.refuse(code)
+
+    def refuse(self, code: int, subject: object = "") -> None:
+        """Raises the error of a code that the last call answered."""
+        detail = None
+        if code in _TOLD_MORE and self.library.elephant_detail(self.handle, self.number_at) == 0:
+            detail = self._number.value
+        raise error_of(code, subject if isinstance(subject, str) else repr(subject), detail)
+
+    def do(self, call: Call, subject: object, *words: object) -> None:
+        """Makes a call."""
+        code = call(self.handle, *words)
+        if code:
+            self.refuse(code, subject)
+
+    def ask(self, call: Call, subject: object, *words: object) -> int:
+        """Makes a call that answers one number, and returns it."""
+        code = call(self.handle, *words, self.number_at)
+        if code:
+            self.refuse(code, subject)
+        return self._number.value
+
+    def ask_two(self, call: Call, subject: object, *words: object) -> tuple[int, int]:
+        """Makes a call that answers two numbers, and returns them."""
+        self.do(call, subject, *words, self.number_at, byref(self._second))
+        return self._number.value, self._second.value
+
+    def row(self, call: Call, kind: type[ctypes.Structure], subject: object, *words: object) -> Any:
+        """Makes a call that answers a row, and returns it."""
+        row = kind()
+        self.do(call, subject, *words, byref(row))
+        return row
+
+    def rows(self, call: Call, kind: type[ctypes.Structure], count: int) -> Iterator[Any]:
+        """Yields the rows of the kept list, each in the same object."""
+        row = kind()
+        at = byref(row)
+        for index in range(count):
+            code = call(self.handle, index, at)
+            if code:
+                self.refuse(code)
+            yield row
+
+    def kept_bytes(self, call: Call, length: int) -> bytes:
+        """Returns the bytes that the handle keeps: by `take` a content, by `answer` a text."""
+        if length > len(self._room):
+            self._room = ctypes.create_string_buffer(1 << (length - 1).bit_length())
+        code = call(self.handle, 0, self._room, length, self.number_at)
+        if code:
+            self.refuse(code)
+        return ctypes.string_at(self._room, self._number.value)
+
+    def row_name(self, index: int) -> bytes:
+        """Returns the name in a row of the kept list."""
+        length = self.ask(self.library.elephant_row_bytes, "", index, self.name_room, MOST_NAME)
+        return self.name_room.raw[:length]
+
+    def read(self, subject: object, name: bytes, tag: int, number: int) -> bytes:
+        """Returns the content of a version."""
+        length = self.ask(self.library.elephant_read, subject, name, len(name), tag, number)
+        return self.kept_bytes(self.library.elephant_take, length)
+
+    def stat(self, subject: object, name: bytes, tag: int = 0, number: int = 0) -> Any:
+        """Returns the row of a path, which the next call of `stat` writes over."""
+        code = self.library.elephant_stat(self.handle, name, len(name), tag, number, self._stat_row_at)
+        if code:
+            self.refuse(code, subject)
+        return self._stat_row
+
+    def policy_of(self, row: Any) -> Policy:
+        """Returns the policy of the row that the last call of `stat` returned."""
+        if row.policy < 2:
+            return KeepAll() if row.policy else KeepOne()
+        if row.policy == 2:
+            return KeepSafe(seconds=row.seconds, floor=row.floor)
+        return Landmarks([self.ask_two(self.library.elephant_rung, "", index) for index in range(row.rungs)])
+
+    def versions(self, subject: object, name: bytes, tag: int, number: int) -> list[Version]:
+        """Returns the held versions of a file."""
+        count = self.ask(self.library.elephant_versions, subject, name, len(name), tag, number)
+        return [
+            Version(row.number, Moment(row.opened), Moment(row.closed), moment_or_none(row.ended), row.length)
+            for row in self.rows(self.library.elephant_row_version, VersionRow, count)
+        ]
+
+    def keys(self, count: int) -> list[tuple[int, int, int]]:
+        """Returns the rows of the kept list of versions that may be removed."""
+        return [(row.since, row.file, row.number) for row in self.rows(self.library.elephant_row_key, KeyRow, count)]
+
+    def line(self, line: bytes) -> bytes:
+        """Runs a line of the script language, and returns its answer."""
+        code = self.library.elephant_line(self.handle, line, len(line), self.number_at)
+        if code == Untold.number:
+            code = self.library.elephant_tell(self.handle, self.number_at)
+        if code:
+            self.refuse(code, repr(line))
+        return self.kept_bytes(self.library.elephant_answer, self._number.value)
+
+    @property
+    def number(self) -> int:
+        """The number that the last call answered."""
+        return self._number.value
+
+    def now(self) -> int:
+        """Returns the store's moment."""
+        return self.ask(self.library.elephant_now, "")

@@ -1,0 +1,113 @@
+"""Sessions and readers of a store, and what the journal keeps of their drafts."""
+
+from __future__ import annotations
+
+from dataclasses import dataclass, field
+from typing import Optional, SupportsIndex
+
+from ._answers import Limits
+from ._core import as_bytes, natural
+from ._moments import MomentLike
+from ._names import Path, path_of, spell
+from ._questions import Questions, tag_of
+from ._replay import write_lines
+from ._sessions import Reader, Session
+from ._turns import Clock, Fsync
+
+# In place of the number of a file that isn't known.
+UNKNOWN = 0
+
+
+@dataclass
+class Draft:
+    """What the sessions of a file write: their open handles, and the lines that the journal doesn't have yet."""
+
+    file: int
+    handles: set[int] = field(default_factory=set)
+    lines: list[bytes] = field(default_factory=list)
+
+
+class Drafts(Questions):
+    """A store whose files are written by sessions, which share a draft."""
+
+    def __init__(self, journal: Optional[str], limits: Limits, history: bool, clock: Clock, fsync: Fsync, wait: float) -> None:
+        self._writers: dict[int, Draft] = {}
+        """The draft of each open handle that writes."""
+        self._drafts: dict[int, Draft] = {}
+        """The draft of each file that has one."""
+        self._joint: list[bytes] = []
+        """In a store with a history, the lines of all drafts: two of them may be of one file, if one is of a file that isn't known."""
+        super().__init__(journal, limits, history, clock, fsync, wait)
+
+    def session(self, path: Path) -> Session:
+        """Opens a session, which writes the file's draft: the draft is shared by all its sessions, and read by them alone."""
+        name = spell(path)
+        with self._lock, self._change as core:
+            number = core.ask(core.library.elephant_open_write, path, name, len(name))
+            self._add_writer(core.stat(path, name).id, number)
+            self._keep(b"open write " + name)
+            return Session(self, path_of(name), number)
+
+    def _add_writer(self, file: int, handle: int) -> None:
+        if file not in self._drafts:
+            self._drafts[file] = Draft(file, set(), self._joint if self._has_history else [])
+        draft = self._drafts[file]
+        draft.handles.add(handle)
+        self._writers[handle] = draft
+
+    def reader(self, path: Path, *, at: Optional[MomentLike] = None, version: Optional[SupportsIndex] = None) -> Reader:
+        """Opens a handle that reads a version, which is not removed as long as the handle is open."""
+        name, (tag, number) = spell(path), tag_of(at, version)
+        with self._lock, self._change as core:
+            handle = core.ask(core.library.elephant_open_read, path, name, len(name), tag, number)
+            self._keep(b"open read " + name + (b"", b"@%d", b"#%d")[tag] % ((number,) if tag else ()))
+            return Reader(self, path_of(name), handle)
+
+    def _read_handle(self, handle: int) -> bytes:
+        with self._lock:
+            core = self._begin()
+            return core.kept_bytes(core.library.elephant_take, core.ask(core.library.elephant_read_handle, f"handle {handle}", handle))
+
+    def _write_handle(self, handle: int, offset: int, data: bytes) -> None:
+        place, content = natural(offset, "an offset"), as_bytes(data)
+        with self._lock, self._change as core:
+            core.do(core.library.elephant_write, f"handle {handle}", handle, place, content, len(content))
+            self._defer(handle, *(write_lines(handle, place, content) if self._journal is not None else ()))
+
+    def _truncate_handle(self, handle: int, size: int) -> None:
+        number = natural(size, "a size")
+        with self._lock, self._change as core:
+            core.do(core.library.elephant_truncate, f"handle {handle}", handle, number)
+            self._defer(handle, b"truncate %d %d" % (handle, number))
+
+    def _defer(self, handle: int, *lines: bytes) -> None:
+        """Keeps lines of a session in mind until its draft becomes a version, or until a sync."""
+        if self._journal is not None:
+            self._writers[handle].lines.extend(lines)
+
+    def _close_handle(self, handle: int) -> Optional[int]:
+        with self._lock, self._change as core:
+            version = core.ask(core.library.elephant_close_handle, f"handle {handle}", handle)
+            self._keep_close(handle, bool(version))
+            return version or None
+
+    def _keep_close(self, handle: int, makes_version: bool) -> None:
+        """Keeps the close of a handle. What sessions wrote is kept with the close of the last one, as that makes the version."""
+        line, draft = b"close %d" % handle, self._writers.get(handle)
+        if draft is None:
+            self._keep(line)
+            return
+        self._defer(handle, line)
+        del self._writers[handle]
+        draft.handles.discard(handle)
+        if not draft.handles:
+            del self._drafts[draft.file]
+        if makes_version or not draft.handles:
+            self._flush(draft)
+
+    def _flush(self, draft: Draft) -> None:
+        """Keeps the lines that the journal doesn't have yet."""
+        lines = draft.lines[:]
+        draft.lines.clear()
+        if lines:
+            self._keep(*lines)

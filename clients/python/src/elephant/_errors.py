@@ -1,0 +1,249 @@
+"""What a store refuses, one class for each number, and what can go wrong with a journal."""
+
+from __future__ import annotations
+
+import errno
+from typing import Optional
+
+
+class ElephantError(Exception):
+    """Base of all errors of this package.
+
+    `number` and `name` are those of the store's answer, as `5` and `NoEntry`. An error of the journal has the number 0.
+    After a refusal the store is as it was.
+    """
+
+    number: int = 0
+    name: str = ""
+
+    def __init__(self, subject: str = "") -> None:
+        super().__init__(subject)
+        self.subject = subject
+
+    def __init_subclass__(cls, number: int = 0) -> None:
+        super().__init_subclass__()
+        cls.number, cls.name = number, cls.__name__
+        if number:
+            BY_NUMBER[number] = cls
+
+    def __str__(self) -> str:
+        words = f"{self.number} {self.name}{self._detail()}" if self.number else self.name
+        return ": ".join(filter(None, (words, self.subject)))
+
+    def _detail(self) -> str:
+        return ""
+
+
+BY_NUMBER: dict[int, type[ElephantError]] = {}
+
+
+class Stop(ElephantError):
+    """The command was not run. Of a pass, `removed` says how many versions it removed before."""
+
+    removed: int = 0
+
+
+class NoMemory(Stop, MemoryError, number=1):
+    """There was no memory for the command."""
+
+
+class HistoryFull(Stop, number=2):
+    """The history has as many events as the limits allow."""
+
+
+class Refused(ElephantError):
+    """The store refused the command, and changed nothing."""
+
+
+class ClockBack(Refused, number=3):
+    """The moment is earlier than now."""
+
+
+class ClockEnd(Refused, number=4):
+    """The moment would be past the last one."""
+
+
+class NoEntry(Refused, FileNotFoundError, number=5):
+    """There is no such name."""
+
+    errno = errno.ENOENT
+
+
+class NotDirectory(Refused, NotADirectoryError, number=6):
+    """A file is where a directory is wanted."""
+
+    errno = errno.ENOTDIR
+
+
+class IsDirectory(Refused, IsADirectoryError, number=7):
+    """A directory is where a file is wanted."""
+
+    errno = errno.EISDIR
+
+
+class Exists(Refused, FileExistsError, number=8):
+    """The name is taken."""
+
+    errno = errno.EEXIST
+
+
+class NotEmpty(Refused, number=9):
+    """The directory has names."""
+
+
+class IntoItself(Refused, number=10):
+    """The directory would lie in itself."""
+
+
+class IsRoot(Refused, number=11):
+    """The root has no name."""
+
+
+class Future(Refused, number=12):
+    """The moment is later than now."""
+
+
+class Forgotten(Refused, number=13):
+    """The version was removed. `last` is the greatest held number before it, or None."""
+
+    last: Optional[int] = None
+
+    def _detail(self) -> str:
+        return f" {'-' if self.last is None else self.last}"
+
+
+class NoVersion(Refused, number=14):
+    """The file never had that version."""
+
+
+class NoHandle(Refused, number=15):
+    """There is no such handle."""
+
+
+class NotWriter(Refused, number=16):
+    """The handle is one for reading."""
+
+
+class TooBig(Refused, number=17):
+    """The content would be longer than 1,048,576 bytes."""
+
+
+class Drafting(Refused, number=18):
+    """A session has a draft of the file."""
+
+
+class NotRestorable(Refused, number=19):
+    """The name can't be restored."""
+
+
+class NoGroup(Refused, number=20):
+    """There is no such group."""
+
+
+class GroupExists(Refused, number=21):
+    """There is such a group already."""
+
+
+class NoMark(Refused, number=22):
+    """The group has no mark at that moment."""
+
+
+class MarkExists(Refused, number=23):
+    """The group has a mark at that moment already."""
+
+
+class NotPast(Refused, number=24):
+    """The moment of the mark is not earlier than now."""
+
+
+class AlreadyMember(Refused, number=25):
+    """The file is in the group already."""
+
+
+class NotMember(Refused, number=26):
+    """The file is not in the group."""
+
+
+class Full(Refused, number=27):
+    """A limit is reached. `what` is its name: `files`, `directories`, `names`, `versions`, `handles`, `groups`, `members`, `marks`."""
+
+    what: str = ""
+
+    def _detail(self) -> str:
+        return f" {self.what}"
+
+
+class BadName(Refused, ValueError, number=28):
+    """A name is empty or has more than 64 bytes as it is spelled."""
+
+
+class BadPath(Refused, ValueError, number=29):
+    """A path begins without a slash, or has an empty name or more than 32 names."""
+
+
+class BadMoment(Refused, ValueError, number=30):
+    """A moment is before 1970 or after 9999."""
+
+
+class BadLadder(Refused, ValueError, number=31):
+    """No policy has these numbers."""
+
+
+class Syntax(Refused, ValueError, number=32):
+    """An argument has not the form of its kind."""
+
+
+class NotAhead(Refused, number=41):
+    """The moment is not later than now (the end of a mark) or earlier than now (`ahead`)."""
+
+
+class Closed(ElephantError, ValueError, number=64):
+    """The store, or the handle, is closed."""
+
+
+class BadLimits(ElephantError, ValueError, number=66):
+    """A limit is above its largest."""
+
+
+class NoHistory(ElephantError, ValueError, number=67):
+    """The store was opened without a history."""
+
+
+class Untold(ElephantError, MemoryError, number=71):
+    """The line was run, and there was no memory for the text of its answer."""
+
+
+class JournalError(ElephantError):
+    """The journal can't be used, or the store is no longer in step with it. Open the store again."""
+
+
+class JournalLocked(JournalError, BlockingIOError):
+    """Another store has the journal."""
+
+    errno = errno.EWOULDBLOCK
+
+
+class JournalDamaged(JournalError):
+    """A line of the journal is damaged, and whole changes follow it; or the file is no journal.
+
+    `line` is its number, from 1, and `offset` the place in the file at which its change begins.
+    """
+
+    def __init__(self, subject: str = "", line: int = 0, offset: int = 0) -> None:
+        super().__init__(subject)
+        self.line, self.offset = line, offset
+
+
+LIMIT_NAMES = ("", "files", "directories", "names", "versions", "handles", "groups", "members", "marks")
+
+
+def error_of(number: int, subject: str = "", detail: Optional[int] = None) -> ElephantError:
+    """Returns the error with that number."""
+    error = BY_NUMBER.get(number, ElephantError)(subject)
+    if type(error) is ElephantError:
+        error.number, error.name = number, "Unexpected"
+    elif isinstance(error, Forgotten):
+        error.last = detail or None
+    elif isinstance(error, Full):
+        error.what = LIMIT_NAMES[detail or 0]
+    return error

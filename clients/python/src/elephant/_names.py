@@ -1,0 +1,72 @@
+"""How a path is spelled by the bytes that the store has.
+
+A name of the store has 1 to 64 bytes from `!` to `~` without `/`, `@` and `#`. Other characters, and `%` itself, are spelled as UTF-8
+with a percent sign and two hexadecimal digits for each byte, as in a URL: `my file` is `my%20file`. A path that is given as `bytes`
+is taken as it is spelled.
+"""
+
+from __future__ import annotations
+
+import functools
+import os
+import re
+from typing import Union
+
+from ._errors import BadName, BadPath
+
+Path = Union[str, bytes, "os.PathLike[str]", "os.PathLike[bytes]"]
+
+MOST_NAME = 64
+_OWN = re.compile(rb"[^!-~]|[/@#%]")
+_SPELLED = re.compile(rb"%([0-9A-F]{2})")
+
+
+def spell_name(name: str) -> bytes:
+    """Returns how a name is spelled. Raises BadName if that is no byte or too many."""
+    if name in (".", ".."):
+        return b"%2E" * len(name)
+    spelled = _OWN.sub(lambda found: b"%%%02X" % found[0][0], name.encode("utf-8", "surrogateescape"))
+    if not 1 <= len(spelled) <= MOST_NAME:
+        raise BadName(f"{name!r} takes {len(spelled)} bytes as it is spelled, and a name has 1 to {MOST_NAME}")
+    return spelled
+
+
+@functools.lru_cache(maxsize=4096)
+def _spell_text(path: str) -> bytes:
+    if not path.startswith("/"):
+        raise BadPath(f"{path!r} does not begin with a slash")
+    if path == "/":
+        return b"/"
+    names = path[1:].split("/")
+    if "" in names:
+        raise BadPath(f"{path!r} has an empty name")
+    return b"/" + b"/".join(map(spell_name, names))
+
+
+def spell(path: Path) -> bytes:
+    """Returns how a path is spelled."""
+    if type(path) is str:
+        return _spell_text(path)
+    found = os.fspath(path)
+    if isinstance(found, str):
+        return _spell_text(found)
+    if any(byte not in range(0x21, 0x7F) for byte in found):
+        raise BadPath(f"{found!r} has a byte that no path has")
+    return bytes(found)
+
+
+@functools.lru_cache(maxsize=4096)
+def name_of(spelled: bytes) -> str:
+    """Returns the name that was spelled so. A name that `spell_name` never spells is returned as it is."""
+    raw = _SPELLED.sub(lambda found: bytes((int(found[1], 16),)), spelled)
+    name = raw.decode("utf-8", "surrogateescape")
+    try:
+        return name if "/" not in spelled.decode("ascii") and name and spell_name(name) == spelled else spelled.decode("ascii")
+    except BadName:
+        return spelled.decode("ascii")
+
+
+@functools.lru_cache(maxsize=4096)
+def path_of(spelled: bytes) -> str:
+    """Returns the path that was spelled so."""
+    return "/".join(name_of(name) if name else "" for name in spelled.split(b"/"))

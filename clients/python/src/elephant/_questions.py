@@ -1,0 +1,171 @@
+"""What a store is asked. No question changes it."""
+
+from __future__ import annotations
+
+from collections.abc import Callable
+from typing import Any, Optional, SupportsIndex, Union
+
+from ._answers import (
+    DeadName, DirectoryStat, Entry, Fate, FileStat, Group, History, Current, Due, Kept, Marked, Open, Mark, Removable, Usage, Version,
+)
+from ._core import Core, natural
+from ._errors import NoHistory
+from ._library import AT, NOW, VERSION, GroupRow, MarkRow, NameRow, UsageRow, WhyRow
+from ._moments import NEVER, Moment, MomentLike, moment_or_none, seconds_of
+from ._names import Path, name_of, spell
+from ._turns import Turns
+
+_KINDS = ("one", "all", "safe", "landmarks")
+
+# In the class `list` is a method.
+Entries = list[Entry]
+DeadNames = list[DeadName]
+Versions = list[Version]
+Removables = list[Removable]
+Usages = list[Usage]
+Groups = list[Group]
+NameRows = list[tuple[int, bool, int, bytes]]
+
+
+def tag_of(at: Optional[MomentLike], version: Optional[SupportsIndex] = None) -> tuple[int, int]:
+    """Returns the tag and the number by which the library finds a version."""
+    if version is not None:
+        if at is not None:
+            raise TypeError("give a moment or the number of a version, not both")
+        return VERSION, natural(version, "the number of a version")
+    return (NOW, 0) if at is None else (AT, seconds_of(at))
+
+
+class Questions(Turns):
+    """The questions of a store.
+
+    Each that takes a path may be asked of a moment in the past (`at`, an int or an aware datetime), and some of a version by its number
+    (`version`). Without either it is asked of now.
+    """
+
+    @property
+    def now(self) -> Moment:
+        """The store's moment."""
+        with self._lock:
+            self._begin()
+            return Moment(self._now)
+
+    def read(self, path: Path, *, at: Optional[MomentLike] = None, version: Optional[SupportsIndex] = None) -> bytes:
+        """Returns the content of a version. Raises Forgotten if it was removed; no other version is ever returned for it."""
+        name, (tag, number) = spell(path), tag_of(at, version)
+        with self._lock:
+            core = self._begin()
+            return core.read(path, name, tag, number)
+
+    def stat(
+        self, path: Path, *, at: Optional[MomentLike] = None, version: Optional[SupportsIndex] = None
+    ) -> Union[FileStat, DirectoryStat]:
+        """Describes a version of a file, with the file's policy, or a directory."""
+        name, (tag, number) = spell(path), tag_of(at, version)
+        with self._lock:
+            core = self._begin()
+            row = core.stat(path, name, tag, number)
+            policy = core.policy_of(row)
+            if row.is_directory:
+                return DirectoryStat(row.id, policy)
+            return FileStat(row.id, row.version, Moment(row.opened), Moment(row.closed), moment_or_none(row.ended), row.length, policy)
+
+    def versions(self, path: Path, *, at: Optional[MomentLike] = None) -> Versions:
+        """Returns the held versions of the file that has the name, or had it at a moment."""
+        name, (tag, number) = spell(path), tag_of(at)
+        with self._lock:
+            core = self._begin()
+            return core.versions(path, name, tag, number)
+
+    def list(self, path: Path = "/", *, at: Optional[MomentLike] = None) -> Entries:
+        """Returns the names in a directory, now or at a moment, in the order of their bytes."""
+        name, (tag, number) = spell(path), tag_of(at)
+        with self._lock:
+            core = self._begin()
+            rows = self._names(core, core.ask(core.library.elephant_list, path, name, len(name), tag, number))
+        return [Entry(name_of(spelled), is_directory, target, spelled) for _, is_directory, target, spelled in rows]
+
+    def restorable(self) -> DeadNames:
+        """Returns the names that `undelete` brings back, by directory and name."""
+        with self._lock:
+            core = self._begin()
+            rows = self._names(core, core.ask(core.library.elephant_restorable, ""))
+        return [DeadName(parent, name_of(spelled), is_directory, target, spelled) for parent, is_directory, target, spelled in rows]
+
+    @staticmethod
+    def _names(core: Core, count: int) -> NameRows:
+        rows = core.rows(core.library.elephant_row_name, NameRow, count)
+        return [(row.directory, bool(row.is_directory), row.id, core.row_name(index)) for index, row in enumerate(rows)]
+
+    def due(self) -> Removables:
+        """Returns the versions that may be removed now, in the order in which `clean` removes them."""
+        with self._lock:
+            core = self._begin()
+            keys = core.keys(core.ask(core.library.elephant_due, ""))
+        return [Removable(Moment(since), file, number) for since, file, number in keys]
+
+    def ahead(self, moment: MomentLike) -> Removables:
+        """Returns what `due` will return at a moment if nothing but the clock changes."""
+        seconds = seconds_of(moment)
+        with self._lock:
+            core = self._begin()
+            keys = core.keys(core.ask(core.library.elephant_ahead, moment, seconds))
+        return [Removable(Moment(since), file, number) for since, file, number in keys]
+
+    def why(self, path: Path, *, at: Optional[MomentLike] = None, version: Optional[SupportsIndex] = None) -> Fate:
+        """Explains why a version stays, or since when it may be removed."""
+        name, (tag, number) = spell(path), tag_of(at, version)
+        with self._lock:
+            core = self._begin()
+            row = core.row(core.library.elephant_why, WhyRow, path, name, len(name), tag, number)
+            fate: Fate = _FATES[row.fate](core, row)
+            return fate
+
+    def usage(self) -> Usages:
+        """Counts what the files of each kind of policy use: KeepOne, KeepAll, KeepSafe, Landmarks."""
+        with self._lock:
+            core = self._begin()
+            rows = core.rows(core.library.elephant_row_usage, UsageRow, core.ask(core.library.elephant_usage, ""))
+            return [Usage(kind, row.files, row.versions, row.bytes, row.blocks) for kind, row in zip(_KINDS, rows)]
+
+    def groups(self) -> Groups:
+        """Returns the groups with their files and marks, in order of making."""
+        with self._lock:
+            core = self._begin()
+            count = core.ask(core.library.elephant_groups, "")
+            rows = enumerate(core.rows(core.library.elephant_row_group, GroupRow, count))
+            return [self._group(core, index, row.members, row.marks) for index, row in rows]
+
+    @staticmethod
+    def _group(core: Core, index: int, members: int, marks: int) -> Group:
+        spelled = core.row_name(index)
+        files = tuple(core.ask(core.library.elephant_row_member, "", index, member) for member in range(members))
+        rows = [core.row(core.library.elephant_row_mark, MarkRow, "", index, mark) for mark in range(marks)]
+        return Group(name_of(spelled), files, tuple(Mark(Moment(row.moment), moment_or_none(row.until)) for row in rows), spelled)
+
+    def history(self) -> History:
+        """Returns the lines of all events that were answered, also of questions. The store needs `history=True`."""
+        with self._lock:
+            core = self._begin()
+            first, *rows = core.line(b"history").decode("ascii").splitlines()
+        if not first.startswith("ok history "):
+            raise NoHistory("history")
+        return History(int(first.split()[2]), tuple(row[2:] for row in rows))
+
+
+def _marked(core: Core, row: Any) -> Fate:
+    length = core.ask(core.library.elephant_why_group, "", core.name_room, len(core.name_room))
+    return Marked(name_of(core.name_room.raw[:length]), Moment(row.moment), moment_or_none(row.until))
+
+
+def _kept(_: Core, row: Any) -> Fate:
+    return Kept(moment_or_none(row.until), None if row.level == NEVER else row.level)
+
+
+def _due(_: Core, row: Any) -> Fate:
+    if row.cause == 0:
+        return Due(Moment(row.moment))
+    return Due(Moment(row.moment), age=row.seconds) if row.cause == 1 else Due(Moment(row.moment), by=row.by, level=row.level)
+
+
+_FATES: tuple[Callable[[Core, Any], Fate], ...] = (lambda *_: Current(), lambda *_: Open(), _marked, _kept, _due)

@@ -1,0 +1,216 @@
+"""How a content becomes a version: by a file object, or at once."""
+
+from __future__ import annotations
+
+import os
+from functools import partial
+from typing import TYPE_CHECKING, Literal, NamedTuple, Optional, SupportsIndex, Union, overload
+
+from ._core import Core, as_bytes
+from ._drafts import UNKNOWN, Drafts
+from ._errors import Drafting, ElephantError, Exists, IsDirectory, NoEntry, TooBig
+from ._files import MOST_BYTES, File, Mode, TextFile, mode_of
+from ._library import NO_ENTRY, NOW
+from ._moments import MomentLike
+from ._names import Path, path_of, spell
+from ._replay import write_lines
+
+if TYPE_CHECKING:
+    from _typeshed import ReadableBuffer
+
+SLOT = 512
+BinaryMode = Literal["rb", "wb", "ab", "xb", "r+b", "w+b", "a+b", "x+b", "rb+", "wb+", "ab+", "xb+"]
+TextMode = Literal["r", "w", "a", "x", "r+", "w+", "a+", "x+", "rt", "wt", "at", "xt"]
+
+
+class _Base(NamedTuple):
+    """What a file held when it was opened: its number, its version's, and the content."""
+
+    file: int
+    version: int
+    content: bytes
+
+
+# What a file held that is to be written anew.
+_CUT_OFF = _Base(0, 0, b"")
+
+
+class Saves(Drafts):
+    """A store whose files are written and read as Python's are."""
+
+    @overload
+    def open(
+        self, path: Path, mode: TextMode = "r", *, at: Optional[MomentLike] = None, version: Optional[SupportsIndex] = None,
+        encoding: str = "utf-8", errors: Optional[str] = None, newline: Optional[str] = None,
+    ) -> TextFile: ...
+
+    @overload
+    def open(
+        self, path: Path, mode: BinaryMode, *, at: Optional[MomentLike] = None, version: Optional[SupportsIndex] = None,
+        encoding: str = "utf-8", errors: Optional[str] = None, newline: Optional[str] = None,
+    ) -> File: ...
+
+    @overload
+    def open(
+        self, path: Path, mode: str, *, at: Optional[MomentLike] = None, version: Optional[SupportsIndex] = None,
+        encoding: str = "utf-8", errors: Optional[str] = None, newline: Optional[str] = None,
+    ) -> Union[File, TextFile]: ...
+
+    def open(
+        self, path: Path, mode: str = "r", *, at: Optional[MomentLike] = None, version: Optional[SupportsIndex] = None,
+        encoding: str = "utf-8", errors: Optional[str] = None, newline: Optional[str] = None,
+    ) -> Union[File, TextFile]:
+        """Opens a version to be read, or a file to be written, with the modes of Python's `open`.
+
+        The content is copied. What is written is kept in the file object; its close makes one version of all of it, and an exception
+        in its `with` block none. Only `r` and `rb` take `at` or `version`.
+        """
+        wanted = mode_of(mode)
+        name = spell(path)
+        if not wanted.writes:
+            file = File(path_of(name), wanted, self.read(path, at=at, version=version))
+        else:
+            if at is not None or version is not None:
+                raise ValueError("only the current version can be written")
+            base = self._base(path, name, wanted)
+            content = b"" if base is None or wanted.kind in "wx" else base.content
+            file = File(path_of(name), wanted, content, partial(self._commit, path, name, wanted.kind, base), base is None)
+            if wanted.kind == "a":
+                file.seek(0, os.SEEK_END)
+        return TextFile(file, encoding, errors, newline) if wanted.is_text else file
+
+    def _base(self, path: Path, name: bytes, mode: Mode) -> Optional[_Base]:
+        """Returns what the file holds, or None if it is to be made. Raises what the mode or the path is refused for."""
+        with self._lock:
+            core = self._begin()
+            try:
+                row = core.stat(path, name)
+            except NoEntry:
+                if mode.kind == "r" or not core.stat(path, name.rpartition(b"/")[0] or b"/").is_directory:
+                    raise
+                return None
+            if row.is_directory:
+                raise IsDirectory(path_of(name))
+            if mode.kind == "x":
+                raise Exists(path_of(name))
+            if mode.kind == "w":
+                return _CUT_OFF
+            file, version = row.id, row.version
+            return _Base(file, version, core.read(path, name, NOW, 0))
+
+    def save(self, path: Path, content: ReadableBuffer) -> int:
+        """Makes the content the file's newest version, whole or not at all, and returns its number. Makes the file if it doesn't exist.
+
+        An empty content makes no version of a file that is empty. If the file was made and there is no memory for the content, it is empty.
+        """
+        name, data = spell(path), as_bytes(content)
+        with self._lock, self._change as core:
+            return self._save(core, path, name, data, 0, len(data))
+
+    def _commit(self, path: Path, name: bytes, kind: str, base: Optional[_Base], content: bytes) -> int:
+        """Makes a version of what a file object has. If the file is as it was opened, only what differs is written."""
+        with self._lock, self._change as core:
+            if base is not None and kind != "w":
+                row = core.stat(path, name)
+                if (row.id, row.version) == (base.file, base.version):
+                    start, end = _changed(base.content, content)
+                    return self._save(core, path, name, content[start:end], start, len(content))
+            return self._save(core, path, name, content, 0, len(content), must_create=kind == "x")
+
+    def _save(self, core: Core, path: Path, name: bytes, data: bytes, offset: int, size: int, must_create: bool = False) -> int:
+        """Writes data into the draft of a file, which then has that size, and closes it. All of it is one change of the journal."""
+        if size > MOST_BYTES:
+            raise TooBig(f"{path_of(name)}: a content has at most {MOST_BYTES} bytes")
+        if self._drafts:
+            self._refuse_draft(core, path, name)
+        lines: list[bytes] = []
+        try:
+            handle = self._open_or_create(core, path, name, size, lines, must_create)
+            version = self._fill(core, path, name, handle, data, offset, size, lines) if handle else 1
+        except ElephantError:
+            if lines and self._failure is None:
+                self._keep(*lines)
+            raise
+        self._keep(*lines)
+        return version or int(core.stat(path, name).version)
+
+    def _refuse_draft(self, core: Core, path: Path, name: bytes) -> None:
+        if UNKNOWN in self._drafts:
+            self._flush(self._drafts[UNKNOWN])
+        try:
+            file = core.stat(path, name).id
+        except NoEntry:
+            return
+        if file in self._drafts:
+            raise Drafting(path_of(name))
+
+    @staticmethod
+    def _open_or_create(core: Core, path: Path, name: bytes, size: int, lines: list[bytes], must_create: bool) -> int:
+        """Returns a handle that writes the file, or 0 if the file was made and is to be empty."""
+        code = NO_ENTRY if must_create else core.library.elephant_open_write(core.handle, name, len(name), core.number_at)
+        if code == NO_ENTRY:
+            core.ask(core.library.elephant_create, path, name, len(name))
+            lines.append(b"create " + name)
+            if not size:
+                return 0
+            code = core.library.elephant_open_write(core.handle, name, len(name), core.number_at)
+        if code:
+            core.refuse(code, path)
+        lines.append(b"open write " + name)
+        return core.number
+
+    def _fill(
+        self, core: Core, path: Path, name: bytes, handle: int, data: bytes, offset: int, size: int, lines: list[bytes]
+    ) -> int:
+        """Fills a draft and closes it. If that fails, the draft gets the content that the file has, so that no version has a part."""
+        library, is_changed = core.library, False
+        try:
+            if data:
+                core.do(library.elephant_write, path, handle, offset, data, len(data))
+                is_changed = True
+                if self._journal is not None:
+                    lines.extend(write_lines(handle, offset, data))
+            core.do(library.elephant_truncate, path, handle, size)
+            is_changed = True
+            lines.append(b"truncate %d %d" % (handle, size))
+            version = core.ask(library.elephant_close_handle, path, handle)
+        except ElephantError:
+            self._undo(core, path, name, handle, is_changed, lines)
+            raise
+        lines.append(b"close %d" % handle)
+        if data and not version:  # a session that was opened by a line of a store with a history has the draft
+            raise Drafting(f"{path_of(name)}, and the draft has the content")
+        return version
+
+    def _undo(self, core: Core, path: Path, name: bytes, handle: int, is_changed: bool, lines: list[bytes]) -> None:
+        """Closes the draft of a save that failed, with the content that the file has."""
+        library = core.library
+        try:
+            if is_changed:
+                content = core.read(path, name, NOW, 0)
+                core.do(library.elephant_write, path, handle, 0, content, len(content))
+                lines.extend(write_lines(handle, 0, content))
+                core.do(library.elephant_truncate, path, handle, len(content))
+                lines.append(b"truncate %d %d" % (handle, len(content)))
+            core.ask(library.elephant_close_handle, path, handle)
+            lines.append(b"close %d" % handle)
+        except ElephantError:
+            # The draft stays open, so that it is nobody's version.
+            self._fail("there was no memory to undo a save")
+            self._add_writer(core.stat(path, name).id, handle)
+            raise
+
+
+def _changed(old: bytes, new: bytes) -> tuple[int, int]:
+    """Returns the part of the new content that differs, in whole slots; of two that are equal the first byte, as it was written."""
+    shorter = min(len(old), len(new))
+    start = 0
+    while start < shorter and old[start:start + SLOT] == new[start:start + SLOT]:
+        start += SLOT
+    start = min(start, shorter)
+    if start == len(new):
+        return (0, min(1, len(new))) if len(old) == len(new) else (start, start)
+    end = len(new)
+    while len(old) == len(new) and end - SLOT > start and old[end - SLOT:end] == new[end - SLOT:end]:
+        end -= SLOT
+    return start, end

@@ -1,0 +1,78 @@
+"""Handles of a store: a session, which writes a draft that it may share, and a reader, which keeps a version from being removed."""
+
+from __future__ import annotations
+
+from types import TracebackType
+from typing import TYPE_CHECKING, Optional
+
+from ._errors import Closed
+
+if TYPE_CHECKING:
+    from ._drafts import Drafts
+
+
+class Handle:
+    """An open handle. It is closed by `close` or at the end of a `with` block."""
+
+    def __init__(self, store: Drafts, path: str, number: int) -> None:
+        self._store, self.path, self.number = store, path, number
+        self.is_closed = False
+
+    def _checked(self) -> Drafts:
+        if self.is_closed:
+            raise Closed(f"handle {self.number} of {self.path}")
+        return self._store
+
+    def read(self) -> bytes:
+        """Returns what the handle reads: of a session the draft."""
+        return self._checked()._read_handle(self.number)
+
+    def _close(self) -> Optional[int]:
+        version = self._checked()._close_handle(self.number)
+        self.is_closed = True
+        return version
+
+    def __exit__(self, kind: Optional[type[BaseException]], fault: Optional[BaseException], trace: Optional[TracebackType]) -> None:
+        if not self.is_closed and not self._store.is_closed:
+            self._close()
+
+
+class Reader(Handle):
+    """Reads one version, which is not removed as long as the reader is open."""
+
+    def close(self) -> None:
+        """Closes the handle."""
+        self._close()
+
+    def __enter__(self) -> Reader:
+        return self
+
+
+class Session(Handle):
+    """Writes a draft of a file, which all its sessions share. The draft becomes a version when the last of them is closed.
+
+    A session can't be given up: what was written becomes a version, also if a `with` block ends by an exception.
+    """
+
+    version: Optional[int] = None
+    """After a close, the number of the version that this made, or None: nothing was written, or another session has the draft."""
+
+    def write(self, data: bytes, offset: int = 0) -> None:
+        """Lays the bytes over the draft from the offset on. Zeros fill what is between."""
+        self._checked()._write_handle(self.number, offset, data)
+
+    def truncate(self, size: int) -> None:
+        """Gives the draft that many bytes: its first ones, or all and then zeros."""
+        self._checked()._truncate_handle(self.number, size)
+
+    def close(self) -> Optional[int]:
+        """Closes the handle, and returns the number of the version that this made, if it made one."""
+        self.version = self._close()
+        return self.version
+
+    def __exit__(self, kind: Optional[type[BaseException]], fault: Optional[BaseException], trace: Optional[TracebackType]) -> None:
+        if not self.is_closed and not self._store.is_closed:
+            self.close()
+
+    def __enter__(self) -> Session:
+        return self

@@ -1,0 +1,279 @@
+"""A store: files that keep their earlier versions, in memory or kept in a journal."""
+
+from __future__ import annotations
+
+import os
+from ctypes import byref, c_uint64
+from types import TracebackType
+from typing import Optional, SupportsIndex, Union
+
+from ._answers import Limits, Pass, Removable
+from ._core import Core, natural
+from ._drafts import UNKNOWN
+from ._errors import Stop, error_of
+from ._library import KeyRow
+from ._moments import NEVER, Moment, MomentLike, seconds_of
+from ._names import Path, spell, spell_name
+from ._policies import Policy
+from ._replay import QUESTIONS
+from ._saves import Saves
+from ._turns import Clock, Fsync
+
+
+class Store(Saves):
+    """A store of files that keep their earlier versions.
+
+    `journal`: the path of the file that it is kept in; without one it ends with this object. `limits`: how much it may ever make.
+    `history`: it also keeps all events, which `history` returns. `clock`: with `"system"` each call first moves the store's clock to the
+    time of day, never back; with `"manual"` it begins at 0 and is moved by `clock` and `tick` alone. `fsync`: with `"always"` a change
+    is on the disk before the call returns, with `"sync"` only after a `sync`. `wait`: for how many seconds to wait for a journal that
+    another store has.
+
+    Many threads may call a store. Paths begin with a slash. A moment is an int, of seconds since 1970, or an aware datetime.
+    """
+
+    def __init__(
+        self,
+        journal: Optional[Union[str, "os.PathLike[str]"]] = None,
+        *,
+        limits: Optional[Limits] = None,
+        history: bool = False,
+        clock: Clock = "system",
+        fsync: Fsync = "always",
+        wait: float = 0.0,
+    ) -> None:
+        path = None if journal is None else os.fspath(journal)
+        super().__init__(path, limits or Limits(), history, clock, fsync, wait)
+
+    def __enter__(self) -> Store:
+        return self
+
+    def __exit__(self, kind: Optional[type[BaseException]], fault: Optional[BaseException], trace: Optional[TracebackType]) -> None:
+        self.close()
+
+    def close(self) -> None:
+        """Closes the store. With a journal, sessions that are open are closed first, as the next opening would, and all is synced."""
+        with self._lock:
+            if self.is_closed:
+                return
+            try:
+                if self._journal is not None and self._failure is None:
+                    for handle in sorted(self._writers):
+                        self._close_handle(handle)
+                    self._journal.sync()
+            finally:
+                self._release()
+
+    def sync(self) -> None:
+        """Has all that was answered on the disk, also what open sessions wrote. What they wrote becomes a version if they are cut off."""
+        with self._lock, self._change:
+            for draft in self._drafts.values():
+                self._flush(draft)
+            if self._journal is not None:
+                self._journal.sync()
+
+    # The clock.
+
+    def clock(self, moment: MomentLike) -> Moment:
+        """Moves the clock to a moment, and returns the moment that it is. Raises ClockBack for one that is earlier than now."""
+        seconds = seconds_of(moment)
+        with self._lock, self._change as core:
+            core.do(core.library.elephant_clock, moment, seconds)
+            self._keep_clock(seconds)
+            return Moment(seconds)
+
+    def tick(self, seconds: SupportsIndex) -> Moment:
+        """Moves the clock on by seconds, and returns the moment that it is."""
+        number = natural(seconds, "a number of seconds")
+        with self._lock, self._change as core:
+            core.do(core.library.elephant_tick, number, number)
+            self._keep_clock(core.now())
+            return Moment(self._now)
+
+    # Names.
+
+    def mkdir(self, path: Path) -> int:
+        """Makes a directory, and returns its number."""
+        name = spell(path)
+        with self._lock, self._change as core:
+            number = core.ask(core.library.elephant_mkdir, path, name, len(name))
+            self._keep(b"mkdir " + name)
+            return number
+
+    def rmdir(self, path: Path) -> None:
+        """Removes the name of a directory that has no names."""
+        name = spell(path)
+        with self._lock, self._change as core:
+            core.do(core.library.elephant_rmdir, path, name, len(name))
+            self._keep(b"rmdir " + name)
+
+    def create(self, path: Path) -> int:
+        """Makes a file, whose version 1 is empty, and returns its number."""
+        name = spell(path)
+        with self._lock, self._change as core:
+            number = core.ask(core.library.elephant_create, path, name, len(name))
+            self._keep(b"create " + name)
+            return number
+
+    def link(self, path: Path, new: Path) -> None:
+        """Gives a file another name."""
+        name, other = spell(path), spell(new)
+        with self._lock, self._change as core:
+            core.do(core.library.elephant_link, (path, new), name, len(name), other, len(other))
+            self._keep(b"link %b %b" % (name, other))
+
+    def unlink(self, path: Path) -> None:
+        """Ends a name of a file. With its last name its current version ends."""
+        name = spell(path)
+        with self._lock, self._change as core:
+            core.do(core.library.elephant_unlink, path, name, len(name))
+            self._keep(b"unlink " + name)
+
+    def rename(self, path: Path, new: Path) -> None:
+        """Gives a file or a directory a name in place of another. Nothing is ever replaced by it."""
+        name, other = spell(path), spell(new)
+        with self._lock, self._change as core:
+            core.do(core.library.elephant_rename, (path, new), name, len(name), other, len(other))
+            self._keep(b"rename %b %b" % (name, other))
+
+    def undelete(self, path: Path) -> Optional[int]:
+        """Brings a dead name back. Returns the number of the version that a file gets which had no name, else None."""
+        name = spell(path)
+        with self._lock, self._change as core:
+            version = core.ask(core.library.elephant_undelete, path, name, len(name))
+            self._keep(b"undelete " + name)
+            return version or None
+
+    # Older contents.
+
+    def revert(self, path: Path, version: SupportsIndex) -> int:
+        """Makes an older content the newest version, and returns its number."""
+        name, number = spell(path), natural(version, "the number of a version")
+        with self._lock, self._change as core:
+            made = core.ask(core.library.elephant_revert, path, name, len(name), number)
+            self._keep(b"revert %b %d" % (name, number))
+            return made
+
+    # Policies, groups and marks.
+
+    def set_policy(self, path: Path, policy: Policy) -> None:
+        """Gives a file a policy, which decides about all its versions at once."""
+        self._policy("policy", path, policy)
+
+    def set_default(self, path: Path, policy: Policy) -> None:
+        """Sets the policy of the files and directories that are made in a directory from now on."""
+        self._policy("default", path, policy)
+
+    def _policy(self, word: str, path: Path, policy: Policy) -> None:
+        name, spelled = spell(path), policy.word.encode("ascii")
+        with self._lock, self._change as core:
+            call = getattr(core.library, f"elephant_{word}")
+            core.do(call, path, name, len(name), spelled, len(spelled))
+            self._keep(b"%b %b %b" % (word.encode(), name, spelled))
+
+    def group_make(self, group: str) -> None:
+        """Makes a group of files."""
+        self._group_itself("make", group)
+
+    def group_drop(self, group: str) -> None:
+        """Ends a group, with its marks."""
+        self._group_itself("drop", group)
+
+    def _group_itself(self, word: str, group: str) -> None:
+        name = spell_name(group)
+        with self._lock, self._change as core:
+            core.do(getattr(core.library, f"elephant_group_{word}"), group, name, len(name))
+            self._keep(b"group %b %b" % (word.encode(), name))
+
+    def group_add(self, group: str, path: Path) -> None:
+        """Adds a file to a group."""
+        self._group_member("add", group, path)
+
+    def group_remove(self, group: str, path: Path) -> None:
+        """Takes a file out of a group."""
+        self._group_member("remove", group, path)
+
+    def _group_member(self, word: str, group: str, path: Path) -> None:
+        name, member = spell_name(group), spell(path)
+        with self._lock, self._change as core:
+            call = getattr(core.library, f"elephant_group_{word}")
+            core.do(call, (group, path), name, len(name), member, len(member))
+            self._keep(b"group %b %b %b" % (word.encode(), name, member))
+
+    def mark(self, group: str, at: MomentLike, until: Optional[MomentLike] = None) -> None:
+        """Protects what was current of a group's files at a past moment, for good or until another moment."""
+        name, moment, end = spell_name(group), seconds_of(at), NEVER if until is None else seconds_of(until)
+        with self._lock, self._change as core:
+            core.do(core.library.elephant_mark, group, name, len(name), moment, end)
+            self._keep(b"mark %b %d" % (name, moment) + (b"" if until is None else b" %d" % end))
+
+    def unmark(self, group: str, at: MomentLike) -> None:
+        """Removes a mark."""
+        name, moment = spell_name(group), seconds_of(at)
+        with self._lock, self._change as core:
+            core.do(core.library.elephant_unmark, group, name, len(name), moment)
+            self._keep(b"unmark %b %d" % (name, moment))
+
+    # Forgetting.
+
+    def clean(self) -> Optional[Removable]:
+        """Removes the first version that may be removed, and returns it; None if there is none."""
+        with self._lock, self._change as core:
+            key = core.row(core.library.elephant_clean, KeyRow, "")
+            if not key.file:
+                return None
+            self._keep(b"clean")
+            return Removable(Moment(key.since), key.file, key.number)
+
+    def pass_(self, budget: Optional[SupportsIndex] = None) -> Pass:
+        """Removes versions until none may be removed, or as many as the budget says. The `removed` of a Stop is how many it removed before."""
+        most = NEVER if budget is None else natural(budget, "a budget")
+        removed, finished = c_uint64(), c_uint64()
+        with self._lock, self._change as core:
+            code = core.library.elephant_pass(core.handle, most, byref(removed), byref(finished))
+            if removed.value:
+                self._keep(b"pass %d" % removed.value)
+            if code:
+                fault = error_of(code, "pass")
+                if isinstance(fault, Stop):
+                    fault.removed = removed.value
+                raise fault
+            return Pass(removed.value, bool(finished.value))
+
+    def trim(self) -> int:
+        """Folds the history into the store as it is, and returns how many events were folded. The store needs `history=True`."""
+        with self._lock:
+            core = self._begin()
+            return core.ask(core.library.elephant_trim, "trim")
+
+    # Lines of the script language.
+
+    def line(self, line: str) -> str:
+        """Runs a line of the script language, and returns its answer, whose lines end with line feeds. A refusal is an answer here."""
+        if "\n" in line:
+            raise ValueError(f"{line!r} has a line feed")
+        spelled = line.encode("utf-8", "surrogateescape")
+        with self._lock, self._change as core:
+            answer = core.line(spelled)
+            self._keep_line(core, spelled, answer)
+            return answer.decode("ascii")
+
+    def _keep_line(self, core: Core, line: bytes, answer: bytes) -> None:
+        """Keeps a line as the call of the same name does."""
+        words, told = line.split(b" "), answer.split()
+        word = words[0]
+        if word == b"pass" and told[-1].isdigit() and told[-1] != b"0":
+            self._keep(b"pass " + told[-1])  # as many as it removed
+        if not answer.startswith(b"ok ") or word in QUESTIONS or word == b"pass" or answer == b"ok nothing\n":
+            return
+        if word in (b"clock", b"tick"):
+            self._keep_clock(int(told[2]))
+        elif word in (b"write", b"truncate"):
+            self._defer(int(words[1]), line)
+        elif word == b"close":
+            self._keep_close(int(words[1]), len(told) > 2)
+        else:
+            if words[:2] == [b"open", b"write"]:
+                # To ask for the file would be an event of the history. Without its number it shares a draft with all such sessions.
+                self._add_writer(UNKNOWN if self._has_history else core.stat(words[2], words[2]).id, int(told[2]))
+            self._keep(line)

@@ -1,0 +1,595 @@
+"""A store in a journal: what is there after it is opened again, cut off, damaged, killed, or held by another process."""
+
+import errno
+import multiprocessing
+import os
+import random
+import signal
+import subprocess
+import sys
+import tempfile
+import threading
+import time
+import unittest
+from pathlib import Path
+from unittest import mock
+
+import elephant
+from elephant import JournalDamaged, JournalError, JournalLocked, KeepOne, Limits, NoMemory, Recovered, Store
+
+# Where no sync waits for a disk.
+MEMORY = "/dev/shm" if os.path.isdir("/dev/shm") else None
+SOURCE = str(Path(elephant.__file__).parent.parent)
+QUICK = {"clock": "manual", "fsync": "sync"}
+
+
+def state(store):
+    """Everything that a store tells of what it holds, as text."""
+    told = [repr(store.now), store.line("restorable"), store.line("due"), store.line("usage"), store.line("groups"), store.line("stat /")]
+
+    def below(directory):
+        for entry in store.list(directory or "/"):
+            path = f"{directory}/{entry.name}"
+            told.append(f"{path} {entry} {store.stat(path)}")
+            if entry.is_directory:
+                below(path)
+            else:
+                told.extend(f"{it} {store.read(path, version=it.number)!r} {store.why(path, version=it.number)}" for it in store.versions(path))
+
+    below("")
+    return told
+
+
+def fill(store):
+    """Makes some of every change, and yields after each."""
+    store.set_default("/", KeepOne())
+    yield
+    store.mkdir("/d")
+    yield
+    store.create("/d/f")
+    yield
+    store.save("/d/f", b"one")
+    yield
+    store.clock(10)
+    yield
+    store.save("/a b", b"two" * 2000)
+    yield
+    with store.open("/a b", "r+b") as file:
+        file.write(b"T")
+    yield
+    store.link("/a b", "/l")
+    store.rename("/l", "/m")
+    yield
+    store.tick(5)
+    yield
+    store.group_make("g")
+    store.group_add("g", "/m")
+    yield
+    store.mark("g", 12, 30)
+    store.mark("g", 11)
+    store.unmark("g", 11)
+    yield
+    with store.session("/d/f") as session:
+        session.write(b"three", 2)
+        session.truncate(4)
+    yield
+    reader = store.reader("/d/f", at=10)
+    yield
+    store.revert("/d/f", 3)
+    yield
+    reader.close()
+    yield
+    store.clean()
+    yield
+    store.unlink("/d/f")
+    yield
+    store.undelete("/d/f")
+    yield
+    store.pass_()
+    yield
+    store.set_policy("/m", elephant.KeepSafe(days=1, floor=2))
+    yield
+    for line in ("create /x", "open write /x", f"write {reader.number + 1} 0 6162", f"close {reader.number + 1}", "unlink /x", "pass 9"):
+        store.line(line)
+    yield
+    store.group_remove("g", "/m")
+    store.group_drop("g")
+    store.mkdir("/e")
+    store.rmdir("/e")
+
+
+class Journals(unittest.TestCase):
+    def setUp(self):
+        folder = tempfile.TemporaryDirectory(dir=MEMORY)
+        self.addCleanup(folder.cleanup)
+        self.folder = Path(folder.name)
+        self.path = self.folder / "journal"
+
+    def open(self, **options):
+        return Store(journal=self.path, **{**QUICK, **options})
+
+    def test_a_store_is_there_again(self):
+        with self.open() as store:
+            for _ in fill(store):
+                pass
+            before = state(store)
+        for _ in range(2):
+            with self.open() as store:
+                self.assertEqual((state(store), store.recovered, bool(store.recovered)), (before, Recovered(), False))
+
+    def test_a_script_makes_the_same_store(self):
+        """The lines of a journal, without what stands before them, are a script."""
+        with self.open() as store:
+            for _ in fill(store):
+                pass
+            before = state(store)
+        with Store(clock="manual") as script:
+            for line in self.path.read_text().splitlines()[1:]:
+                self.assertRegex(line[:11], "^[0-9a-f]{8} [=<>-] $")
+                self.assertRegex(script.line(line[11:]), "^ok ")
+            self.assertEqual(state(script), before)
+
+    def test_a_journal_cut_at_each_byte(self):
+        """What is there is each whole change before the cut. The rest is cut off and told, and the store goes on."""
+        with self.open() as store:
+            ends, states = [os.path.getsize(self.path)], [state(store)]
+            for _ in fill(store):
+                ends.append(os.path.getsize(self.path))
+                states.append(state(store))
+        data = self.path.read_bytes()
+        steps = [it for it in range(1, len(ends)) if data[ends[it - 1]:ends[it]].count(b" = ") + data[ends[it - 1]:ends[it]].count(b" > ") == 1]
+        self.assertGreater(len(steps), 12)
+        checked = 0
+        for step in steps:
+            for cut in cuts(ends[step - 1], ends[step]):
+                self.path.write_bytes(data[:cut])
+                with self.open() as store:
+                    self.assertEqual(store.recovered.cut, cut - ends[step - 1] if cut < ends[step] else 0)
+                    self.assertEqual(self.without_handles(store, states, step, cut == ends[step]), [], (step, cut))
+                    store.save("/and on", b"%d" % cut)
+                with self.open() as store:
+                    self.assertEqual((store.read("/and on"), store.recovered), (b"%d" % cut, Recovered()))
+                checked += 1
+        self.assertGreater(checked, 400)
+
+    def without_handles(self, store, states, step, is_whole):
+        """Returns in what the store differs from that of a step. A reader that the journal left open is closed, so its version is due."""
+        wanted, told = states[step if is_whole else step - 1], state(store)
+        return [pair for pair in zip(wanted, told) if pair[0] != pair[1] and " open" not in str(pair[0]) and not pair[0].startswith("ok due")]
+
+    def test_a_header_cut_at_each_byte(self):
+        with self.open():
+            pass
+        header = self.path.read_bytes()
+        for cut in range(len(header) + 1):
+            self.path.write_bytes(header[:cut])
+            with self.open() as store:
+                self.assertEqual((store.recovered.cut, store.list()), (cut if cut < len(header) else 0, []))
+                store.create("/f")
+            with self.open() as store:
+                self.assertEqual(len(store.list()), 1)
+
+    def test_a_byte_damaged_anywhere(self):
+        """A damaged byte is told as damage, or, in the last change, cut off with it: never passed over."""
+        with self.open() as store:
+            store.create("/f")
+            store.save("/f", b"one")
+            store.clock(7)
+            last = os.path.getsize(self.path)
+            store.save("/f", b"two")
+        data = self.path.read_bytes()
+        for at in range(len(data)):
+            for damage in (data[at] ^ 1, data[at] ^ 4, 0, 10, 255):
+                if damage == data[at]:
+                    continue
+                self.path.write_bytes(data[:at] + bytes([damage]) + data[at + 1:])
+                if at < last:
+                    with self.assertRaises(JournalDamaged) as told:
+                        self.open()
+                    self.assertLessEqual(told.exception.offset, at)
+                    self.assertEqual(self.path.read_bytes()[:at], data[:at])
+                    self.assertEqual(os.path.getsize(self.path), len(data))
+                    continue
+                try:
+                    with self.open() as store:
+                        self.assertEqual((store.read("/f"), store.recovered.cut), (b"one", len(data) - last))
+                except JournalDamaged as told:
+                    self.assertEqual(told.offset, last)
+
+    def test_a_tail_that_the_disk_never_got(self):
+        """After a power failure the last change may be zeros, anything, or end in them."""
+        with self.open() as store:
+            store.save("/f", b"one")
+            last = os.path.getsize(self.path)
+            store.save("/f", b"two" * 3000)
+        data = self.path.read_bytes()
+        for at in (last, last + 1, last + 30, len(data) - 100, len(data) - 1):
+            for tail in (bytes(len(data) - at), b"\xff\n" * 9000, b"\n", b"00000000 > close 1\n", os.urandom(9000)):
+                if (at, tail) == (len(data) - 1, b"\n"):
+                    continue  # that is the whole journal
+                self.path.write_bytes(data[:at] + tail)
+                with self.open() as store:
+                    self.assertEqual((store.read("/f"), store.recovered), (b"one", Recovered(cut=at + len(tail) - last)))
+                self.assertEqual(self.path.read_bytes(), data[:last])
+
+    def test_lines_left_out_doubled_or_moved(self):
+        with self.open() as store:
+            for name in "abcde":
+                store.create(f"/{name}")
+        lines = self.path.read_bytes().splitlines(keepends=True)
+        for wrong in (lines[:2] + lines[3:], lines[:3] + lines[2:], [*lines[:2], lines[3], lines[2], *lines[4:]], lines[:1] + lines[2:]):
+            self.path.write_bytes(b"".join(wrong))
+            self.assertRaises(JournalDamaged, self.open)
+
+    def test_a_file_that_is_no_journal_is_left_alone(self):
+        for data in (b"A letter.\n", b"\0" * 100, b"00000000 = # elephant journal 1\n"):
+            self.path.write_bytes(data)
+            self.assertRaises(JournalDamaged, self.open)
+            self.assertEqual(self.path.read_bytes(), data)
+
+    def test_an_open_session_becomes_a_version_if_it_was_synced(self):
+        store = self.open()
+        store.save("/f", b"old")
+        session = store.session("/f")
+        session.write(b"new")
+        copy = self.path.read_bytes()
+        store.sync()
+        session.write(b"er", 3)
+        for data, content, version in ((copy, b"old", None), (self.path.read_bytes(), b"new", 3)):
+            (self.folder / "copy").write_bytes(data)
+            for _ in range(2):
+                with Store(journal=self.folder / "copy", **QUICK) as other:
+                    self.assertEqual(other.read("/f"), content)
+                    closed = ((("/f", version),),) if not _ else ((),)
+                    self.assertEqual((other.recovered.closed,), closed)
+        self.assertEqual(session.close(), 3)
+        store.close()
+        with self.open() as store:
+            self.assertEqual((store.read("/f"), len(store.versions("/f")), store.recovered), (b"newer", 3, Recovered()))
+
+    def test_a_draft_is_kept_with_its_last_session(self):
+        """What the first of two sessions wrote is no version as long as the second is open, so a copy of the journal has none."""
+        with self.open() as store:
+            store.save("/f", b"old")
+            one, two = store.session("/f"), store.session("/f")
+            one.write(b"new")
+            one.close()
+            copies = [self.path.read_bytes()]
+            two.write(b"er", 3)
+            self.assertEqual(two.close(), 3)
+            copies.append(self.path.read_bytes())
+        for data, content, closed in ((copies[0], b"old", (("/f", None), ("/f", None))), (copies[1], b"newer", ())):
+            self.path.write_bytes(data)
+            with self.open() as store:
+                self.assertEqual((store.read("/f"), store.recovered.closed), (content, closed))
+
+    def test_sessions_of_lines_in_a_store_with_a_history(self):
+        """Their files aren't known, so what all sessions write is kept in the order in which they wrote it."""
+        with self.open(history=True) as store:
+            store.save("/f", b"abc")
+            store.line("open write /f")
+            typed = store.session("/f")
+            store.line("write 2 0 313131")
+            typed.write(b"2", 1)
+            store.line("write 2 2 33")
+            self.assertRaisesRegex(elephant.Drafting, "^18 Drafting: /f$", store.save, "/f", b"x")
+            typed.close()
+            self.assertRaisesRegex(elephant.Drafting, "the draft has the content", store.save, "/f", b"xyz")
+            store.line("write 2 1 34")
+            self.assertEqual((store.line("close 2"), store.read("/f")), ("ok closed version 3\n", b"x4z"))
+            before = state(store)
+        with self.open() as store:
+            self.assertEqual((state(store), store.recovered), (before, Recovered()))
+
+    def test_an_exclusive_file_is_one_change(self):
+        with self.open() as store:
+            with store.open("/f", "xb") as file:
+                file.write(b"one")
+        self.assertEqual([line[9:10] for line in self.path.read_text().splitlines()], list("=<--->"))
+
+    def test_a_close_of_the_store_closes_its_sessions(self):
+        with self.open() as store:
+            store.create("/f")
+            one, two = store.session("/f"), store.session("/f")
+            one.write(b"one")
+            two.write(b"two", 3)
+            one.close()
+            store.save("/g", b"between")
+        with self.open() as store:
+            self.assertEqual((store.read("/f"), store.read("/g"), store.recovered), (b"onetwo", b"between", Recovered()))
+
+    def test_the_clock_is_kept_with_what_changes(self):
+        with mock.patch("time.time", lambda: moment):
+            moment = 1000.5
+            with self.open(clock="system") as store:
+                store.save("/f", b"one")
+                moment = 2000.9
+                store.read("/f")
+                moment = 2001.2
+                store.save("/f", b"two")
+                moment = 900.0
+                store.save("/f", b"three")
+                before = state(store)
+        with self.open() as store:
+            self.assertEqual((state(store), store.now), (before, 2001))
+            self.assertEqual([it.closed for it in store.versions("/f")], [1000, 1000, 2001, 2001])
+
+    def test_one_store_at_a_time_has_a_journal(self):
+        with self.open() as store:
+            with self.assertRaises(JournalLocked) as told:
+                self.open()
+            self.assertEqual(told.exception.errno, errno.EWOULDBLOCK)
+            began = time.monotonic()
+            self.assertRaises(JournalLocked, self.open, wait=0.3)
+            self.assertGreaterEqual(time.monotonic() - began, 0.3)
+            store.create("/f")
+        with self.open(wait=0.3) as store:
+            self.assertEqual(len(store.list()), 1)
+
+    def test_two_processes_on_one_journal(self):
+        """The second waits until the first is done, and finds what it saved."""
+        ready = "import sys; from elephant import Store; store = Store(journal=sys.argv[1]); store.save('/f', b'first'); print(1, flush=True)"
+        first = self.process(ready + "; sys.stdin.readline(); store.save('/f', b'second')", stdin=subprocess.PIPE)
+        first.stdout.readline()
+        self.assertRaises(JournalLocked, self.open)
+        second = self.process("import sys; from elephant import Store; print(Store(journal=sys.argv[1], wait=30).read('/f'))")
+        time.sleep(0.5)
+        self.assertIsNone(second.poll())
+        first.communicate(b"\n", timeout=30)
+        self.assertEqual(second.communicate(timeout=30)[0], b"b'second'\n")
+
+    def process(self, program, *words, **pipes):
+        environment = {**os.environ, "PYTHONPATH": SOURCE}
+        words = [sys.executable, "-c", program, str(self.path), *words]
+        process = subprocess.Popen(words, env=environment, stdout=subprocess.PIPE, **pipes)
+        self.addCleanup(process.wait)
+        self.addCleanup(process.stdout.close)
+        self.addCleanup(process.kill)
+        return process
+
+    def test_a_killed_process_loses_at_most_the_save_it_was_in(self):
+        program = """
+import sys
+from elephant import Store
+store = Store(journal=sys.argv[1], fsync="sync")
+at = store.stat("/f").version if store.list() else 1
+while True:
+    at += 1
+    with store.open("/f", "wb") as file:
+        file.write(b"%9d" % at * int(sys.argv[2]))
+    print(at, flush=True)
+"""
+        told = 0
+        for size in (1, 500, 100_000, 100_000, 100_000):
+            process = self.process(program, str(size))
+            for line in process.stdout:
+                told = int(line)
+                if told % 7 == 5:
+                    break
+            time.sleep(0.003)
+            process.send_signal(signal.SIGKILL)
+            told = max(told, *(int(line) for line in process.stdout.read().split(b"\n")[:-1] or [told]))
+            process.wait()
+            with self.open() as store:
+                newest = store.stat("/f").version
+                self.assertIn(newest, (told, told + 1))
+                for version in store.versions("/f")[1:]:
+                    content = store.read("/f", version=version.number)
+                    self.assertEqual(content, b"%9d" % version.number * (len(content) // 9))
+                    self.assertIn(len(content) // 9, (1, 500, 100_000))
+            told = newest
+
+    def test_a_process_that_runs_out_of_memory(self):
+        """Whichever part runs out, the library or Python: what was saved before is there, and the last save is whole or not there."""
+        program = """
+import random, resource, sys
+from elephant import JournalError, Store
+store = Store(journal=sys.argv[1], fsync="sync") if sys.argv[2] == "kept" else Store()
+content = [random.Random(at).randbytes(400_000) for at in range(60)]
+store.save("/0", content[0])
+store.read("/0")
+used = int(open("/proc/self/statm").read().split()[0]) * resource.getpagesize()
+resource.setrlimit(resource.RLIMIT_AS, (used + 6_000_000 + int(sys.argv[3]), resource.RLIM_INFINITY))
+try:
+    for at in range(1, 60):
+        store.save(f"/{at}", content[at])
+except MemoryError as fault:
+    print(type(fault).__name__)
+resource.setrlimit(resource.RLIMIT_AS, (resource.RLIM_INFINITY, resource.RLIM_INFINITY))
+print(at)
+try:
+    print([store.read(f"/{it}") == content[it] for it in range(at)].count(True), store.save("/0", b"more"))
+except JournalError:
+    print("ended")
+"""
+        for more in (0, 700_000, 1_400_000):
+            process = self.process(program, "kept", str(more))
+            kind, at, rest = process.communicate(timeout=60)[0].decode().splitlines()
+            self.assertIn((kind, rest), (("NoMemory", f"{at} 3"), ("MemoryError", f"{at} 3"), ("MemoryError", "ended")))
+            with self.open() as store:
+                for it in range(1, int(at)):
+                    self.assertEqual(store.read(f"/{it}"), random.Random(it).randbytes(400_000))
+                if at in {it.name for it in store.list()}:
+                    self.assertIn(store.read(f"/{at}"), (b"", random.Random(int(at)).randbytes(400_000)))
+            self.path.unlink()
+        process = self.process(program, "not kept", "0")
+        kind, at, rest = process.communicate(timeout=60)[0].decode().splitlines()
+        self.assertEqual((kind, rest), ("NoMemory", f"{at} 3"))
+
+    def test_a_journal_that_cannot_be_written(self):
+        """Then nothing is answered any more, and what is there after an opening is what was there before."""
+        real = os.write
+        for broken in ("none", "half", "fsync"):
+            self.path.unlink(missing_ok=True)
+            with self.open() as store:
+                store.save("/f", b"old")
+                size = os.path.getsize(self.path)
+
+            def write(file, data):
+                if broken == "half" and len(data) > 10:
+                    return real(file, data[:10])
+                raise OSError(errno.ENOSPC, "no space")
+
+            store = self.open(fsync="always")
+            patch = mock.patch("os.fdatasync", side_effect=OSError(5, "lost")) if broken == "fsync" else mock.patch("os.write", write)
+            with patch:
+                self.assertRaises(JournalError, store.save, "/f", b"new")
+                self.assertRaises(JournalError, store.read, "/f")
+            self.assertRaises(JournalError, store.save, "/f", b"new")
+            store.close()
+            self.assertEqual(os.path.getsize(self.path), size)
+            with self.open() as store:
+                self.assertEqual((store.read("/f"), len(store.versions("/f"))), (b"old", 2))
+
+    def test_an_interrupted_change_ends_the_store(self):
+        for at in ("elephant_write", "elephant_close_handle"):
+            self.path.unlink(missing_ok=True)
+            store = self.open()
+            store.save("/f", b"old")
+            core = store._core
+            with mock.patch.object(core, "library", Wrapped(core.library, at, KeyboardInterrupt)):
+                self.assertRaises(KeyboardInterrupt, store.save, "/f", b"new")
+            self.assertRaises(JournalError, store.read, "/f")
+            store.close()
+            with self.open() as store:
+                self.assertEqual((store.read("/f"), len(store.versions("/f"))), (b"old", 2))
+
+    def test_a_save_without_memory_makes_no_version(self):
+        """Each of its calls fails in turn, as if there were no memory. Refused alone it is undone; the store goes on, and so does its journal."""
+        for call in ("elephant_open_write", "elephant_write", "elephant_truncate", "elephant_close_handle"):
+            self.path.unlink(missing_ok=True)
+            with self.open() as store:
+                store.save("/f", b"old and long")
+                core = store._core
+                with mock.patch.object(core, "library", Wrapped(core.library, call, NoMemory.number)):
+                    self.assertRaises(NoMemory, store.save, "/f", b"new")
+                contents = {store.read("/f", version=it.number) for it in store.versions("/f")}
+                self.assertEqual((store.read("/f"), contents), (b"old and long", {b"", b"old and long"}))
+                self.assertEqual(store.save("/f", b"newer"), store.stat("/f").version)
+                before = state(store)
+            with self.open() as store:
+                self.assertEqual(state(store), before)
+
+    def test_a_save_that_cannot_be_undone(self):
+        """With a journal the store ends, and is there again without the save. In memory the file can't be saved any more."""
+        for path in (self.path, None):
+            store = Store(journal=path, **QUICK)
+            store.save("/f", b"old and long")
+            core = store._core
+            with mock.patch.object(core, "library", Wrapped(core.library, "elephant_truncate", NoMemory.number, "elephant_read")):
+                self.assertRaises(NoMemory, store.save, "/f", b"new")
+            if path is None:
+                self.assertEqual((store.read("/f"), store.save("/g", b"x")), (b"old and long", 2))
+                self.assertRaisesRegex(elephant.Drafting, "^18 Drafting: /f$", store.save, "/f", b"new")
+                continue
+            self.assertRaises(JournalError, store.read, "/f")
+            store.close()
+            with self.open() as store:
+                self.assertEqual((store.read("/f"), len(store.versions("/f"))), (b"old and long", 2))
+
+    def test_many_threads_share_a_journal(self):
+        faults = []
+
+        def work(thread):
+            try:
+                for at in range(100):
+                    store.save(f"/{thread}", b"%d" % at)
+                    with store.session(f"/{thread}") as session:
+                        session.write(b"%d" % thread, at)
+                    if at % 10 == thread:
+                        store.sync()
+            except BaseException as fault:
+                faults.append(fault)
+
+        with self.open() as store:
+            workers = [threading.Thread(target=work, args=(thread,)) for thread in range(6)]
+            for worker in workers:
+                worker.start()
+            for worker in workers:
+                worker.join()
+            before = state(store)
+        self.assertEqual(faults, [])
+        with self.open() as store:
+            self.assertEqual((state(store), store.recovered), (before, Recovered()))
+            self.assertEqual([store.stat(f"/{thread}").version for thread in range(6)], [201] * 6)
+
+    def test_a_forked_child_has_no_store(self):
+        """It can't use the store, and does not hold the journal when its parent has let go of it."""
+        def work(answers, done):
+            try:
+                answers.put(store.read("/f"))
+            except JournalError as fault:
+                answers.put(str(fault))
+            done.wait(30)
+
+        context = multiprocessing.get_context("fork")
+        answers, done = context.Queue(), context.Event()
+        with self.open() as store:
+            store.save("/f", b"old")
+            child = context.Process(target=work, args=(answers, done))
+            child.start()
+            self.assertIn("forked", answers.get(timeout=30))
+            store.save("/f", b"new")
+        with self.open() as store:
+            self.assertEqual((store.read("/f"), child.is_alive()), (b"new", True))
+        done.set()
+        child.join()
+
+    def test_a_journal_of_larger_limits(self):
+        with self.open() as store:
+            store.create("/f")
+            store.create("/g")
+        with self.assertRaises(JournalError) as told:
+            self.open(limits=Limits(files=1))
+        self.assertIn("create /g", str(told.exception))
+        with self.open(limits=Limits(files=2)) as store:
+            self.assertRaises(elephant.Full, store.create, "/h")
+            self.assertEqual(len(store.list()), 2)
+
+    def test_each_change_is_synced_or_only_a_sync(self):
+        with mock.patch("os.fdatasync") as synced:
+            with self.open(fsync="always") as store:
+                store.save("/f", b"one")
+                self.assertEqual(synced.call_count, 1)
+            self.path.unlink()
+            synced.reset_mock()
+            with self.open(fsync="sync") as store:
+                store.save("/f", b"one")
+                self.assertEqual(synced.call_count, 0)
+                store.sync()
+                self.assertEqual(synced.call_count, 1)
+
+
+class Wrapped:
+    """A library one call of which raises or answers a code once, after it was made if it raises; and others always."""
+
+    def __init__(self, library, name, fault, *always):
+        self._library, self._name, self._fault, self._always = library, name, fault, always
+
+    def __getattr__(self, name):
+        call = getattr(self._library, name)
+        if name in self._always:
+            return lambda *_: self._fault
+        if name != self._name:
+            return call
+        self._name = None
+        return self._wrapped(call)
+
+    def _wrapped(self, call):
+        def wrapped(*words):
+            if isinstance(self._fault, int):
+                return self._fault
+            call(*words)
+            raise self._fault
+
+        return wrapped
+
+
+def cuts(start, end):
+    """The places of a change at which a journal is cut: each, or of a long change its first and last and some between."""
+    places = range(start, end + 1)
+    return places if len(places) < 400 else [*places[:150], *places[150:-150:97], *places[-150:]]
+
+
+if __name__ == "__main__":
+    unittest.main()

@@ -1,0 +1,179 @@
+//! Why a call was refused or stopped.
+
+use crate::sys;
+use std::fmt;
+use std::io;
+
+/// What a limit counts ([`Limits`](crate::Limits)).
+#[derive(Clone, Copy, Debug, PartialEq, Eq, Hash)]
+#[non_exhaustive]
+pub enum Limit {
+    /// Files that are ever made.
+    Files,
+    /// Directories that are ever made.
+    Directories,
+    /// Names that are ever given.
+    Names,
+    /// Versions that are ever made, with the drafts that are open.
+    Versions,
+    /// Handles that are ever opened.
+    Handles,
+    /// Groups that are ever made.
+    Groups,
+    /// Files that are ever added to groups.
+    Members,
+    /// Marks that are ever made.
+    Marks,
+}
+
+impl Limit {
+    fn from_detail(detail: u64) -> Option<Limit> {
+        Some(match detail {
+            sys::ELEPHANT_LIMIT_FILES => Limit::Files,
+            sys::ELEPHANT_LIMIT_DIRECTORIES => Limit::Directories,
+            sys::ELEPHANT_LIMIT_NAMES => Limit::Names,
+            sys::ELEPHANT_LIMIT_VERSIONS => Limit::Versions,
+            sys::ELEPHANT_LIMIT_HANDLES => Limit::Handles,
+            sys::ELEPHANT_LIMIT_GROUPS => Limit::Groups,
+            sys::ELEPHANT_LIMIT_MEMBERS => Limit::Members,
+            sys::ELEPHANT_LIMIT_MARKS => Limit::Marks,
+            _ => return None,
+        })
+    }
+}
+
+impl fmt::Display for Limit {
+    fn fmt(&self, f: &mut fmt::Formatter<'_>) -> fmt::Result {
+        f.write_str(match self {
+            Limit::Files => "files",
+            Limit::Directories => "directories",
+            Limit::Names => "names",
+            Limit::Versions => "versions",
+            Limit::Handles => "handles",
+            Limit::Groups => "groups",
+            Limit::Members => "members",
+            Limit::Marks => "marks",
+        })
+    }
+}
+
+// The errors that say no more than their code, each with its text.
+macro_rules! errors {
+    ($($name:ident = $code:ident, $text:literal;)*) => {
+        /// Why a call was refused or stopped. Nothing has changed then.
+        ///
+        /// A function that adds to an error what it was about can look at the variant:
+        ///
+        /// ```
+        /// # use elephant::{Error, Store};
+        /// # fn main() -> Result<(), Error> {
+        /// let store = Store::new()?;
+        /// match store.read("/notes") {
+        ///     Err(Error::NoEntry) => println!("there are no notes yet"),
+        ///     other => println!("{} bytes", other?.len()),
+        /// }
+        /// # Ok(())
+        /// # }
+        /// ```
+        #[derive(Clone, Copy, Debug, PartialEq, Eq, Hash)]
+        #[non_exhaustive]
+        pub enum Error {
+            $(#[doc = concat!("`", stringify!($code), "`: ", $text, ".")] $name,)*
+            /// `ELEPHANT_FORGOTTEN`: the version was removed.
+            Forgotten {
+                /// The greatest number of a version of the file that is held and is smaller.
+                last: Option<u64>,
+            },
+            /// `ELEPHANT_FULL`: a limit is reached.
+            Full(Limit),
+            /// A code that no call of this crate should answer.
+            Unexpected(i32),
+        }
+
+        impl Error {
+            /// Its number, as in `elephant.h` and in the answers of the script language.
+            pub fn code(self) -> i32 {
+                match self {
+                    $(Error::$name => sys::$code,)*
+                    Error::Forgotten { .. } => sys::ELEPHANT_FORGOTTEN,
+                    Error::Full(_) => sys::ELEPHANT_FULL,
+                    Error::Unexpected(code) => code,
+                }
+            }
+
+            // `detail` is asked only after a code that has one.
+            pub(crate) fn from_code(code: i32, detail: impl FnOnce() -> Option<u64>) -> Error {
+                match code {
+                    $(sys::$code => Error::$name,)*
+                    sys::ELEPHANT_FORGOTTEN => Error::Forgotten { last: detail().filter(|it| *it != 0) },
+                    sys::ELEPHANT_FULL => detail().and_then(Limit::from_detail).map_or(Error::Unexpected(code), Error::Full),
+                    _ => Error::Unexpected(code),
+                }
+            }
+        }
+
+        impl fmt::Display for Error {
+            fn fmt(&self, f: &mut fmt::Formatter<'_>) -> fmt::Result {
+                match self {
+                    $(Error::$name => f.write_str($text),)*
+                    Error::Forgotten { last: Some(last) } => write!(f, "the version was removed; before it version {last} is held"),
+                    Error::Forgotten { last: None } => f.write_str("the version was removed, and none before it is held"),
+                    Error::Full(limit) => write!(f, "as many {limit} were made as the limits allow"),
+                    Error::Unexpected(code) => write!(f, "the library answered the unexpected code {code}"),
+                }
+            }
+        }
+    };
+}
+
+errors! {
+    NoMemory = ELEPHANT_NO_MEMORY, "there is no memory";
+    HistoryFull = ELEPHANT_HISTORY_FULL, "as many events were answered as the limits allow";
+    ClockBack = ELEPHANT_CLOCK_BACK, "the moment is earlier than now";
+    ClockEnd = ELEPHANT_CLOCK_END, "the moment would be past the last one";
+    NoEntry = ELEPHANT_NO_ENTRY, "there is no such name";
+    NotDirectory = ELEPHANT_NOT_DIRECTORY, "a file is where a directory is wanted";
+    IsDirectory = ELEPHANT_IS_DIRECTORY, "a directory is where a file is wanted";
+    Exists = ELEPHANT_EXISTS, "the name is taken";
+    NotEmpty = ELEPHANT_NOT_EMPTY, "the directory has names";
+    IntoItself = ELEPHANT_INTO_ITSELF, "the directory would come to lie in itself";
+    IsRoot = ELEPHANT_IS_ROOT, "the root has no name";
+    Future = ELEPHANT_FUTURE, "the moment is later than now";
+    NoVersion = ELEPHANT_NO_VERSION, "the file never had that version";
+    NoHandle = ELEPHANT_NO_HANDLE, "there is no such handle";
+    NotWriter = ELEPHANT_NOT_WRITER, "the handle is one for reading";
+    TooBig = ELEPHANT_TOO_BIG, "the content would be longer than 1,048,576 bytes";
+    Drafting = ELEPHANT_DRAFTING, "the file is being written";
+    NotRestorable = ELEPHANT_NOT_RESTORABLE, "the name can't be restored";
+    NoGroup = ELEPHANT_NO_GROUP, "there is no such group";
+    GroupExists = ELEPHANT_GROUP_EXISTS, "the group is there already";
+    NoMark = ELEPHANT_NO_MARK, "the group has no mark at that moment";
+    MarkExists = ELEPHANT_MARK_EXISTS, "the group has a mark at that moment already";
+    NotPast = ELEPHANT_NOT_PAST, "the moment is not earlier than now";
+    AlreadyMember = ELEPHANT_ALREADY_MEMBER, "the file is in the group already";
+    NotMember = ELEPHANT_NOT_MEMBER, "the file is not in the group";
+    NotAhead = ELEPHANT_NOT_AHEAD, "the moment is too early";
+    BadName = ELEPHANT_BAD_NAME, "not a name: 1 to 64 bytes from `!` to `~` without `/`, `@` and `#`, and neither `.` nor `..`";
+    BadPath = ELEPHANT_BAD_PATH, "not a path: `/`, or at most 32 names with a slash before each";
+    BadMoment = ELEPHANT_BAD_MOMENT, "not a moment: it is past 253402300799";
+    BadLadder = ELEPHANT_BAD_LADDER, "no interval, floor or ladder has these numbers";
+    Syntax = ELEPHANT_SYNTAX, "the argument is none of its kind";
+    BadLimits = ELEPHANT_BAD_LIMITS, "a limit is above its largest";
+    NoHistory = ELEPHANT_NO_HISTORY, "the store was opened without a history";
+    Untold = ELEPHANT_UNTOLD, "the line was run, and there was no memory for the text of its answer";
+}
+
+impl std::error::Error for Error {}
+
+impl From<Error> for io::Error {
+    fn from(error: Error) -> io::Error {
+        let kind = match error {
+            Error::NoEntry | Error::NoVersion | Error::Forgotten { .. } => io::ErrorKind::NotFound,
+            Error::Exists => io::ErrorKind::AlreadyExists,
+            Error::NoMemory => io::ErrorKind::OutOfMemory,
+            Error::TooBig | Error::BadName | Error::BadPath | Error::BadMoment => io::ErrorKind::InvalidInput,
+            _ => io::ErrorKind::Other,
+        };
+        io::Error::new(kind, error)
+    }
+}

@@ -1,0 +1,54 @@
+//! Elephant for Rust: the core of a file system that keeps earlier versions of files by itself, in memory, and lets a policy per
+//! file decide when a version may be removed.
+//!
+//! ```
+//! use elephant::{at, version, Policy, Store};
+//! use std::io::Write;
+//!
+//! fn main() -> Result<(), Box<dyn std::error::Error>> {
+//!     let store = Store::new()?;
+//!     store.set_default("/", &Policy::keep_days(7))?;
+//!     store.create("/notes")?;
+//!
+//!     // A session makes one version when it is closed.
+//!     let mut session = store.open_write("/notes")?;
+//!     session.write_all(b"buy milk")?;
+//!     session.close()?;
+//!
+//!     // The store reads no clock: you move it.
+//!     store.tick(60)?;
+//!     store.save("/notes", b"oops")?;
+//!     assert_eq!(store.read(at("/notes", 59))?, b"buy milk");
+//!     assert_eq!(store.read(version("/notes", 2))?, b"buy milk");
+//!
+//!     // Undo, by which the file gets one more version.
+//!     store.revert("/notes", 2)?;
+//!     assert_eq!(store.read("/notes")?, b"buy milk");
+//!     Ok(())
+//! }
+//! ```
+//!
+//! A [`Store`] wraps the C library, which is built from proved code; this crate itself is not proved. It is linked statically, and
+//! depends on no other crate. `docs/EMBED.md` of the repository has a table of all calls and their limits.
+
+#![deny(missing_docs)]
+#![deny(unsafe_op_in_unsafe_fn)]
+
+mod error;
+mod questions;
+mod reader;
+mod retention;
+mod session;
+mod store;
+#[allow(dead_code, missing_docs, non_camel_case_types)]
+mod sys;
+mod types;
+
+pub use error::{Error, Limit};
+pub use reader::Reader;
+pub use session::Session;
+pub use store::{Options, Store, LARGEST_CONTENT};
+pub use types::{
+    at, moment, version, Cause, DeadName, Due, Entry, Fate, Group, Limits, Mark, Node, Pass, PassEnd, Policy, Rung, Stat, Target,
+    Usage, Usages, Version,
+};

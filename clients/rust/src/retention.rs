@@ -1,0 +1,159 @@
+//! Policies, groups, marks and removals, and the history.
+
+use crate::questions::{due_of, unless_never};
+use crate::sys;
+use crate::{Due, Error, Group, Mark, Pass, PassEnd, Policy, Store};
+
+/// Policies.
+impl Store {
+    /// Puts a file under another policy.
+    ///
+    /// # Errors
+    /// [`Error::BadLadder`] if no policy has these numbers, [`Error::NoEntry`], [`Error::IsDirectory`].
+    pub fn set_policy(&self, path: &str, policy: &Policy) -> Result<(), Error> {
+        let word = policy.to_string();
+        // SAFETY: see `call`.
+        self.call(|e| unsafe { sys::elephant_policy(e, path.as_ptr(), path.len(), word.as_ptr(), word.len()) })
+    }
+
+    /// Sets the policy of the files that are made in a directory from now on.
+    ///
+    /// # Errors
+    /// [`Error::BadLadder`] if no policy has these numbers, [`Error::NoEntry`], [`Error::NotDirectory`].
+    pub fn set_default(&self, path: &str, policy: &Policy) -> Result<(), Error> {
+        let word = policy.to_string();
+        // SAFETY: see `call`.
+        self.call(|e| unsafe { sys::elephant_default(e, path.as_ptr(), path.len(), word.as_ptr(), word.len()) })
+    }
+}
+
+/// Groups and marks.
+///
+/// Each of these calls may fail for the group's name: [`Error::NoGroup`], [`Error::BadName`].
+impl Store {
+    /// Makes a group, without files and marks.
+    ///
+    /// # Errors
+    /// [`Error::GroupExists`], [`Error::Full`].
+    pub fn group_make(&self, group: &str) -> Result<(), Error> {
+        // SAFETY: see `call`.
+        self.call(|e| unsafe { sys::elephant_group_make(e, group.as_ptr(), group.len()) })
+    }
+
+    /// Ends a group with its marks.
+    ///
+    /// # Errors
+    /// [`Error::NoGroup`].
+    pub fn group_drop(&self, group: &str) -> Result<(), Error> {
+        // SAFETY: see `call`.
+        self.call(|e| unsafe { sys::elephant_group_drop(e, group.as_ptr(), group.len()) })
+    }
+
+    /// Puts a file into a group.
+    ///
+    /// # Errors
+    /// [`Error::AlreadyMember`], [`Error::NoEntry`], [`Error::IsDirectory`], [`Error::Full`].
+    pub fn group_add(&self, group: &str, path: &str) -> Result<(), Error> {
+        // SAFETY: see `call`.
+        self.call(|e| unsafe { sys::elephant_group_add(e, group.as_ptr(), group.len(), path.as_ptr(), path.len()) })
+    }
+
+    /// Takes a file out of a group.
+    ///
+    /// # Errors
+    /// [`Error::NotMember`], [`Error::NoEntry`], [`Error::IsDirectory`].
+    pub fn group_remove(&self, group: &str, path: &str) -> Result<(), Error> {
+        // SAFETY: see `call`.
+        self.call(|e| unsafe { sys::elephant_group_remove(e, group.as_ptr(), group.len(), path.as_ptr(), path.len()) })
+    }
+
+    /// Keeps what was current of a group's files at a moment that has passed, until another moment or for good.
+    ///
+    /// # Errors
+    /// [`Error::NotPast`], [`Error::NotAhead`], [`Error::MarkExists`], [`Error::BadMoment`], [`Error::Full`].
+    pub fn mark(&self, group: &str, moment: u64, until: Option<u64>) -> Result<(), Error> {
+        let until = until.unwrap_or(sys::ELEPHANT_NEVER);
+        // SAFETY: see `call`.
+        self.call(|e| unsafe { sys::elephant_mark(e, group.as_ptr(), group.len(), moment, until) })
+    }
+
+    /// Ends a mark.
+    ///
+    /// # Errors
+    /// [`Error::NoMark`].
+    pub fn unmark(&self, group: &str, moment: u64) -> Result<(), Error> {
+        // SAFETY: see `call`.
+        self.call(|e| unsafe { sys::elephant_unmark(e, group.as_ptr(), group.len(), moment) })
+    }
+
+    /// The groups with their files and marks, in order of making.
+    ///
+    /// # Errors
+    /// [`Error::NoMemory`].
+    pub fn groups(&self) -> Result<Vec<Group>, Error> {
+        // SAFETY: see `call`.
+        let rows = self.number(|e, rows| unsafe { sys::elephant_groups(e, rows) })?;
+        self.rows(rows, |index| {
+            // SAFETY: see `call`.
+            let row: sys::elephant_group_row = self.row(|e, row| unsafe { sys::elephant_row_group(e, index, row) })?;
+            let files = self.rows(row.members, |member| {
+                // SAFETY: see `call`.
+                self.number(|e, file| unsafe { sys::elephant_row_member(e, index, member, file) })
+            })?;
+            let marks = self.rows(row.marks, |mark| self.mark_row(index, mark))?;
+            Ok(Group { name: self.row_bytes(index)?, files, marks })
+        })
+    }
+
+    fn mark_row(&self, group: u64, mark: u64) -> Result<Mark, Error> {
+        // SAFETY: see `call`.
+        let row: sys::elephant_mark_row = self.row(|e, row| unsafe { sys::elephant_row_mark(e, group, mark, row) })?;
+        Ok(Mark { moment: row.moment, until: unless_never(row.until) })
+    }
+}
+
+/// Forgetting, and the history.
+impl Store {
+    /// Removes the first due version, and returns it; none if no version is due.
+    ///
+    /// # Errors
+    /// [`Error::NoMemory`].
+    pub fn clean(&self) -> Result<Option<Due>, Error> {
+        // SAFETY: see `call`.
+        let removed = self.row(|e, removed| unsafe { sys::elephant_clean(e, removed) })?;
+        Ok(Some(due_of(removed)).filter(|it| it.file != 0))
+    }
+
+    /// Removes due versions, until none is due or as many as the budget says are removed.
+    pub fn pass(&self, budget: u64) -> Pass {
+        let (mut removed, mut finished) = (0, 0);
+        // SAFETY: see `call`.
+        let ended = self.call(|e| unsafe { sys::elephant_pass(e, budget, &mut removed, &mut finished) });
+        let end = match (ended, finished) {
+            (Err(error), _) => PassEnd::Stopped(error),
+            (Ok(()), 0) => PassEnd::Budget,
+            (Ok(()), _) => PassEnd::Finished,
+        };
+        Pass { removed, end }
+    }
+
+    /// How many events were folded, and how many are kept after them. The line `history` prints these.
+    ///
+    /// # Errors
+    /// [`Error::NoHistory`].
+    pub fn history(&self) -> Result<(u64, u64), Error> {
+        let (mut folded, mut entries) = (0, 0);
+        // SAFETY: see `call`.
+        self.call(|e| unsafe { sys::elephant_history(e, &mut folded, &mut entries) })?;
+        Ok((folded, entries))
+    }
+
+    /// Folds the events that are kept, which gives back their memory, and returns how many these were.
+    ///
+    /// # Errors
+    /// [`Error::NoHistory`], [`Error::NoMemory`].
+    pub fn trim(&self) -> Result<u64, Error> {
+        // SAFETY: see `call`.
+        self.number(|e, folded| unsafe { sys::elephant_trim(e, folded) })
+    }
+}

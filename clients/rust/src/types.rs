@@ -1,0 +1,339 @@
+//! What calls take and answer.
+
+use std::fmt;
+use std::time::{SystemTime, UNIX_EPOCH};
+
+/// The seconds since 1970-01-01T00:00:00Z of a time of the system, and 0 for an earlier one. A store reads no clock: this is the
+/// moment to give [`Store::clock`](crate::Store::clock).
+pub fn moment(time: SystemTime) -> u64 {
+    time.duration_since(UNIX_EPOCH).map_or(0, |it| it.as_secs())
+}
+
+/// A path, and which version of what it names is meant. A `&str` means what is current now.
+#[derive(Clone, Copy, Debug, PartialEq, Eq, Hash)]
+pub struct Target<'a> {
+    pub(crate) path: &'a str,
+    pub(crate) tag: Tag,
+}
+
+#[derive(Clone, Copy, Debug, PartialEq, Eq, Hash)]
+pub(crate) enum Tag {
+    Now,
+    At(u64),
+    Version(u64),
+}
+
+impl<'a> From<&'a str> for Target<'a> {
+    fn from(path: &'a str) -> Target<'a> {
+        Target { path, tag: Tag::Now }
+    }
+}
+
+impl<'a> From<&'a String> for Target<'a> {
+    fn from(path: &'a String) -> Target<'a> {
+        Target { path, tag: Tag::Now }
+    }
+}
+
+/// What the path named and held at a moment, which is not later than now.
+pub fn at(path: &str, moment: u64) -> Target<'_> {
+    Target { path, tag: Tag::At(moment) }
+}
+
+/// The version with that number of the file that the path names now.
+pub fn version(path: &str, number: u64) -> Target<'_> {
+    Target { path, tag: Tag::Version(number) }
+}
+
+/// How much a store may ever make. Nothing that is removed gives its number back. The default is the largest.
+#[derive(Clone, Debug, PartialEq, Eq, Hash)]
+pub struct Limits {
+    /// Events that are answered, in a store with a history: at most 1,000,000,000.
+    pub events: u64,
+    /// Files: at most 100,000.
+    pub files: u64,
+    /// Directories without the root: at most 10,000.
+    pub directories: u64,
+    /// Names that are given, also by link, rename and undelete: at most 200,000.
+    pub names: u64,
+    /// Versions, with the drafts that are open: at most 1,000,000.
+    pub versions: u64,
+    /// Handles that are opened: at most 1,000,000.
+    pub handles: u64,
+    /// Groups: at most 1,000.
+    pub groups: u64,
+    /// Files that are added to groups: at most 100,000.
+    pub members: u64,
+    /// Marks: at most 10,000.
+    pub marks: u64,
+}
+
+impl Default for Limits {
+    fn default() -> Limits {
+        Limits {
+            events: 1_000_000_000,
+            files: 100_000,
+            directories: 10_000,
+            names: 200_000,
+            versions: 1_000_000,
+            handles: 1_000_000,
+            groups: 1_000,
+            members: 100_000,
+            marks: 10_000,
+        }
+    }
+}
+
+/// When a file's versions may be removed.
+#[derive(Clone, Debug, PartialEq, Eq, Hash)]
+pub enum Policy {
+    /// As soon as they have ended.
+    KeepOne,
+    /// Never.
+    KeepAll,
+    /// So many seconds after their end. The newest `floor` versions of a file with a name stay, however old.
+    KeepSafe {
+        /// From 1 to 253,402,300,799.
+        seconds: u64,
+        /// From 0 to 16.
+        floor: u64,
+    },
+    /// The longer ago they ended, the fewer stay: one to eight rungs, with rising ages and each width dividing the next.
+    KeepLandmarks(Vec<Rung>),
+}
+
+/// From that age on, one version stays in each span of that width.
+#[derive(Clone, Copy, Debug, PartialEq, Eq, Hash)]
+pub struct Rung {
+    /// Seconds since the end of a version.
+    pub age: u64,
+    /// Seconds.
+    pub width: u64,
+}
+
+const DAY: u64 = 86_400;
+
+impl Policy {
+    /// Versions stay for so many days after their end.
+    pub fn keep_days(days: u64) -> Policy {
+        Policy::KeepSafe { seconds: days.saturating_mul(DAY), floor: 0 }
+    }
+
+    /// All versions of a day, then one for each hour, after a week one for each day, and after a month one for each week.
+    pub fn standard_landmarks() -> Policy {
+        let rungs = [(DAY, 3_600), (7 * DAY, DAY), (30 * DAY, 7 * DAY)];
+        Policy::KeepLandmarks(rungs.iter().map(|&(age, width)| Rung { age, width }).collect())
+    }
+}
+
+impl fmt::Display for Policy {
+    /// Writes the word of the script language.
+    fn fmt(&self, f: &mut fmt::Formatter<'_>) -> fmt::Result {
+        match self {
+            Policy::KeepOne => f.write_str("one"),
+            Policy::KeepAll => f.write_str("all"),
+            Policy::KeepSafe { seconds, floor: 0 } => write!(f, "safe:{seconds}"),
+            Policy::KeepSafe { seconds, floor } => write!(f, "safe:{seconds}/{floor}"),
+            Policy::KeepLandmarks(rungs) => {
+                f.write_str("landmarks:")?;
+                for (index, rung) in rungs.iter().enumerate() {
+                    let comma = if index == 0 { "" } else { "," };
+                    write!(f, "{comma}{}/{}", rung.age, rung.width)?;
+                }
+                Ok(())
+            }
+        }
+    }
+}
+
+/// A version of a file.
+#[derive(Clone, Copy, Debug, PartialEq, Eq, Hash)]
+pub struct Version {
+    /// From 1 on.
+    pub number: u64,
+    /// The moment at which its draft was opened.
+    pub opened: u64,
+    /// The moment at which it became the current version.
+    pub closed: u64,
+    /// The moment at which the next version took its place, or the file lost its last name.
+    pub ended: Option<u64>,
+    /// How many bytes it holds.
+    pub length: u64,
+}
+
+/// What a path and its tag mean.
+#[derive(Clone, Debug, PartialEq, Eq, Hash)]
+pub enum Stat {
+    /// A version of a file.
+    File {
+        /// The file's number.
+        file: u64,
+        /// The version.
+        version: Version,
+        /// The file's policy.
+        policy: Policy,
+    },
+    /// A directory.
+    Directory {
+        /// The directory's number.
+        directory: u64,
+        /// The policy of the files that are made in it.
+        policy: Policy,
+    },
+}
+
+/// What a name stands for, with its number.
+#[derive(Clone, Copy, Debug, PartialEq, Eq, Hash)]
+pub enum Node {
+    /// A file.
+    File(u64),
+    /// A directory.
+    Directory(u64),
+}
+
+/// A name in a directory.
+#[derive(Clone, Debug, PartialEq, Eq, Hash)]
+pub struct Entry {
+    /// The name, without slashes.
+    pub name: String,
+    /// What it stands for.
+    pub node: Node,
+}
+
+/// A dead name that [`Store::undelete`](crate::Store::undelete) takes.
+#[derive(Clone, Debug, PartialEq, Eq, Hash)]
+pub struct DeadName {
+    /// The number of the directory that it stood in; the root's is 0.
+    pub directory: u64,
+    /// The name, without slashes.
+    pub name: String,
+    /// What it last stood for.
+    pub node: Node,
+}
+
+/// A version that may be removed, or was.
+#[derive(Clone, Copy, Debug, PartialEq, Eq, Hash, PartialOrd, Ord)]
+pub struct Due {
+    /// The moment from which on it is due.
+    pub since: u64,
+    /// The file's number.
+    pub file: u64,
+    /// The version's number.
+    pub number: u64,
+}
+
+/// What the files of one kind of policy use.
+#[derive(Clone, Copy, Debug, Default, PartialEq, Eq, Hash)]
+pub struct Usage {
+    /// Files.
+    pub files: u64,
+    /// Versions that are held.
+    pub versions: u64,
+    /// The sum of the lengths of these versions.
+    pub bytes: u64,
+    /// Blocks that they take, each counted once.
+    pub blocks: u64,
+}
+
+/// What the files of each kind of policy use.
+#[derive(Clone, Copy, Debug, Default, PartialEq, Eq, Hash)]
+pub struct Usages {
+    /// Files under [`Policy::KeepOne`].
+    pub keep_one: Usage,
+    /// Files under [`Policy::KeepAll`].
+    pub keep_all: Usage,
+    /// Files under [`Policy::KeepSafe`].
+    pub keep_safe: Usage,
+    /// Files under [`Policy::KeepLandmarks`].
+    pub keep_landmarks: Usage,
+}
+
+/// A group of files.
+#[derive(Clone, Debug, PartialEq, Eq, Hash)]
+pub struct Group {
+    /// Its name.
+    pub name: String,
+    /// The numbers of its files, in the order in which they were added.
+    pub files: Vec<u64>,
+    /// Its marks, in the order in which they were made.
+    pub marks: Vec<Mark>,
+}
+
+/// What was current in a group at the moment isn't removed before the end.
+#[derive(Clone, Copy, Debug, PartialEq, Eq, Hash)]
+pub struct Mark {
+    /// The moment that is marked.
+    pub moment: u64,
+    /// The moment at which the mark ends; none if it doesn't.
+    pub until: Option<u64>,
+}
+
+/// Why a version is held, or may be removed.
+#[derive(Clone, Debug, PartialEq, Eq, Hash)]
+pub enum Fate {
+    /// It has not ended.
+    Current,
+    /// A handle reads it.
+    Open,
+    /// A mark of a group covers it.
+    Marked {
+        /// The group's name.
+        group: String,
+        /// The mark.
+        mark: Mark,
+    },
+    /// Its policy keeps it.
+    Kept {
+        /// Until when, if nothing happens but the clock; none if without end.
+        until: Option<u64>,
+        /// The level of the ladder that its age has reached.
+        level: Option<u64>,
+    },
+    /// It may be removed.
+    Due {
+        /// Since when.
+        since: u64,
+        /// For what reason.
+        cause: Cause,
+    },
+}
+
+/// Why a policy lets a version go.
+#[derive(Clone, Copy, Debug, PartialEq, Eq, Hash)]
+pub enum Cause {
+    /// [`Policy::KeepOne`] keeps no version that has ended.
+    AtOnce,
+    /// It has been ended for so long.
+    ByAge {
+        /// What the policy says.
+        seconds: u64,
+    },
+    /// At this level of the ladder another version closed in the same span.
+    Displaced {
+        /// The level, from 1 on.
+        level: u64,
+        /// The number of the other version.
+        by: u64,
+    },
+}
+
+/// What a pass did.
+#[derive(Clone, Copy, Debug, PartialEq, Eq, Hash)]
+#[must_use = "a pass may have been stopped"]
+pub struct Pass {
+    /// How many versions it removed, however it ended.
+    pub removed: u64,
+    /// How it ended.
+    pub end: PassEnd,
+}
+
+/// How a pass ended.
+#[derive(Clone, Copy, Debug, PartialEq, Eq, Hash)]
+pub enum PassEnd {
+    /// No version is due any more.
+    Finished,
+    /// It removed as many as the budget says.
+    Budget,
+    /// It stopped before.
+    Stopped(crate::Error),
+}

@@ -1,0 +1,2 @@
+pub mod AsStore
+pub mod AsHandle

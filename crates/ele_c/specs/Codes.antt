@@ -1,0 +1,92 @@
+-- The codes and numbers by which C is told what a store said.
+use Rattle.std.specs.Prelude.{ℕ, ◌-◌, ◌^◌, length, Option, Some, None, Ok, Err}
+use Rattle.ele_embed.specs.Embedding.{Embedding, reply_of}
+use Rattle.ele_model.specs.Answers.{refusal_number, stop_number}
+use Rattle.ele_model.specs.declared.pass.PassEnd.TheVariants.{Stopped as PassStopped}
+use Rattle.ele_model.specs.declared.refusal.Refusal.{Refusal}
+use Rattle.ele_model.specs.declared.refusal.Refusal.TheVariants.{Forgotten, Full}
+use Rattle.ele_model.specs.declared.refusal.Which.{Which}
+use Rattle.ele_model.specs.declared.refusal.Which.TheVariants as which
+use Rattle.ele_model.specs.declared.reply.Reply.{Reply}
+use Rattle.ele_model.specs.declared.reply.Reply.TheVariants.{Now, Directory, File, Handle, Version, Closed, Bytes, Rows, NameList, RestoreList, DueList, UsageList, GroupList, Refused}
+use Rattle.ele_printer.specs.LineFault.{fault_number}
+use Rattle.ele_runs.specs.declared.said.Said.{Said}
+use Rattle.ele_runs.specs.declared.said.Said.TheVariants.{Bad, Stopped, Passed, Trimmed, Why, Ahead}
+
+-- neither a moment nor a level
+abbrev pub never : ℕ
+never = 2 ^ 64 - 1
+
+abbrev pub reply_code : Option Reply → ℕ
+reply_code (Some (Refused refusal)) = refusal_number refusal
+reply_code reply = 0
+
+-- the code of what was said: the number of a fault, a stop or a refusal, or 0
+abbrev pub said_code : Said → Option Reply → ℕ
+said_code (Bad fault) reply = fault_number fault
+said_code (Stopped stop) reply = stop_number stop
+said_code (Passed (PassStopped stop removed)) reply = stop_number stop
+said_code (Why (Err refusal)) reply = refusal_number refusal
+said_code (Ahead (Err refusal)) reply = refusal_number refusal
+said_code said reply = reply_code reply
+
+abbrev pub code_of : Embedding → ℕ
+code_of store = said_code store.said (reply_of store)
+
+-- the number that a reply tells: of a list and of bytes, how many they are
+abbrev pub reply_number : Option Reply → ℕ
+reply_number (Some (Now moment)) = moment
+reply_number (Some (Directory id)) = id
+reply_number (Some (File id)) = id
+reply_number (Some (Handle handle)) = handle
+reply_number (Some (Version number)) = number
+reply_number (Some (Closed (Some number))) = number
+reply_number (Some (Bytes bytes)) = length bytes
+reply_number (Some (Rows rows)) = length rows
+reply_number (Some (NameList names)) = length names
+reply_number (Some (RestoreList names)) = length names
+reply_number (Some (DueList keys)) = length keys
+reply_number (Some (UsageList usages)) = 4
+reply_number (Some (GroupList groups)) = length groups
+reply_number reply = 0
+
+abbrev pub said_number : Said → Option Reply → ℕ
+said_number (Trimmed count) reply = count
+said_number (Ahead (Ok keys)) reply = length keys
+said_number said reply = reply_number reply
+
+abbrev pub number_of : Embedding → ℕ
+number_of store = said_number store.said (reply_of store)
+
+-- the limit that is reached, in the order of the limits
+abbrev pub limit_number : Which → ℕ
+limit_number which.Files = 1
+limit_number which.Directories = 2
+limit_number which.Names = 3
+limit_number which.Versions = 4
+limit_number which.Handles = 5
+limit_number which.Groups = 6
+limit_number which.Members = 7
+limit_number which.Marks = 8
+
+-- the number of a version, or 0
+abbrev pub number_or_zero : Option ℕ → ℕ
+number_or_zero None = 0
+number_or_zero (Some number) = number
+
+-- what a refusal tells beyond its code
+abbrev pub detail_in : Refusal → Option ℕ
+detail_in (Forgotten before) = Some (number_or_zero before)
+detail_in (Full which) = Some (limit_number which)
+detail_in refusal = None
+
+abbrev pub reply_detail : Option Reply → Option ℕ
+reply_detail (Some (Refused refusal)) = detail_in refusal
+reply_detail reply = None
+
+abbrev pub said_detail : Said → Option Reply → Option ℕ
+said_detail (Why (Err refusal)) reply = detail_in refusal
+said_detail said reply = reply_detail reply
+
+abbrev pub detail_of : Embedding → Option ℕ
+detail_of store = said_detail store.said (reply_of store)

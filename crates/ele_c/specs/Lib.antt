@@ -1,0 +1,9 @@
+pub mod Held
+pub mod Given
+pub mod Stored
+pub mod Codes
+pub mod Asks
+pub mod Calls
+pub mod Copies
+pub mod Fields
+pub mod Limits

@@ -1,0 +1,30 @@
+-- The limits that C gives.
+use Rattle.std.specs.Prelude.{◌≡◌, ℤ, Bool, Option, Some, None}
+use Rattle.ele_c.specs.Calls.{Opens}
+use Rattle.ele_c.specs.declared.fields.LimitFields.{LimitFields}
+use Rattle.ele_embed.specs.Embedding.{Embedding}
+use Rattle.ele_model.specs.Bounds.{AreBounds, Bounds}
+
+abbrev pub bounds_in : LimitFields → Bounds
+bounds_in limits = record {
+  events = limits.events;
+  files = limits.files;
+  directories = limits.directories;
+  names = limits.names;
+  versions = limits.versions;
+  handles = limits.handles;
+  groups = limits.groups;
+  members = limits.members;
+  marks = limits.marks;
+}
+
+-- none if one is above its largest
+abbrev pub IsLimits : LimitFields → Option Bounds → Type 0
+IsLimits limits None = ¬ AreBounds (bounds_in limits)
+IsLimits limits (Some bounds) = (bounds ≡ bounds_in limits) × AreBounds (bounds_in limits)
+
+-- a store was opened with the limits that these are
+pub record OpensWith (given : LimitFields) (history : Bool) (before : Option Embedding) (code : ℤ) (after : Option Embedding) : Type 0 where
+  pub limits : Option Bounds
+  pub are : IsLimits given limits
+  pub opens : Opens limits history before code after

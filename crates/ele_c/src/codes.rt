@@ -1,0 +1,148 @@
+//! What a store said, as codes and numbers for C. A contract sees these.
+ghost use Rattle.std.specs.Prelude.{◌≡◌, pos};
+ghost use Rattle.std.specs.Option.{option_copied};
+ghost use Rattle.ele_c.specs.Codes.{code_of, detail_in, detail_of, limit_number, number_of, number_or_zero, reply_code, reply_detail, reply_number};
+
+use ele_embed::{Said, Store};
+use ele_model::{PassEnd, Refusal, Reply, VersionNo, Which};
+
+/// It is done.
+pub(crate) const OK: i32 = 0;
+/// There is no memory.
+pub(crate) const NO_MEMORY: i32 = 1;
+/// The handle is closed.
+pub(crate) const CLOSED: i32 = 64;
+/// The handle is open already.
+pub(crate) const OPENED: i32 = 65;
+/// A limit is above its largest.
+pub(crate) const BAD_LIMITS: i32 = 66;
+/// There is no history.
+pub(crate) const NO_HISTORY: i32 = 67;
+/// Nothing of the kind is kept.
+pub(crate) const NO_RESULT: i32 = 68;
+/// There is no such row.
+pub(crate) const NO_ROW: i32 = 69;
+/// The room is too small.
+pub(crate) const NO_ROOM: i32 = 70;
+/// There is no memory for the text.
+pub(crate) const UNTOLD: i32 = 71;
+
+/// Neither a moment nor a level.
+pub(crate) const NEVER: u64 = u64::MAX;
+
+/// The code of what was said last.
+pub(crate) fn code_of(store: &Store) -> i32
+    ensures { result ≡ pos (code_of store.now) }
+{
+    match store.said() {
+        Said::Bad(fault) => fault.number() as i32,
+        Said::Stopped(stop) => stop.number() as i32,
+        Said::Passed(PassEnd::Stopped(stop, _)) => stop.number() as i32,
+        Said::Why(Err(refusal)) => refusal.number() as i32,
+        Said::Ahead(Err(refusal)) => refusal.number() as i32,
+        _ => reply_code(store.reply()),
+    }
+}
+
+// The code of a reply.
+fn reply_code(reply: Option<&Reply>) -> i32
+    ensures { result ≡ pos (reply_code (option_copied reply.entry)) }
+{
+    match reply {
+        Some(Reply::Refused(refusal)) => refusal.number() as i32,
+        _ => OK,
+    }
+}
+
+/// The number that what was said last tells: of a list and of bytes, how many they are.
+pub(crate) fn number_of(store: &Store) -> u64
+    ensures { result ≡ number_of store.now }
+{
+    match store.said() {
+        Said::Trimmed(count) => *count,
+        Said::Ahead(Ok(keys)) => keys.as_slice().len() as u64,
+        _ => reply_number(store.reply()),
+    }
+}
+
+// The number that a reply tells.
+fn reply_number(reply: Option<&Reply>) -> u64
+    ensures { result ≡ reply_number (option_copied reply.entry) }
+{
+    let Some(reply) = reply else {
+        return 0;
+    };
+    match reply {
+        Reply::Now(moment) => moment.seconds(),
+        Reply::Directory(id) => id.0,
+        Reply::File(id) => id.0,
+        Reply::Handle(handle) => handle.0,
+        Reply::Version(number) => number.0,
+        Reply::Closed(Some(number)) => number.0,
+        Reply::Bytes(bytes) => bytes.as_slice().len() as u64,
+        Reply::Rows(rows) => rows.as_slice().len() as u64,
+        Reply::NameList(names) => names.as_slice().len() as u64,
+        Reply::RestoreList(names) => names.as_slice().len() as u64,
+        Reply::DueList(keys) => keys.as_slice().len() as u64,
+        Reply::UsageList(_) => 4,
+        Reply::GroupList(groups) => groups.as_slice().len() as u64,
+        _ => 0,
+    }
+}
+
+/// What the last refusal tells beyond its code.
+pub(crate) fn detail_of(store: &Store) -> Option<u64>
+    ensures { result ≡ detail_of store.now }
+{
+    match store.said() {
+        Said::Why(Err(refusal)) => detail_in(*refusal),
+        _ => reply_detail(store.reply()),
+    }
+}
+
+// What a reply tells beyond its code, if it is a refusal.
+fn reply_detail(reply: Option<&Reply>) -> Option<u64>
+    ensures { result ≡ reply_detail (option_copied reply.entry) }
+{
+    match reply {
+        Some(Reply::Refused(refusal)) => detail_in(*refusal),
+        _ => None,
+    }
+}
+
+// What a refusal tells beyond its code.
+fn detail_in(refusal: Refusal) -> Option<u64>
+    ensures { result ≡ detail_in refusal }
+{
+    match refusal {
+        Refusal::Forgotten(before) => Some(number_or_zero(before)),
+        Refusal::Full(which) => Some(limit_number(which)),
+        _ => None,
+    }
+}
+
+// The number of a version, or 0.
+fn number_or_zero(number: Option<VersionNo>) -> u64
+    ensures { result ≡ number_or_zero number }
+{
+    match number {
+        Some(number) => number.0,
+        None => 0,
+    }
+}
+
+// The number of a limit.
+fn limit_number(which: Which) -> u64
+    ensures { result ≡ limit_number which }
+{
+    match which {
+        Which::Files => 1,
+        Which::Directories => 2,
+        Which::Names => 3,
+        Which::Versions => 4,
+        Which::Handles => 5,
+        Which::Groups => 6,
+        Which::Members => 7,
+        Which::Marks => 8,
+    }
+}

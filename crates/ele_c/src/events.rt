@@ -1,0 +1,47 @@
+//! Events by a handle. A contract sees the store that it holds, if it is open.
+ghost use Rattle.ele_c.specs.Calls.{Calls, GivesNumber, Ran};
+ghost use Rattle.ele_c.specs.Stored.{stored};
+
+use crate::codes::{CLOSED, OK, code_of, number_of};
+use crate::handle::Elephant;
+use box_parts::Parts;
+use ele_model::Event;
+use ele_script::LineFault;
+use std::alloc::Global;
+
+/// Runs what is asked for, and answers the code.
+pub(crate) fn run(alloc: Global, elephant: &mut Elephant, asked: Result<Event, LineFault>) -> i32
+    ensures { Calls (stored elephant.old) (Ran asked result) result (stored elephant.new) }
+{
+    if !elephant.is_open() {
+        return CLOSED;
+    }
+    let mut store = elephant.take(alloc).into_box();
+    store.run(asked);
+    let code = code_of(&store);
+    elephant.give(Parts::of(store));
+    code
+}
+
+/// The same, with the number that the reply tells.
+pub(crate) fn run_for(
+    alloc: Global,
+    elephant: &mut Elephant,
+    asked: Result<Event, LineFault>,
+    number: &mut u64,
+) -> i32
+    ensures ran { Calls (stored elephant.old) (Ran asked result) result (stored elephant.new) }
+    ensures number { GivesNumber result (stored elephant.new) number.old number.new }
+{
+    if !elephant.is_open() {
+        return CLOSED;
+    }
+    let mut store = elephant.take(alloc).into_box();
+    store.run(asked);
+    let code = code_of(&store);
+    if code == OK {
+        *number = number_of(&store);
+    }
+    elephant.give(Parts::of(store));
+    code
+}

@@ -1,0 +1,51 @@
+//! A closed handle on the heap, as its pointer.
+ghost use Rattle.std.specs.Prelude.{◌≡◌};
+ghost use Rattle.ele_c.specs.Given.{given, closed_handle};
+
+use super::Elephant;
+use box_parts::Parts;
+use std::alloc::Global;
+use std::marker::Model;
+use std::ptr::null_mut;
+
+/// The pointer to a closed handle, or null.
+pub(crate) struct Grip {
+    pub(crate) at: *mut Elephant,
+}
+
+impl Model for Grip {
+    ghost also_owns = { λ grip. given grip.at };
+}
+
+fn closed() -> Elephant
+    ensures { result ≡ closed_handle }
+{
+    Elephant {
+        at: null_mut(),
+        is_full: false,
+    }
+}
+
+fn none() -> Grip
+    ensures { result ≡ result }
+{
+    Grip { at: null_mut() }
+}
+
+fn held_by(parts: Parts<Elephant, Global>) -> Grip
+    requires { parts.value ≡ closed_handle }
+    ensures { result ≡ result }
+{
+    let Parts { at, alloc: _ } = parts;
+    Grip { at }
+}
+
+/// A closed handle on the heap, or null if there is no memory.
+pub(crate) fn fresh(alloc: Global) -> Grip
+    ensures { result ≡ result }
+{
+    match Box::new(alloc, closed()) {
+        Ok(handle) => held_by(Parts::of(handle)),
+        Err(_) => none(),
+    }
+}

@@ -1,0 +1,60 @@
+//! Elephant as a C library: an opaque handle, and the calls of `include/elephant.h`. A contract sees a handle as its store, if it
+//! is open.
+#![tactic(auto)]
+
+ghost use Rattle.std.specs.Borrow.{sem};
+ghost use Rattle.ele_c.specs.declared.handle.Elephant.{Elephant};
+ghost use Rattle.ele_c.specs.Given.{given, handle_at};
+
+mod asks;
+mod codes;
+mod copies;
+mod events;
+mod fields;
+mod groups;
+mod handle;
+mod history;
+mod lines;
+mod names;
+mod opens;
+mod questions;
+mod reads;
+mod rows;
+mod writes;
+
+use box_parts::Parts;
+pub use fields::{
+    GroupFields, KeyFields, LimitFields, MarkFields, NameFields, StatFields, UsageFields,
+    VersionFields, WhyFields,
+};
+pub use handle::Elephant;
+use handle::fresh::{Grip, fresh};
+use std::alloc::Global;
+
+/// Puts a closed handle on the heap at `out`, or null if there is no memory.
+#[unsafe(no_mangle)]
+pub extern "C" fn elephant_new(alloc: Global, out: &mut *mut Elephant)
+    ensures* { sem 𝓛 (given out.new) }
+{
+    let Grip { at } = fresh(alloc);
+    *out = at;
+}
+
+/// Closes a handle that `elephant_new` gave, and frees it.
+#[unsafe(no_mangle)]
+pub unsafe extern "C" fn elephant_delete(alloc: Global, elephant: *mut Elephant)
+    ghost inside: { Elephant }
+    requires* { sem 𝓛 (handle_at elephant inside) }
+{
+    finish(Parts {
+        at: elephant,
+        alloc,
+    });
+}
+
+fn finish(parts: Parts<Elephant, Global>) {
+    let boxed = parts.into_box();
+    let alloc = *Box::allocator(&boxed);
+    let mut elephant = Box::into_inner(boxed);
+    opens::elephant_close(alloc, &mut elephant);
+}

@@ -1,0 +1,167 @@
+//! Events of the clock, of writing and of policies.
+ghost use Rattle.ele_c.specs.Asks.{Asks, AsksClock, AsksPath, AsksPolicy};
+ghost use Rattle.ele_c.specs.Calls.{GivesNumber, RunsOn, Shows};
+ghost use Rattle.ele_c.specs.Fields.{now_of};
+ghost use Rattle.ele_c.specs.Stored.{stored};
+ghost use Rattle.ele_model.specs.declared.event.Event.TheVariants as event;
+
+use crate::asks;
+use crate::codes::{CLOSED, OK};
+use crate::events::{run, run_for};
+use crate::handle::Elephant;
+use box_parts::Parts;
+use ele_model::{Event, Handle};
+use std::alloc::Global;
+
+/// The moment that it is.
+#[unsafe(no_mangle)]
+pub extern "C" fn elephant_now(alloc: Global, elephant: &mut Elephant, moment: &mut u64) -> i32
+    ensures { Shows now_of (stored elephant.old) result (stored elephant.new) moment.old
+        moment.new }
+{
+    if !elephant.is_open() {
+        return CLOSED;
+    }
+    let store = elephant.take(alloc).into_box();
+    *moment = store.now().seconds();
+    elephant.give(Parts::of(store));
+    OK
+}
+
+/// Sets the clock.
+#[unsafe(no_mangle)]
+pub extern "C" fn elephant_clock(alloc: Global, elephant: &mut Elephant, moment: u64) -> i32
+    ensures { RunsOn (AsksClock moment)
+        (stored elephant.old) result (stored elephant.new) }
+{
+    run(alloc, elephant, asks::moment(moment).map(Event::Clock))
+}
+
+/// Sets the clock on.
+#[unsafe(no_mangle)]
+pub extern "C" fn elephant_tick(alloc: Global, elephant: &mut Elephant, seconds: u64) -> i32
+    ensures { RunsOn (Asks (event.Tick seconds))
+        (stored elephant.old) result (stored elephant.new) }
+{
+    run(alloc, elephant, Ok(Event::Tick(seconds)))
+}
+
+/// Opens a handle that writes.
+#[unsafe(no_mangle)]
+pub extern "C" fn elephant_open_write(
+    alloc: Global,
+    elephant: &mut Elephant,
+    path: &[u8],
+    handle: &mut u64,
+) -> i32
+    ensures ran { RunsOn (AsksPath event.OpenWrite path.now)
+        (stored elephant.old) result (stored elephant.new) }
+    ensures number { GivesNumber result (stored elephant.new) handle.old handle.new }
+{
+    run_for(
+        alloc,
+        elephant,
+        asks::path(alloc, path).map(Event::OpenWrite),
+        handle,
+    )
+}
+
+/// Writes bytes.
+#[unsafe(no_mangle)]
+pub extern "C" fn elephant_write(
+    alloc: Global,
+    elephant: &mut Elephant,
+    handle: u64,
+    offset: u64,
+    bytes: &[u8],
+) -> i32
+    ensures { RunsOn (Asks (event.Write handle offset bytes.now))
+        (stored elephant.old) result (stored elephant.new) }
+{
+    run(
+        alloc,
+        elephant,
+        asks::content(alloc, bytes).map(|bytes| Event::Write(Handle(handle), offset, bytes)),
+    )
+}
+
+/// Gives a draft another length.
+#[unsafe(no_mangle)]
+pub extern "C" fn elephant_truncate(
+    alloc: Global,
+    elephant: &mut Elephant,
+    handle: u64,
+    size: u64,
+) -> i32
+    ensures { RunsOn (Asks (event.Truncate handle size))
+        (stored elephant.old) result (stored elephant.new) }
+{
+    run(alloc, elephant, Ok(Event::Truncate(Handle(handle), size)))
+}
+
+/// Closes a handle.
+#[unsafe(no_mangle)]
+pub extern "C" fn elephant_close_handle(
+    alloc: Global,
+    elephant: &mut Elephant,
+    handle: u64,
+    version: &mut u64,
+) -> i32
+    ensures ran { RunsOn (Asks (event.Close handle))
+        (stored elephant.old) result (stored elephant.new) }
+    ensures number { GivesNumber result (stored elephant.new) version.old version.new }
+{
+    run_for(alloc, elephant, Ok(Event::Close(Handle(handle))), version)
+}
+
+/// Makes an earlier version's content the newest version.
+#[unsafe(no_mangle)]
+pub extern "C" fn elephant_revert(
+    alloc: Global,
+    elephant: &mut Elephant,
+    path: &[u8],
+    number: u64,
+    version: &mut u64,
+) -> i32
+    ensures ran { RunsOn (AsksPath (λ path. event.Revert path number) path.now)
+        (stored elephant.old) result (stored elephant.new) }
+    ensures number { GivesNumber result (stored elephant.new) version.old version.new }
+{
+    run_for(alloc, elephant, asks::revert(alloc, path, number), version)
+}
+
+/// Gives a file a policy.
+#[unsafe(no_mangle)]
+pub extern "C" fn elephant_policy(
+    alloc: Global,
+    elephant: &mut Elephant,
+    path: &[u8],
+    policy: &[u8],
+) -> i32
+    ensures { RunsOn (AsksPolicy event.SetPolicy path.now policy.now)
+        (stored elephant.old) result (stored elephant.new) }
+{
+    run(
+        alloc,
+        elephant,
+        asks::policy(alloc, path, policy).map(|(path, policy)| Event::SetPolicy(path, policy)),
+    )
+}
+
+/// Gives a directory the policy of its new files.
+#[unsafe(no_mangle)]
+pub extern "C" fn elephant_default(
+    alloc: Global,
+    elephant: &mut Elephant,
+    path: &[u8],
+    policy: &[u8],
+) -> i32
+    ensures { RunsOn (AsksPolicy event.SetDefault path.now policy.now)
+        (stored elephant.old) result (stored elephant.new) }
+{
+    run(
+        alloc,
+        elephant,
+        asks::policy(alloc, path, policy).map(|(path, policy)| Event::SetDefault(path, policy)),
+    )
+}

@@ -1,0 +1,5 @@
+pub mod Embedding
+pub mod Takes
+pub mod Hears
+pub mod Text
+pub mod Kept

@@ -1,0 +1,128 @@
+//! A core with its last reply. A contract sees the world and the reply.
+ghost use Rattle.std.specs.Prelude.{◌≡◌, None, false, IfOk};
+ghost use Rattle.std.specs.Option.{option_copied};
+ghost use Rattle.ele_core.specs.Stopped.{is_stopped};
+ghost use Rattle.ele_embed.specs.Hears.{Answers, AnswersAsked, HearsPlain};
+ghost use Rattle.ele_embed.specs.Takes.{Steps};
+ghost use Rattle.ele_model.specs.Pass.{EndsPass};
+ghost use Rattle.ele_model.specs.World.{fresh_world};
+ghost use Rattle.ele_runs.specs.LineLength.{line_unless_long};
+ghost use Rattle.ele_runs.specs.Said.{Explains};
+ghost use Rattle.ele_script.specs.Question.{ReadsQuestion, asked_in};
+ghost use Rattle.ele_printer.specs.declared.kind.WordKind.{WordKind};
+ghost use Rattle.std.specs.Prelude.{List, ℕ};
+
+use crate::keeper::{ahead, unless_long};
+use ele_core::Core;
+use ele_model::{Event, Limits, NoMemory, PassEnd, Reply, Stop};
+use ele_runs::Said;
+use ele_script::{Line, LineFault, Question, read_line, read_question};
+use std::alloc::Global;
+
+/// A core, and the reply to the last event that it answered.
+#[derive(Drop)]
+pub(crate) struct Plain {
+    core: Core,
+    last: Option<Reply>,
+}
+
+impl Plain {
+    /// The fresh world of these limits.
+    pub(crate) fn new(alloc: Global, limits: Limits) -> Result<Plain, NoMemory>
+        ensures { IfOk result (λ plain. (plain.core.world ≡ fresh_world limits) × (plain.last ≡ None)) }
+    {
+        let core = Core::new(alloc, limits)?;
+        Ok(Plain { core, last: None })
+    }
+
+    /// Takes the event.
+    pub(crate) fn record(&mut self, event: Event) -> Said
+        ensures { Steps self.old.core.world event result self.new.core.world self.new.last }
+    {
+        self.last = None;
+        match self.core.apply(&event) {
+            Ok(reply) => {
+                self.last = Some(reply);
+                Said::Replied
+            }
+            Err(_) => Said::Stopped(Stop::NoMemory),
+        }
+    }
+
+    /// Takes clean events.
+    pub(crate) fn pass(&mut self, budget: u64) -> PassEnd
+        ensures end { EndsPass self.old.core.world budget result self.new.core.world }
+        ensures unstopped { is_stopped result ≡ false }
+    {
+        self.last = None;
+        self.core.clean_pass(budget)
+    }
+
+    /// Hears a line.
+    pub(crate) fn hear(&mut self, alloc: Global, line: &[u8]) -> Said
+        ensures { HearsPlain self.old.core.world (line_unless_long line.now) result
+            self.new.core.world self.new.last }
+    {
+        let Some(line) = unless_long(line) else {
+            return Said::Bad(LineFault::LineTooLong);
+        };
+        if line.is_empty() {
+            return Said::Nothing;
+        }
+        self.hear_some(alloc, line)
+    }
+
+    // Answers a line that is neither empty nor too long.
+    fn hear_some(&mut self, alloc: Global, line: &[u8]) -> Said
+        ensures { AnswersAsked (asked_in line.now) self.old.core.world line.now result
+            self.new.core.world self.new.last }
+    {
+        match read_question(alloc, line) {
+            Some(read) => self.explain(&read),
+            None => self.hear_line(alloc, line),
+        }
+    }
+
+    // Explains what was asked, from the world as it is.
+    fn explain(&self, read: &Result<Question, LineFault>) -> Said
+        ensures { (kind : WordKind) (word : List ℕ) → ReadsQuestion read.now kind word
+            → Explains self.now.core.world result kind word }
+    {
+        match read {
+            Ok(Question::Why(tagged)) => Said::Why(self.core.fate_at(tagged)),
+            Ok(Question::Ahead(moment)) => ahead(*moment, &self.core),
+            Err(LineFault::NoMemory) => Said::Stopped(Stop::NoMemory),
+            Err(fault) => Said::Bad(*fault),
+        }
+    }
+
+    // Answers a line that asks for no explanation.
+    fn hear_line(&mut self, alloc: Global, line: &[u8]) -> Said
+        ensures { Answers self.old.core.world line.now result self.new.core.world self.new.last }
+    {
+        match read_line(alloc, line) {
+            Ok(Line::Event(event)) => self.record(event),
+            Ok(Line::Pass(budget)) => Said::Passed(self.pass(budget)),
+            Ok(Line::History) => Said::Bad(LineFault::Syntax),
+            Ok(Line::Trim) => Said::Bad(LineFault::Syntax),
+            Err(fault) => match fault {
+                LineFault::NoMemory => Said::Stopped(Stop::NoMemory),
+                _ => Said::Bad(fault),
+            },
+        }
+    }
+
+    /// The core.
+    pub(crate) fn core(&self) -> &Core
+        ensures { result.now ≡ self.now.core }
+    {
+        &self.core
+    }
+
+    /// The reply to the last event.
+    pub(crate) fn last(&self) -> Option<&Reply>
+        ensures { option_copied result ≡ self.now.last }
+    {
+        self.last.as_ref()
+    }
+}

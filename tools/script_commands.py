@@ -1,0 +1,18 @@
+"""The commands of scripts, as docs/SCRIPT.md tells them."""
+
+import re
+
+from building import ROOT
+
+TABLE = re.compile(r"^\| Line \| Answer \|.*\n\|[-|]+\|\n((?:\|.*\n)+)", re.M)
+LINE = re.compile(r"`([a-z]+(?: [a-z]+)?)((?: [A-Z]+)*)`")
+
+
+def read_commands():
+    """Returns each command with what may stand behind it, each time as the letters of its words: `mark` has G M, and G M U."""
+    found = {}
+    text = (ROOT / "docs" / "SCRIPT.md").read_text(encoding="utf-8")
+    for row in TABLE.search(text)[1].splitlines():
+        for name, words in LINE.findall(row.split("|")[1]):
+            found.setdefault(name, []).append(words.split())
+    return found
