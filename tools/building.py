@@ -105,9 +105,9 @@ def kit_file(path):
     return found
 
 
-def library_of(crate):
-    """Returns where the gate leaves what it built of a crate of this repository."""
-    return ROOT / "crates" / crate / "out" / "rlib" / f"{crate}.rlib"
+def library_of(crate, top=ROOT):
+    """Returns where the gate leaves what it built of a crate of a repository."""
+    return Path(top) / "crates" / crate / "out" / "rlib" / f"{crate}.rlib"
 
 
 def has_libraries(crates):
@@ -118,16 +118,17 @@ def has_libraries(crates):
     return all(it.exists() for it in built) and max(it.stat().st_mtime for it in sources) < min(it.stat().st_mtime for it in built)
 
 
-def prove_above(folder, name, uses):
-    """Proves the library `name` in a folder, which uses these crates of the repository, over what the gate built of them. Returns
-    whether it is proved, and what was said."""
+def prove_above(folder, name, uses, made=None, top=ROOT):
+    """Proves the library `name` in a folder, which uses these crates of a repository, over what the gate built of them, and, if `made`
+    is given, builds it there as a static library. Returns whether it is proved, and what was said."""
     kit = ["--extern", f"std={kit_file('rlibs/std.rlib')}", "-L", f"dependency={kit_file('rlibs')}"]
-    own = [word for it in sorted(uses) for word in ("--extern", f"{it}={library_of(it)}")]
-    own += [word for it in sorted(with_below(uses)) for word in ("-L", f"dependency={library_of(it).parent}")]
+    own = [word for it in sorted(uses) for word in ("--extern", f"{it}={library_of(it, top)}")]
+    own += [word for it in sorted(with_below(uses)) for word in ("-L", f"dependency={library_of(it, top).parent}")]
     logic = ["--antt-project", kit_file("rattle/logic/antt-project.json"), "--logic-built", kit_file("logic_built")]
-    words = [kit_file("bin/rattle"), "check", "--crate-name", name, "src/lib.rt", *kit, *own, *logic, "--links", f"{name}=", "--jobs", "1"]
+    static = ["--crate-type", "staticlib", "--toolchain", kit_file("toolchain"), "-o", made] if made else []
+    words = ["build" if made else "check", "--crate-name", name, "src/lib.rt", *kit, *own, *logic, "--links", f"{name}=", "--jobs", "1", *static]
     pipes = {"stdin": subprocess.DEVNULL, "stdout": subprocess.PIPE, "stderr": subprocess.STDOUT, "encoding": "utf-8", "errors": "replace"}
-    ran = subprocess.run(words, cwd=folder, check=False, preexec_fn=end_with_parent, **pipes)
+    ran = subprocess.run([kit_file("bin/rattle"), *words], cwd=folder, check=False, preexec_fn=end_with_parent, **pipes)
     return ran.returncode == 0 and "\nlogic=proved " in ran.stdout, ran.stdout
 
 

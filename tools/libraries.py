@@ -1,7 +1,7 @@
 """The C library: how its two files are made from the crate `ele_c`, and how `./elephant install` lays them out.
 
-`rt lib` writes one position-independent object file. It calls the C library, and three functions of the kit that allocate memory. This
-module links these into the same object, makes every name but `elephant_*` local, and builds libelephant.a and libelephant.so from it.
+The kit's `rattle build` writes one position-independent object file. It calls the C library, and three functions of the kit that
+allocate memory. This module links these into the same object, makes every name but `elephant_*` local, and builds libelephant.a and libelephant.so from it.
 It uses the kit's own LLVM tools, so building needs no C compiler.
 """
 
@@ -48,16 +48,18 @@ def run_kit(tool, *words):
 
 
 def build(top):
-    """Builds the crate's archive in a repository, `top`, where `rt ci` has proved the crates. Returns its path, and what `rt` said."""
+    """Builds the crate's archive in a repository, `top`, where `rt ci` has proved the crates. Returns its path, and what was said.
+
+    `rt ci` checks a static library and leaves no archive, and `rt lib` takes nothing that `rt ci` built below the crate. So the crate
+    is proved once more as it is built, over the very libraries over which `rt ci` proved it."""
     folder = Path(top) / "crates" / CRATE
+    archive = folder / "out" / f"lib{CRATE}.a"
     if not folder.is_dir():
         raise Unavailable(f"there is no crate {CRATE} here")
-    pipes = {"stdin": subprocess.DEVNULL, "stdout": subprocess.PIPE, "stderr": subprocess.STDOUT, "encoding": "utf-8", "errors": "replace"}
-    ran = subprocess.run(["rt", "lib"], cwd=folder, check=False, preexec_fn=building.end_with_parent, **pipes)
-    archive = folder / "out" / f"lib{CRATE}.a"
-    if ran.returncode or not archive.is_file():
-        raise Unavailable(f"`rt lib` didn't build {CRATE}: {' '.join(ran.stdout.split())[-300:]}")
-    return archive, ran.stdout
+    proved, said = building.prove_above(folder, CRATE, building.read_uses()[CRATE], archive, top)
+    if not proved or not archive.is_file():
+        raise Unavailable(f"{CRATE} isn't built over what `rt ci` proved: {' '.join(said.split())[-300:]}")
+    return archive, said
 
 
 def pack(archive):
