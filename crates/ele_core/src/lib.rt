@@ -78,7 +78,7 @@ impl Core {
     /// Takes the event: answers it, and makes its change.
     ///
     /// `NoMemory` where memory is refused, and then the world is as it was, and the event isn't one that is refused: its checks
-    /// come first. `clock`, `tick`, `rmdir`, `default` and `clean` take none.
+    /// come first. `takes_no_memory` tells which events take none.
     pub fn apply(&mut self, event: &Event) -> Result<Reply, NoMemory>
         ensures step { IfOk result
             (λ reply. (reply, self.new.world) ≡ step self.old.world event.now) }

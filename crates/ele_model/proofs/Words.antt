@@ -52,7 +52,7 @@ pub use Rattle.ele_model.specs.WellFormed.{AreApart, AreCounted, AreGroups, AreH
 pub use Rattle.ele_model.specs.Whole.{ChangesOnly, part, whole}
 pub use Rattle.ele_model.specs.World.{World, current_of, default_of, file_by, file_written, fresh_world, has_draft, is_directory, is_draft, is_draft_after, is_file, is_handle, is_held, is_live, is_live_name_of, is_open, is_target_file, is_version, is_version_after, is_writer, next_of, policy_of, reads_by, reads_version, root, writes}
 pub use Rattle.ele_model.specs.declared.event.Event.{Event}
-pub use Rattle.ele_model.specs.declared.event.Event.TheVariants.{CleanOne, Clock, Close, Create, Due, GroupAdd, GroupDrop, GroupMake, GroupRemove, GroupsAll, Link, MakeDir, Mark, OpenRead, OpenWrite, Read, RemoveDir, Rename, Restorable, Revert, SetDefault, SetPolicy, Stat, Tick, Truncate, Undelete, Unlink, Unmark, UsageAll, Write}
+pub use Rattle.ele_model.specs.declared.event.Event.TheVariants.{CleanOne, Clock, Close, Create, Due, GroupAdd, GroupDrop, GroupMake, GroupRemove, GroupsAll, Link, MakeDir, Mark, OpenRead, OpenWrite, Read, Rename, Restorable, Revert, SetDefault, SetPolicy, Stat, Tick, Truncate, Undelete, Unlink, Unmark, UsageAll, Write}
 pub use Rattle.ele_model.specs.declared.event.Source.TheVariants.{Of, Tagged}
 pub use Rattle.ele_model.specs.declared.limits.Counts.{Counts}
 pub use Rattle.ele_model.specs.declared.refusal.Refusal.{Refusal}

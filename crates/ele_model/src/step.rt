@@ -29,8 +29,8 @@ pub trait Step: Drop {
 
     /// Takes the event: answers it, and makes its change.
     ///
-    /// `NoMemory` where memory is refused, and then the world is as it was. `clock`, `tick`,
-    /// `rmdir`, `default` and `clean` take none.
+    /// `NoMemory` where memory is refused, and then the world is as it was. `takes_no_memory` tells
+    /// which events take none.
     fn apply(&mut self, event: &Event) -> Result<Reply, NoMemory>
         ensures step { IfOk result
             (λ reply. (reply, world self.new) ≡ step (world self.old) event.now) }

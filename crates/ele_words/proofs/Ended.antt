@@ -1,5 +1,5 @@
 -- What is told of the line that ended a run.
-use Rattle.std.proofs.Common.{◌≡◌, ℕ, List, [], ◌∷◌, ◌++◌, Option, Some, None, Result, Ok, Err, OnOk, OnErr, is_err, false, true, refl, sym, ap, ◌∙◌, append_assoc, codes, decimal}
+use Rattle.std.proofs.Common.{◌≡◌, ℕ, List, [], ◌∷◌, ◌++◌, Option, Result, Ok, Err, OnOk, OnErr, is_err, false, true, refl, sym, ap, ◌∙◌, append_assoc, codes, decimal}
 use Rattle.std.specs.Io.KnownBytes.{Appends}
 use Rattle.std.proofs.KnownBytes.{Appends-trans}
 use Rattle.ele_printer.specs.Front.{AppendsFront}
@@ -7,12 +7,12 @@ use Rattle.ele_printer.specs.Printed.{line_text}
 use Rattle.ele_words.specs.StrictEnd.{end_line, shown}
 
 -- bytes were written, and then a front of more
-front_behind : (old mid new : Option (List ℕ)) (bytes more : List ℕ) → Appends old mid bytes → AppendsFront mid new more → AppendsFront old new (bytes ++ more)
+pub front_behind : (old mid new : Option (List ℕ)) (bytes more : List ℕ) → Appends old mid bytes → AppendsFront mid new more → AppendsFront old new (bytes ++ more)
 front_behind old mid new bytes more all is =
     record { front = bytes ++ is.front; back = is.back; parts = ap (λ (ys : List ℕ). bytes ++ ys) is.parts ∙ sym (append_assoc bytes is.front is.back); written = Appends-trans _ _ _ _ _ all is.written }
 
 -- a front of bytes is one of these and more
-front_of_more : (old new : Option (List ℕ)) (bytes more : List ℕ) → AppendsFront old new bytes → AppendsFront old new (bytes ++ more)
+pub front_of_more : (old new : Option (List ℕ)) (bytes more : List ℕ) → AppendsFront old new bytes → AppendsFront old new (bytes ++ more)
 front_of_more old new bytes more is =
     record { front = is.front; back = is.back ++ more; parts = ap (λ (ys : List ℕ). ys ++ more) is.parts ∙ append_assoc is.front is.back more; written = is.written }
 

@@ -10,7 +10,7 @@ use Rattle.ele_runs.specs.declared.fault.ShellFault.TheVariants.{ReadFault, Writ
 use Rattle.ele_runs.specs.declared.options.RunOptions.{RunOptions}
 use Rattle.ele_words.specs.Status.{fault_status}
 use Rattle.ele_words.specs.StrictEnd.{TellsStrictEnd, end_status}
-use Rattle.ele_words.specs.SystemReason.{IsReasonOf, failed_line}
+use Rattle.ele_words.specs.SystemReason.{IsReasonOf, failed_text}
 use Rattle.ele_words.specs.declared.system_reason.SystemReason.{SystemReason}
 
 -- what a run has done, by how it ended, and `notes`, what stood at the other writer then; without memory nothing was read or
@@ -30,7 +30,7 @@ run_status (Err fault) = fault_status fault
 abbrev pub TellsRun : RunOptions → Result RunEnd ShellFault → Option (List ℕ) → Option (List ℕ) → Type 0
 TellsRun options (Ok end) before after = TellsStrictEnd options end.lines end.ended_by before after
 TellsRun options (Err fault) before after =
-    (why : Option SystemReason) × IsReasonOf fault why × AppendsFront before after (failed_line fault why)
+    (why : Option SystemReason) × IsReasonOf fault why × AppendsFront before after (failed_text fault why)
 
 -- a run was done up to an end, which was told behind the reasons of bad lines
 pub record RunEnds (start : RunState) (input rest old new after : Option (List ℕ)) (status : ℕ) : Type 0 where

@@ -4,12 +4,11 @@ ghost use Rattle.std.specs.Prelude.{◌≡◌, Some};
 ghost use Rattle.std.specs.IoError.{error_kind};
 ghost use Rattle.ele_printer.specs.Front.{AppendsFront};
 ghost use Rattle.ele_words.specs.Status.{fault_status};
-ghost use Rattle.ele_words.specs.SystemReason.{failed_line, fault_front, system_text};
+ghost use Rattle.ele_words.specs.SystemReason.{failed_text, reason_line};
 
 use crate::failure::{Failure, status};
-use crate::program::tell;
 use ele_runs::ShellFault;
-use ele_script::write_placed;
+use ele_script::{put, write_named};
 use std::io;
 use std::io::{ErrorKind, Write};
 
@@ -54,8 +53,8 @@ pub(crate) fn system_reason(error: &io::Error) -> Option<SystemReason>
     }
 }
 
-/// Tells the fault as its number and its name, and why the system failed, if it told. The result is
-/// the status to end with.
+/// Tells the fault as its number and its name, and on a second line why the system failed, if it told. The result is the status to end
+/// with.
 pub(crate) fn report_error<E: Write>(
     fault: ShellFault,
     why: Option<SystemReason>,
@@ -63,44 +62,36 @@ pub(crate) fn report_error<E: Write>(
 ) -> u8
     ensures status { result ≡ fault_status fault }
     ensures told { AppendsFront (E.contents errors.old) (E.contents errors.new)
-        (failed_line fault why) }
+        (failed_text fault why) }
 {
-    let Some(why) = why else {
-        return tell(Some(fault), errors);
-    };
-    let _ = write_placed(
-        b"elephant:",
-        fault.number() as u64,
-        fault_front(fault),
-        text(why),
-        errors,
-    );
+    write_failed(fault, why, errors);
     let _ = errors.flush();
     status(Failure::Fault(fault))
 }
 
-// The name of a fault with a colon behind it.
-fn fault_front(fault: ShellFault) -> &'static [u8]
-    ensures { result.now ≡ fault_front fault }
+// Writes the fault's line, and the reason's. Where the writer fails it took a front of these.
+fn write_failed<E: Write>(fault: ShellFault, why: Option<SystemReason>, errors: &mut E)
+    ensures { AppendsFront (E.contents errors.old) (E.contents errors.new)
+        (failed_text fault why) }
 {
-    match fault {
-        ShellFault::ReadFault => b"ReadFault:",
-        ShellFault::WriteFault => b"WriteFault:",
-        ShellFault::TooManyLines => b"TooManyLines:",
-        ShellFault::NoMemory => b"NoMemory:",
+    if write_named(b"elephant:", fault.number(), fault.name(), errors).is_err() {
+        return;
+    }
+    if let Some(why) = why {
+        let _ = put(errors, reason_line(why));
     }
 }
 
-// A reason of the system in words.
-fn text(why: SystemReason) -> &'static [u8]
-    ensures { result.now ≡ system_text why }
+// The line of a reason.
+fn reason_line(why: SystemReason) -> &'static [u8]
+    ensures { result.now ≡ reason_line why }
 {
     match why {
-        SystemReason::IsDirectory => b"it is a directory",
-        SystemReason::NoSpace => b"there is no space left",
-        SystemReason::BrokenPipe => b"nobody reads the pipe any more",
-        SystemReason::NotPermitted => b"it is not permitted",
-        SystemReason::Device => b"the device failed",
-        SystemReason::NotOpen => b"it is not open",
+        SystemReason::IsDirectory => b"elephant: it is a directory\n",
+        SystemReason::NoSpace => b"elephant: there is no space left\n",
+        SystemReason::BrokenPipe => b"elephant: nobody reads the pipe any more\n",
+        SystemReason::NotPermitted => b"elephant: it is not permitted\n",
+        SystemReason::Device => b"elephant: the device failed\n",
+        SystemReason::NotOpen => b"elephant: it is not open\n",
     }
 }

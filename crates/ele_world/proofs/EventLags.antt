@@ -1,7 +1,8 @@
 -- The law of an event made in both worlds: its plan is the same, and each change keeps what is missing.
 use Rattle.ele_model.proofs.Basics.{◌≡◌, ◌<◌, ℕ, Bool, true, false, cond, List, [], ◌∷◌, None, Some, Option, Result, Ok, Err, refl, ap, sym, subst, ◌∙◌, arith, nat_tests, find, list_any, option_map_or, all-found, any-found, found_passes, false≢true, filter, ◌+◌}
 use Rattle.ele_model.proofs.Words.{Append, AddName, Change, Drafts, DropIdle, EndDraft, EndFileName, EndName, IsEvent, SetDirectoryDefault, Handles, IsDraft, IsHandle, HasParts, MakeDirectory, MakeFile, MoveName, OpenHandle, ShutHandle, StartDraft, Time, TruncateDraft, World, WriteDraft}
-use Rattle.ele_world.proofs.Words.{Clock, Close, Create, Directory, Draft, DraftRow, Event, File, Link, MakeDir, OpenWrite, Refusal, RemoveDir, Rename, Reply, SetDefault, Target, Tick, Truncate, Unlink, Write}
+use Rattle.ele_model.specs.declared.event.Event.TheVariants.{RemoveDir}
+use Rattle.ele_world.proofs.Words.{Clock, Close, Create, Directory, Draft, DraftRow, Event, File, Link, MakeDir, OpenWrite, Refusal, Rename, Reply, SetDefault, Target, Tick, Truncate, Unlink, Write}
 use Rattle.ele_model.proofs.Words.{after_change, after_changes, asks, draft_read, default_of, is_live_in, live_target, stands_in, walk, file_by, has_draft, is_draft, is_handle, next_of, outcome, plan, reads_by}
 use Rattle.ele_world.specs.EventLags.{LagsAfter}
 use Rattle.ele_world.specs.Lags.{Lags}

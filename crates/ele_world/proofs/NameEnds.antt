@@ -2,7 +2,8 @@
 use Rattle.ele_model.proofs.Basics.{◌≡◌, ℕ, false, ◌==◌, ◌&&◌, List, [], ◌∷◌, ◌++◌, Some, None, Ok, Err, refl, ap, ◌∙◌, arith, bytes_eq, false≢true, nat_tests, bytes_eq-Decides, update_first, AllLater, later-weaker, find-update_other}
 use Rattle.ele_model.proofs.Basics.{find-update_none, sym, is_some, find-append}
 use Rattle.ele_model.proofs.Words.{dies, step, is_live_name, live_target, walk, walk_now, parent_now, AreApart, Names, HasParts, World, root, after_change, EndFileName}
-use Rattle.ele_world.proofs.Words.{Directory, Done, EndsName, File, LeadsInstead, LeadsToSame, Link, NameRow, NoEntry, RemoveDir, Rename, Target, Unlink}
+use Rattle.ele_model.specs.declared.event.Event.TheVariants.{RemoveDir}
+use Rattle.ele_world.proofs.Words.{Directory, Done, EndsName, File, LeadsInstead, LeadsToSame, Link, NameRow, NoEntry, Rename, Target, Unlink}
 use Rattle.ele_model.proofs.Words.{file_now, MoveName, born_row, comes_through, stands_in}
 use Rattle.ele_model.proofs.NameParts.{still_none, free_still}
 use Rattle.ele_model.proofs.PlanOutcomes.{in_all}

@@ -1,7 +1,8 @@
 -- The live names are one tree from the root, after each event and so in every run, and no directory stands in itself.
 use Rattle.ele_model.proofs.Basics.{rules, nat_tests, arith, ◌≡◌, ℕ, suc, zero, ◌+◌, ◌==◌, ◌&&◌, Bool, true, false, List, [], ◌∷◌, ◌++◌, Some, None, Ok, refl, find, filter, AllByRecursion, list_any, update_first, all-both, all-filter, all-found, all-none, all-push, all-update_first, all-weaker, any-found, found_passes, list_any-append, list_any-filter, list_any-update_found, last_has}
 use Rattle.ele_model.proofs.Words.{World, IsEvent, ShutHandle, EndDraft, Take, HasParts, DropIdle, after_change, born_row, dies, is_live_directory, is_live_in, is_live_name, is_target_directory, last_target, is_named, live_target, parent_now, plan, root, run_of, step, walk, walk_now}
-use Rattle.ele_world.proofs.Words.{Event, MakeDir, Create, Link, Unlink, RemoveDir, Undelete, Rename, Close, CleanOne, Read, NameRow, Target, File, Directory}
+use Rattle.ele_model.specs.declared.event.Event.TheVariants.{RemoveDir}
+use Rattle.ele_world.proofs.Words.{Event, MakeDir, Create, Link, Unlink, Undelete, Rename, Close, CleanOne, Read, NameRow, Target, File, Directory}
 use Rattle.ele_world.specs.OneTree.{Hangs, IsOneTree, hangs_by}
 use Rattle.ele_lists.proofs.Cuts.{any-found as first_passing}
 use Rattle.ele_model.proofs.Dropped.{dropped, stays_named}
