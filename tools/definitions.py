@@ -18,8 +18,8 @@ BINDERS = re.compile(r"[({|,]\s*((?:(?:mut )?[a-z_][\w']* )*(?:mut )?[a-z_][\w']
 # A field that gets a value, or is declared.
 FIELDS = re.compile(r"(?<=[{;])\s*[a-z_]\w*\s*=(?![=>])|^\s*pub [a-z_]\w* :|(?<=[,{\n])\s*(?:pub )?[a-z_]\w*: ", re.M)
 IMPORT = re.compile(r"\b(pub(?:\([^)]*\))? )?(ghost )?use ([^;{]*?)(?:(?:\.|::)?\{([^}]*)\}|;|$)", re.S)
-# Ghost members that only prove something, or say how private fields are kept.
-INSIDE = re.compile(r"view|invariant|inverse|laws|from_gives|is_|matches_|respects_|use\b")
+# Ghost members that say how private fields are kept, or prove something.
+INSIDE = re.compile(r"view|invariant|inverse|laws|use\b")
 
 
 class Node(NamedTuple):
@@ -39,6 +39,12 @@ def chains_in(text, bound=()):
     """Returns the names of a text as lists of their parts, but for those that it binds itself."""
     found = {tuple(re.split(r"\.|::", it)) for it in CHAIN.findall(FIELDS.sub(" ", text))}
     return {it for it in found if it[0] not in bound}
+
+
+def operators_in(text, names):
+    """Returns which of these names are operators whose every sign or word stands in the text."""
+    signs = set(re.split(r"[\s(){}\[\],;]+", text))
+    return {(it,) for it in names if "◌" in it and signs.issuperset(filter(None, it.split("◌")))}
 
 
 def bound_in(text):
@@ -89,12 +95,13 @@ class Module:
             self.owner.update(dict.fromkeys(re.findall(r"^\s+(\w+) :", chunk, re.M), name))
             chunk = re.sub(r"^(\s+)\w+ :", r"\1", chunk, flags=re.M)
         self.uses.setdefault(name, set()).update(chains_in(chunk, bound_in(chunk)))
+        self.uses[name] |= operators_in(chunk, {**self.imports, **self.owner})
 
     def equation(self, name, chunk):
         """Takes up what an equation uses: small letters on its left are what it binds."""
         left, *right = re.split(r" =\s", chunk, maxsplit=1)
         bound = bound_in(chunk) | set(re.findall(r"(?<![\w.'])[a-z_][\w']*(?![\w'.])", left))
-        self.uses[name] |= chains_in(" ".join((left, *right)), bound)
+        self.uses[name] |= chains_in(" ".join((left, *right)), bound) | operators_in(chunk, {**self.imports, **self.owner})
 
 
 def chunks_of(text):
@@ -273,7 +280,7 @@ class Repository:
     def reached_by(self, crate, file, text, imports):
         """Returns what the names of a clause lead to."""
         source, found = self.sources[crate, file], set()
-        for chain in chains_in(text, bound_in(text)):
+        for chain in chains_in(text, bound_in(text)) | operators_in(text, {**source.imports, **imports}):
             path = imports.get(chain[0]) or source.imports.get(chain[0])
             found.add(self.of_path(crate, file, (*path[0], *chain[1:]) if path else chain))
         return {it for it in found if it and it.kind in ("specs", "types", "contracts")}

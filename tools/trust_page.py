@@ -114,7 +114,8 @@ class Page:
             if line.startswith("## "):
                 tables.append(Table(line[3:]))
             lines.append(self.with_unused(line) if line.startswith(UNUSED) else self.count(line, tables[-1]))
-        return lines, [it for it in tables if it.lines]
+        tables = [it for it in tables if it.lines]
+        return [re.sub(r"(?<=\*\*The core takes )\d+", str(tables[0].minutes), line) for line in lines], tables
 
     def with_unused(self, line):
         """Returns the line that tells which words of the core's files the contracts of its last row don't use, as it should be."""
@@ -129,6 +130,12 @@ class Page:
             names[node.place()].add(node.name)
         unused = [it for name in listed for it in self.repository.words_of(name) if it not in names[name]]
         return f"{line.partition(':')[0]}: {', '.join(f'`{it}`' for it in unused)}."
+
+    def sizes(self):
+        """Returns how many lines all crates have of code, of definitions and of proofs, without comments and blank ones."""
+        texts = {part: self.repository.folder.glob(f"*/{part}/**/*.*t") for part in ("src", "specs", "proofs")}
+        lines = {part: (line for path in paths for line in path.read_text(encoding="utf-8").splitlines()) for part, paths in texts.items()}
+        return [sum(1 for line in of_part if not re.match(r"\s*(//|--|$)", line)) for of_part in lines.values()]
 
     def needed_of(self, crates):
         """Returns the files that the public clauses of these crates reach, each with its kind and the names that they use of it."""
