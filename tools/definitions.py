@@ -2,8 +2,8 @@
 
 A **clause** is a signature, a `requires`, an `ensures`, a ghost member that a trait of another crate asks for, or what a contract sees
 of a type (`ghost Value`). How a type's private fields are seen (`view`) and what is kept of them (`invariant`) is none: the clauses of
-its calls pin both. From a clause the closure goes by names: each name of a clause leads by the imports of its file to a definition of
-`specs/`, a type or a trait, and each name of that one further.
+its calls say what a caller may know of the value. From a clause the closure goes by names: each name of a clause leads by the imports of
+its file to a definition of `specs/`, a type or a trait, and each name of that one further.
 """
 
 import re
