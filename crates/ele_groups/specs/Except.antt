@@ -1,4 +1,4 @@
--- Marks that a question leaves out.
+-- Marks that a question leaves out. No public clause cites this module.
 use Rattle.std.specs.Prelude.{ℕ, List, Option, Some, None, filter}
 use Rattle.std.specs.List.{flat_map}
 use Rattle.ele_model.specs.declared.cover.Cover.{Cover}

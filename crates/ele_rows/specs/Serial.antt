@@ -1,4 +1,4 @@
--- Values by serial number, and indexes of them.
+-- Values by serial number, and indexes of them. No public clause cites this module.
 use Rattle.std.specs.Prelude.{ℕ, Bool, List, Option}
 use Rattle.std.specs.declared.cmp.Ordering.{Ordering}
 use Rattle.std.specs.Ordering.{nat_cmp, ordering_then, is_eq}

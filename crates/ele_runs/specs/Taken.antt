@@ -1,4 +1,4 @@
--- What reading a piece takes from a reader.
+-- What reading a piece takes from a reader. No public clause cites this module.
 use Rattle.std.specs.Prelude.{◌≡◌, ℕ, ◌≤◌, List, take, Option, Result, Ok, Err}
 use Rattle.std.specs.Io.KnownBytes.{Consumes, Keeps, IsAtEnd}
 use Rattle.ele_runs.specs.declared.fault.ShellFault.{ShellFault}

@@ -1,4 +1,4 @@
--- What an audit takes for a name that may come back.
+-- What an audit takes for a name that may come back. No public clause cites this module.
 use Rattle.std.specs.Prelude.{ℕ, List}
 use Rattle.ele_model.specs.declared.rows.DeadName.{DeadName}
 use Rattle.ele_model.specs.declared.rows.Target.{Target}

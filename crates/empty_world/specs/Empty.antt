@@ -1,4 +1,4 @@
--- A world without files and names.
+-- A world without files and names. No public clause cites this module.
 use Rattle.std.specs.Prelude.{◌≡◌, ℕ, [], ◌∷◌}
 use Rattle.ele_policy.specs.declared.policy.Policy.{Policy}
 use Rattle.ele_model.specs.Bounds.{Bounds}
