@@ -1,4 +1,4 @@
--- How long a policy waits.
+-- How long a policy waits. No public clause cites this module.
 use Rattle.std.specs.Prelude.{ℕ, ◌+◌, nat_le, Bool, List, length, Option, Some, None, find, option_and_then, if◌then◌else◌}
 use Rattle.std.specs.List.{list_any}
 use Rattle.std.specs.Option.{option_map}

@@ -161,7 +161,7 @@ impl Ladder {
     }
 
     /// The age of the lowest rung of which some newer closing lies in the span of the closing.
-    pub fn shared_age(&self, closed: Moment, newer: &[Moment]) -> Option<u64>
+    pub(crate) fn shared_age(&self, closed: Moment, newer: &[Moment]) -> Option<u64>
         ensures { result
             ≡ option_map (λ rung. rung.0) (find (has_newer closed newer.now) self.now) }
     {
