@@ -1,12 +1,15 @@
 -- Single words and their faults.
-use Rattle.ele_script.proofs.Basics.{◌≡◌, ℕ, List, [], ◌∷◌, true, false, refl, ap, ◌⊎◌, inl, inr, Option, Some, None, Result, Ok, Err, IfOk, OnOk, ok_or}
-use Rattle.ele_script.proofs.Prelude.{SpellsNumber, LineFault, NoMemory, Syntax, IsTaggedFault, fault_of_path, IsTaggedWordFault, begins_path, of_handle, NumberWord, HandleWord, VersionWord, MomentWord, EndWord, PathWord, SourceWord, PolicyWord, IsOfKind, IsWordFault, IsRefused}
+use Rattle.ele_script.proofs.Basics.{◌≡◌, ℕ, zero, suc, List, [], ◌∷◌, take, position_or_len, true, false, refl, ap, ◌⊎◌, inl, inr, Option, Some, None, Result, Ok, Err, IfOk, OnOk, ok_or}
+use Rattle.ele_script.proofs.Prelude.{SpellsNumber, LineFault, NoMemory, Syntax, IsTaggedFault, fault_of_path, IsTaggedWordFault, begins_path, of_handle, NumberWord, HandleWord, VersionWord, MomentWord, EndWord, PathWord, TaggedWord, SourceWord, PolicyWord, IsOfKind, IsWordFault, IsRefused}
 use Rattle.ele_script.proofs.Prelude.{bad_word}
 use Rattle.std.specs.Prelude.{IfSome}
+use Rattle.ele_path.specs.FirstFault.{path_fault}
+use Rattle.ele_path.specs.Tagged.{is_mark}
+use Rattle.ele_path.specs.TaggedFault.{of_path}
 use Rattle.ele_path.specs.declared.fault.PathFault.{PathFault}
 use Rattle.ele_path.specs.declared.fault.PathFault.TheVariants as path
 use Rattle.ele_moment.specs.Spelled.{SpellsMoment}
-use Rattle.ele_printer.specs.declared.fault.LineFault.TheVariants.{BadMoment}
+use Rattle.ele_printer.specs.declared.fault.LineFault.TheVariants.{BadMoment, BadPath}
 use Rattle.ele_script.specs.Value.{Number, Handle, Version, Moment, End}
 
 -- a word of which a number was read is one of a number
@@ -40,6 +43,19 @@ refused_policy words path word fault are is bad = record { memory = λ none. ref
 pub bad_tagged : (word : List ℕ) (fault : PathFault) → (fault ≡ path.NoMemory) ⊎ IsTaggedFault word fault → (fault_of_path fault ≡ NoMemory) ⊎ IsTaggedWordFault word (fault_of_path fault)
 bad_tagged word fault (inl memory) = inl (ap fault_of_path memory)
 bad_tagged word fault (inr bad) = inr (fault, bad, refl)
+
+-- a word without a slash in front is no path, however it is cut
+no_path : (byte : ℕ) (bytes : List ℕ) → begins_path (byte ∷ bytes) ≡ false → path_fault (byte ∷ bytes) ≡ Some path.BadPath
+no_path byte [] plain = rw plain refl
+no_path byte (next ∷ bytes) plain = rw plain refl
+
+none_cut : (count : ℕ) (word : List ℕ) → begins_path word ≡ false → path_fault (take count word) ≡ Some path.BadPath
+none_cut zero word plain = refl
+none_cut (suc count) [] plain = refl
+none_cut (suc count) (byte ∷ bytes) plain = no_path byte (take count bytes) plain
+
+pub no_slash : (word : List ℕ) → begins_path word ≡ false → IsWordFault TaggedWord word BadPath
+no_slash word plain = (path.BadPath, of_path (none_cut (position_or_len is_mark word) word plain), refl)
 
 -- and a handle where it may stand
 pub bad_handle : (word : List ℕ) (fault : LineFault) → begins_path word ≡ false → IsWordFault NumberWord word fault → IsWordFault SourceWord word fault

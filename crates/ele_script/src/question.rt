@@ -23,7 +23,7 @@ pub enum Question {
 
 /// What the line asks to be explained: what its second word is behind `why` or `ahead`, or the fault
 /// of that word; none where these aren't its first word or it hasn't two. `NoMemory` may come in
-/// place of any other answer behind `why`.
+/// place of any other answer behind `why` where a slash stands in front of the word.
 pub fn read_question(alloc: Global, line: &[u8]) -> Option<Result<Question, LineFault>>
     ensures some { IfSome result (AsksQuestion line.now) }
     ensures none { IfNone result (asked_in line.now ≡ None) }
@@ -58,10 +58,14 @@ pub fn question_word(line: &[u8]) -> Option<(WordKind, &[u8])>
     None
 }
 
-// What the word behind `why` asks for.
+// What the word behind `why` asks for. A word that is no path by its first byte takes no memory.
+#[tactic(auto, using(crate::proofs::Behind::no_slash))]
 fn read_why(alloc: Global, word: &[u8]) -> Result<Question, LineFault>
     ensures { ReadsQuestion result TaggedWord word.now }
 {
+    if !word::begins_path(word) {
+        return Err(LineFault::BadPath);
+    }
     Ok(Question::Why(word::tagged(alloc, word)?))
 }
 

@@ -1,5 +1,5 @@
 //! Reading lines. A contract sees a line as its bytes, and an event as itself.
-ghost use Rattle.std.specs.Prelude.{◌≡◌, ◌<◌, ◌⊎◌, map, length, true, false, IfOk, IfErr, IfSome, IsSome, None, Ok, Err};
+ghost use Rattle.std.specs.Prelude.{◌≡◌, ◌<◌, ◌⊎◌, [], map, length, true, false, IfOk, IfErr, IfSome, IsSome, None, Ok, Err};
 ghost use Rattle.std.specs.List.{position};
 ghost use Rattle.ele_script.specs.Memory.{TakesMemory};
 ghost use Rattle.ele_script.specs.Words.{words_of, is_worded, ends_word};
@@ -60,9 +60,10 @@ pub fn read_line(alloc: Global, line: &[u8]) -> Result<Line, LineFault>
     if line.len() > LONGEST_LINE {
         return Err(LineFault::LineTooLong);
     }
-    let Some(words) = words_in(line) else {
+    let mut words = ArrayVec::new();
+    if !cut_words(line, &mut words) {
         return Err(LineFault::Syntax);
-    };
+    }
     line_of(alloc, words.as_slice())
 }
 
@@ -96,7 +97,6 @@ fn event_in(asked: Result<Line, LineFault>) -> Result<Event, LineFault>
 
 /// The words of a line, if it is plain words with one space between each two, and no more than a
 /// command may have.
-#[tactic(auto, using(crate::proofs::Words::cut_some, crate::proofs::Words::cut_unplain, crate::proofs::Words::cut_empty, crate::proofs::Words::cut_none, crate::proofs::Words::unworded))]
 pub(crate) fn words_in(line: &[u8]) -> Option<ArrayVec<&[u8], MOST_WORDS>>
     ensures found { IfSome result
         (λ words. map (λ word. word.now) words.items ≡ words_of line.now) }
@@ -105,29 +105,47 @@ pub(crate) fn words_in(line: &[u8]) -> Option<ArrayVec<&[u8], MOST_WORDS>>
         → (is_worded line.now ≡ false) ⊎ (MOST_WORDS < length (words_of line.now)) }
 {
     let mut words = ArrayVec::new();
+    if cut_words(line, &mut words) {
+        Some(words)
+    } else {
+        None
+    }
+}
+
+// Puts the words of a line into a list that has none, so that they aren't moved, and returns whether
+// the line has such words.
+#[tactic(auto, using(crate::proofs::Words::cut_some, crate::proofs::Words::cut_unplain, crate::proofs::Words::cut_empty, crate::proofs::Words::cut_none, crate::proofs::Words::unworded))]
+fn cut_words<'l>(line: &'l [u8], words: &mut ArrayVec<&'l [u8], MOST_WORDS>) -> bool
+    requires { words.old.items ≡ [] }
+    ensures found { result ≡ true
+        → map (λ word. word.now) words.new.items ≡ words_of line.now }
+    ensures worded { result ≡ true → is_worded line.now ≡ true }
+    ensures none { result ≡ false
+        → (is_worded line.now ≡ false) ⊎ (MOST_WORDS < length (words_of line.now)) }
+{
     let mut rest = line;
     'words: while let Some(at) = word_end(rest) {
         if rest[at] != b' ' {
-            return None;
+            return false;
         }
         if at == 0 {
-            return None;
+            return false;
         }
         if words.is_full() {
-            return None;
+            return false;
         }
         let (word, behind) = rest.split_at(at);
         words.push(word);
         rest = behind.split_at(1).1;
     }
     if rest.is_empty() {
-        return None;
+        return false;
     }
     if words.is_full() {
-        return None;
+        return false;
     }
     words.push(rest);
-    Some(words)
+    true
 }
 
 /// Where the first byte stands that is in no word.

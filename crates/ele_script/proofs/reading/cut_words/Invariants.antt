@@ -1,6 +1,6 @@
 use Rattle.ele_script.proofs.Basics.{map, length}
 use Rattle.ele_script.proofs.Words.{AreCut}
-use Rattle.ele_script.proofs.reading.words_in.Given as goal
+use Rattle.ele_script.proofs.reading.cut_words.Given as goal
 
 -- the words so far were cut off, and the rest is left
 abbrev pub invariant-words : goal.invariant-words
