@@ -11,5 +11,5 @@ use Rattle.ele_model.specs.declared.reply.Reply.TheVariants.{Bytes, Refused}
 
 -- the bytes that the read of the source is replied were copied from the offset on, or it is refused, and nothing was written
 abbrev pub Copies : World → Source → ℕ → List ℕ → List ℕ → Result Copied Refusal → Type 0
-Copies w source offset old new (Ok copied) = (bytes : List ℕ) × ((Bytes bytes, w) ≡ step w (Read source)) × IsCopied bytes offset old new copied
+Copies w source offset old new (Ok copied) = (bytes : List ℕ) × IsCopied bytes offset old new copied × ((Bytes bytes, w) ≡ step w (Read source))
 Copies w source offset old new (Err refusal) = ((Refused refusal, w) ≡ step w (Read source)) × (new ≡ old)

@@ -1,11 +1,11 @@
 -- How far a copy of a content has come.
 use Rattle.ele_blocks.specs.LivesIn.{fills}
-use Rattle.ele_files.proofs.Words.{Cell, Layout, List, LivesIn, None, Option, Slot, Some, Store, [], ap, append_nil, arith, bytes_at, cell_of, content_of, get_or, get_or_from_slice_get, length, length-map, map, nat_tests, option_map, refl, shown, slice_get, slice_get_within, slots_of, sym, take, true, zero, suc, ℕ, ◌*◌, ◌++◌, ◌+◌, ◌-◌, ◌<◌, ◌∙◌, ◌∷◌, ◌≡◌, ◌≤◌, length-append, StockLaws}
-use Rattle.ele_files.specs.Copied.{IsCopied, piece_of}
+use Rattle.ele_files.proofs.Words.{Cell, Layout, List, LivesIn, Slot, Some, Store, [], ap, append_nil, arith, bytes_at, cell_of, content_of, length, nat_tests, option_map, refl, shown, slice_get, slots_of, sym, take, true, zero, suc, ℕ, ◌*◌, ◌++◌, ◌+◌, ◌-◌, ◌∙◌, ◌∷◌, ◌≡◌, ◌≤◌, StockLaws}
+use Rattle.ele_files.specs.Copied.{IsCopied}
 use Rattle.ele_files.specs.declared.files.reading.Copied.{Copied}
 use Rattle.std.proofs.Common.{drop, length-drop, length-take}
 use Rattle.std.proofs.Math.Seq.{drop-append-add, take-add}
-use Rattle.std.proofs.lemmas.List.{drop-append-le, drop-drop, drop-take, take-append-drop, take-take, take_at, take_all, take_min, take_rest}
+use Rattle.std.proofs.lemmas.List.{drop-drop, drop-take, take-take, take_at, take_all, take_min}
 use Rattle.std.proofs.lemmas.Option.{slice_get-map}
 use Rattle.std.specs.Prelude.{min}
 

@@ -1,8 +1,8 @@
-use Rattle.ele_files.proofs.Words.{arith, content_of, nat_tests, shown}
+use Rattle.ele_files.proofs.Words.{arith, content_of, shown}
 use Rattle.ele_files.proofs.Reading.{block_bytes, block_size, copied_next}
 use Rattle.ele_files.proofs.files.reading.copy_slots.Goals as goal
 use Rattle.std.proofs.Common.{◌≡◌, ◌+◌, ◌-◌, ◌*◌, ◌∙◌, ◌≤◌, length}
-use Rattle.std.proofs.lemmas.Grind.{common_steps, elements}
+use Rattle.std.proofs.lemmas.Grind.{elements}
 
 pub unreachable-requires : goal.unreachable-requires
 unreachable-requires c = grind (arith, elements)
