@@ -1,5 +1,5 @@
 -- What a store is asked to do, and what it says and leaves.
-use Rattle.std.specs.Prelude.{◌≡◌, ℕ, Bool, true, false, length, Option, Some, None, Result, Ok, Err}
+use Rattle.std.specs.Prelude.{◌≡◌, ℕ, Bool, true, false, length, List, Option, Some, None, Result, Ok, Err}
 use Rattle.ele_core.specs.Copies.{Copies}
 use Rattle.ele_core.specs.Stopped.{is_stopped}
 use Rattle.ele_embed.specs.Embedding.{Embedding, State, Plain, Recorded, past_in, world_in}
