@@ -26,7 +26,7 @@
  *
  * THE KEPT RESULT. A content and a list are kept in the handle, and copied out by elephant_take, elephant_row_.. and the like,
  * as often as wanted. The next call that runs or asks something, also one that is refused, takes the kept result's place; calls
- * that only look (elephant_now, elephant_tell, elephant_answer, elephant_history, ..) leave it.
+ * that only look (elephant_now, elephant_tell, elephant_answer, elephant_history, elephant_read_into, ..) leave it.
  *
  * THE CALLER KEEPS, and nobody can check:
  *   - No pointer is NULL, not even with a length of 0 (pass ""), nor the handle; a handle is one that elephant_new gave and that
@@ -246,6 +246,17 @@ int32_t elephant_read_handle(elephant *e, uint64_t handle, uint64_t *length);
 
 /* Copies the kept bytes from offset on, at most room bytes, and says how many: 0 at and past their end. NO_RESULT. */
 int32_t elephant_take(elephant *e, uint64_t offset, void *into, size_t room, uint64_t *copied);
+
+/* Copies the bytes of that version from offset on straight to `into`, at most room bytes, and says at *copied how many: 0 at and past
+ * the end; *length: how many the version has. It only looks: nothing is kept, the kept result stays, and a history gets no entry.
+ * It answers as elephant_read does, but elephant_tell and elephant_detail stay with the call before: after FORGOTTEN ask
+ * elephant_stat, which is refused alike. A read of 1 MiB takes about half as long as by elephant_read and elephant_take. */
+int32_t elephant_read_into(elephant *e, const void *path, size_t len, uint32_t tag, uint64_t number, uint64_t offset, void *into,
+                           size_t room, uint64_t *length, uint64_t *copied);
+
+/* The same of what the handle reads. NO_HANDLE. It takes no memory. */
+int32_t elephant_read_handle_into(elephant *e, uint64_t handle, uint64_t offset, void *into, size_t room, uint64_t *length,
+                                  uint64_t *copied);
 
 /* A policy in numbers. */
 enum elephant_policy_kind {

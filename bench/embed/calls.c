@@ -1,5 +1,5 @@
-/* How long calls of the C library take, in microseconds: a small save with a history and without one, a read of 1 MiB, and a plain
- * copy of as many bytes. */
+/* How long calls of the C library take, in microseconds: a small save with a history and without one, a read of 1 MiB into a
+ * buffer, straight and by way of the kept result, and a plain copy of as many bytes. */
 
 #define _POSIX_C_SOURCE 199309L
 #include <elephant.h>
@@ -61,6 +61,16 @@ static double reads(elephant *e) {
     return (now() - start) / READS;
 }
 
+static double reads_into(elephant *e) {
+    uint64_t length, copied;
+    double start = now();
+    for (int at = 0; at < READS; at++) {
+        must(elephant_read_into(e, "/f", 2, ELEPHANT_NOW, 0, 0, into, sizeof into, &length, &copied));
+        if (copied != LENGTH) exit(1);
+    }
+    return (now() - start) / READS;
+}
+
 static double copies(void) {
     double start = now();
     for (int at = 0; at < READS; at++) {
@@ -71,21 +81,27 @@ static double copies(void) {
     return (now() - start) / READS;
 }
 
+static double least(double one, double other) {
+    return one < other ? one : other;
+}
+
 int main(void) {
     elephant *e = with_file(0);
-    double read = 1e9, copy = 1e9;
+    double read = 1e9, read_into = 1e9, copy = 1e9;
     for (int at = 0; at < LENGTH; at++) bytes[at] = (char)(at * 31 + at / 977);
     save(e, bytes, LENGTH);
     reads(e);
     if (memcmp(into, bytes, LENGTH)) return 1;
+    memset(into, 0, LENGTH);
+    reads_into(e);
+    if (memcmp(into, bytes, LENGTH)) return 1;
     copies();
     for (int round = 0; round < ROUNDS; round++) {
-        double once = reads(e);
-        read = once < read ? once : read;
-        once = copies();
-        copy = once < copy ? once : copy;
+        read = least(read, reads(e));
+        read_into = least(read_into, reads_into(e));
+        copy = least(copy, copies());
     }
     elephant_delete(e);
-    printf("save_with_history %.4f\nsave %.4f\nread %.4f\ncopy %.4f\n", saves(1), saves(0), read, copy);
+    printf("save_with_history %.4f\nsave %.4f\nread %.4f\nread_into %.4f\ncopy %.4f\n", saves(1), saves(0), read, read_into, copy);
     return 0;
 }

@@ -106,6 +106,8 @@ static void a_closed_handle_answers(void) {
     CODE(closed, elephant_read(e, TEXT("/f"), ELEPHANT_NOW, 0, &a));
     CODE(closed, elephant_read_handle(e, 1, &a));
     CODE(closed, elephant_take(e, 0, into, sizeof into, &a));
+    CODE(closed, elephant_read_into(e, TEXT("/f"), ELEPHANT_NOW, 0, 0, into, sizeof into, &a, &b));
+    CODE(closed, elephant_read_handle_into(e, 1, 0, into, sizeof into, &a, &b));
     CODE(closed, elephant_stat(e, TEXT("/f"), ELEPHANT_NOW, 0, &stat));
     CODE(closed, elephant_rung(e, 0, &a, &b));
     CODE(closed, elephant_versions(e, TEXT("/f"), ELEPHANT_NOW, 0, &a));
@@ -340,6 +342,120 @@ static void a_content_has_a_mebibyte_at_most(void) {
     WANT(copied == 0);
     free(bytes);
     free(got);
+    elephant_delete(e);
+}
+
+/* What the path and its tag hold from offset on is the text, straight into a room of so many bytes, and no byte behind it is written. */
+#define COPIES(e, path, tag, number, offset, room, whole, text)                                              \
+    do {                                                                                                     \
+        char *straight = malloc((room) + 1);                                                                 \
+        uint64_t length, copied;                                                                             \
+        WANT(straight);                                                                                      \
+        memset(straight, '~', (room) + 1);                                                                   \
+        OK(elephant_read_into(e, TEXT(path), tag, number, offset, straight, room, &length, &copied));        \
+        WANT(length == (whole) && copied == strlen(text) && !memcmp(straight, text, copied));                \
+        for (size_t at = copied; at <= (room); at++) WANT(straight[at] == '~');                              \
+        free(straight);                                                                                      \
+    } while (0)
+
+static void a_content_is_copied_straight_to_the_caller(void) {
+    elephant *e = with_file(0);
+    uint64_t writer, reader, length, copied;
+    char got[8];
+    COPIES(e, "/f", ELEPHANT_NOW, 0, 0, 3, 3, "two");
+    COPIES(e, "/f", ELEPHANT_NOW, 0, 0, 9, 3, "two");
+    COPIES(e, "/f", ELEPHANT_NOW, 0, 0, 2, 3, "tw");
+    COPIES(e, "/f", ELEPHANT_NOW, 0, 1, 1, 3, "w");
+    COPIES(e, "/f", ELEPHANT_NOW, 0, 2, 9, 3, "o");
+    COPIES(e, "/f", ELEPHANT_NOW, 0, 3, 9, 3, "");
+    COPIES(e, "/f", ELEPHANT_NOW, 0, UINT64_MAX, 9, 3, "");
+    COPIES(e, "/f", ELEPHANT_NOW, 0, 0, 0, 3, "");
+    COPIES(e, "/f", ELEPHANT_AT, 9, 0, 9, 3, "one");
+    COPIES(e, "/f", ELEPHANT_AT, 10, 0, 9, 3, "two");
+    COPIES(e, "/f", ELEPHANT_VERSION, 1, 0, 9, 0, "");
+    /* A writer reads its draft. */
+    OK(elephant_open_write(e, TEXT("/f"), &writer));
+    OK(elephant_open_read(e, TEXT("/f"), ELEPHANT_VERSION, 2, &reader));
+    OK(elephant_write(e, writer, 3, TEXT("!?")));
+    OK(elephant_read_handle_into(e, writer, 2, got, sizeof got, &length, &copied));
+    WANT(length == 5 && copied == 3 && !memcmp(got, "o!?", 3));
+    OK(elephant_read_handle_into(e, reader, 1, got, 1, &length, &copied));
+    WANT(length == 3 && copied == 1 && !memcmp(got, "n!?", 3));
+    OK(elephant_truncate(e, writer, 0));
+    OK(elephant_read_handle_into(e, writer, 0, got, sizeof got, &length, &copied));
+    WANT(length == 0 && copied == 0);
+    elephant_delete(e);
+}
+
+static void a_copy_leaves_what_is_kept_and_the_history(void) {
+    elephant *e = with_file(1);
+    uint64_t folded, entries, later, length, copied;
+    char got[32];
+    OK(elephant_read(e, TEXT("/f"), ELEPHANT_VERSION, 2, &length));
+    OK(elephant_history(e, &folded, &entries));
+    COPIES(e, "/f", ELEPHANT_NOW, 0, 0, 9, 3, "two");
+    CODE(ELEPHANT_NO_ENTRY, elephant_read_into(e, TEXT("/g"), ELEPHANT_NOW, 0, 0, got, sizeof got, &length, &copied));
+    CODE(ELEPHANT_NO_HANDLE, elephant_read_handle_into(e, 99, 0, got, sizeof got, &length, &copied));
+    OK(elephant_history(e, &folded, &later));
+    WANT(entries == later);
+    OK(elephant_take(e, 0, got, sizeof got, &copied));
+    WANT(copied == 3 && !memcmp(got, "one", 3));
+    OK(elephant_tell(e, &length));
+    OK(elephant_answer(e, 0, got, sizeof got, &copied));
+    WANT(copied == 18 && !memcmp(got, "ok bytes 3 6f6e65\n", 18));
+    elephant_delete(e);
+}
+
+static void a_copy_that_is_refused_writes_nothing(void) {
+    elephant *e = with_file(0);
+    uint64_t length = 7, copied = 8, detail;
+    elephant_key removed;
+    elephant_stat_row row;
+    char got[8] = "~~~~~~~";
+#define REFUSED(code, path, tag, number) CODE(code, elephant_read_into(e, TEXT(path), tag, number, 0, got, sizeof got, &length, &copied))
+    REFUSED(ELEPHANT_FUTURE, "/f", ELEPHANT_AT, 11);
+    REFUSED(ELEPHANT_BAD_MOMENT, "/f", ELEPHANT_AT, LAST_MOMENT + 1);
+    REFUSED(ELEPHANT_NO_VERSION, "/f", ELEPHANT_VERSION, 4);
+    REFUSED(ELEPHANT_SYNTAX, "/f", 3, 0);
+    REFUSED(ELEPHANT_IS_DIRECTORY, "/", ELEPHANT_NOW, 0);
+    REFUSED(ELEPHANT_NO_ENTRY, "/g", ELEPHANT_NOW, 0);
+    REFUSED(ELEPHANT_NOT_DIRECTORY, "/f/g", ELEPHANT_NOW, 0);
+    REFUSED(ELEPHANT_BAD_PATH, "f", ELEPHANT_NOW, 0);
+    CODE(ELEPHANT_NO_HANDLE, elephant_read_handle_into(e, 1, 0, got, sizeof got, &length, &copied));
+    OK(elephant_policy(e, TEXT("/f"), TEXT("one")));
+    OK(elephant_clean(e, &removed));
+    OK(elephant_clean(e, &removed));
+    WANT(removed.number == 2);
+    REFUSED(ELEPHANT_FORGOTTEN, "/f", ELEPHANT_VERSION, 2);
+    CODE(ELEPHANT_NO_RESULT, elephant_detail(e, &detail));
+    CODE(ELEPHANT_FORGOTTEN, elephant_stat(e, TEXT("/f"), ELEPHANT_VERSION, 2, &row));
+    OK(elephant_detail(e, &detail));
+    WANT(length == 7 && copied == 8 && !memcmp(got, "~~~~~~~", 8));
+#undef REFUSED
+    elephant_delete(e);
+}
+
+static void a_large_content_is_copied_whole_and_in_pieces(void) {
+    elephant *e = with_file(0);
+    uint64_t handle, version, length, copied;
+    static char bytes[LARGEST], got[LARGEST + 1];
+    for (size_t at = 0; at < LARGEST; at++) bytes[at] = (char)(at * 31 + at / 977);
+    OK(elephant_open_write(e, TEXT("/f"), &handle));
+    OK(elephant_write(e, handle, 0, bytes, LARGEST));
+    OK(elephant_close_handle(e, handle, &version));
+    OK(elephant_read_into(e, TEXT("/f"), ELEPHANT_NOW, 0, 0, got, LARGEST, &length, &copied));
+    WANT(length == LARGEST && copied == LARGEST && !memcmp(got, bytes, LARGEST));
+    /* Rooms of each size about a block of 512 bytes, at each offset about one. */
+    for (uint64_t offset = 510; offset < 515; offset++)
+        for (uint64_t room = 0; room < 1030; room++) {
+            memset(got, '~', room + 1);
+            OK(elephant_read_into(e, TEXT("/f"), ELEPHANT_NOW, 0, offset, got, room, &length, &copied));
+            WANT(length == LARGEST && copied == room && !memcmp(got, bytes + offset, room) && got[room] == '~');
+        }
+    for (uint64_t at = 0; at < LARGEST; at += copied) {
+        OK(elephant_read_into(e, TEXT("/f"), ELEPHANT_NOW, 0, at, got, 4099, &length, &copied));
+        WANT(copied == (LARGEST - at < 4099 ? LARGEST - at : 4099) && !memcmp(got, bytes + at, copied));
+    }
     elephant_delete(e);
 }
 
@@ -730,6 +846,10 @@ int main(void) {
     some_names_do_not_come_back();
     a_session_makes_one_version();
     a_content_has_a_mebibyte_at_most();
+    a_content_is_copied_straight_to_the_caller();
+    a_copy_leaves_what_is_kept_and_the_history();
+    a_copy_that_is_refused_writes_nothing();
+    a_large_content_is_copied_whole_and_in_pieces();
     a_version_is_read_by_moment_and_by_number_or_not_at_all();
     what_a_path_means_is_told_with_its_policy();
     lists_are_kept_and_read_by_row();

@@ -110,6 +110,8 @@ ATTEMPT(revert, elephant_revert(e, TEXT("/f"), 2, &out.number))
 ATTEMPT(open_read, elephant_open_read(e, TEXT("/f"), ELEPHANT_AT, 1, &out.number))
 ATTEMPT(read_now, elephant_read(e, TEXT("/f"), ELEPHANT_NOW, 0, &out.number))
 ATTEMPT(read_handle, elephant_read_handle(e, 4, &out.number))
+ATTEMPT(read_into, elephant_read_into(e, TEXT("/f"), ELEPHANT_NOW, 0, 0, out.bytes, sizeof out.bytes, &out.number, &out.other))
+ATTEMPT(read_handle_into, elephant_read_handle_into(e, 4, 0, out.bytes, sizeof out.bytes, &out.number, &out.other))
 ATTEMPT(stat_version, elephant_stat(e, TEXT("/f"), ELEPHANT_VERSION, 2, &out.stat))
 ATTEMPT(stat_directory, elephant_stat(e, TEXT("/d"), ELEPHANT_NOW, 0, &out.stat))
 ATTEMPT(versions, elephant_versions(e, TEXT("/f"), ELEPHANT_NOW, 0, &out.number))
@@ -142,7 +144,7 @@ static const struct attempt attempts[] = {
     NAMED(stat_directory), NAMED(versions),      NAMED(list),          NAMED(restorable),    NAMED(due),          NAMED(ahead),
     NAMED(usage),          NAMED(policy_one),    NAMED(policy_ladder), NAMED(default_safe),  NAMED(group_make),   NAMED(group_drop),
     NAMED(group_add),      NAMED(group_remove),  NAMED(mark),          NAMED(mark_until),    NAMED(unmark),       NAMED(groups),
-    NAMED(why),            NAMED(clean),
+    NAMED(why),            NAMED(clean),         NAMED(read_into),     NAMED(read_handle_into),
 };
 
 /* A store in which each of these calls has something to do. */

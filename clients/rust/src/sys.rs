@@ -197,6 +197,27 @@ extern "C" {
     pub fn elephant_read(e: *mut elephant, path: *const u8, len: usize, tag: u32, number: u64, length: *mut u64) -> i32;
     pub fn elephant_read_handle(e: *mut elephant, handle: u64, length: *mut u64) -> i32;
     pub fn elephant_take(e: *mut elephant, offset: u64, into: *mut u8, room: usize, copied: *mut u64) -> i32;
+    pub fn elephant_read_into(
+        e: *mut elephant,
+        path: *const u8,
+        len: usize,
+        tag: u32,
+        number: u64,
+        offset: u64,
+        into: *mut u8,
+        room: usize,
+        length: *mut u64,
+        copied: *mut u64,
+    ) -> i32;
+    pub fn elephant_read_handle_into(
+        e: *mut elephant,
+        handle: u64,
+        offset: u64,
+        into: *mut u8,
+        room: usize,
+        length: *mut u64,
+        copied: *mut u64,
+    ) -> i32;
     pub fn elephant_stat(
         e: *mut elephant,
         path: *const u8,

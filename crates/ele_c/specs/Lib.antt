@@ -5,5 +5,6 @@ pub mod Codes
 pub mod Asks
 pub mod Calls
 pub mod Copies
+pub mod Straight
 pub mod Fields
 pub mod Limits

@@ -1,6 +1,7 @@
 //! What the arguments of a call ask for. A contract sees them as the bytes and numbers that C gives.
 ghost use Rattle.std.specs.Prelude.{◌≡◌, ◌⊎◌, Ok, Err};
 ghost use Rattle.ele_c.specs.Asks.{AsksAt, AsksMember, AsksPath, AsksTagged, Finds, IsNameFault, IsPathFault, IsTagged, IsTaggedFault, end_of, moment_of, tag_of, time_of};
+ghost use Rattle.ele_c.specs.Straight.{AsksVersion};
 ghost use Rattle.ele_model.specs.declared.event.Event.TheVariants as event;
 ghost use Rattle.ele_model.specs.declared.event.Source.TheVariants.{Tagged};
 ghost use Rattle.ele_moment.specs.Name.{IsName};
@@ -197,6 +198,21 @@ pub(crate) fn read(alloc: Global, bytes: &[u8], kind: u32, number: u64) -> Resul
 {
     match tagged(alloc, bytes, kind, number) {
         Ok(tagged) => Ok(Event::Read(Source::Tagged(tagged))),
+        Err(fault) => Err(fault),
+    }
+}
+
+/// The version that is read.
+pub(crate) fn version(
+    alloc: Global,
+    bytes: &[u8],
+    kind: u32,
+    number: u64,
+) -> Result<Source, LineFault>
+    ensures { AsksVersion bytes.now kind number result }
+{
+    match tagged(alloc, bytes, kind, number) {
+        Ok(tagged) => Ok(Source::Tagged(tagged)),
         Err(fault) => Err(fault),
     }
 }

@@ -20,6 +20,7 @@ mod opens;
 mod questions;
 mod reads;
 mod rows;
+mod straight;
 mod writes;
 
 use box_parts::Parts;

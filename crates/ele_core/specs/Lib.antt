@@ -1,4 +1,5 @@
 pub mod Does
+pub mod Copies
 pub mod Reads
 pub mod Stopped
 pub mod Place

@@ -16,6 +16,7 @@ ghost use Rattle.ele_core.specs.Reads.{IsRead};
 mod answer;
 mod clean;
 mod clock;
+mod copy;
 mod directory;
 mod explaining;
 mod fate;
@@ -40,6 +41,7 @@ pub use ele_model::{
 pub use ele_moment::{BadMoment, BadName};
 pub use ele_path::{PathAtFault, PathFault};
 pub use ele_policy::{BadLadder, Floor, Interval};
+pub use ele_state::Copied;
 use ele_state::State;
 use std::alloc::Global;
 use std::marker::Model;

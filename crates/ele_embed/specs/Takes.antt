@@ -1,7 +1,9 @@
 -- What a store is asked to do, and what it says and leaves.
-use Rattle.std.specs.Prelude.{◌≡◌, ℕ, Bool, true, false, length, Option, Some, None, Result, Ok, Err}
+use Rattle.std.specs.Prelude.{◌≡◌, ℕ, Bool, true, false, length, List, Option, Some, None, Result, Ok, Err}
+use Rattle.ele_core.specs.Copies.{Copies}
 use Rattle.ele_core.specs.Stopped.{is_stopped}
-use Rattle.ele_embed.specs.Embedding.{Embedding, State, Plain, Recorded, past_in}
+use Rattle.ele_embed.specs.Embedding.{Embedding, State, Plain, Recorded, past_in, world_in}
+use Rattle.ele_files.specs.declared.files.reading.Copied.{Copied}
 use Rattle.ele_history.specs.Pass.{MayPass}
 use Rattle.ele_history.specs.Past.{Past, HasRoom, recorded, trimmed}
 use Rattle.ele_history.specs.Reply.{MayStop}
@@ -11,7 +13,9 @@ use Rattle.ele_model.specs.Step.{step}
 use Rattle.ele_model.specs.Why.{IsAhead, IsWhy}
 use Rattle.ele_model.specs.World.{World}
 use Rattle.ele_model.specs.declared.event.Event.{Event}
+use Rattle.ele_model.specs.declared.event.Source.{Source}
 use Rattle.ele_model.specs.declared.pass.PassEnd.{PassEnd}
+use Rattle.ele_model.specs.declared.refusal.Refusal.{Refusal}
 use Rattle.ele_model.specs.declared.refusal.Stop.TheVariants.{NoMemory}
 use Rattle.ele_model.specs.declared.reply.Reply.{Reply}
 use Rattle.ele_path.specs.declared.tagged.TaggedPath.{TaggedPath}
@@ -52,6 +56,10 @@ abbrev pub Folds : Past → Said → Past → Type 0
 Folds before (Trimmed count) after = (count ≡ length before.entries) × (after ≡ trimmed before)
 Folds before (Stopped stop) after = (stop ≡ NoMemory) × (after ≡ before)
 Folds before said after = ⊥
+
+-- the bytes that a read of the source is replied were copied from the offset on, or it is refused, and nothing was written
+abbrev pub CopiesRead : State → Source → ℕ → List ℕ → List ℕ → Result Copied Refusal → Type 0
+CopiesRead state source offset old new told = Copies (world_in state) source offset old new told
 
 -- why a version is held was asked, or the question has a fault
 abbrev pub TellsWhy : World → Result TaggedPath LineFault → Said → Type 0

@@ -7,7 +7,7 @@ ghost use Rattle.std.specs.Option.{option_copied};
 ghost use Rattle.ele_embed.specs.Embedding.{Plain, Recorded, fresh_plain, fresh_recorded, reply_of, world_in, past_in};
 ghost use Rattle.ele_embed.specs.Hears.{Hears};
 ghost use Rattle.ele_embed.specs.Kept.{state_of};
-ghost use Rattle.ele_embed.specs.Takes.{Runs, Passes, FoldsOrNot, TellsWhy, TellsAhead};
+ghost use Rattle.ele_embed.specs.Takes.{CopiesRead, Runs, Passes, FoldsOrNot, TellsWhy, TellsAhead};
 ghost use Rattle.ele_embed.specs.Text.{IsTold, IsRunBlock};
 ghost use Rattle.ele_runs.specs.declared.said.Said.TheVariants as said;
 
@@ -18,9 +18,10 @@ mod text;
 use crate::keeper::{Keeper, ahead};
 use crate::plain::Plain;
 use crate::text::put_said;
+pub use ele_core::Copied;
 use ele_core::Core;
 use ele_history::History;
-use ele_model::{Event, Limits, Moment, NoMemory, PassEnd, Reply, TaggedPath};
+use ele_model::{Event, Limits, Moment, NoMemory, PassEnd, Refusal, Reply, Source, TaggedPath};
 pub use ele_runs::Said;
 use ele_script::{LineFault, Printer, WriteFault};
 use std::alloc::Global;
@@ -126,6 +127,14 @@ impl Store {
             Ok(moment) => self.said = ahead(moment, self.keeper.core()),
             Err(fault) => self.said = Said::Bad(fault),
         }
+    }
+
+    /// Copies the bytes that a read of the source is replied from the offset on, as many as there is room for, to the start of the
+    /// caller's. It is no event: a history gets no entry, and what was said last stays.
+    pub fn copy(&self, source: &Source, offset: u64, into: &mut [u8]) -> Result<Copied, Refusal>
+        ensures { CopiesRead self.now.state source.now offset into.old into.new result }
+    {
+        self.keeper.core().copy(source, offset, into)
     }
 
     /// Runs a line of the script language, without its line feed, and makes the text of its answer.

@@ -12,3 +12,4 @@ pub mod Copies
 pub mod Closes
 pub mod Lemmas
 pub mod Newer
+pub mod Reading

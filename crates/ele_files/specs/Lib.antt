@@ -6,3 +6,4 @@ pub mod Meant
 pub mod Met
 pub mod FileHead
 pub mod Beside
+pub mod Copied

@@ -23,6 +23,7 @@ mod dropping;
 mod governing;
 pub mod neighbours;
 pub mod newer;
+pub mod reading;
 mod restoring;
 mod usage;
 mod versions;

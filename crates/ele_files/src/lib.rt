@@ -12,4 +12,5 @@ pub use ele_sessions::FoundHandle;
 pub use file::NewVersion;
 pub use files::neighbours::FileHead;
 pub use files::newer::Beside;
+pub use files::reading::Copied;
 pub use files::{Files, RemovedVersion};

@@ -32,6 +32,7 @@ mod version;
 pub use crate::path::{directory_in, file_in};
 use crate::rows::{Made, Rows};
 use ele_due::DueQueue;
+pub use ele_files::Copied;
 use ele_files::{Files, Meter};
 use ele_groups::Groups;
 use ele_model::{

@@ -3,6 +3,7 @@ ghost use Rattle.std.specs.Prelude.{◌≡◌, ◌<◌, ◌≤◌, ◌+◌, ◌�
 ghost use Rattle.std.specs.Result.{result_map_both};
 ghost use Rattle.ele_content.specs.Content.{content_of, longest_content};
 ghost use Rattle.ele_files.specs.Closing.{opening_by};
+ghost use Rattle.ele_files.specs.Copied.{IsCopied};
 ghost use Rattle.ele_model.specs.Change.{OpenHandle, StartDraft, TruncateDraft, WriteDraft, after_change, after_changes};
 ghost use Rattle.ele_model.specs.Step.{cells_read, step, versions_made};
 ghost use Rattle.ele_model.specs.World.{file_by, has_draft, is_held, next_of, reads_by};
@@ -19,6 +20,7 @@ use crate::file::drop_idle;
 use crate::keys::{put, take};
 use crate::moments::free_moment;
 use crate::rows::Rows;
+use ele_files::Copied;
 use ele_model::{ByteList, FileId, Handle, Moment, NoMemory, Reads, Refusal, VersionNo};
 use ele_sessions::FoundHandle;
 
@@ -57,6 +59,19 @@ impl State {
         match reads {
             Reads::Draft(file) => self.rows.files.draft_content(file),
             Reads::Version(file, number) => self.rows.files.version_content(file, number),
+        }
+    }
+
+    /// Copies the bytes of the draft or the version from the offset on, as many as there is room for, to the start of the caller's.
+    pub fn copy_bytes(&self, reads: Reads, offset: u64, into: &mut [u8]) -> Copied
+        ensures { IsCopied (content_of (cells_read self.now.world reads)) offset
+            into.old into.new result }
+    {
+        match reads {
+            Reads::Draft(file) => self.rows.files.copy_draft(file, offset, into),
+            Reads::Version(file, number) => {
+                self.rows.files.copy_version(file, number, offset, into)
+            }
         }
     }
 

@@ -45,6 +45,7 @@ _CALLS = {
     "open_write": "text out", "write": "number number text", "truncate": "number number", "close_handle": "number out",
     "revert": "text number out",
     "open_read": "text word number out", "read": "text word number out", "read_handle": "number out", "take": "number into out",
+    "read_into": "text word number number into out out", "read_handle_into": "number number into out out",
     "stat": "text word number out", "rung": "number out out",
     "versions": "text word number out", "row_version": "number out", "list": "text word number out", "restorable": "out",
     "row_name": "number out", "row_bytes": "number into out", "due": "out", "ahead": "number out", "row_key": "number out",

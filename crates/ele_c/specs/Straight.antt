@@ -1,0 +1,43 @@
+-- Reads straight into the caller's memory.
+use Rattle.std.specs.Prelude.{◌≡◌, ℕ, ℤ, pos, List, Option, Some, None, Result, Ok, Err}
+use Rattle.ele_c.specs.Asks.{Finds, IsTagged, IsTaggedFault}
+use Rattle.ele_embed.specs.Embedding.{Embedding, State}
+use Rattle.ele_embed.specs.Takes.{CopiesRead}
+use Rattle.ele_files.specs.declared.files.reading.Copied.{Copied}
+use Rattle.ele_model.specs.Answers.{refusal_number}
+use Rattle.ele_model.specs.declared.event.Source.{Source}
+use Rattle.ele_model.specs.declared.event.Source.TheVariants.{Tagged}
+use Rattle.ele_model.specs.declared.refusal.Refusal.{Refusal}
+use Rattle.ele_path.specs.declared.tagged.TaggedPath.{TaggedPath}
+use Rattle.ele_printer.specs.LineFault.{fault_number}
+use Rattle.ele_printer.specs.declared.fault.LineFault.{LineFault}
+
+-- a version is asked for by a path with a tag
+abbrev pub AsksVersion : List ℕ → ℕ → ℕ → Result Source LineFault → Type 0
+AsksVersion bytes kind number =
+    Finds (λ source. (tagged : TaggedPath) × IsTagged bytes kind number tagged × (source ≡ Tagged tagged)) (IsTaggedFault bytes kind number)
+
+-- bytes were copied, or the number of the refusal or the fault is told, and nothing was written
+abbrev pub CopiesAsked : State → Result Source LineFault → ℕ → List ℕ → List ℕ → Result Copied ℤ → Type 0
+CopiesAsked state (Ok source) offset old new (Ok copied) = CopiesRead state source offset old new (Ok copied)
+CopiesAsked state (Ok source) offset old new (Err code) =
+    (refusal : Refusal) × (code ≡ pos (refusal_number refusal)) × CopiesRead state source offset old new (Err refusal)
+CopiesAsked state (Err fault) offset old new (Ok copied) = ⊥
+CopiesAsked state (Err fault) offset old new (Err code) = (code ≡ pos (fault_number fault)) × (new ≡ old)
+
+-- how long the content is and how many bytes were copied, or a code in their place, and then nothing is told
+abbrev pub TellsCopied : Result Copied ℤ → ℤ → ℕ × ℕ → ℕ × ℕ → Type 0
+TellsCopied (Ok copied) code before after = (code ≡ pos 0) × (after ≡ (copied.length, copied.count))
+TellsCopied (Err why) code before after = (code ≡ why) × (after ≡ before)
+
+-- a read of an open store, which stays as it is, or of a closed one
+abbrev pub Reads : Result Source LineFault → ℕ → Option Embedding → ℤ → Option Embedding → List ℕ → List ℕ → ℕ × ℕ → ℕ × ℕ → Type 0
+Reads asked offset None code after old new before told = (code ≡ pos 64) × (after ≡ None) × (new ≡ old) × (told ≡ before)
+Reads asked offset (Some store) code after old new before told =
+    (found : Result Copied ℤ) × (after ≡ Some store) × CopiesAsked store.state asked offset old new found × TellsCopied found code before told
+
+-- a call read what its arguments ask for
+pub record ReadsInto (asks : Result Source LineFault → Type 0) (offset : ℕ) (before : Option Embedding) (code : ℤ) (after : Option Embedding) (old new : List ℕ) (told told' : ℕ × ℕ) : Type 0 where
+  pub asked : Result Source LineFault
+  pub is : asks asked
+  pub reads : Reads asked offset before code after old new told told'

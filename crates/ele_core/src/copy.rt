@@ -1,0 +1,44 @@
+//! Reads that copy a content out of its blocks, and keep no copy. They change nothing.
+ghost use Rattle.ele_core.specs.Copies.{Copies};
+ghost use Rattle.ele_model.specs.declared.event.Source.TheVariants as source;
+
+use crate::Core;
+use crate::halt::check;
+use ele_model::{Handle, Reads, Refusal, Source, TaggedPath};
+use ele_state::Copied;
+
+impl Core {
+    // Copies bytes of what the handle reads.
+    fn copy_handle(&self, handle: Handle, offset: u64, into: &mut [u8]) -> Result<Copied, Refusal>
+        ensures { Copies self.now.world (source.Of handle) offset into.old into.new result }
+    {
+        let reads = check!(self.state.reads_by(handle));
+        Ok(self.state.copy_bytes(reads, offset, into))
+    }
+
+    // Copies bytes of the version that the path and its tag mean.
+    fn copy_version(
+        &self,
+        tagged: &TaggedPath,
+        offset: u64,
+        into: &mut [u8],
+    ) -> Result<Copied, Refusal>
+        ensures { Copies self.now.world (source.Tagged tagged.now) offset into.old into.new result }
+    {
+        let (file, info) = check!(self.state.version_at(tagged));
+        let reads = Reads::Version(file, info.number);
+        Ok(self.state.copy_bytes(reads, offset, into))
+    }
+
+    /// Copies the bytes that `read` returns from the offset on, as many as there is room for, to the start of the caller's. It
+    /// takes no memory. Refused: as `read`, and then nothing is copied.
+    #[inline(never)]
+    pub fn copy(&self, source: &Source, offset: u64, into: &mut [u8]) -> Result<Copied, Refusal>
+        ensures { Copies self.now.world source.now offset into.old into.new result }
+    {
+        match source {
+            Source::Of(handle) => self.copy_handle(*handle, offset, into),
+            Source::Tagged(tagged) => self.copy_version(tagged, offset, into),
+        }
+    }
+}
