@@ -41,7 +41,7 @@ gives w event row reads = record {
 pub answered : PoliciesAreLawful → (limits : Bounds) (events later : List Event) (event : Event) → AreBounds limits → AllByRecursion IsEvent events → AllByRecursion IsEvent later
     → Headline limits events later event ((step (present limits events later) event).0) ((step (present limits events later) event).1)
 answered law limits events later event bounds are then =
-    let w = past limits events in
+    let w = past limits events later in
     let now = present limits events later in
     let formed = run_has law limits events bounds are in
     let k = run_keeps w later then formed in

@@ -26,13 +26,6 @@ use Rattle.ele_model.specs.Tagged.{version_at}
 use Rattle.ele_model.specs.Usage.{usages}
 use Rattle.ele_model.specs.World.{World, fresh_world, is_held, reads_by}
 
--- from the fresh world of the limits: the world after some events, cleans anywhere among them, and the one after later events too
-abbrev pub past : Bounds → List Event → World
-past limits events = run_of (fresh_world limits) events
-
-abbrev pub present : Bounds → List Event → List Event → World
-present limits events later = run_of (past limits events) later
-
 -- a read of the version, by a tag or by a handle, is answered by the bytes of the row
 pub record GivesRow (now : World) (event : Event) (reply : Reply) (row : VersionRow) : Type 0 where
   pub tagged : (tagged : TaggedPath) (held : VersionRow) → event ≡ Read (Tagged tagged) → version_at now tagged ≡ Ok held
@@ -40,23 +33,31 @@ pub record GivesRow (now : World) (event : Event) (reply : Reply) (row : Version
   pub handle : (handle : ℕ) → event ≡ Read (Of handle) → reads_by now.handles handle ≡ Ok (Version row.file row.number)
       → reply ≡ Bytes (content_of row.cells)
 
--- the present world answers one more event by the reply, which leaves the world `after`
-pub record Headline (limits : Bounds) (events later : List Event) (event : Event) (reply : Reply) (after : World) : Type 0 where
-  -- what is due is the scan: the key of each version held now that is due, once, in order, and no other
-  pub due : event ≡ Due → (reply ≡ DueList (scan (present limits events later))) × ListsDue (present limits events later)
-  -- what is restorable is each name, once, in order, whose newest row is dead and stood for what may have a name again
-  pub names : event ≡ Restorable → (reply ≡ RestoreList (restorable (present limits events later))) × ListsRestorable (present limits events later)
-  -- the usage per policy is the sum over all rows held now
-  pub usage : event ≡ UsageAll → reply ≡ UsageList (usages (present limits events later))
-  -- a clean after which nothing is due finishes a pass: if all later events were cleans, just what wasn't due in the past world is left
-  pub pass : AllByRecursion (λ clean. clean ≡ CleanOne) later → event ≡ CleanOne → reply ≡ Nothing → after.versions ≡ kept_rows (past limits events)
-  -- each version held now is held after the event, or this was a clean, and it was due, no handle read it and no mark kept it
-  pub leaves : AllByRecursion (λ row. (is_held after row.file row.number ≡ true) ⊎ LeavesAsDue (present limits events later) event row) (present limits events later).versions
-  -- a read of a version that the past world held gives the bytes that it had there, whatever came later
-  pub reads : AllByRecursion (GivesRow (present limits events later) event reply) (past limits events).versions
-  -- a read by a tag whose version isn't held is refused: no neighbour is answered in its place
-  pub missing : (tagged : TaggedPath) (refusal : Refusal) → event ≡ Read (Tagged tagged) → version_at (present limits events later) tagged ≡ Err refusal
-      → reply ≡ Refused refusal
+-- A run from the fresh world of any limits. Any events, cleans anywhere among them, lead to the past world, and any later ones to the
+-- present one.
+module _ (limits : Bounds) (events later : List Event) where
+  abbrev pub past : World
+  past = run_of (fresh_world limits) events
+
+  abbrev pub present : World
+  present = run_of past later
+
+  -- Then one more event is answered by a reply, which leaves the world `after`.
+  pub record Headline (event : Event) (reply : Reply) (after : World) : Type 0 where
+    -- what is due is the scan: the key of each version held now that is due, once, in order, and no other
+    pub due : event ≡ Due → (reply ≡ DueList (scan present)) × ListsDue present
+    -- what is restorable is each name, once, in order, whose newest row is dead and stood for what may have a name again
+    pub names : event ≡ Restorable → (reply ≡ RestoreList (restorable present)) × ListsRestorable present
+    -- the usage per policy is the sum over all rows held now
+    pub usage : event ≡ UsageAll → reply ≡ UsageList (usages present)
+    -- a clean that finds nothing due finishes a pass: if only cleans came since the past world, just what wasn't due there is left
+    pub pass : AllByRecursion (λ clean. clean ≡ CleanOne) later → event ≡ CleanOne → reply ≡ Nothing → after.versions ≡ kept_rows past
+    -- each version held now stays held, unless the event is a clean, and it was due, no handle read it and no mark kept it
+    pub leaves : AllByRecursion (λ row. (is_held after row.file row.number ≡ true) ⊎ LeavesAsDue present event row) present.versions
+    -- a read of a version that the past world held gives the bytes that it had there, whatever came later
+    pub reads : AllByRecursion (GivesRow present event reply) past.versions
+    -- a read by a tag whose version isn't held is refused: no neighbour is answered in its place
+    pub missing : (tagged : TaggedPath) (refusal : Refusal) → event ≡ Read (Tagged tagged) → version_at present tagged ≡ Err refusal → reply ≡ Refused refusal
 
 -- the event is answered so in each run that leads to the world, wherever the run is cut in two
 abbrev pub KeepsHeadline : World → Event → Reply → World → Type 0
