@@ -9,6 +9,8 @@ SEEN = re.compile(r"\s*ghost (Value|view|invariant) ")
 SKIPPED = re.compile(r"\s*(//|--|#\[|(pub )?use |ghost use |$)")
 KINDS = ("types", "contracts", "whole")
 NO_CLAUSE = "No public clause cites this module"
+# The part of the page that whoever calls the core reads.
+CORE = "The core"
 NO_READER = "No public clause that a reader of the core needs cites this module"
 LEFT_OUT = "- The clauses of "
 UNUSED = "The contracts of the last row use none of these words"
@@ -115,12 +117,14 @@ class Page:
                 tables.append(Table(line[3:]))
             lines.append(self.with_unused(line) if line.startswith(UNUSED) else self.count(line, tables[-1]))
         tables = [it for it in tables if it.lines]
-        return [re.sub(r"(?<=\*\*The core takes )\d+", str(tables[0].minutes), line) for line in lines], tables
+        core = next((it for it in tables if it.title == CORE), Table(CORE))
+        return [re.sub(r"(?<=\*\*The core takes )\d+", str(core.minutes), line) for line in lines], tables
 
     def with_unused(self, line):
         """Returns the line that tells which words of the core's files the contracts of its last row don't use, as it should be."""
-        begin = next(i for i, it in enumerate(self.lines) if it.startswith("## "))
-        rows = [files_in(cells_of(it)[0]) for it in self.lines[begin:self.lines.index(line)] if len(cells_of(it)) > 3]
+        end = self.lines.index(line)
+        begin = max(i for i, it in enumerate(self.lines[:end]) if it.startswith("## "))
+        rows = [files_in(cells_of(it)[0]) for it in self.lines[begin:end] if len(cells_of(it)) > 3]
         listed = dict.fromkeys(name for row in rows for kind, name in row if kind == "specs")
         last = {name for kind, name in next(row for row in reversed(rows) if row) if kind == "contracts"}
         clauses = (it for it in self.repository.clauses_of(self.repository.crates) if f"{it[0]}/src/{it[1]}" in last)

@@ -1,16 +1,11 @@
 -- The version that a question or a revert means, by its info.
-use Rattle.ele_state.specs.Told.{found_of}
-use Rattle.ele_path.specs.declared.tagged.TaggedPath.{TaggedPath}
-use Rattle.ele_model.proofs.Basics.{◌≡◌, ℕ, Result, Ok, Err, true, refl, Some, subst, find, any-found, found_passes}
+use Rattle.ele_model.proofs.Basics.{◌≡◌, ℕ, Result, Ok, Err, true, refl, Some, find, any-found, found_passes}
 use Rattle.ele_model.proofs.Meant.{is_meant, made_of, numbered_found}
 use Rattle.ele_path.specs.declared.tagged.Tag.{Tag}
 use Rattle.ele_path.specs.declared.tagged.Tag.TheVariants as tag
-use Rattle.ele_model.specs.Fate.{HasFate}
-use Rattle.ele_model.specs.Tagged.{version_at, version_meant}
+use Rattle.ele_model.specs.Tagged.{version_meant}
 use Rattle.ele_model.specs.Told.{file_stat, info_of}
 use Rattle.ele_model.specs.World.{World, is_held, is_version, policy_for}
-use Rattle.ele_model.specs.Why.{MeansFate}
-use Rattle.ele_model.specs.declared.fate.Fate.{Fate}
 use Rattle.ele_model.specs.declared.refusal.Refusal.{Refusal}
 use Rattle.ele_model.specs.declared.reply.Reply.TheVariants.{FileStat}
 use Rattle.ele_model.specs.declared.rows.VersionInfo.{VersionInfo}

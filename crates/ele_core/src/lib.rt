@@ -3,6 +3,7 @@
 #![tactic(auto)]
 
 ghost use Rattle.std.specs.Prelude.{◌≡◌, IfOk, OnErr, IsOk, true, false};
+ghost use Rattle.ele_headline.specs.Headline.{KeepsHeadline};
 ghost use Rattle.ele_model.specs.Bounds.{AreBounds};
 ghost use Rattle.ele_model.specs.NoIdleStays.{HasNoIdle};
 ghost use Rattle.ele_model.specs.Ready.{takes_no_memory};
@@ -81,15 +82,21 @@ impl Core {
     ///
     /// `NoMemory` where memory is refused, and then the world is as it was, and the event isn't one that is refused: its checks
     /// come first. `takes_no_memory` tells which events take none.
+    ///
+    /// In whatever run it comes, the reply and the world after it are as the headline says.
     pub fn apply(&mut self, event: &Event) -> Result<Reply, NoMemory>
         ensures step { IfOk result
             (λ reply. (reply, self.new.world) ≡ step self.old.world event.now) }
+        ensures headline { IfOk result
+            (λ reply. KeepsHeadline self.old.world event.now reply self.new.world) }
         ensures err { OnErr result (self.new.world ≡ self.old.world) }
         ensures refused { OnErr result (refuses self.old.world event.now ≡ false) }
         ensures ready { takes_no_memory event.now ≡ true → IsOk result }
         ensures event { IsEvent event.now }
         ensures read { IfOk result (λ reply. IsRead event.now reply self.new.rows_read) }
     {
+        // Told for the proof: what the step answers keeps the headline.
+        ele_headline::headline();
         self.state.reset_rows_read();
         let halt = match self.answer(event) {
             Ok(reply) => return Ok(reply),

@@ -1,7 +1,7 @@
 -- What a finished pass leaves, by what the scan keeps.
 use Rattle.ele_model.proofs.Basics.{ap, sym, ◌∙◌, not, filter}
 use Rattle.ele_forecast.specs.Stays.{numbers_of}
-use Rattle.ele_world.specs.PassLeavesKept.{PassLeavesKept}
+use Rattle.ele_headline.specs.PassLeavesKept.{PassLeavesKept}
 use Rattle.ele_world.specs.PlainEvents.{is_clean}
 use Rattle.ele_model.specs.Run.{run_of}
 use Rattle.ele_world.specs.Schedule.{Schedule}

@@ -29,15 +29,21 @@ pub record Ends (Done : Option ShellFault → Type 0) (before after : Option (Li
   pub status_is : status ≡ status_of fault
   pub told : TellsFault fault before after
 
--- by what was asked for; words that weren't understood are told with status 2
-abbrev pub EndsWith : Invocation → Bool → Option (List ℕ) → Option (List ℕ) → Option (List ℕ) → Option (List ℕ) → Option (List ℕ) → Option (List ℕ) → ℕ → Type 0
-EndsWith (invocation.Run limits options) watched input rest old new before after status =
+-- without other threads, by what was asked for; words that weren't understood are told with status 2
+abbrev pub EndsAlone : Invocation → Option (List ℕ) → Option (List ℕ) → Option (List ℕ) → Option (List ℕ) → Option (List ℕ) → Option (List ℕ) → ℕ → Type 0
+EndsAlone (invocation.Run limits options) input rest old new before after status =
     RunEnds (begun options (fresh limits) before) input rest old new after status
-EndsWith (invocation.Storm plan) watched input rest old new before after status = Keeps input rest × EndsWatched watched plan old new before after status
-EndsWith (invocation.Forecast ask) watched input rest old new before after status = ForecastEnds ask input rest old new before after status
-EndsWith (invocation.Help text) watched input rest old new before after status =
+-- a storm takes threads
+EndsAlone (invocation.Storm plan) input rest old new before after status = ⊥
+EndsAlone (invocation.Forecast ask) input rest old new before after status = ForecastEnds ask input rest old new before after status
+EndsAlone (invocation.Help text) input rest old new before after status =
     Keeps input rest × Ends (HasWritten (string_bytes text) old new) before after status
-EndsWith (invocation.NotUnderstood text) watched input rest old new before after status =
+EndsAlone (invocation.NotUnderstood text) input rest old new before after status =
     Keeps input rest × Keeps old new × AppendsFront before after (string_bytes text) × (status ≡ 2)
-EndsWith invocation.NoMemory watched input rest old new before after status =
+EndsAlone invocation.NoMemory input rest old new before after status =
     Keeps input rest × Keeps old new × AppendsFront before after (fault_line NoMemory) × (status ≡ 3)
+
+-- with them; only a storm may be watched
+abbrev pub EndsWith : Invocation → Bool → Option (List ℕ) → Option (List ℕ) → Option (List ℕ) → Option (List ℕ) → Option (List ℕ) → Option (List ℕ) → ℕ → Type 0
+EndsWith (invocation.Storm plan) watched input rest old new before after status = Keeps input rest × EndsWatched watched plan old new before after status
+EndsWith asked watched input rest old new before after status = EndsAlone asked input rest old new before after status

@@ -1,5 +1,5 @@
 -- What the program's words may ask for.
-use Rattle.std.specs.Prelude.{◌≡◌, ℕ, ◌≤◌}
+use Rattle.std.specs.Prelude.{◌≡◌, ℕ, ◌≤◌, Bool, true, false}
 use Rattle.ele_model.specs.Bounds.{largest_bounds}
 use Rattle.ele_words.specs.declared.invocation.Invocation.{Invocation}
 use Rattle.ele_words.specs.declared.invocation.Invocation.TheVariants.{Run, Storm, Forecast, Help, NotUnderstood, NoMemory}
@@ -18,6 +18,11 @@ IsAsked (Forecast ask) = Unit {0}
 IsAsked (Help text) = Unit {0}
 IsAsked (NotUnderstood text) = Unit {0}
 IsAsked NoMemory = Unit {0}
+
+-- a storm is asked for, which takes threads
+abbrev pub is_storm : Invocation → Bool
+is_storm (Storm plan) = true
+is_storm asked = false
 
 -- no run, no storm, no forecast and no help: words that weren't understood, or no memory to tell them
 abbrev pub IsRefusal : Invocation → Type 0

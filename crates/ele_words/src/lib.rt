@@ -15,5 +15,5 @@ mod watched;
 pub use failure::{Failure, status};
 pub use invocation::{Invocation, unreadable_args, words};
 pub use keeps_error::{KeepsError, LastError};
-pub use program::dispatch;
+pub use program::{dispatch, dispatch_alone};
 pub use system_reason::SystemReason;

@@ -1,11 +1,12 @@
 //! What the program does with what its words ask for, over a reader and two writers.
 //! A contract sees how a run ended, what the ends hold then, and the status.
-ghost use Rattle.std.specs.Prelude.{◌≡◌, Err, IfErr, is_ok, if◌then◌else◌};
+ghost use Rattle.std.specs.Prelude.{◌≡◌, false, Err, IfErr, is_ok, if◌then◌else◌};
 ghost use Rattle.std.specs.Result.{result_err};
 ghost use Rattle.ele_history.specs.Past.{fresh};
 ghost use Rattle.ele_runs.specs.RunState.{begun};
 ghost use Rattle.ele_words.specs.Status.{status_of};
-ghost use Rattle.ele_words.specs.Ends.{HasRun, HasWritten, TellsFault, EndsWith};
+ghost use Rattle.ele_words.specs.Ends.{EndsAlone, EndsWith, HasRun, HasWritten, TellsFault};
+ghost use Rattle.ele_words.specs.Invocation.{is_storm};
 ghost use Rattle.ele_words.specs.RunEnds.{TellsRun, run_status};
 ghost use Rattle.ele_words.specs.SystemReason.{IsReasonOf};
 
@@ -117,10 +118,43 @@ pub(crate) fn tell<E: Write>(fault: Option<ShellFault>, errors: &mut E) -> u8
     status(Failure::Fault(fault))
 }
 
-/// Does what was asked for: answers at the writer, and tells faults and words that weren't
-/// understood at the other, and there, where it is watched, how far a storm is too, and of a run with
-/// numbers why its bad lines are no commands. The result is the
-/// status that the program ends with.
+/// Does what was asked for, unless it is a storm: answers at the writer, and reports faults and words
+/// that weren't understood at the other, and there too, of a run with numbers, why its bad lines are
+/// no commands. It calls no other thread, waits for none, and returns. The result is the status that
+/// the program ends with.
+pub fn dispatch_alone<C: Explain, R: Read + LastError, W: Write + LastError, E: Write>(
+    alloc: Global,
+    invocation: &Invocation,
+    reader: &mut R,
+    writer: &mut W,
+    errors: &mut E,
+) -> u8
+    requires { is_storm invocation.now ≡ false }
+    ensures { EndsAlone invocation.now (R.remaining reader.old) (R.remaining reader.new)
+        (W.contents writer.old) (W.contents writer.new)
+        (E.contents errors.old) (E.contents errors.new) result }
+{
+    match invocation {
+        Invocation::Run(limits, options) => {
+            let ran = run_script::<C, R, W, E>(alloc, *options, *limits, reader, writer, errors);
+            let why = why_failed(&ran, reader, writer);
+            tell_run(alloc, *options, &ran, why, errors)
+        }
+        Invocation::Storm(_) => unreachable!(),
+        Invocation::Forecast(ask) => run_forecast(alloc, ask, reader, writer, errors),
+        Invocation::Help(text) => tell(write_text(text.as_str(), writer).err(), errors),
+        Invocation::NotUnderstood(text) => {
+            let _ = put(errors, text.as_bytes());
+            let _ = errors.flush();
+            status(Failure::NotUnderstood)
+        }
+        Invocation::NoMemory => tell(Some(ShellFault::NoMemory), errors),
+    }
+}
+
+/// Does what was asked for, as `dispatch_alone` does if it isn't a storm. A storm calls its core from
+/// many threads and may wait for them for ever; if it is watched, how far it is is reported at the
+/// writer of faults. The result is the status that the program ends with.
 pub fn dispatch<
     C: Audit + Explain + Send,
     T: Threads + Wait + Clock + Sync,
@@ -141,21 +175,9 @@ pub fn dispatch<
         (E.contents errors.old) (E.contents errors.new) result }
 {
     match invocation {
-        Invocation::Run(limits, options) => {
-            let ran = run_script::<C, R, W, E>(alloc, *options, *limits, reader, writer, errors);
-            let why = why_failed(&ran, reader, writer);
-            tell_run(alloc, *options, &ran, why, errors)
-        }
         Invocation::Storm(plan) => run_storm::<C, T, W, E>(
             rt, alloc, plan, watched, writer, errors,
         ),
-        Invocation::Forecast(ask) => run_forecast(alloc, ask, reader, writer, errors),
-        Invocation::Help(text) => tell(write_text(text.as_str(), writer).err(), errors),
-        Invocation::NotUnderstood(text) => {
-            let _ = put(errors, text.as_bytes());
-            let _ = errors.flush();
-            status(Failure::NotUnderstood)
-        }
-        Invocation::NoMemory => tell(Some(ShellFault::NoMemory), errors),
+        asked => dispatch_alone::<C, R, W, E>(alloc, asked, reader, writer, errors),
     }
 }

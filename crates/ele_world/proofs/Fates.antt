@@ -6,11 +6,11 @@ use Rattle.ele_policy.specs.declared.cause.Cause.{Cause}
 use Rattle.ele_policy.specs.declared.cause.Cause.TheVariants.{AtOnce, Age, Displaced}
 use Rattle.ele_policy.specs.declared.cause.Newer.{Newer}
 use Rattle.ele_policy.specs.declared.policy.Policy.{Policy}
-use Rattle.ele_world.proofs.ScanOrder.{scan_lists}
+use Rattle.ele_headline.proofs.ScanOrder.{scan_lists}
 use Rattle.ele_model.specs.Due.{is_due_at}
 use Rattle.ele_model.specs.Fate.{HasCause, HasFate, IsFate, IsMarkedBy, newer_versions, says_due}
 use Rattle.ele_model.specs.Scan.{scan}
-use Rattle.ele_world.specs.ScanLists.{is_due_from}
+use Rattle.ele_headline.specs.ScanLists.{is_due_from}
 use Rattle.ele_model.specs.declared.fate.Fate.{Fate}
 use Rattle.ele_model.specs.declared.fate.Fate.TheVariants.{Current, Open, Marked, Kept, Due}
 use Rattle.ele_model.proofs.Fates.{protected_told}

@@ -5,8 +5,8 @@ use Rattle.ele_model.proofs.Words.{Cell, current_cells, Change, Time, EndFileNam
 use Rattle.ele_world.proofs.Words.{Event, NameRow, File, VersionRow, Target, Directory}
 use Rattle.ele_model.proofs.Dropped.{dropped, dropped_versions, stays_named}
 use Rattle.ele_model.proofs.May.{MayBy}
-use Rattle.ele_world.proofs.HeldRows.{IsBehind, IsPast, change_past, Moves, row_of, found_updated, Same, Ended, Taken, change_moves}
-use Rattle.ele_world.proofs.HeldStays.{held_past}
+use Rattle.ele_headline.proofs.HeldRows.{IsBehind, IsPast, change_past, Moves, row_of, found_updated, Same, Ended, Taken, change_moves}
+use Rattle.ele_headline.proofs.HeldStays.{held_past}
 use Rattle.ele_model.proofs.Versions.{IsEndedBy, other_ended}
 use Rattle.ele_model.proofs.Currents.{has_current}
 use Rattle.ele_model.proofs.KeptRevived.{last_is}

@@ -1,15 +1,11 @@
 pub mod Words
 pub mod ChangeKeeps
-pub mod HeldRows
-pub mod HeldStays
 pub mod OpenStays
 pub mod Closes
 pub mod NameRowsKept
-pub mod ScanOrder
 pub mod Fates
 pub mod NameEnds
 pub mod Leads
-pub mod ReadsBack
 pub mod KnownVersions
 pub mod OneLife
 pub mod AnyDueLeave
@@ -28,7 +24,7 @@ pub mod RunsLag
 pub mod Past
 pub mod OtherNames
 pub mod LifeStays
-pub mod Restores
+pub mod Undeletes
 pub mod DifferentPlaces
 pub mod SlotsKept
 pub mod CellsStay

@@ -6,8 +6,8 @@ use Rattle.ele_world.specs.LifeStays.{LivesAsBefore}
 use Rattle.ele_model.proofs.Allowed.{allowed}
 use Rattle.ele_model.proofs.Keeps.{reached}
 use Rattle.ele_model.proofs.May.{MayAll}
-use Rattle.ele_world.proofs.HeldRows.{IsPast, change_past, Moves, Same, Ended, Taken, change_moves}
-use Rattle.ele_world.proofs.HeldStays.{held_past}
+use Rattle.ele_headline.proofs.HeldRows.{IsPast, change_past, Moves, Same, Ended, Taken, change_moves}
+use Rattle.ele_headline.proofs.HeldStays.{held_past}
 use Rattle.ele_model.proofs.Versions.{IsFound, all_found}
 use Rattle.ele_world.proofs.KnownVersions.{change_later}
 

@@ -6,7 +6,7 @@ use Rattle.ele_lists.proofs.Cuts.{any-found as first_passing}
 use Rattle.ele_model.proofs.Allowed.{allowed}
 use Rattle.ele_model.proofs.Keeps.{event_keeps, reached}
 use Rattle.ele_world.proofs.KnownVersions.{change_known, known_first, Known, known_in, HadLife, IsCovered, AreKnown, or_none}
-use Rattle.ele_world.proofs.HeldRows.{row_of}
+use Rattle.ele_headline.proofs.HeldRows.{row_of}
 use Rattle.ele_model.proofs.May.{MayAll}
 use Rattle.ele_model.proofs.StepKeeps.{fresh_is, step_keeps, run_keeps}
 use Rattle.ele_model.proofs.Versions.{all_found}

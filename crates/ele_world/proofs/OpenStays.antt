@@ -2,10 +2,10 @@
 use Rattle.ele_model.proofs.Basics.{AllByRecursion, ◌≡◌, inl, inr, ℕ, true, Some, sym, subst, ◌∙◌, arith, find, Ok, false≢true, nat_tests, all-found, found_passes, any-found, all-weaker}
 use Rattle.ele_model.proofs.Words.{step, IsHeldRead, Readers, World, is_handle, is_held, is_open, is_version, reads_by, reads_version, HasParts}
 use Rattle.ele_lists.proofs.Cuts.{any-found as first_passing}
-use Rattle.ele_world.proofs.HeldStays.{only_due_leave}
+use Rattle.ele_headline.proofs.HeldStays.{only_due_leave}
 use Rattle.ele_model.proofs.Readers.{HasRow, has_row}
 use Rattle.ele_world.proofs.Words.{Version, VersionRow, Event}
-use Rattle.ele_world.specs.OnlyDueLeave.{StaysOrWasDue}
+use Rattle.ele_headline.specs.OnlyDueLeave.{StaysOrWasDue}
 use Rattle.ele_world.specs.MarkedStays.{IsMarkedHeld}
 
 pub open_stays : (w : World) (event : Event) (handle file number : ℕ) → HasParts w → reads_by w.handles handle ≡ Ok (Version file number) → is_held ((step w event).1) file number ≡ true

@@ -9,7 +9,7 @@ use Rattle.ele_world.specs.ReadsPast.{read_at}
 use Rattle.ele_model.specs.WalkAt.{walk_covering}
 use Rattle.ele_lists.proofs.Cuts.{any-found as first_passing}
 use Rattle.ele_path.specs.declared.tagged.Tag.TheVariants as tag
-use Rattle.ele_world.specs.HeldStays.{StaysSame}
+use Rattle.ele_headline.specs.HeldStays.{StaysSame}
 use Rattle.ele_world.specs.LifeStays.{LivesAsBefore}
 use Rattle.ele_model.specs.Plan.{found_outcome}
 use Rattle.ele_model.specs.declared.reply.Reply.{Reply}
@@ -19,7 +19,7 @@ use Rattle.ele_world.proofs.Numbered.{all_held}
 use Rattle.ele_model.proofs.PlanOutcomes.{AfterAll, in_all}
 use Rattle.ele_world.proofs.Past.{past_stays}
 use Rattle.ele_model.proofs.Rising.{numbers_rise}
-use Rattle.ele_world.proofs.HeldStays.{held_stays}
+use Rattle.ele_headline.proofs.HeldStays.{held_stays}
 use Rattle.ele_model.proofs.StepKeeps.{step_keeps}
 use Rattle.ele_model.proofs.Versions.{IsFound, all_found}
 

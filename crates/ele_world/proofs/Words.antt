@@ -28,7 +28,7 @@ pub use Rattle.ele_world.specs.MakeDirLeads.{LeadsToDirectory}
 pub use Rattle.ele_world.specs.OneLife.{HasOneLife, NamesOneLife, OneLife}
 pub use Rattle.ele_world.specs.OneLifeFrom.{HasLivesFrom, NamesOneLifeFrom, OneLifeFrom}
 pub use Rattle.ele_world.specs.OpenStays.{OpenStays}
-pub use Rattle.ele_world.specs.ReadsAsClosed.{ReadsAsClosed, ReadsAsClosedInRuns, ReadsRow}
+pub use Rattle.ele_headline.specs.ReadsAsClosed.{ReadsAsClosed, ReadsAsClosedInRuns, ReadsRow}
 pub use Rattle.ele_world.specs.RenameLeads.{LeadsInstead, RenameLeads}
 pub use Rattle.ele_world.specs.UndeleteLeads.{HasNameAgain, HasVersionAgain, LeadsAgain, UndeleteLeads}
 pub use Rattle.ele_world.specs.UnlinkEnds.{EndsName, UnlinkEnds}

@@ -10,8 +10,6 @@ pub mod OpenStays
 pub mod Ever
 pub mod OneLife
 pub mod OneLifeFrom
-pub mod ReadsAsClosed
-pub mod PassLeavesKept
 pub mod AnyDueLeave
 pub mod IdleLeave
 pub mod Less
@@ -23,7 +21,6 @@ pub mod PastStays
 pub mod LifeStays
 pub mod OtherNamesStay
 pub mod UndeleteTakes
-pub mod RestorableLists
 pub mod CountsPlaces
 pub mod OneContent
 pub mod PolicyGoverns
@@ -45,10 +42,7 @@ pub mod MarkGoes
 pub mod ReadsPast
 pub mod DraftsWritten
 pub mod OneTree
-pub mod HeldStays
 pub mod MarkedStays
-pub mod OnlyDueLeave
-pub mod ScanLists
 pub mod NameRowsStay
 pub mod ChangeKeeps
 pub mod CloseKeeps

@@ -1,20 +1,16 @@
 -- A name is listed as restorable just where an undelete of a path to it isn't refused as `Exists`, `NoEntry` or `NotRestorable`.
-use Rattle.std.specs.Prelude.{◌≡◌, ℕ, ◌==◌, ◌&&◌, Bool, true, false, not, List, Ok}
+use Rattle.std.specs.Prelude.{◌≡◌, ℕ, Bool, true, false, not, List, Ok}
 use Rattle.std.specs.List.{list_any}
-use Rattle.std.specs.Str.{bytes_eq}
+use Rattle.ele_headline.specs.RestorableLists.{is_dead_name}
 use Rattle.ele_model.specs.declared.event.Event.TheVariants.{Undelete}
 use Rattle.ele_model.specs.declared.refusal.Refusal.TheVariants.{Exists, NoEntry, NotRestorable}
 use Rattle.ele_model.specs.declared.reply.Reply.{Reply}
 use Rattle.ele_model.specs.declared.reply.Reply.TheVariants.{Refused}
-use Rattle.ele_model.specs.declared.rows.DeadName.{DeadName}
 use Rattle.ele_model.specs.Restorable.{restorable}
 use Rattle.ele_model.specs.Step.{step}
 use Rattle.ele_model.specs.Walk.{parent_now}
 use Rattle.ele_model.specs.WellFormed.{IsWellFormed}
 use Rattle.ele_model.specs.World.{World}
-
-abbrev pub is_dead_name : ℕ → List ℕ → DeadName → Bool
-is_dead_name directory name dead = (dead.directory == directory) && bytes_eq dead.name name
 
 -- the name is taken, or it last stood for nothing that may come back
 abbrev pub cannot_return : Reply → Bool

@@ -8,15 +8,11 @@ ghost use Rattle.ele_world.specs.LinkLeads.{LinkLeads};
 ghost use Rattle.ele_world.specs.MakeDirLeads.{MakeDirLeads};
 ghost use Rattle.ele_model.specs.NoIdleStays.{NoIdleStays, NoIdleStaysInRuns};
 ghost use Rattle.ele_world.specs.RemoveDirEnds.{RemoveDirEnds};
-ghost use Rattle.ele_world.specs.HeldStays.{HeldStays};
 ghost use Rattle.ele_model.specs.NothingChanges.{RefusedStays, AskingStays};
 ghost use Rattle.ele_world.specs.MarkedStays.{MarkedStays};
 ghost use Rattle.ele_world.specs.OneLife.{OneLife};
 ghost use Rattle.ele_world.specs.OneLifeFrom.{OneLifeFrom};
 ghost use Rattle.ele_world.specs.OpenStays.{OpenStays};
-ghost use Rattle.ele_world.specs.OnlyDueLeave.{OnlyDueLeave};
-ghost use Rattle.ele_world.specs.PassLeavesKept.{PassLeavesKept};
-ghost use Rattle.ele_world.specs.ReadsAsClosed.{ReadsAsClosed, ReadsAsClosedInRuns};
 ghost use Rattle.ele_model.specs.RemovalOrder.{RemovalOrder};
 ghost use Rattle.ele_world.specs.RenameLeads.{RenameLeads};
 ghost use Rattle.ele_world.specs.RevertKeeps.{RevertKeeps};
@@ -31,6 +27,9 @@ pub mod lists;
 pub mod past;
 pub mod tree;
 
+pub use ele_headline::{
+    headline, held_stays, only_due_leave, pass_leaves_kept, reads_as_closed, reads_as_closed_in_runs,
+};
 pub use ele_model::laws::{
     always_well_formed, fresh_is_well_formed, readers_stay, step_keeps_well_formed, usage_fits,
 };
@@ -127,20 +126,6 @@ pub fn close_keeps()
     laws::policies_are_lawful();
 }
 
-/// A version leaves only by a clean event in whose world it was due, and so neither open nor marked.
-pub fn only_due_leave()
-    ensures { OnlyDueLeave }
-{
-    laws::policies_are_lawful();
-}
-
-/// A held version's opened, closed and cells never change, and its end is set at most once.
-pub fn held_stays()
-    ensures { HeldStays }
-{
-    laws::policies_are_lawful();
-}
-
 /// A version that a handle reads never leaves.
 pub fn open_stays()
     ensures { OpenStays }
@@ -175,29 +160,6 @@ pub fn one_life()
 /// lived at each moment, from that world's on, that a name of the file covers. Reads answer of it likewise.
 pub fn one_life_from()
     ensures { OneLifeFrom }
-{
-    laws::policies_are_lawful();
-}
-
-/// A read of a held version gives the bytes that it had when it closed, whatever events came since.
-#[tactic(auto, using(crate::proofs::ReadsBack::reads_as_closed))]
-pub fn reads_as_closed()
-    ensures { ReadsAsClosed }
-{
-    laws::policies_are_lawful();
-}
-
-/// So it is in every run.
-#[tactic(auto, using(crate::proofs::ReadsBack::reads_as_closed_in_runs))]
-pub fn reads_as_closed_in_runs()
-    ensures { ReadsAsClosedInRuns }
-{
-    laws::policies_are_lawful();
-}
-
-/// An undisturbed finished pass leaves exactly the versions that the scan at its start kept.
-pub fn pass_leaves_kept()
-    ensures { PassLeavesKept }
 {
     laws::policies_are_lawful();
 }

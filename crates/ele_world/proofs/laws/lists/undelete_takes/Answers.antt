@@ -1,5 +1,5 @@
 use Rattle.ele_model.proofs.Formed.{in_parts}
-use Rattle.ele_world.proofs.Restores.{undelete_takes}
+use Rattle.ele_world.proofs.Undeletes.{undelete_takes}
 use Rattle.ele_world.proofs.laws.lists.undelete_takes.Goals as goal
 
 pub returns : goal.returns

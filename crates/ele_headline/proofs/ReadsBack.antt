@@ -1,7 +1,7 @@
 -- A version that is held has the cells that it had when it closed.
 use Rattle.ele_model.proofs.Basics.{nat_tests, arith, ◌≡◌, ℕ, List, [], ◌∷◌, Option, IfSome, refl, find, Ok, AllByRecursion, all-found, all-weaker, all-both, AllLater}
 use Rattle.ele_model.proofs.Words.{Cell, content_of, TaggedPath, Change, after_change, after_changes, PoliciesAreLawful, fresh_world, run_of, plan, step, version_at, ArePlaced, IsVersion, Versions, Readers, HasParts, World, is_version, reads_by, IsEvent}
-use Rattle.ele_world.proofs.Words.{Bytes, Event, Of, Read, ReadsAsClosed, ReadsAsClosedInRuns, ReadsRow, Tagged, Version, VersionRow}
+use Rattle.ele_headline.proofs.Words.{Bytes, Event, Of, Read, ReadsAsClosed, ReadsAsClosedInRuns, ReadsRow, Tagged, Version, VersionRow}
 use Rattle.ele_model.proofs.Allowed.{allowed}
 use Rattle.ele_model.proofs.Formed.{in_parts}
 use Rattle.ele_model.proofs.Keeps.{reached}
@@ -9,8 +9,8 @@ use Rattle.ele_model.proofs.May.{MayAll}
 use Rattle.ele_lists.proofs.Cuts.{any-found}
 use Rattle.ele_model.proofs.Meant.{is_at}
 use Rattle.ele_model.proofs.Readers.{has_row}
-use Rattle.ele_world.proofs.HeldRows.{IsPast, change_past, Moves, change_moves}
-use Rattle.ele_world.proofs.HeldStays.{held_past}
+use Rattle.ele_headline.proofs.HeldRows.{IsPast, change_past, Moves, change_moves}
+use Rattle.ele_headline.proofs.HeldStays.{held_past}
 use Rattle.ele_model.proofs.StepKeeps.{step_keeps, run_keeps, run_has}
 use Rattle.ele_model.proofs.Versions.{IsFound, all_found}
 
@@ -48,7 +48,7 @@ module _ (w : World) (k : HasParts w) (row : VersionRow) (fixed : IsFixed w row.
   handle_reads : (handle : ℕ) → reads_by w.handles handle ≡ Ok (Version row.file row.number) → (step w (Read (Of handle))).0 ≡ Bytes (content_of row.cells)
   handle_reads handle reads = grind (arith, nat_tests, k.holds Readers, has_row, any-found, all-found, fixed.same)
 
-reads_after : (w : World) (events : List Event) → AllByRecursion IsEvent events → HasParts w → AllByRecursion (ReadsRow (run_of w events)) w.versions
+pub reads_after : (w : World) (events : List Event) → AllByRecursion IsEvent events → HasParts w → AllByRecursion (ReadsRow (run_of w events)) w.versions
 reads_after w events are k = all-weaker (λ row. IsVersion w.files w.now row × IsFound w.versions row) (ReadsRow (run_of w events)) w.versions
     (λ row h.
     let then = run_keeps w events are k in

@@ -4,10 +4,10 @@ use Rattle.ele_model.proofs.Words.{World, Key, ArePlaced, Versions, has_key, is_
 use Rattle.std.proofs.Math.Bool.{or-false}
 use Rattle.ele_model.specs.Due.{is_due_at, ripe_of}
 use Rattle.ele_model.specs.Scan.{due_key, scan}
-use Rattle.ele_world.specs.ScanLists.{is_due_from, ListsDue}
+use Rattle.ele_headline.specs.ScanLists.{is_due_from, ListsDue}
 use Rattle.ele_due.proofs.Members.{has_key-in_order}
 use Rattle.ele_due.proofs.Ordered.{IsInOrder-in_order}
-use Rattle.ele_world.proofs.Words.{VersionRow}
+use Rattle.ele_headline.proofs.Words.{VersionRow}
 
 -- ---- the keys of rows that are due
 

@@ -1,6 +1,6 @@
 use Rattle.std.proofs.KnownBytes.{Keeps-refl}
 use Rattle.ele_words.proofs.Flushed.{written_flushed}
-use Rattle.ele_words.proofs.program.dispatch.Goals as goal
+use Rattle.ele_words.proofs.program.dispatch_alone.Goals as goal
 
 pub returns-in-Run : goal.returns-in-Run
 returns-in-Run g c =

@@ -1,17 +1,13 @@
--- The list of restorable names is in order and has a name just where it may come back, and an undelete takes just these.
-use Rattle.ele_model.proofs.Basics.{nat_tests, arith, ◌≡◌, ℕ, ◌==◌, ◌&&◌, ◌||◌, not, Bool, true, false, List, [], ◌∷◌, map, Option, Some, None, Ok, refl, ap, sym, subst, cons_option, ◌∙◌, find, is_none, is_some, AllByRecursion, AllLater, filter_map, list_any, keys_of, lookup, is_at, option_map, passing, bytes_eq, bytes_eq-Decides, later-weaker, unsigned_tied, is_eq-slice_cmp, Less, eq_by_cmp_equiv, IsDistinct-from_sorted}
-use Rattle.ele_model.proofs.Words.{World, Names, AreApart, is_live_name, is_named, last_dead, live_target, may_return, name_cmp, newest_rows, parent_now, returning, plan, outcome, HasParts, step}
-use Rattle.ele_world.proofs.Words.{DeadName, NameRow, Target, Undelete}
+-- The list of restorable names is in order and has a name just where it may come back.
+use Rattle.ele_model.proofs.Basics.{nat_tests, arith, ◌≡◌, ℕ, ◌==◌, ◌&&◌, Bool, true, false, List, [], ◌∷◌, map, Option, Some, None, refl, ap, sym, subst, cons_option, ◌∙◌, find, AllByRecursion, filter_map, keys_of, lookup, is_at, option_map, passing, bytes_eq, bytes_eq-Decides, unsigned_tied, is_eq-slice_cmp, Less, eq_by_cmp_equiv, IsDistinct-from_sorted}
+use Rattle.ele_model.proofs.Words.{World, may_return, name_cmp, newest_rows, returning}
+use Rattle.ele_headline.proofs.Words.{DeadName, NameRow, Target}
 use Rattle.std.specs.List.Sorted.{IsStrictlySortedBy}
 use Rattle.std.proofs.lemmas.Map.{lookup-none}
 use Rattle.std.proofs.lemmas.Map.Entries.{none_past_head}
-use Rattle.ele_lists.proofs.Lasts.{find_last}
-use Rattle.ele_lists.proofs.Found.{find-same}
 use Rattle.ele_model.specs.Restorable.{restorable}
-use Rattle.ele_world.specs.RestorableLists.{RestorableLists}
-use Rattle.ele_world.specs.UndeleteTakes.{is_dead_name, cannot_return}
+use Rattle.ele_headline.specs.RestorableLists.{RestorableLists, is_dead_name}
 use Rattle.ele_model.proofs.Newest.{Key, Entry, IsOwn, key_of, is_dead, name_total, newest_last, newest_own, sorted_rows}
-use Rattle.ele_model.specs.declared.event.Event.TheVariants as asked
 
 -- ---- the list
 
@@ -71,24 +67,3 @@ unfolding restorable
 restorable_lists w =
     let own = newest_own w.names [] tt in
     record { in_order = in_order w (newest_rows w.names) own (sorted_rows w.names); each = λ d n. found w d n (newest_rows w.names) own (sorted_rows w.names) ∙ ap (told w d n) (newest_last w.names d n) }
-
--- ---- an undelete
-
-any_is_some : {X Y : Type 0} (p : X → Bool) (f : X → Y) (xs : List X) → list_any p xs ≡ is_some (option_map f (find p xs))
-any_is_some p f [] = refl
-any_is_some p f (x ∷ xs) = grind (arith, nat_tests, any_is_some p f xs)
-
--- a live name's newest row is live
-none_lost : (rows : List NameRow) (d : ℕ) (n : List ℕ) → AllLater AreApart rows → is_some (live_target rows d n) ≡ true → last_dead rows d n ≡ None
-none_lost rows d n apart live =
-    let last = find-same (is_live_name d n) (λ row. is_named d n row && is_none row.death) rows (λ row. grind (arith, nat_tests)) ∙ find_last (is_named d n) (λ (row : NameRow). is_none row.death) rows (later-weaker AreApart (λ x y. is_named d n x ≡ true → is_named d n y ≡ true → is_none x.death ≡ false) rows (λ x y is a b. grind (arith, nat_tests, bytes_eq-Decides)) apart) in
-    grind (arith, nat_tests, last, live)
-
-answer : (w : World) (path : List (List ℕ)) (at : ℕ × List ℕ) → parent_now w.names path ≡ Ok at → cannot_return ((outcome w (plan w (Undelete path))).0) ≡ (is_some (live_target w.names at.0 at.1) || not (is_some (passing (may_return w) (last_dead w.names at.0 at.1))))
-answer w path at stands = rw stands (grind (arith, nat_tests))
-
-pub undelete_takes : (w : World) (path : List (List ℕ)) (at : ℕ × List ℕ) → HasParts w → parent_now w.names path ≡ Ok at → list_any (is_dead_name at.0 at.1) (restorable w) ≡ not (cannot_return ((step w (asked.Undelete path)).0))
-undelete_takes w path at k stands =
-    any_is_some (is_dead_name at.0 at.1) (λ (dead : DeadName). dead.target) (restorable w)
-    ∙ ap is_some ((restorable_lists w).each at.0 at.1)
-    ∙ grind (arith, nat_tests, k.holds Names, answer w path at stands, none_lost w.names at.0 at.1)

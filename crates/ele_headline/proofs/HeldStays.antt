@@ -6,11 +6,11 @@ use Rattle.ele_model.proofs.Allowed.{allowed}
 use Rattle.ele_model.proofs.Files.{next_of-given}
 use Rattle.ele_model.proofs.Keeps.{reached}
 use Rattle.ele_model.proofs.May.{MayAll}
-use Rattle.ele_world.proofs.HeldRows.{IsPast, all_behind, change_past, Moves, change_moves}
+use Rattle.ele_headline.proofs.HeldRows.{IsPast, all_behind, change_past, Moves, change_moves}
 use Rattle.ele_model.proofs.Versions.{IsFound, all_found}
-use Rattle.ele_world.proofs.Words.{Event, CleanOne, VersionRow}
-use Rattle.ele_world.specs.HeldStays.{IsSameVersion, StaysSame}
-use Rattle.ele_world.specs.OnlyDueLeave.{StaysOrWasDue}
+use Rattle.ele_headline.proofs.Words.{Event, CleanOne, VersionRow}
+use Rattle.ele_headline.specs.HeldStays.{IsSameVersion, StaysSame}
+use Rattle.ele_headline.specs.OnlyDueLeave.{StaysOrWasDue}
 
 -- ---- one version, from the first world on
 

@@ -1,13 +1,17 @@
 -- The list of restorable names has each name once, in order, and a name with a target just where its newest row is dead, stood for
 -- that target, and the target may have a name again.
-use Rattle.std.specs.Prelude.{◌≡◌, ℕ, List, map, find}
+use Rattle.std.specs.Prelude.{◌≡◌, ℕ, ◌==◌, ◌&&◌, Bool, List, map, find}
 use Rattle.std.specs.List.Sorted.{IsStrictlySortedBy}
 use Rattle.std.specs.Option.{option_map}
+use Rattle.std.specs.Str.{bytes_eq}
 use Rattle.ele_lists.specs.Last.{passing}
+use Rattle.ele_model.specs.declared.rows.DeadName.{DeadName}
 use Rattle.ele_model.specs.NameRows.{last_dead}
 use Rattle.ele_model.specs.Restorable.{name_cmp, may_return, restorable}
-use Rattle.ele_world.specs.UndeleteTakes.{is_dead_name}
 use Rattle.ele_model.specs.World.{World}
+
+abbrev pub is_dead_name : ℕ → List ℕ → DeadName → Bool
+is_dead_name directory name dead = (dead.directory == directory) && bytes_eq dead.name name
 
 pub record ListsRestorable (w : World) : Type 0 where
   pub in_order : IsStrictlySortedBy name_cmp (map (λ dead. (dead.directory, dead.name)) (restorable w))

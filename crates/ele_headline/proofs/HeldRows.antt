@@ -5,7 +5,7 @@ use Rattle.ele_model.proofs.Words.{Cell, Change, MakeFile, SetFilePolicy, Append
 use Rattle.ele_model.proofs.Words.{ArePlaced, World, next_of, is_version, is_version_after, is_live, is_file}
 use Rattle.ele_model.proofs.Dropped.{dropped_versions}
 use Rattle.ele_model.proofs.May.{MayBy, MayClean}
-use Rattle.ele_world.proofs.Words.{Event, FileRow, File, VersionRow}
+use Rattle.ele_headline.proofs.Words.{Event, FileRow, File, VersionRow}
 
 -- ---- a number that was given isn't given again
 

@@ -1,0 +1,70 @@
+-- The headline. After any list of commands and interleaved cleaner steps, the versions due, the names restorable and the usage per
+-- policy are what a full scan of what is now held gives; an undisturbed finished pass leaves exactly the versions that the scan kept;
+-- no open or marked version is ever removed; and every time-tagged read of a held version gives its content as closed.
+use Rattle.std.specs.Prelude.{◌≡◌, ◌⊎◌, ℕ, true, List, Ok, Err}
+use Rattle.std.specs.List.{AllByRecursion}
+use Rattle.ele_content.specs.Content.{content_of}
+use Rattle.ele_path.specs.declared.tagged.TaggedPath.{TaggedPath}
+use Rattle.ele_headline.specs.OnlyDueLeave.{LeavesAsDue}
+use Rattle.ele_headline.specs.RestorableLists.{ListsRestorable}
+use Rattle.ele_headline.specs.ScanLists.{ListsDue}
+use Rattle.ele_model.specs.declared.event.Event.{Event}
+use Rattle.ele_model.specs.declared.event.Event.TheVariants.{CleanOne, Due, Read, Restorable, UsageAll}
+use Rattle.ele_model.specs.declared.event.Source.TheVariants.{Of, Tagged}
+use Rattle.ele_model.specs.declared.refusal.Refusal.{Refusal}
+use Rattle.ele_model.specs.declared.reply.Reply.{Reply}
+use Rattle.ele_model.specs.declared.reply.Reply.TheVariants.{Bytes, DueList, Nothing, Refused, RestoreList, UsageList}
+use Rattle.ele_model.specs.declared.rows.Reads.TheVariants.{Version}
+use Rattle.ele_model.specs.declared.rows.VersionRow.{VersionRow}
+use Rattle.ele_model.specs.Bounds.{Bounds, AreBounds}
+use Rattle.ele_model.specs.Due.{kept_rows}
+use Rattle.ele_model.specs.Restorable.{restorable}
+use Rattle.ele_model.specs.Run.{run_of, IsEvent}
+use Rattle.ele_model.specs.Scan.{scan}
+use Rattle.ele_model.specs.Step.{step}
+use Rattle.ele_model.specs.Tagged.{version_at}
+use Rattle.ele_model.specs.Usage.{usages}
+use Rattle.ele_model.specs.World.{World, fresh_world, is_held, reads_by}
+
+-- a read of the version, by a tag or by a handle, is answered by the bytes of the row
+pub record GivesRow (now : World) (event : Event) (reply : Reply) (row : VersionRow) : Type 0 where
+  pub tagged : (tagged : TaggedPath) (held : VersionRow) → event ≡ Read (Tagged tagged) → version_at now tagged ≡ Ok held
+      → held.file ≡ row.file → held.number ≡ row.number → reply ≡ Bytes (content_of row.cells)
+  pub handle : (handle : ℕ) → event ≡ Read (Of handle) → reads_by now.handles handle ≡ Ok (Version row.file row.number)
+      → reply ≡ Bytes (content_of row.cells)
+
+-- A run from the fresh world of any limits. Any events, cleans anywhere among them, lead to the past world, and any later ones to the
+-- present one.
+module _ (limits : Bounds) (events later : List Event) where
+  abbrev pub past : World
+  past = run_of (fresh_world limits) events
+
+  abbrev pub present : World
+  present = run_of past later
+
+  -- Then one more event is answered by a reply, which leaves the world `after`.
+  pub record Headline (event : Event) (reply : Reply) (after : World) : Type 0 where
+    -- what is due is the scan: the key of each version held now that is due, once, in order, and no other
+    pub due : event ≡ Due → (reply ≡ DueList (scan present)) × ListsDue present
+    -- what is restorable is each name, once, in order, whose newest row is dead and stood for what may have a name again
+    pub names : event ≡ Restorable → (reply ≡ RestoreList (restorable present)) × ListsRestorable present
+    -- the usage per policy is the sum over all rows held now
+    pub usage : event ≡ UsageAll → reply ≡ UsageList (usages present)
+    -- a clean that finds nothing due finishes a pass: if only cleans came since the past world, just what wasn't due there is left
+    pub pass : AllByRecursion (λ clean. clean ≡ CleanOne) later → event ≡ CleanOne → reply ≡ Nothing → after.versions ≡ kept_rows past
+    -- each version held now stays held, unless the event is a clean, and it was due, no handle read it and no mark kept it
+    pub leaves : AllByRecursion (λ row. (is_held after row.file row.number ≡ true) ⊎ LeavesAsDue present event row) present.versions
+    -- a read of a version that the past world held gives the bytes that it had there, whatever came later
+    pub reads : AllByRecursion (GivesRow present event reply) past.versions
+    -- a read by a tag whose version isn't held is refused: no neighbour is answered in its place
+    pub missing : (tagged : TaggedPath) (refusal : Refusal) → event ≡ Read (Tagged tagged) → version_at present tagged ≡ Err refusal → reply ≡ Refused refusal
+
+-- the event is answered so in each run that leads to the world, wherever the run is cut in two
+abbrev pub KeepsHeadline : World → Event → Reply → World → Type 0
+KeepsHeadline w event reply after =
+    (limits : Bounds) (events later : List Event) → AreBounds limits → AllByRecursion IsEvent events → AllByRecursion IsEvent later
+    → w ≡ present limits events later → Headline limits events later event reply after
+
+-- whatever the event is
+abbrev pub HeadlineHolds : Type 0
+HeadlineHolds = (w : World) (event : Event) → KeepsHeadline w event ((step w event).0) ((step w event).1)
