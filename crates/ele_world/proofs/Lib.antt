@@ -7,6 +7,7 @@ pub mod Closes
 pub mod NameRowsKept
 pub mod ScanOrder
 pub mod Fates
+pub mod MarkedRipens
 pub mod NameEnds
 pub mod Leads
 pub mod ReadsBack
