@@ -1,5 +1,5 @@
 -- What a store is asked to do, and what it says and leaves.
-use Rattle.std.specs.Prelude.{◌≡◌, ℕ, Bool, true, false, length, List, Option, Some, None, Result, Ok, Err}
+use Rattle.std.specs.Prelude.{◌≡◌, ℕ, ◌≤◌, Bool, true, false, length, List, Option, Some, None, Result, Ok, Err}
 use Rattle.ele_core.specs.Copies.{Copies}
 use Rattle.ele_core.specs.Stopped.{is_stopped}
 use Rattle.ele_embed.specs.Embedding.{Embedding, State, Plain, Recorded, past_in, world_in}
@@ -67,10 +67,10 @@ TellsWhy w (Ok tagged) (Why told) = IsWhy w tagged told
 TellsWhy w (Ok tagged) said = ⊥
 TellsWhy w (Err fault) said = said ≡ Bad fault
 
--- what will be due was asked, or the question has a fault
+-- what will be due was asked, for which there was no memory if the moment hasn't passed, or the question has a fault
 abbrev pub SaysAhead : World → ℕ → Said → Type 0
 SaysAhead w moment (Ahead told) = IsAhead w moment told
-SaysAhead w moment (Stopped stop) = stop ≡ NoMemory
+SaysAhead w moment (Stopped stop) = (stop ≡ NoMemory) × (w.now ≤ moment)
 SaysAhead w moment said = ⊥
 
 abbrev pub TellsAhead : World → Result ℕ LineFault → Said → Type 0

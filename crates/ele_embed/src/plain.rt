@@ -1,5 +1,5 @@
 //! A core with its last reply. A contract sees the world and the reply.
-ghost use Rattle.std.specs.Prelude.{◌≡◌, None, false, IfOk};
+ghost use Rattle.std.specs.Prelude.{◌≡◌, None, false, IfOk, Ok};
 ghost use Rattle.std.specs.Option.{option_copied};
 ghost use Rattle.ele_core.specs.Stopped.{is_stopped};
 ghost use Rattle.ele_embed.specs.Hears.{Answers, AnswersAsked, HearsPlain};
@@ -89,10 +89,20 @@ impl Plain {
             → Explains self.now.core.world result kind word }
     {
         match read {
-            Ok(Question::Why(tagged)) => Said::Why(self.core.fate_at(tagged)),
-            Ok(Question::Ahead(moment)) => ahead(*moment, &self.core),
+            Ok(question) => self.tell(question),
             Err(LineFault::NoMemory) => Said::Stopped(Stop::NoMemory),
             Err(fault) => Said::Bad(*fault),
+        }
+    }
+
+    // The explanation.
+    fn tell(&self, question: &Question) -> Said
+        ensures { (kind : WordKind) (word : List ℕ) → ReadsQuestion (Ok question.now) kind word
+            → Explains self.now.core.world result kind word }
+    {
+        match question {
+            Question::Why(tagged) => Said::Why(self.core.fate_at(tagged)),
+            Question::Ahead(moment) => ahead(*moment, &self.core),
         }
     }
 

@@ -193,7 +193,7 @@ explained_text : (past : Past) (kind : WordKind) (word : List ℕ) (said : Said)
 explained_text past kind word (Why told) text ex is = explained.why ex.0 told ex.1 ex.2 ex.3 is
 explained_text past kind word (Ahead told) text ex is = explained.ahead ex.0 told ex.1 ex.2 ex.3 is
 explained_text past kind word (Bad f) text ex is = explained.bad f ex (said_text past (Bad f) text (answer.Bad f) refl is)
-explained_text past kind word (Stopped s) text ex is = explained.stopped (said_text past (Stopped s) text (answer.Reply (Err s)) refl is ∙ ap stop_text ex)
+explained_text past kind word (Stopped s) text ex is = explained.stopped ex.1 (said_text past (Stopped s) text (answer.Reply (Err s)) refl is ∙ ap stop_text ex.0)
 explained_text past kind word said text ex is = absurd ex
 
 explained_has : (past : Past) (kind : WordKind) (word : List ℕ) (said : Said) → Explains (world_of past) said kind word → HasText past said

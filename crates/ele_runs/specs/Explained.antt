@@ -1,5 +1,5 @@
 -- What is told for a line that asks for an explanation, where the manner explains.
-use Rattle.std.specs.Prelude.{◌≡◌, ℕ, List, Option, Some, None, Result, if◌then◌else◌}
+use Rattle.std.specs.Prelude.{◌≡◌, ℕ, ◌≤◌, List, Option, Some, None, Result, if◌then◌else◌}
 use Rattle.std.specs.Option.{option_and_then}
 use Rattle.ele_due.specs.declared.key.Key.{Key}
 use Rattle.ele_history.specs.Past.{Past, world_of}
@@ -10,7 +10,7 @@ use Rattle.ele_printer.specs.declared.fault.LineFault.{LineFault}
 use Rattle.ele_runs.specs.Block.{IsBlock}
 use Rattle.ele_runs.specs.declared.options.RunOptions.{RunOptions}
 use Rattle.ele_script.specs.FirstFault.{IsWordFault}
-use Rattle.ele_script.specs.Question.{asked_in}
+use Rattle.ele_script.specs.Question.{ReadingTakesMemory, asked_in}
 use Rattle.ele_printer.specs.declared.kind.WordKind.{WordKind}
 use Rattle.ele_printer.specs.declared.kind.WordKind.TheVariants.{Moment as MomentWord, Tagged as TaggedWord}
 use Rattle.ele_path.specs.Tagged.{SpellsTaggedPath}
@@ -21,15 +21,20 @@ use Rattle.ele_model.specs.declared.fate.Fate.{Fate}
 use Rattle.ele_model.specs.declared.refusal.Refusal.{Refusal}
 use Rattle.ele_model.specs.declared.refusal.Stop.TheVariants.{NoMemory}
 
+-- an explanation takes memory: to read its word, or to tell what will be due at a moment that hasn't passed
+pub data ExplainingTakesMemory (w : World) (kind : WordKind) (word : List ℕ) : Type 0 where
+  as_read : ReadingTakesMemory kind word → ExplainingTakesMemory w kind word
+  as_told : (moment : ℕ) → kind ≡ MomentWord → SpellsMoment word moment → w.now ≤ moment → ExplainingTakesMemory w kind word
+
 -- the text in the world of an explanation that a word of the kind asks for: what becomes of the version that the path and its
--- tag mean, what will be due at the moment, or the fault of the word; want of memory may stop it
+-- tag mean, what will be due at the moment, or the fault of the word; want of memory may stop it if it takes memory
 pub data IsExplained (w : World) (kind : WordKind) (word text : List ℕ) : Type 0 where
   why : (tagged : TaggedPath) (told : Result Fate Refusal) → kind ≡ TaggedWord → SpellsTaggedPath word tagged → IsWhy w tagged told → text ≡ why_text told
       → IsExplained w kind word text
   ahead : (moment : ℕ) (told : Result (List Key) Refusal) → kind ≡ MomentWord → SpellsMoment word moment → IsAhead w moment told → text ≡ ahead_text told
       → IsExplained w kind word text
   bad : (fault : LineFault) → IsWordFault kind word fault → text ≡ bad_text fault → IsExplained w kind word text
-  stopped : text ≡ stop_text NoMemory → IsExplained w kind word text
+  stopped : ExplainingTakesMemory w kind word → text ≡ stop_text NoMemory → IsExplained w kind word text
 
 -- what is asked to be explained by what is heard of a line, if the manner explains
 abbrev pub asked_by : RunOptions → Option (List ℕ) → Option (WordKind × List ℕ)

@@ -8,7 +8,7 @@ use Rattle.ele_runs.specs.Answer.{Answer}
 use Rattle.ele_runs.specs.Answer as answer
 use Rattle.ele_runs.specs.Block.{IsText, MayAnswer}
 use Rattle.ele_runs.specs.RunState.{RunState, advance}
-use Rattle.ele_runs.specs.Explained.{IsBlockOf, asked_by}
+use Rattle.ele_runs.specs.Explained.{ExplainingTakesMemory, IsBlockOf, asked_by}
 use Rattle.ele_runs.specs.RunOptions.{front_of, heard}
 use Rattle.ele_runs.specs.declared.options.RunOptions.{RunOptions}
 use Rattle.ele_runs.specs.declared.said.Said.{Said}
@@ -99,7 +99,7 @@ abbrev pub Explains : World → Said → WordKind → List ℕ → Type 0
 Explains w (Why told) kind word = (tagged : TaggedPath) × (kind ≡ TaggedWord) × SpellsTaggedPath word tagged × IsWhy w tagged told
 Explains w (Ahead told) kind word = (moment : ℕ) × (kind ≡ MomentWord) × SpellsMoment word moment × IsAhead w moment told
 Explains w (Bad fault) kind word = IsWordFault kind word fault
-Explains w (Stopped stop) kind word = stop ≡ NoMemory
+Explains w (Stopped stop) kind word = (stop ≡ NoMemory) × ExplainingTakesMemory w kind word
 Explains w said kind word = ⊥
 
 -- the line asks for an explanation, if the manner explains, and its word is read so

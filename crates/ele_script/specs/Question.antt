@@ -30,11 +30,12 @@ asked_in line = if is_worded line then asked_in_words (words_of line) else None
 abbrev pub ReadingTakesMemory : WordKind → List ℕ → Type 0
 ReadingTakesMemory kind word = (kind ≡ TaggedWord) × (begins_path word ≡ true)
 
--- what is read of a word of the kind: what it stands for, or its fault, or that there was no memory to read it
+-- what is read of a word of the kind: what it stands for, or its fault, or that there was no memory to read it, if that takes any
 abbrev pub ReadsQuestion : Result Question LineFault → WordKind → List ℕ → Type 0
 ReadsQuestion (Ok (Why tagged)) kind word = (kind ≡ TaggedWord) × SpellsTaggedPath word tagged
 ReadsQuestion (Ok (Ahead moment)) kind word = (kind ≡ MomentWord) × SpellsMoment word moment
-ReadsQuestion (Err fault) kind word = ((fault ≡ NoMemory) × ReadingTakesMemory kind word) ⊎ IsWordFault kind word fault
+ReadsQuestion (Err fault) kind word =
+    (fault ≡ NoMemory → ReadingTakesMemory kind word) × ((fault ≡ NoMemory) ⊎ IsWordFault kind word fault)
 
 -- the line asks for an explanation, and its word is read so
 pub record AsksQuestion (line : List ℕ) (read : Result Question LineFault) : Type 0 where

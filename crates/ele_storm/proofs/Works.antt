@@ -8,7 +8,11 @@ use Rattle.std.proofs.Common.{◌+◌, add-one}
 use Rattle.std.specs.Int.{to_be_bytes, w64}
 use Rattle.ele_path.specs.declared.tagged.Tag.TheVariants.{Now, Number}
 use Rattle.ele_path.specs.declared.tagged.TaggedPath.{TaggedPath}
-use Rattle.ele_model.specs.declared.event.Event.TheVariants.{Tick, OpenWrite, Write, Close, Stat, Read, CleanOne}
+use Rattle.ele_model.specs.declared.event.Event.TheVariants.{Tick, OpenWrite, Write, Close, Stat, Read, CleanOne, Create, SetDefault}
+use Rattle.ele_model.specs.declared.event.Event.{Event}
+use Rattle.ele_policy.specs.declared.policy.Policy.{Policy}
+use Rattle.ele_storm.specs.Storm.{creates, storm_policy}
+use Rattle.std.proofs.lemmas.List.{map-append}
 use Rattle.ele_model.specs.declared.event.Source.TheVariants.{Tagged}
 use Rattle.std.specs.Prelude.{OnOk}
 use Rattle.ele_storm.specs.declared.fault.StormFault.{StormFault}
@@ -59,3 +63,15 @@ cleaned writers round a b (Err e) _ = tt
 pub rounds_more : (writers : ℕ) (task : Task) (round : ℕ) (a b c : Knowledge) → RunsRounds writers task round a b → RunsRound writers task round b c → RunsRounds writers task (round + 1) a c
 rounds_more writers task round a b c (xs, adds, rounds) (ys, more, last) =
     (xs ++ ys, adds_more a b c xs ys adds more, rw add-one (xs, ys, refl, rounds, last))
+
+-- the event with which a storm begins, and then the making of a file
+pub first_made : (path : List (List ℕ)) (policy : Policy) (a b : Knowledge) → path ≡ [] → policy ≡ storm_policy → MakesOne (SetDefault path policy) a b → Makes (λ handle. SetDefault [] storm_policy ∷ creates 0) a b
+first_made path policy a b is_root is_policy (r, makes) = (entry (SetDefault path policy) r ∷ [], makes, rw (is_root, is_policy) refl)
+
+pub created : (writer : ℕ) (path : List (List ℕ)) (a b c : Knowledge) → path ≡ file_of (writer + 1) → Makes (λ handle. SetDefault [] storm_policy ∷ creates writer) a b → MakesOne (Create path) b c
+    → Makes (λ handle. SetDefault [] storm_policy ∷ creates (writer + 1)) a c
+created writer path a b c is_file (xs, adds, are) (r, makes) = (
+  xs ++ entry (Create path) r ∷ [],
+  adds_more a b c xs (entry (Create path) r ∷ []) adds makes,
+  rw add-one (map-append (λ (e : Entry). e.event) xs (entry (Create path) r ∷ []) ∙ ap (λ (events : List Event). events ++ Create path ∷ []) are ∙ ap (λ (p : List (List ℕ)). (SetDefault [] storm_policy ∷ creates writer) ++ Create p ∷ []) (is_file ∙ ap file_of (add-one writer))),
+)

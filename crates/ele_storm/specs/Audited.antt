@@ -1,21 +1,28 @@
 -- What a storm over a history of its own came to.
 use Rattle.std.specs.Prelude.{◌≡◌, ℕ, ◌≤◌, Bool, List, [], length, IsTrue}
 use Rattle.ele_history.specs.Legal.{IsLegal}
-use Rattle.ele_history.specs.Past.{Past, fresh, world_of}
+use Rattle.ele_history.specs.Past.{Past, fresh}
 use Rattle.ele_shared_history.specs.Knowledge.{Knowledge, Object}
+use Rattle.ele_shared_history.specs.Running.{continued}
 use Rattle.ele_model.specs.Bounds.{Bounds}
 use Rattle.ele_model.specs.declared.entry.Entry.{Entry}
 use Rattle.ele_model.specs.World.{fresh_world}
 use Rattle.ele_storm.specs.declared.plan.StormPlan.{StormPlan}
 use Rattle.ele_storm.specs.Plan.{storm_events}
+use Rattle.ele_storm.specs.Storm.{AddsStorm, IsWoven}
 
--- so many events of the plan stand in a legal history from the fresh world on, and what is told of the world behind it is
--- what its scans give
-pub record IsAudited (limits : Bounds) (plan : StormPlan) (events : ℕ) (equal : Bool) : Type 0 where
+-- the history that was closed is legal from the fresh world on, and all calls of the plan's storm stand in it, each worker's in
+-- their order; what is told of the world behind it is what its scans give
+pub record IsAudited (limits : Bounds) (plan : StormPlan) (history : Past) (events : ℕ) (equal : Bool) : Type 0 where
   pub count : events ≡ storm_events plan
-  pub history : List Entry
-  pub legal : IsLegal (fresh_world limits) history
-  pub stand : events ≤ length history
+  pub entries : List Entry
+  pub are : history ≡ continued (fresh limits) entries
+  pub legal : IsLegal (fresh_world limits) entries
+  pub stand : events ≤ length entries
+  pub storm : List Entry
+  pub runs : AddsStorm plan [] storm
+  pub others : List Entry
+  pub woven : IsWoven storm others entries
   pub is_equal : IsTrue equal
 
 -- a fresh history is shared, and its seat has made no call
@@ -23,10 +30,3 @@ pub record IsBegun (limits : Bounds) (object : Object) (seat : Knowledge) : Type
   pub opening : object.opening ≡ fresh limits
   pub of : seat.object ≡ object
   pub own : seat.own ≡ []
-
--- so many calls stand in a legal history behind the opening one, which has no fewer entries than were seen of it
-pub record AreOfOne (opening : Past) (calls seen : ℕ) : Type 0 where
-  pub history : List Entry
-  pub legal : IsLegal (world_of opening) history
-  pub stand : calls ≤ length history
-  pub begun : seen ≤ length history

@@ -1,6 +1,7 @@
 //! A storm over a history of its own, with an audit behind it.
-ghost use Rattle.std.specs.Prelude.{◌≡◌, IfOk, IsTrue, length};
-ghost use Rattle.ele_storm.specs.Audited.{AreOfOne, IsAudited, IsBegun};
+ghost use Rattle.std.specs.Prelude.{◌≡◌, IfOk, IsTrue};
+ghost use Rattle.ele_shared_history.specs.Closing.{Closes};
+ghost use Rattle.ele_storm.specs.Audited.{IsAudited, IsBegun};
 
 use crate::fault::AuditFault;
 use crate::meet::Meet;
@@ -14,22 +15,23 @@ use std::sync::Wait;
 use std::thread::Threads;
 
 /// Runs a storm over a fresh history of these limits, and then compares what its core tells with
-/// the scans of its rows. Answers how many events the storm ran, and whether all was equal.
+/// the scans of its rows. Answers the history, how many events the storm ran, and whether all was
+/// equal.
 ///
-/// At a fault there was no audit, or no memory for one.
+/// At a fault there was no audit, or no memory for one, and the history is gone.
 pub fn storm_and_audit<C: Audit + Send, R: Threads + Wait + Sync, M: Meet + Sync>(
     rt: &R,
     alloc: Global,
     limits: Limits,
     plan: &StormPlan,
     meet: &M,
-) -> Result<(u64, bool), AuditFault>
-    ensures { IfOk result (λ told. IsAudited limits plan.now told.0 told.1) }
+) -> Result<(History<C>, u64, bool), AuditFault>
+    ensures { IfOk result (λ told. IsAudited limits plan.now told.0 told.1 told.2) }
 {
     let (shared, mut seat) = share_fresh::<C>(alloc, limits)?;
     let events = storm(rt, alloc, &shared, &mut seat, plan, meet)?;
-    let equal = close_and_audit(shared, seat)?;
-    Ok((events, equal))
+    let (history, equal) = close_and_audit(shared, seat)?;
+    Ok((history, events, equal))
 }
 
 /// A fresh history of these limits for many threads, and its seat, which has made no call.
@@ -48,18 +50,22 @@ pub fn share_fresh<C: Step>(alloc: Global, limits: Limits) -> Result<(Shared<C>,
     Ok((shared, seat))
 }
 
-/// Closes the history, and compares what its core tells with the scans of its rows: answers whether
-/// all was equal. The history is gone then.
+/// Closes the history, and compares what its core tells with the scans of its rows: answers the
+/// history, and whether all was equal.
 ///
 /// `TurnHeld` where a call took the turn and never gave it back, and `NoMemory` where there is none
-/// for the scans.
-pub fn close_and_audit<C: Audit>(shared: Shared<C>, seat: Seat<C>) -> Result<bool, AuditFault>
+/// for the scans. The history is gone then.
+pub fn close_and_audit<C: Audit>(
+    shared: Shared<C>,
+    seat: Seat<C>,
+) -> Result<(History<C>, bool), AuditFault>
     requires { seat.object ≡ shared }
-    ensures equal { IfOk result (λ equal. IsTrue equal) }
-    ensures calls { IfOk result (λ equal. AreOfOne shared.opening (length seat.own) (length seat.view)) }
+    ensures closes { IfOk result (λ closed. Closes shared.opening seat closed.0) }
+    ensures equal { IfOk result (λ closed. IsTrue closed.1) }
 {
     let history = shared.close(seat)?;
-    Ok(is_equal(history.core())?)
+    let equal = is_equal(history.core())?;
+    Ok((history, equal))
 }
 
 // Whether what the core tells is what the scans of its rows give.

@@ -28,10 +28,10 @@ struct Half<C: Step> {
 }
 
 impl<C: Step> Promise<Ended<C>> for Half<C> {
-    ghost kept_by = { λ p r. RunsWorkers p.plan p.from (p.from + p.count) p.before.value r.0 r.1 };
+    ghost kept_by = { λ p r. RunsWorkers p.plan p.from p.count p.before.value r.0 r.1 };
 }
 
-/// RunsWorkers so many workers from this number on: one by the seat, and more by halves, the left one by
+/// Runs so many workers from this number on: one by the seat, and more by halves, the left one by
 /// the seat and the right one by a seat that is split off, in a thread of its own. The left half's
 /// fault goes before the right's.
 pub(crate) fn run<C: Step + Send, R: Threads + Wait + Sync, M: Meet + Sync>(
@@ -46,7 +46,7 @@ pub(crate) fn run<C: Step + Send, R: Threads + Wait + Sync, M: Meet + Sync>(
 ) -> Ended<C>
     requires object { seat.object ≡ shared.now }
     requires range { (0 < count) × (from + count ≤ workers_of plan) }
-    ensures { RunsWorkers plan from (from + count) seat result.0 result.1 }
+    ensures { RunsWorkers plan from count seat result.0 result.1 }
 {
     if count < 2 {
         let ended = work_alone(rt, alloc, shared, &mut seat, plan, from, meet);
@@ -63,7 +63,7 @@ pub(crate) fn run<C: Step + Send, R: Threads + Wait + Sync, M: Meet + Sync>(
             requires { IsSync R.row × IsSync M.row × (seat.object ≡ shared.now)
                 × (other.object ≡ shared.now) × (other.own ≡ []) × (2 ≤ count)
                 × (half ≡ count / 2) × (from + count ≤ workers_of plan) }
-            ensures { RunsWorkers plan from (from + count) seat result.0 result.1 }
+            ensures { RunsWorkers plan from count seat result.0 result.1 }
         {
             let spawned = s.spawn_with(
                 Half {
@@ -75,8 +75,8 @@ pub(crate) fn run<C: Step + Send, R: Threads + Wait + Sync, M: Meet + Sync>(
                 move || -> Ended<C>
                     requires { IsSync R.row × IsSync M.row × (other.object ≡ shared.now)
                         × (2 ≤ count) × (half ≡ count / 2) × (from + count ≤ workers_of plan) }
-                    ensures { RunsWorkers plan (from + half) (from + half + (count - half)) other
-                        result.0 result.1 }
+                    ensures { RunsWorkers plan (from + half) (count - half) other result.0
+                        result.1 }
                 {
                     run(
                         rt,
@@ -103,7 +103,7 @@ pub(crate) fn run<C: Step + Send, R: Threads + Wait + Sync, M: Meet + Sync>(
     )
 }
 
-// RunsWorkers one worker by the seat.
+// Runs one worker by the seat.
 fn work_alone<C: Step, R: Wait, M: Meet>(
     rt: &R,
     alloc: Global,
@@ -115,7 +115,7 @@ fn work_alone<C: Step, R: Wait, M: Meet>(
 ) -> Result<(), StormFault>
     requires object { seat.old.object ≡ shared.now }
     requires worker { worker < workers_of plan }
-    ensures { RunsWorkers plan worker (worker + 1) seat.old seat.new result }
+    ensures { RunsWorkers plan worker 1 seat.old seat.new result }
 {
     match work(rt, alloc, shared, seat, &plan, worker, meet) {
         Ok(_) => Ok(()),

@@ -1,8 +1,9 @@
 //! A storm of workers.
-ghost use Rattle.std.specs.Prelude.{◌≡◌, ◌+◌, IfOk, OnOk, length};
-ghost use Rattle.ele_shared_history.specs.Running.{StartsWith};
+ghost use Rattle.std.specs.Prelude.{◌≡◌, ◌+◌, [], IfOk, OnOk, length};
+ghost use Rattle.ele_shared_history.specs.Running.{StartsWith, entries_of};
 ghost use Rattle.ele_storm.specs.Plan.{storm_events};
-ghost use Rattle.ele_storm.specs.Work.{SeesMore};
+ghost use Rattle.ele_storm.specs.Storm.{AddsStorm, prepared, storm_policy};
+ghost use Rattle.ele_storm.specs.Work.{Makes, SeesMore};
 
 use crate::events::file_of;
 use crate::fault::StormFault;
@@ -10,7 +11,7 @@ use crate::halves::run;
 use crate::meet::Meet;
 use crate::plan::StormPlan;
 use crate::worker::make;
-use ele_model::{Boxed, Event, Ladder, NoMemory, Path, Policy, Step};
+use ele_model::{Boxed, Event, Ladder, Path, Policy, Step};
 use ele_shared_history::{Seat, Shared};
 use std::alloc::Global;
 use std::sync::Wait;
@@ -33,6 +34,8 @@ pub fn storm<C: Step + Send, R: Threads + Wait + Sync, M: Meet + Sync>(
     requires { seat.old.object ≡ shared.now }
     ensures count { IfOk result (λ count. count ≡ storm_events plan.now) }
     ensures own { IfOk result (λ count. length seat.new.own ≡ length seat.old.own + count) }
+    ensures calls { OnOk result
+        (AddsStorm plan.now (entries_of seat.old.own) (entries_of seat.new.own)) }
     ensures view { StartsWith seat.new.view seat.old.view }
     ensures object { seat.new.object ≡ seat.old.object }
 {
@@ -55,11 +58,16 @@ fn prepare<C: Step, R: Wait>(
     requires { seat.old.object ≡ shared.now }
     ensures own { OnOk result
         (length seat.new.own ≡ length seat.old.own + 1 + plan.now.writers) }
+    ensures calls { OnOk result (Makes (λ handle. prepared plan.now) seat.old seat.new) }
     ensures seen { SeesMore seat.old seat.new }
 {
-    let root = root(alloc)?;
     let policy = Boxed::new(alloc, policy())?;
-    make(rt, shared, seat, Event::SetDefault(root, policy))?;
+    make(
+        rt,
+        shared,
+        seat,
+        Event::SetDefault(Path::root(alloc), policy),
+    )?;
     for writer in 0..plan.writers {
         let path = file_of(alloc, u64::from(writer) + 1)?;
         make(rt, shared, seat, Event::Create(path))?;
@@ -67,13 +75,10 @@ fn prepare<C: Step, R: Wait>(
     Ok(())
 }
 
-// The root's path.
-fn root(alloc: Global) -> Result<Path, NoMemory> {
-    Path::read(alloc, b"/").map_err(|_| NoMemory)
-}
-
 // Under which versions come and go within a few rounds.
-fn policy() -> Policy {
+fn policy() -> Policy
+    ensures { result ≡ storm_policy }
+{
     let Ok(ladder) = Ladder::new(&[(3, 2), (10, 10)]) else {
         unreachable!()
     };

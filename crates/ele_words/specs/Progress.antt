@@ -27,7 +27,7 @@ pub record ShowsProgress (before after : Option (List ℕ)) (most : ℕ) : Type 
 
 -- no more events than these stand in the history of a storm that was audited
 abbrev pub StandBehind : ℕ → (plan : StormPlan) (ended : Result (ℕ × Bool) AuditFault) → HasStormed plan ended → Type 0
-StandBehind most plan (Ok told) stormed = most ≤ length stormed.history
+StandBehind most plan (Ok told) stormed = most ≤ length stormed.0.entries
 StandBehind most plan (Err fault) stormed = Unit {0}
 
 -- a storm of which its progress was told, by counts that its history reaches: behind those lines it ends as any other

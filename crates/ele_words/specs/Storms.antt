@@ -5,6 +5,7 @@ use Rattle.ele_printer.specs.Front.{AppendsFront}
 use Rattle.ele_printer.specs.Printed.{line_text}
 use Rattle.ele_runs.specs.declared.fault.ShellFault.{ShellFault}
 use Rattle.ele_runs.specs.declared.fault.ShellFault.TheVariants as shell
+use Rattle.ele_history.specs.Past.{Past}
 use Rattle.ele_storm.specs.Audited.{IsAudited}
 use Rattle.ele_storm.specs.Fault.{name_of, number_of}
 use Rattle.ele_storm.specs.declared.fault.AuditFault.{AuditFault}
@@ -24,9 +25,9 @@ audit_word false = codes "unequal"
 abbrev pub storm_line : ℕ → Bool → List ℕ
 storm_line events equal = line_text (codes "storm" ∷ codes "events" ∷ decimal events ∷ codes "audit" ∷ audit_word equal ∷ [])
 
--- a storm of the plan, under the largest limits, was audited, or ended by a fault
+-- a storm of the plan was run over a history under the largest limits, which was closed and audited; or a fault ended it
 abbrev pub HasStormed : StormPlan → Result (ℕ × Bool) AuditFault → Type 0
-HasStormed plan (Ok told) = IsAudited largest_bounds plan told.0 told.1
+HasStormed plan (Ok told) = (history : Past) × IsAudited largest_bounds plan history told.0 told.1
 HasStormed plan (Err fault) = Unit {0}
 
 -- a line, by the fault that ended it: all of it was written, a front, or nothing without memory

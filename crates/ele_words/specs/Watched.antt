@@ -1,18 +1,21 @@
 -- What a watched storm leaves its seats, and what it came to. No public clause cites this module.
-use Rattle.std.specs.Prelude.{◌≡◌, ℕ, ◌+◌, Bool, List, length, Option, Result, IfOk}
+use Rattle.std.specs.Prelude.{◌≡◌, ℕ, ◌+◌, Bool, List, length, Option, Result, IfOk, OnOk}
 use Rattle.ele_shared_history.specs.Knowledge.{Knowledge}
+use Rattle.ele_shared_history.specs.Running.{entries_of}
 use Rattle.ele_storm.specs.Plan.{storm_events}
+use Rattle.ele_storm.specs.Storm.{AddsStorm}
 use Rattle.ele_storm.specs.declared.fault.AuditFault.{AuditFault}
 use Rattle.ele_storm.specs.declared.fault.StormFault.{StormFault}
 use Rattle.ele_storm.specs.declared.plan.StormPlan.{StormPlan}
 use Rattle.ele_words.specs.Progress.{ShowsProgress, StandBehind}
 use Rattle.ele_words.specs.Storms.{HasStormed}
 
--- a storm of the plan by a seat: where none failed it has as many calls more as the plan has events
+-- a storm of the plan by a seat: where none failed it has as many calls more as the plan has events, and just those of the plan
 pub record Stormed (plan : StormPlan) (before after : Knowledge) (result : Result ℕ StormFault) : Type 0 where
   pub object : after.object ≡ before.object
   pub count : IfOk result (λ count. count ≡ storm_events plan)
   pub own : IfOk result (λ count. length after.own ≡ length before.own + count)
+  pub calls : OnOk result (AddsStorm plan (entries_of before.own) (entries_of after.own))
 
 -- a storm of which its progress was told came to this
 pub record Watched (plan : StormPlan) (before after : Option (List ℕ)) (result : Result (ℕ × Bool) AuditFault) : Type 0 where

@@ -84,7 +84,10 @@ fn storm_and_look<C: Audit + Send, T: Threads + Wait + Sync>(
     ensures { HasStormed plan.now result }
 {
     let flags = Flags::new(alloc, plan.workers(), MOST_LOOKS)?;
-    storm_and_audit::<C, T, Flags>(rt, alloc, Limits::largest(), plan, &flags)
+    let limits = Limits::largest();
+    let (history, events, equal) = storm_and_audit::<C, T, Flags>(rt, alloc, limits, plan, &flags)?;
+    drop(history);
+    Ok((events, equal))
 }
 
 // The word for what an audit found.

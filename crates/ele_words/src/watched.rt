@@ -88,7 +88,8 @@ pub(crate) fn watch_storm<C: Audit + Send, R: Threads + Wait + Clock + Sync, E: 
     );
     let events = ended?;
     shared.join(&mut seat, watcher);
-    let equal = close_and_audit(shared, seat)?;
+    let (history, equal) = close_and_audit(shared, seat)?;
+    drop(history);
     Ok((events, equal))
 }
 

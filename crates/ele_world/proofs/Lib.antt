@@ -4,6 +4,7 @@ pub mod OpenStays
 pub mod Closes
 pub mod NameRowsKept
 pub mod Fates
+pub mod MarkedRipens
 pub mod NameEnds
 pub mod Leads
 pub mod KnownVersions

@@ -26,6 +26,7 @@ pub mod OneContent
 pub mod PolicyGoverns
 pub mod DefaultGoverns
 pub mod MarkMarks
+pub mod MarkedRipens
 pub mod DraftBegins
 pub mod WriteLays
 pub mod TruncateFits

@@ -9,6 +9,7 @@ ghost use Rattle.ele_world.specs.MakeDirLeads.{MakeDirLeads};
 ghost use Rattle.ele_model.specs.NoIdleStays.{NoIdleStays, NoIdleStaysInRuns};
 ghost use Rattle.ele_world.specs.RemoveDirEnds.{RemoveDirEnds};
 ghost use Rattle.ele_model.specs.NothingChanges.{RefusedStays, AskingStays};
+ghost use Rattle.ele_world.specs.MarkedRipens.{MarkedRipens};
 ghost use Rattle.ele_world.specs.MarkedStays.{MarkedStays};
 ghost use Rattle.ele_world.specs.OneLife.{OneLife};
 ghost use Rattle.ele_world.specs.OneLifeFrom.{OneLifeFrom};
@@ -175,6 +176,14 @@ pub fn due_from_ripe()
 /// closing of the next held version.
 pub fn ripe_is_answered()
     ensures { RipeIsAnswered }
+{
+    laws::policies_are_lawful();
+}
+
+/// A held version that has ended and that no handle reads ripens at the later of what `ripe` answers of it and of the latest end of
+/// the marks that cover it, in force or ended, and never under a mark without an end.
+pub fn marked_ripens()
+    ensures { MarkedRipens }
 {
     laws::policies_are_lawful();
 }

@@ -9,6 +9,8 @@ ghost use Rattle.ele_model.specs.Step.{step};
 ghost use Rattle.ele_model.specs.declared.event.Event.TheVariants as event;
 ghost use Rattle.empty_world.specs.Empty.{IsEmpty};
 
+mod refusing;
+
 use ele_model::{
     Audit, Boxed, Counts, DeadNameList, DirId, DirectoryRow, Event, Explain, Fate, Flat, KeyList,
     Limits, ListOf, NoMemory, Refusal, Reply, Step, laws,
@@ -17,6 +19,7 @@ use ele_moment::Moment;
 use ele_path::{Path, Tag, TaggedPath};
 use ele_policy::{Floor, Interval, Policy};
 use ele_usage::Usage;
+pub use refusing::{RefusingWorld, WithoutKeys, WithoutNames, WithoutRows};
 use std::alloc::Global;
 use std::marker::Model;
 

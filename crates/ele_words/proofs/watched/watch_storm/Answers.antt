@@ -8,6 +8,6 @@ returns g c =
     let begun = c.in_ok-shared.ensures in
     let split = c.in_ok-watcher.ensures in
     let run = c.run_watched-watcher.ensures in
-    watched c.args.plan.now _ _ c.in_ok-events.events c.in_ok-equal.equal c.in_ok-shared.shared.opening c.split.new.seat c.run_watched-watcher.result.1.0 c.run_watched-watcher.result.0 c.join.new.seat
+    watched c.args.plan.now _ _ c.in_ok-events.events c.in_ok-history.equal c.in_ok-shared.shared.opening c.in_ok-history.history c.split.new.seat c.run_watched-watcher.result.1.0 c.run_watched-watcher.result.0 c.join.new.seat
     (begun.opening ∙ ap fresh c.largest.ensures) (ap (λ o. o.opening) (run.looked.object ∙ (split.ok.0.object ∙ begun.of))) (ap (λ k. k.own) split.unchanged ∙ begun.own) (rw c.in_ok-events.was at run.stormed.count)
-    (rw c.in_ok-events.was at run.stormed.own) c.join.ensures.0 run.progress c.in_ok-equal.ensures.calls c.in_ok-equal.ensures.equal
+    (rw c.in_ok-events.was at run.stormed.own) (rw c.in_ok-events.was at run.stormed.calls) c.join.ensures.0 run.progress c.in_ok-history.ensures.closes c.in_ok-history.ensures.equal
