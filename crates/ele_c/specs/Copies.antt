@@ -3,6 +3,7 @@ use Rattle.std.specs.Prelude.{◌≡◌, ℕ, ℤ, pos, List, take, drop, length
 
 -- so many bytes from the offset on were copied to the start, all or as many as there is room for, and nothing else was written
 pub record CopiesPiece (bytes : List ℕ) (offset : ℕ) (old new : List ℕ) (count : ℕ) : Type 0 where
+  pub many : count ≡ length (take (length old) (drop offset bytes))
   pub copied : take count new ≡ take (length old) (drop offset bytes)
   pub rest : drop count new ≡ drop count old
 
