@@ -1,5 +1,5 @@
 -- An undelete takes just the names that are listed as restorable.
-use Rattle.ele_model.proofs.Basics.{nat_tests, arith, ◌≡◌, ℕ, ◌||◌, ◌&&◌, not, Bool, true, false, List, [], ◌∷◌, Option, None, Ok, refl, ap, ◌∙◌, find, is_none, is_some, AllLater, list_any, option_map, passing, bytes_eq-Decides, later-weaker}
+use Rattle.ele_model.proofs.Basics.{nat_tests, arith, ◌≡◌, ℕ, ◌||◌, ◌&&◌, not, Bool, true, false, List, [], ◌∷◌, None, Ok, refl, ap, ◌∙◌, find, is_none, is_some, AllLater, list_any, option_map, passing, bytes_eq-Decides, later-weaker}
 use Rattle.ele_model.proofs.Words.{World, Names, AreApart, is_live_name, is_named, last_dead, live_target, may_return, parent_now, plan, outcome, HasParts, step}
 use Rattle.ele_world.proofs.Words.{DeadName, NameRow, Undelete}
 use Rattle.ele_lists.proofs.Lasts.{find_last}

@@ -29,7 +29,8 @@ pub mod past;
 pub mod tree;
 
 pub use ele_headline::{
-    headline, held_stays, only_due_leave, pass_leaves_kept, reads_as_closed, reads_as_closed_in_runs,
+    headline, held_stays, only_due_leave, pass_leaves_kept, reads_as_closed,
+    reads_as_closed_in_runs,
 };
 pub use ele_model::laws::{
     always_well_formed, fresh_is_well_formed, readers_stay, step_keeps_well_formed, usage_fits,
