@@ -1,5 +1,5 @@
 -- The entries of a legal history keep the headline.
-use Rattle.std.proofs.Common.{List, [], ◌∷◌, ap, ◌∙◌, sym, refl}
+use Rattle.std.proofs.Common.{List, [], ◌∷◌, ap}
 use Rattle.ele_headline.specs.Headline.{HeadlineHolds}
 use Rattle.ele_headline.proofs.Answered.{keeps}
 use Rattle.ele_model.specs.declared.entry.Entry.{Entry}
