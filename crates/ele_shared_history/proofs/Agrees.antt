@@ -1,5 +1,5 @@
 -- Of two beginnings of one list one begins with the other.
-use Rattle.std.proofs.Common.{◌≡◌, ◌⊎◌, List, [], ◌∷◌, ◌++◌, inl, inr, refl, ap, sym, subst, ◌∙◌, arith}
+use Rattle.std.proofs.Common.{◌≡◌, List, [], ◌∷◌, ◌++◌, inl, inr, refl, ap, sym, subst, ◌∙◌, arith}
 use Rattle.ele_shared_history.specs.Running.{AgreeBy, StartsWith}
 
 agree_cons : {A : Type 0} (x : A) (xs ys : List A) → AgreeBy xs ys → AgreeBy (x ∷ xs) (x ∷ ys)
