@@ -14,9 +14,11 @@ use Rattle.ele_model.specs.Scan.{first_due}
 use Rattle.ele_model.specs.Step.{clean_step}
 use Rattle.ele_model.specs.World.{World}
 use Rattle.ele_model.proofs.Cleans.{clean_of}
-use Rattle.ele_model.proofs.PassEnds.{cleaned_none, cleaned_more}
+use Rattle.ele_model.proofs.Formed.{in_parts}
+use Rattle.ele_model.proofs.PassEnds.{budget_ends, cleaned_none, cleaned_more, pass_finishes}
+use Rattle.ele_policy.specs.Lawful.{PoliciesAreLawful}
 use Rattle.ele_history.specs.Pass.{Removes}
-use Rattle.ele_history.specs.PassIsOfWorld.{PassIsOfWorld, PassOfWorld}
+use Rattle.ele_history.specs.PassIsOfWorld.{PassEndsAsOfWorld, PassIsOfWorld, PassOfWorld}
 use Rattle.ele_history.specs.Past.{Past, answered, count_of, recorded, reply_to, world_of}
 use Rattle.ele_history.proofs.Growth.{world_of-extended}
 
@@ -89,3 +91,14 @@ pass_is_of_world before after budget (Budget n) may =
     record { world = many.cleaned; count = many.count; base = many.base }
 pass_is_of_world before after budget (Stopped HistoryFull n) may = stopped before may.1.0 after n HistoryFull may.1.1 may.1.2.1
 pass_is_of_world before after budget (Stopped NoMemory n) may = stopped before may.1.0 after n NoMemory may.1.1 may.1.2.1
+
+pub pass_ends : PoliciesAreLawful → PassEndsAsOfWorld
+pass_ends law before after budget (Finished n) formed may =
+    let pass = (pass_is_of_world before after budget (Finished n) may).world in
+    pass_finishes (world_of before) n (world_of after) budget (in_parts law (world_of before) formed) pass.cleaned pass.last may.0
+pass_ends law before after budget (Budget n) formed may =
+    (may.0, budget_ends (world_of before) n (world_of after) (in_parts law (world_of before) formed) (pass_is_of_world before after budget (Budget n) may).world)
+pass_ends law before after budget (Stopped HistoryFull n) formed may =
+    (may.0, budget_ends (world_of before) n (world_of after) (in_parts law (world_of before) formed) (pass_is_of_world before after budget (Stopped HistoryFull n) may).world)
+pass_ends law before after budget (Stopped NoMemory n) formed may =
+    (may.0, budget_ends (world_of before) n (world_of after) (in_parts law (world_of before) formed) (pass_is_of_world before after budget (Stopped NoMemory n) may).world)

@@ -2,7 +2,8 @@
 use Rattle.std.specs.Prelude.{◌≡◌, ℕ, ◌+◌}
 use Rattle.ele_model.specs.declared.pass.PassEnd.{PassEnd}
 use Rattle.ele_model.specs.declared.pass.PassEnd.TheVariants.{Finished, Budget, Stopped}
-use Rattle.ele_model.specs.Pass.{IsCleaned, IsPass}
+use Rattle.ele_model.specs.Pass.{EndsPass, IsCleaned, IsPass}
+use Rattle.ele_model.specs.WellFormed.{IsWellFormed}
 use Rattle.ele_model.specs.World.{World}
 use Rattle.ele_history.specs.Pass.{MayPass}
 use Rattle.ele_history.specs.Past.{Past, count_of, world_of}
@@ -26,3 +27,9 @@ pub record PassOfWorld (before : Past) (end : PassEnd) (after : Past) : Type 0 w
 
 abbrev pub PassIsOfWorld : Type 0
 PassIsOfWorld = (before after : Past) (budget : ℕ) (end : PassEnd) → MayPass before budget end after → PassOfWorld before end after
+
+-- and it ends as a core's pass does: how many were due as it began, and what stays
+abbrev pub PassEndsAsOfWorld : Type 0
+PassEndsAsOfWorld =
+    (before after : Past) (budget : ℕ) (end : PassEnd) → IsWellFormed (world_of before) → MayPass before budget end after
+    → EndsPass (world_of before) budget end (world_of after)

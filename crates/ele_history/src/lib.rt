@@ -7,7 +7,7 @@ ghost use Rattle.std.specs.List.{AllByRecursion};
 ghost use Rattle.std.specs.Option.{option_copied};
 ghost use Rattle.ele_model.specs.Run.{IsEvent};
 ghost use Rattle.ele_model.specs.Step.{step};
-ghost use Rattle.ele_history.specs.Legal.{IsLegal};
+ghost use Rattle.ele_history.specs.Legal.{IsLegal, KeepHeadline};
 ghost use Rattle.ele_history.specs.Past.{HasRoom, IsFull, count_of, events_of, fresh, trimmed, world_of};
 ghost use Rattle.ele_history.specs.Reached.{IsReached};
 ghost use Rattle.ele_history.specs.Reply.{MayRecord, MayReply};
@@ -146,12 +146,15 @@ impl<C: Step> History<C> {
     }
 
     /// The entries, in their order: each reply is that of the step in the world after the entries
-    /// before it.
+    /// before it, and so is as the headline says.
     pub fn entries(&self) -> &[Entry]
         ensures value { result.now ≡ self.now.entries }
         ensures events { AllByRecursion IsEvent (events_of self.now.entries) }
         ensures legal { IsLegal self.now.base self.now.entries }
+        ensures headline { KeepHeadline self.now.base self.now.entries }
     {
+        // For the proof: what the step answers keeps the headline.
+        ele_headline::headline();
         self.entries.as_slice()
     }
 

@@ -2,15 +2,29 @@
 ghost use Rattle.std.specs.Prelude.{◌≡◌};
 ghost use Rattle.std.specs.Option.{option_copied};
 ghost use Rattle.ele_history.specs.Clean.{MayClean, has_removed};
+ghost use Rattle.ele_history.specs.Past.{world_of};
 ghost use Rattle.ele_history.specs.Pass.{MayPass};
+ghost use Rattle.ele_model.specs.Pass.{EndsPass};
 
-use crate::History;
+use crate::{History, laws};
 use ele_model::{Entry, Event, PassEnd, Reply, Step, Stop};
 
 impl<C: Step> History<C> {
     /// Takes clean events until nothing is due, or so many versions are removed. Each is an entry,
-    /// also the one that nothing was due. A stop ends it, and what was removed stays removed.
+    /// also the one that nothing was due. A stop ends it, and what was removed stays removed. Its world
+    /// is that after a core's pass with the same end.
     pub fn pass(&mut self, budget: u64) -> PassEnd
+        ensures entries { MayPass self.old budget result self.new }
+        ensures world { EndsPass (world_of self.old) budget result (world_of self.new) }
+    {
+        // For the proof: the world is well formed.
+        let _now = self.core.now();
+        laws::pass_ends();
+        self.clean_often(budget)
+    }
+
+    // Takes clean events until nothing is due, or so many versions are removed, or one is stopped.
+    fn clean_often(&mut self, budget: u64) -> PassEnd
         ensures { MayPass self.old budget result self.new }
     {
         for removed in 0..budget {

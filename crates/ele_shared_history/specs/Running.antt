@@ -1,5 +1,5 @@
 -- The running history: who made which entry behind the opening history, in one order.
-use Rattle.std.specs.Prelude.{◌≡◌, ℕ, Bool, false, ◌==◌, ◌||◌, cond, List, [], ◌∷◌, ◌++◌}
+use Rattle.std.specs.Prelude.{◌≡◌, ◌⊎◌, ℕ, Bool, false, ◌==◌, ◌||◌, cond, List, [], ◌∷◌, ◌++◌}
 use Rattle.ele_model.specs.declared.entry.Entry.{Entry}
 use Rattle.ele_model.specs.declared.event.Event.{Event}
 use Rattle.ele_model.specs.declared.reply.Reply.{Reply}
@@ -34,3 +34,7 @@ own_of ns (call ∷ calls) = cond (has ns call.by) (call ∷ own_of ns calls) (o
 -- the first begins with the second
 abbrev pub StartsWith : {A : Type 0} → List A → List A → Type 0
 StartsWith {A} xs ys = (rest : List A) × (xs ≡ ys ++ rest)
+
+-- one of them begins with the other
+abbrev pub AgreeBy : {A : Type 0} → List A → List A → Type 0
+AgreeBy xs ys = StartsWith xs ys ⊎ StartsWith ys xs

@@ -7,6 +7,7 @@ ghost use Rattle.ele_shared_history.specs.Calling.{Called, StoppedBy, TriedBy};
 ghost use Rattle.ele_shared_history.specs.Closing.{Closes};
 ghost use Rattle.ele_shared_history.specs.Knowledge.{IsTrue, Looked, count_seen};
 ghost use Rattle.ele_shared_history.specs.Seats.{AreAllNew, AreDealt, IsFirst, Joined, SplitOff};
+ghost use Rattle.ele_shared_history.specs.Running.{AgreeBy};
 
 mod ledger;
 mod seat;
@@ -189,6 +190,19 @@ impl<C: Step> Shared<C> {
         ensures { Joined seat.old other seat.new × IsTrue seat.new }
     {
         unite(&self.table.shared, &mut seat.place, other.place);
+    }
+
+    /// Whatever any two seats have seen, one of them has seen all that the other has, in the same order:
+    /// of one history each has seen a beginning. It changes neither seat, and publishes nothing.
+    pub fn agree(&self, seat: &mut Seat<C>, other: &mut Seat<C>)
+        requires first { seat.old.object ≡ self.now }
+        requires second { other.old.object ≡ self.now }
+        ensures unchanged { (seat.new ≡ seat.old) × (other.new ≡ other.old) }
+        ensures views { AgreeBy seat.old.view other.old.view }
+    {
+        let mut both = self.divide(seat);
+        let second = self.divide(other);
+        self.join(&mut both, second);
     }
 
     /// The history after all calls: the opening one, with each published event behind it.

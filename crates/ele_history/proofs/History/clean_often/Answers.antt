@@ -1,7 +1,7 @@
 use Rattle.std.proofs.Common.{◌≡◌, arith, refl, subst}
 use Rattle.ele_history.specs.Pass.{Removes}
 use Rattle.ele_history.proofs.Passes.{removes_more}
-use Rattle.ele_history.proofs.History.pass.Goals as goal
+use Rattle.ele_history.proofs.History.clean_often.Goals as goal
 
 pub loop-removed-init : goal.loop-removed-init
 loop-removed-init g c = refl
