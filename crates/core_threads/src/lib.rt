@@ -5,6 +5,8 @@
 #[cfg(test)]
 mod meets;
 #[cfg(test)]
+mod program;
+#[cfg(test)]
 mod seats;
 #[cfg(test)]
 mod storms;

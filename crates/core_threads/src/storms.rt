@@ -55,16 +55,18 @@ fn storm_by<C: Audit + Send, R: Threads + Wait + Sync, M: Meet + Sync>(
     Ok((ended, history.count(), looked))
 }
 
-/// How storms end that leave one worker alone, by its number.
+/// How storms end that leave one worker alone, by its number; and one whose first worker is alone,
+/// and whose others find the history full.
 fn storms_alone<C: Audit + Send, R: Threads + Wait + Sync>(
     rt: &R,
     alloc: Global,
-) -> Result<[Ended; 4], Fail> {
+) -> Result<[Ended; 5], Fail> {
     Ok([
         storm_by::<C, R, _>(rt, alloc, 1_000, &AllBut(0))?.0,
         storm_by::<C, R, _>(rt, alloc, 1_000, &AllBut(1))?.0,
         storm_by::<C, R, _>(rt, alloc, 1_000, &AllBut(2))?.0,
         storm_by::<C, R, _>(rt, alloc, 1_000, &AllBut(3))?.0,
+        storm_by::<C, R, _>(rt, alloc, 20, &AllBut(0))?.0,
     ])
 }
 
@@ -136,7 +138,7 @@ fn work_one<C: Step, R: Wait>(rt: &R, alloc: Global, worker: u32) -> Result<Ende
 fn storms<C: Audit + Send, R: Threads + Wait + Sync>(
     rt: &R,
     alloc: Global,
-) -> Result<([Stormed; 2], (Stormed, [u32; 4]), [Ended; 4], [Ended; 3]), Fail> {
+) -> Result<([Stormed; 2], (Stormed, [u32; 4]), [Ended; 5], [Ended; 3]), Fail> {
     let flags = Flags::new(alloc, 4, LOOKS)?;
     let by_flags = storm_by::<C, R, _>(rt, alloc, 1_000, &flags)?;
     let flags = Flags::new(alloc, 4, LOOKS)?;
@@ -156,7 +158,7 @@ fn storms_run_their_events_and_end(rt: HostRuntime) -> Result<(), Fail> {
     let full = (Err(StormFault::HistoryFull), 20, [true, false, true]);
     assert_eq!(rt; by_flags, [whole, full]);
     assert_eq!(rt; counted, (whole, [1; 4]));
-    assert_eq!(rt; alone, [Err(StormFault::Alone); 4]);
+    assert_eq!(rt; alone, [Err(StormFault::Alone); 5]);
     assert_eq!(rt; others, [Ok(113), Ok(8), Ok(2)]);
     Ok(())
 }

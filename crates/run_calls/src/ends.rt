@@ -7,7 +7,7 @@ use std::io::{Error, ErrorKind, Read, Write};
 const INTERRUPTIONS: u8 = 100;
 
 /// A reader that gives a byte at a time, is interrupted before each, and ends in a failure where
-/// `fails` says so. Invocation again it would tell of no failure, but that it is at its end.
+/// `fails` says so. Asked again it would tell of no failure, but that it is at its end.
 #[derive(Drop)]
 pub struct SlowReader<'a> {
     rest: &'a [u8],
@@ -48,11 +48,33 @@ impl Read for SlowReader<'_> {
     }
 }
 
+/// A reader and writer that always fails so.
+#[derive(Drop)]
+pub struct Failing(pub ErrorKind);
+
+impl Read for Failing {
+    fn read(&mut self, _buf: &mut [u8]) -> io::Result<usize> {
+        Err(Error::from(self.0))
+    }
+}
+
+impl Write for Failing {
+    fn write(&mut self, _buf: &[u8]) -> io::Result<usize> {
+        Err(Error::from(self.0))
+    }
+
+    fn flush(&mut self) -> io::Result<()> {
+        Ok(())
+    }
+}
+
 /// What a writer does that has no room left.
 #[derive(Clone, Copy)]
 pub enum Full {
     Fails,
     TakesNothing,
+    /// As a full disk does. A flush is interrupted then.
+    HasNoSpace,
 }
 
 /// A writer that takes a byte at a time, is interrupted before each, and has room for so many. It
@@ -94,6 +116,7 @@ impl Write for SlowWriter {
             return match self.full {
                 Full::Fails => Err(Error::from(ErrorKind::Other)),
                 Full::TakesNothing => Ok(0),
+                Full::HasNoSpace => Err(Error::from(ErrorKind::StorageFull)),
             };
         }
         self.taken.push(*byte)?;
@@ -103,6 +126,9 @@ impl Write for SlowWriter {
     fn flush(&mut self) -> io::Result<()> {
         if self.flush_fails {
             return Err(Error::from(ErrorKind::Other));
+        }
+        if self.taken.len() >= self.room && matches!(self.full, Full::HasNoSpace) {
+            return Err(Error::from(ErrorKind::Interrupted));
         }
         self.flushed = self.taken.len();
         Ok(())

@@ -1,6 +1,6 @@
 //! What the program tells of closings, and how it ends.
 use crate::ends::{Full, SlowReader, SlowWriter};
-use crate::program::{expect, expect_at};
+use crate::program::{ask, expect, expect_at};
 use ele_moment::Moment;
 use ele_outlook::{ForecastOptions, Form};
 use ele_policy::{Ladder, Policy};
@@ -57,6 +57,24 @@ fn ask_about(alloc: Global, policy: Policy, words: &[&[u8]]) -> Result<Invocatio
     }))
 }
 
+// A drawing under a policy that keeps one version.
+fn drawing(alloc: Global) -> Invocation {
+    Invocation::Forecast(ForecastOptions {
+        policy: Policy::One,
+        moments: Vec::new(alloc),
+        form: Form::Drawing,
+    })
+}
+
+// So many versions that closed at one moment.
+fn closed_at_once(alloc: Global, versions: usize) -> Result<Vec<u8>, Fail> {
+    let mut closings = Vec::new(alloc);
+    for _ in 0..versions {
+        closings.extend_from_slice(b"5\n")?;
+    }
+    Ok(closings)
+}
+
 #[test]
 fn twelve_closings_are_told_under_the_standard_ladder(rt: HostRuntime) -> Result<(), Fail> {
     let moments: [&[u8]; 3] = [
@@ -104,5 +122,46 @@ fn ends_that_fail_end_a_forecast(rt: HostRuntime) -> Result<(), Fail> {
     let wanted = (front, "elephant: 35 WriteFault\n", 1);
     let whole = SlowReader::new(b"5", false);
     expect_at(&rt, rt.alloc(), &invocation, whole, &mut full, wanted);
+    Ok(())
+}
+
+#[test]
+fn a_flush_that_fails_ends_a_forecast(rt: HostRuntime) -> Result<(), Fail> {
+    let invocation = ask_about(rt.alloc(), Policy::All, &[])?;
+    let mut writer = SlowWriter::new(rt.alloc(), 2_000, Full::Fails);
+    writer.flush_fails = true;
+    let table = "version closed ended due why\n1 1970-01-01T00:00:05Z - - current\n";
+    let wanted = (table, "elephant: 35 WriteFault\n", 1);
+    let closings = b"5\n".as_slice();
+    expect_at(&rt, rt.alloc(), &invocation, closings, &mut writer, wanted);
+    Ok(())
+}
+
+#[test]
+fn a_drawing_is_an_svg_document_of_at_most_2000_versions(rt: HostRuntime) -> Result<(), Fail> {
+    let alloc = rt.alloc();
+    let mut drawn = Vec::<u8>::new(alloc);
+    let closings = closed_at_once(alloc, 2_000)?;
+    let most = ask(
+        &rt,
+        alloc,
+        &drawing(alloc),
+        false,
+        closings.as_slice(),
+        &mut drawn,
+    );
+    assert_eq!(rt; (most.0.len(), most.1), (0, 0));
+    let text = str::from_utf8(drawn.as_slice()).map_err(|_| "no text")?;
+    assert!(rt; text.contains("<svg xmlns='http://www.w3.org/2000/svg'"));
+    assert!(rt; text.ends_with("</svg>\n"));
+    let closings = closed_at_once(alloc, 2_001)?;
+    let told = "elephant: more than 2000 versions to draw\n";
+    expect(
+        &rt,
+        alloc,
+        &drawing(alloc),
+        closings.as_slice(),
+        ("", told, 2),
+    );
     Ok(())
 }

@@ -5,6 +5,7 @@ use ele_moment::{BadMoment, BadName, NoMemory};
 use ele_policy::BadLadder;
 use ele_runs::ShellFault;
 use ele_script::{Line, LineFault, WriteFault, read_event, read_line, write_reply};
+use ele_storm::{AuditFault, StormFault};
 use std::test::Fail;
 
 #[test]
@@ -66,5 +67,7 @@ fn errors_have_texts(rt: HostRuntime) -> Result<(), Fail> {
         format!(in alloc; "{BadLadder}")?.as_str(),
         "not the numbers of a policy"
     );
+    let alone = AuditFault::Storm(StormFault::Alone);
+    assert_eq!(rt; format!(in alloc; "{alone}")?.as_str(), "40 Alone");
     Ok(())
 }

@@ -3,7 +3,7 @@ use crate::ends::{Full, SlowWriter};
 use ele_words::{Invocation, KeepsError, dispatch};
 use empty_world::EmptyWorld;
 use std::alloc::Global;
-use std::io::Read;
+use std::io::{Read, Write};
 use std::process::Abort;
 use std::sync::Wait;
 use std::thread::Threads;
@@ -36,13 +36,27 @@ pub fn expect_at<T: Threads + Wait + Clock + Sync + Abort, R: Read + Drop>(
     wanted: Wanted,
 ) {
     let (output, errors, status) = wanted;
-    let mut told = Vec::<u8>::new(alloc);
-    let mut input = KeepsError::new(reader);
-    let mut kept = KeepsError::new(&mut *writer);
-    let ended = dispatch::<EmptyWorld, T, _, _, _>(
-        rt, alloc, invocation, false, &mut input, &mut kept, &mut told,
-    );
+    let (told, ended) = ask(rt, alloc, invocation, false, reader, &mut *writer);
     assert_eq!(rt; told.as_slice(), errors.as_bytes());
     assert_eq!(rt; writer.taken.as_slice(), output.as_bytes());
     assert_eq!(rt; ended, status);
+}
+
+/// Asks the program for this, watched or not. Answers what it writes at the writer for faults, and
+/// its status.
+pub fn ask<T: Threads + Wait + Clock + Sync, R: Read + Drop, W: Write + Drop>(
+    rt: &T,
+    alloc: Global,
+    invocation: &Invocation,
+    watched: bool,
+    reader: R,
+    writer: W,
+) -> (Vec<u8>, u8) {
+    let mut told = Vec::<u8>::new(alloc);
+    let mut input = KeepsError::new(reader);
+    let mut kept = KeepsError::new(writer);
+    let ended = dispatch::<EmptyWorld, T, _, _, _>(
+        rt, alloc, invocation, watched, &mut input, &mut kept, &mut told,
+    );
+    (told, ended)
 }

@@ -1,10 +1,11 @@
 //! What the program writes, and how it ends.
-use crate::ends::{Full, SlowReader, SlowWriter};
-use crate::program::{expect, expect_at};
+use crate::ends::{Failing, Full, SlowReader, SlowWriter};
+use crate::program::{ask, expect, expect_at};
 use ele_model::Limits;
 use ele_runs::RunOptions;
 use ele_storm::StormPlan;
 use ele_words::Invocation;
+use std::io::ErrorKind;
 use std::test::Fail;
 
 const NOTHING: &[u8] = b"";
@@ -37,6 +38,45 @@ fn a_flush_that_fails_is_told(rt: HostRuntime) {
     expect_at(&rt, rt.alloc(), &plain_run(), tick, &mut writer, wanted);
 }
 
+// The fault stands alone on its line, and why the system failed on the next one.
+#[test]
+fn a_full_disk_is_told(rt: HostRuntime) {
+    let mut writer = SlowWriter::new(rt.alloc(), 6, Full::HasNoSpace);
+    let tick = b"tick 5\n".as_slice();
+    let told = "elephant: 35 WriteFault\nelephant: there is no space left\n";
+    let wanted = ("ok now", told, 1);
+    expect_at(&rt, rt.alloc(), &plain_run(), tick, &mut writer, wanted);
+}
+
+// Why an end failed is that end's own reason, if the program knows words for it.
+#[test]
+fn each_end_tells_why_it_failed(rt: HostRuntime) -> Result<(), Fail> {
+    let alloc = rt.alloc();
+    for (kind, why) in [
+        (ErrorKind::IsADirectory, "elephant: it is a directory\n"),
+        (ErrorKind::StorageFull, "elephant: there is no space left\n"),
+        (
+            ErrorKind::BrokenPipe,
+            "elephant: nobody reads the pipe any more\n",
+        ),
+        (
+            ErrorKind::PermissionDenied,
+            "elephant: it is not permitted\n",
+        ),
+        (ErrorKind::Other, ""),
+    ] {
+        let mut output = Vec::<u8>::new(alloc);
+        let read = ask(&rt, alloc, &plain_run(), false, Failing(kind), &mut output);
+        let tick = b"tick 5\n".as_slice();
+        let wrote = ask(&rt, alloc, &plain_run(), false, tick, Failing(kind));
+        let fault = format!(in alloc; "elephant: 34 ReadFault\n{why}")?;
+        assert_eq!(rt; (read.0.as_slice(), read.1), (fault.as_bytes(), 1));
+        let fault = format!(in alloc; "elephant: 35 WriteFault\n{why}")?;
+        assert_eq!(rt; (wrote.0.as_slice(), wrote.1), (fault.as_bytes(), 1));
+    }
+    Ok(())
+}
+
 #[test]
 fn help_is_written_and_flushed(rt: HostRuntime) -> Result<(), Fail> {
     let help = Invocation::Help(String::from_str(rt.alloc(), "so")?);
@@ -59,6 +99,18 @@ fn a_storm_without_memory_is_told(rt: HostRuntime) -> Result<(), Fail> {
     let plan = StormPlan::new(2, 1, 10).ok_or("there is such a plan")?;
     let wanted = ("", "elephant: 1 NoMemory\n", 3);
     expect(&rt, rt.alloc(), &Invocation::Storm(plan), NOTHING, wanted);
+    Ok(())
+}
+
+// And so it does while it is watched: the watcher hears that it has ended.
+#[test]
+fn a_watched_storm_ends(rt: HostRuntime) -> Result<(), Fail> {
+    let alloc = rt.alloc();
+    let storm = Invocation::Storm(StormPlan::new(2, 1, 10).ok_or("there is such a plan")?);
+    let mut output = Vec::<u8>::new(alloc);
+    let (told, status) = ask(&rt, alloc, &storm, true, NOTHING, &mut output);
+    assert_eq!(rt; told.as_slice(), b"elephant: 1 NoMemory\n".as_slice());
+    assert_eq!(rt; (output.len(), status), (0, 3));
     Ok(())
 }
 

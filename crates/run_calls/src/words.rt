@@ -1,4 +1,5 @@
 //! What the program's words ask for.
+use ele_outlook::Form;
 use ele_policy::Policy;
 use ele_runs::RunOptions;
 use ele_words::{Invocation, unreadable_args, words};
@@ -103,6 +104,26 @@ fn a_forecast_has_a_policy_and_moments(rt: HostRuntime) -> Result<(), Fail> {
         ask_of(alloc, line)?,
         Some((Policy::All, [Some(5), Some(9)]))
     );
+    Ok(())
+}
+
+// Whether the forecast that the words ask for is drawn.
+fn is_drawn(alloc: Global, line: &str) -> Result<Option<bool>, Fail> {
+    match asked_by(alloc, line)? {
+        Invocation::Forecast(ask) => Ok(Some(ask.form == Form::Drawing)),
+        _ => Ok(None),
+    }
+}
+
+#[test]
+fn a_forecast_is_drawn_if_it_is_asked_to_be(rt: HostRuntime) -> Result<(), Fail> {
+    for (line, drawn) in [
+        ("elephant forecast --policy one", false),
+        ("elephant forecast --policy one --svg", true),
+        ("elephant forecast --svg --at 5 --policy=all", true),
+    ] {
+        assert_eq!(rt; is_drawn(rt.alloc(), line)?, Some(drawn), "{line}");
+    }
     Ok(())
 }
 

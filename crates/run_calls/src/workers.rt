@@ -1,7 +1,9 @@
 //! Workers of a storm by themselves, and the flags where they arrive.
-use ele_model::{Limits, Step};
-use ele_storm::{Flags, Meet, MeetEnd, StormFault, StormPlan, share_fresh, work};
-use empty_world::EmptyWorld;
+use ele_model::{Audit, Event, Limits, Step};
+use ele_storm::{
+    AuditFault, Flags, Meet, MeetEnd, StormFault, StormPlan, close_and_audit, share_fresh, work,
+};
+use empty_world::{EmptyWorld, WithoutKeys, WithoutNames, WithoutRows};
 use std::alloc::Global;
 use std::sync::Wait;
 use std::test::Fail;
@@ -32,5 +34,26 @@ fn a_flag_is_seen_by_those_who_come_later(rt: HostRuntime) -> Result<(), Fail> {
     assert_eq!(rt; flags.arrive(0), MeetEnd::Alone);
     assert_eq!(rt; flags.arrive(1), MeetEnd::Met);
     assert_eq!(rt; flags.arrive(2), MeetEnd::Alone);
+    Ok(())
+}
+
+/// What an audit finds behind one event.
+fn audit_one<C: Audit>(alloc: Global) -> Result<Result<bool, AuditFault>, Fail> {
+    let (shared, mut seat) = share_fresh::<C>(alloc, Limits::largest())?;
+    if shared.try_call(&mut seat, Event::Tick(1)).is_err() {
+        return Err(Fail::from("a tick is answered"));
+    }
+    Ok(close_and_audit(shared, seat).map(|closed| closed.1))
+}
+
+// An audit that didn't ask its core would find all equal.
+#[test]
+fn an_audit_asks_its_core(rt: HostRuntime) -> Result<(), Fail> {
+    let alloc = rt.alloc();
+    let refused = Err(AuditFault::Storm(StormFault::NoMemory));
+    assert_eq!(rt; audit_one::<EmptyWorld>(alloc)?, Ok(true));
+    assert_eq!(rt; audit_one::<WithoutKeys>(alloc)?, refused);
+    assert_eq!(rt; audit_one::<WithoutNames>(alloc)?, refused);
+    assert_eq!(rt; audit_one::<WithoutRows>(alloc)?, refused);
     Ok(())
 }
