@@ -1,0 +1,140 @@
+"""What a mount does by itself: it removes what its policies let go, syncs its journal, makes it anew, and closes long sessions."""
+
+from __future__ import annotations
+
+import threading
+import time
+from typing import Optional
+
+from .._answers import Due, Removable
+from .._errors import ElephantError, JournalError
+from .._policies import KeepSafe, Policy
+from .log import Log
+from .names import name_in, shown
+from .operations import Operations
+from .past import text_of
+from .rewriting import Rewriting
+from .store import NoSpace
+
+# The longest that other requests wait for removals, in seconds, and how long these then wait.
+MOST_AT_ONCE, PAUSE = 0.003, 0.03
+MOST_KEYS = 256
+SYNC_EVERY = 5.0
+REWRITE_EVERY = 600.0
+
+
+class Keeper:
+    """A thread beside the one that answers requests. `clean_every` is in seconds, `every` in minutes; 0 is never."""
+
+    def __init__(self, operations: Operations, rewriting: Rewriting, log: Log, clean_every: float, every: float) -> None:
+        self.operations, self.store, self.log = operations, operations.store, log
+        self.rewriting = rewriting
+        self._clean_every, self._every = clean_every, every * 60
+        self._stopping = threading.Event()
+        self._thread = threading.Thread(target=self._run, daemon=True)
+
+    def start(self) -> None:
+        self._thread.start()
+
+    def stop(self) -> None:
+        self._stopping.set()
+        self._thread.join(30)
+
+    def _run(self) -> None:
+        tasks = [(self._clean_every, self.clean), (self._every, self.settle), (SYNC_EVERY, self.sync), (2.0, self.retry),
+                 (REWRITE_EVERY, self.rewriting.run_if_worth)]
+        due = [time.monotonic() + every for every, _ in tasks]
+        while not self._stopping.wait(0.25):
+            for at, (every, task) in enumerate(tasks):
+                if every and time.monotonic() >= due[at]:
+                    self._guarded(task)
+                    due[at] = time.monotonic() + every
+
+    def _guarded(self, task: object) -> None:
+        try:
+            task()  # type: ignore[operator]
+        except (ElephantError, NoSpace, OSError) as fault:
+            with self.operations.lock:
+                self.operations.errno_of(fault)
+
+    # Removing.
+
+    def clean(self) -> int:
+        """Removes all versions that are due, a few at a time. Returns how many."""
+        removed = 0
+        while not self._stopping.is_set():
+            with self.operations.lock:
+                count = 0 if self.store.stopped else self._clean_some()
+            removed += count
+            if not count:
+                break
+            time.sleep(PAUSE)
+        return removed
+
+    def _clean_some(self) -> int:
+        deadline, removed = time.monotonic() + MOST_AT_ONCE, 0
+        self.operations.hold_past()
+        for key in self.store.due()[:MOST_KEYS]:
+            cause = self._cause(key)
+            self.store.reserve(0)
+            found = self.store.clean()
+            if found is None:
+                break
+            if found != key:
+                cause = self._cause(found)
+            self.log.say(f"removed {cause}")
+            removed += 1
+            if time.monotonic() > deadline:
+                break
+        return removed
+
+    def _cause(self, key: Removable) -> str:
+        """Returns which version is removed and why, for the log."""
+        node = self.operations.tree.files.get(key.file)
+        if node is not None:
+            fate = self.store.why(node.path, version=key.number)
+            return f"version {key.number} of {_path(node.path)}: {_told(fate, key)}"
+        last = self.store.departed.get(key.file)
+        if last is None:
+            return f"version {key.number} of file {key.file}, which has no name: due since {text_of(key.since)}"
+        policy = Policy.of(last.policy)
+        why = "at once" if last.policy == "one" else f"by age, its policy is {policy.word}"
+        why = "a newer one closed in the same span" if not isinstance(policy, KeepSafe) and last.policy != "one" else why
+        return f"version {key.number} of file {key.file}, last {_path(last.path)}, which has no name: due since {text_of(key.since)}, {why}"
+
+    # The rest.
+
+    def settle(self) -> None:
+        """Makes versions of what long sessions have written so far."""
+        with self.operations.lock:
+            if not self.store.stopped:
+                self.operations.contents.settle_all()
+
+    def sync(self) -> None:
+        """Has the disk hold what was answered some seconds ago."""
+        if self.store.unsynced and not self.store.stopped:
+            self.store.sync_journal_aside()
+
+    def retry(self) -> None:
+        """Tries whether the journal can be written again."""
+        with self.operations.lock:
+            if self.store.stopped and self.store.retry():
+                self.log.say("the journal can be written again, and the folder too")
+
+
+def _path(spelling: bytes) -> str:
+    return "/".join(shown(name_in(it)) if it else "" for it in spelling.split(b"/"))
+
+
+def _told(fate: object, key: Removable) -> str:
+    if not isinstance(fate, Due):
+        return f"due since {text_of(key.since)}"
+    cause = "its policy keeps only the newest"
+    if fate.age is not None:
+        cause = f"it ended {fate.age} seconds before"
+    if fate.by is not None:
+        cause = f"version {fate.by} closed in the same span at level {fate.level}"
+    return f"due since {text_of(key.since)}, {cause}"
+
+
+__all__ = ["JournalError", "Keeper", "Optional"]
