@@ -2,6 +2,7 @@
 
 from __future__ import annotations
 
+import gc
 import os
 
 import pyfuse3
@@ -55,6 +56,7 @@ class Mount:
         """Mounts the folder and answers the kernel until it is unmounted."""
         options = {"fsname=elephant", "subtype=elephant", "default_permissions", *["allow_other"] * allows_others}
         self.loop.install()
+        _collect_rarely()
         try:
             pyfuse3.init(self.operations, self.folder, options)
         except RuntimeError as fault:
@@ -95,3 +97,10 @@ class Mount:
                     pyfuse3.invalidate_inode(node.ino, attr_only=True)
             except OSError:
                 pass  # the kernel doesn't know it
+
+
+def _collect_rarely() -> None:
+    """Has Python look for cycles seldom: few objects of a mount are in one, and looking at all of them doubles the time of a request."""
+    gc.collect()
+    gc.freeze()
+    gc.set_threshold(50_000, 50, 1000)

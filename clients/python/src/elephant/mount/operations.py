@@ -25,6 +25,7 @@ from .tree import ROOT, Directory, File, Node, Tree
 LASTING = 86_400.0
 FIRST_PAST_HANDLE = 1 << 60
 NAME_MAX = 64
+_CHANGES = os.O_ACCMODE | os.O_TRUNC
 _ERRNOS = {
     5: errno.ENOENT, 6: errno.ENOTDIR, 7: errno.EISDIR, 8: errno.EEXIST, 9: errno.ENOTEMPTY, 10: errno.EINVAL, 11: errno.EBUSY,
     12: errno.ENOENT, 13: errno.ENODATA, 14: errno.ENOENT, 15: errno.EBADF, 17: errno.EFBIG, 18: errno.EBUSY, 19: errno.ENOENT,
@@ -87,7 +88,6 @@ class Operations(pyfuse3.Operations):  # type: ignore[misc]
         self.past_handles: dict[int, PastHandle] = {}
         self._listings: dict[int, Listing] = {}
         self._next_handle = FIRST_PAST_HANDLE
-        self._read = [self._info(0, False), self._info(0, True)]
 
     # Errors.
 
@@ -164,8 +164,51 @@ class Operations(pyfuse3.Operations):  # type: ignore[misc]
         node.lookups += 1
         return self._entry(node)
 
+    # The four requests that come most often are answered here, and what is unusual of them below: a call more costs a reader a fifth.
+
+    async def lookup(self, ino: int, name: bytes, context: Any) -> Any:
+        with self.lock:
+            parent = self.by_ino.get(ino)
+            node = parent.children.get(name) if parent.__class__ is Directory else None  # type: ignore[union-attr]
+            if node is not None:
+                node.lookups += 1
+                return node.entry or self._entry(node)
+        return await self._lookup(ino, name)
+
+    async def getattr(self, ino: int, context: Any) -> Any:
+        with self.lock:
+            node = self.by_ino.get(ino)
+            if node is not None:
+                return node.entry or self._entry(node)
+        return await self._getattr(ino)
+
+    async def open(self, ino: int, flags: int, context: Any) -> Any:
+        with self.lock:
+            node = self.by_ino.get(ino)
+            if not flags & _CHANGES and node.__class__ is File and node.names:  # type: ignore[union-attr]
+                node.opens += 1  # type: ignore[union-attr]
+                return node.info or self._reading_info(node)  # type: ignore[union-attr, arg-type]
+        return await self._open(ino, flags)
+
+    async def flush(self, handle: int) -> None:
+        if handle & 1:
+            await self._flush(handle)
+
+    async def release(self, handle: int) -> None:
+        if not handle & 1:
+            with self.lock:
+                node = self.by_ino.get(handle >> 1)
+                if node is not None and node.names:  # type: ignore[attr-defined]
+                    node.opens -= 1  # type: ignore[attr-defined]
+                    return
+        await self._release(handle)
+
+    def _reading_info(self, node: File) -> Any:
+        node.info = pyfuse3.FileInfo(fh=node.ino * 2, keep_cache=True)
+        return node.info
+
     @answered
-    def lookup(self, ino: int, name: bytes, context: Any) -> Any:
+    def _lookup(self, ino: int, name: bytes) -> Any:
         parent = self._node(ino)
         if isinstance(parent, PastNode):
             return self._lookup_past(parent, name)
@@ -203,7 +246,7 @@ class Operations(pyfuse3.Operations):  # type: ignore[misc]
                 self.past.forget(past)
 
     @answered
-    def getattr(self, ino: int, context: Any) -> Any:
+    def _getattr(self, ino: int) -> Any:
         node = self._node(ino)
         return self._past_entry(node) if isinstance(node, PastNode) else self._entry(node)
 
@@ -293,7 +336,7 @@ class Operations(pyfuse3.Operations):  # type: ignore[misc]
         return node.ino * 2 + writes
 
     @answered
-    def open(self, ino: int, flags: int, context: Any) -> Any:
+    def _open(self, ino: int, flags: int) -> Any:
         node = self.by_ino.get(ino)
         if not isinstance(node, File):
             return self._open_past(ino, flags)
@@ -343,12 +386,12 @@ class Operations(pyfuse3.Operations):  # type: ignore[misc]
         return self.contents.write(self.by_ino[handle >> 1], offset, data)
 
     @answered
-    def flush(self, handle: int) -> None:
-        if handle & 1 and handle < FIRST_PAST_HANDLE:
+    def _flush(self, handle: int) -> None:
+        if handle < FIRST_PAST_HANDLE:
             self.contents.save(self.by_ino[handle >> 1])
 
     @answered
-    def release(self, handle: int) -> None:
+    def _release(self, handle: int) -> None:
         if handle < FIRST_PAST_HANDLE:
             self.contents.closed(self.by_ino[handle >> 1], bool(handle & 1))
             return

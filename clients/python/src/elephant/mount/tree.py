@@ -38,7 +38,7 @@ class File(Node):
     has been given some of the draft.
     """
 
-    __slots__ = ("names", "size", "version", "draft", "is_unsaved", "is_cut", "handle", "opens", "writers", "pending")
+    __slots__ = ("names", "size", "version", "draft", "is_unsaved", "handle", "opens", "writers", "pending", "info")
 
     def __init__(self, ino: int, number: int, attributes: Attributes, size: int = 0, version: int = 1) -> None:
         super().__init__(ino, number, attributes)
@@ -48,6 +48,8 @@ class File(Node):
         self.is_unsaved = False
         self.handle: Optional[int] = None
         self.opens = self.writers = self.pending = 0
+        self.info: Any = None
+        """What the kernel is told when it opens the file to read it."""
 
     @property
     def path(self) -> bytes:
