@@ -10,9 +10,8 @@ import errno
 import time
 from typing import Optional
 
-from .._errors import NoMemory
 from .records import file_key, saved
-from .store import MountStore, NoSpace
+from .store import MountStore
 from .tree import File, Tree
 
 MOST_BYTES = 1_048_576
@@ -199,6 +198,3 @@ class TooBig(OSError):
     def __init__(self, node: File, size: int) -> None:
         super().__init__(errno.EFBIG, f"{size} bytes for a file that has at most {MOST_BYTES}")
         self.node = node
-
-
-__all__ = ["Contents", "Limited", "MOST_BYTES", "NoMemory", "NoSpace", "TooBig"]

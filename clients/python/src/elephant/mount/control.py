@@ -13,7 +13,7 @@ import threading
 from collections.abc import Callable
 from typing import Optional, Union
 
-from .._errors import ElephantError, NoEntry, Refused
+from .._errors import ElephantError, Refused
 from .._library import AT
 from .names import name_in
 from .operations import Operations
@@ -219,6 +219,3 @@ def mount_of(folder: str) -> str:
     while not os.path.ismount(path):
         path = os.path.dirname(path)
     return path
-
-
-__all__ = ["Control", "Lines", "NoEntry", "ask", "mount_of"]

@@ -4,17 +4,15 @@ from __future__ import annotations
 
 import threading
 import time
-from typing import Optional
 
 from .._answers import Due, Removable
-from .._errors import ElephantError, JournalError
-from .._policies import KeepSafe, Policy
+from .._errors import ElephantError
 from .log import Log
 from .names import name_in, shown
 from .operations import Operations
 from .past import text_of
 from .rewriting import Rewriting
-from .store import NoSpace
+from .store import Departed, NoSpace
 
 # The longest that other requests wait for removals, in seconds, and how long these then wait.
 MOST_AT_ONCE, PAUSE = 0.003, 0.03
@@ -97,10 +95,7 @@ class Keeper:
         last = self.store.departed.get(key.file)
         if last is None:
             return f"version {key.number} of file {key.file}, which has no name: due since {text_of(key.since)}"
-        policy = Policy.of(last.policy)
-        why = "at once" if last.policy == "one" else f"by age, its policy is {policy.word}"
-        why = "a newer one closed in the same span" if not isinstance(policy, KeepSafe) and last.policy != "one" else why
-        return f"version {key.number} of file {key.file}, last {_path(last.path)}, which has no name: due since {text_of(key.since)}, {why}"
+        return f"version {key.number} of file {key.file}, last {_path(last.path)}, which has no name: due since {text_of(key.since)}, {_why(last)}"
 
     # The rest.
 
@@ -122,6 +117,13 @@ class Keeper:
                 self.log.say("the journal can be written again, and the folder too")
 
 
+def _why(last: Departed) -> str:
+    """Returns why a version of a file without a name is due."""
+    if last.policy == "one":
+        return "its policy keeps only the newest"
+    return f"by the age that its policy {last.policy} has" if last.policy.startswith("safe") else "a newer one closed in the same span"
+
+
 def _path(spelling: bytes) -> str:
     return "/".join(shown(name_in(it)) if it else "" for it in spelling.split(b"/"))
 
@@ -135,6 +137,3 @@ def _told(fate: object, key: Removable) -> str:
     if fate.by is not None:
         cause = f"version {fate.by} closed in the same span at level {fate.level}"
     return f"due since {text_of(key.since)}, {cause}"
-
-
-__all__ = ["JournalError", "Keeper", "Optional"]

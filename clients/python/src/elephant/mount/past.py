@@ -16,13 +16,13 @@ import stat
 from datetime import datetime, timezone
 from typing import NamedTuple, Optional
 
-from .._errors import ElephantError, NoEntry
+from .._errors import ElephantError
 from .._library import AT, VERSION
 from .._moments import LAST_MOMENT
-from .names import TooLong, name_in, spelled
+from .names import name_in, spelled
 from .records import Attributes, directory_key, file_key
 from .store import MountStore
-from .tree import Directory, File, Tree
+from .tree import Directory, Tree
 
 NAME = b".elephant"
 FIRST_INO = 1 << 48
@@ -317,6 +317,3 @@ def _shown(found: Optional[Attributes], is_directory: bool, size: int, moment: o
         return Shown(stat.S_IFDIR | 0o555 if is_directory else stat.S_IFREG | 0o444, size, moment, root.owner, root.group)
     mode = found.mode if found.is_link else found.mode & ~0o222
     return Shown(mode, size, moment, found.owner, found.group)
-
-
-__all__ = ["File", "NAME", "NoEntry", "Past", "PastNode", "Shown", "Source", "TooLong", "moment_of", "text_of"]

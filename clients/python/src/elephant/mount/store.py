@@ -10,6 +10,7 @@ from typing import Any, NamedTuple, Optional
 from .._answers import Limits
 from .._core import Core
 from .._errors import ElephantError, JournalError, NoEntry
+from .._journal import Journal
 from .._library import NOW
 from .._replay import Replay, write_lines
 from .._store import Store
@@ -19,6 +20,8 @@ BLOCK = 4096
 # What a change takes of the journal at most, beside contents.
 MOST_CHANGE = 16_384
 RESERVE_STEP = 1 << 20
+# No line of a journal is longer.
+MOST_LINE = 8300
 _KEEP_SIZE = 1
 # Which counts a command takes one of.
 _TAKES = {
@@ -202,6 +205,28 @@ class MountStore(Store):
     def journal_path(self) -> str:
         return self._journal.path if self._journal else ""
 
+    @property
+    def has_sessions(self) -> bool:
+        """Whether lines have opened files to be written."""
+        return bool(self._writers)
+
+    def checksum_at(self, size: int) -> int:
+        """Returns the checksum of the journal up to a place, the end of a change."""
+        with open(self.journal_path, "rb") as file:
+            file.seek(max(size - MOST_LINE, 0))
+            last = file.read(size - file.tell()).rstrip(b"\n").rpartition(b"\n")[2]
+        return int(last[:8], 16)
+
+    def change_journal(self, journal: Journal) -> None:
+        """Goes on with another journal, which is at this one's place already."""
+        with self._lock:
+            old, path = self._journal, self.journal_path
+            assert old is not None
+            journal.path = path
+            self._journal, self._reserved = journal, 0
+            journal._sync_folder()
+            old.close()
+
     def release_reserve(self) -> None:
         """Gives back what was reserved and isn't used."""
         with self._lock:
@@ -310,6 +335,7 @@ class MountStore(Store):
                 self.counts.used["versions"] += bool(version)
                 core.do(core.library.elephant_policy, source, source, len(source), b"one", 3)
                 lines.append(b"policy %b one" % source)
+                self.note_end(core, source)
                 core.do(core.library.elephant_unlink, source, source, len(source))
                 lines.append(b"unlink " + source)
             except ElephantError:
