@@ -50,7 +50,10 @@ def kills(room, asked):
         mounted.start()
         with open(notes, "ab") as file:
             worker = subprocess.Popen([sys.executable, WORKER, mounted.folder, str(number)], stdout=file, stderr=subprocess.DEVNULL)
-        time.sleep(drawn.uniform(0.1, 2.0))
+        size, deadline = notes.stat().st_size, time.monotonic() + 30
+        while notes.stat().st_size == size and time.monotonic() < deadline:
+            time.sleep(0.02)
+        time.sleep(drawn.uniform(0.0, 2.0))
         mounted.kill()
         worker.wait(60)
         if drawn.random() < 0.3:

@@ -38,7 +38,11 @@ def save(folder, name, number, way):
 
 
 def main():
-    folder, turn = Path(sys.argv[1]), int(sys.argv[2])
+    # From within the mount no name ever leads to the folder below it.
+    os.chdir(sys.argv[1])
+    folder, turn = Path("."), int(sys.argv[2])
+    if not (folder / ".elephant").exists():
+        return  # it was killed already
     drawn, number = random.Random(turn), turn * 100_000
     try:
         while True:
