@@ -437,18 +437,22 @@ class Operations(pyfuse3.Operations):  # type: ignore[misc]
     def readdir(self, handle: int, start: int, token: Any) -> None:
         node, names = self._listings[handle]
         if start == 0:
-            names[:] = node.children if isinstance(node, Directory) else self.past.names(node)
+            names[:] = [b".", b"..", *node.children] if isinstance(node, Directory) else self.past.names(node)
         for index in range(start, len(names)):
-            if isinstance(node, Directory):
-                found: Optional[Union[Node, PastNode]] = node.children.get(names[index])
-                name = names[index]
-            else:
-                name, found = names[index]
+            name, found = self._named(node, names[index])
             if found is None:
                 continue
             if not pyfuse3.readdir_reply(token, name, self._listed(found), index + 1):
                 return
-            found.lookups += 1
+            if name not in (b".", b".."):
+                found.lookups += 1
+
+    @staticmethod
+    def _named(node: Union[Directory, PastNode], name: Any) -> tuple[bytes, Optional[Union[Node, PastNode]]]:
+        """Returns a name of a listing and what it stands for now, if for anything."""
+        if not isinstance(node, Directory):
+            return name  # type: ignore[no-any-return]
+        return name, node if name == b"." else (node.parent or node) if name == b".." else node.children.get(name)
 
     def _listed(self, node: Union[Node, PastNode]) -> Any:
         if not isinstance(node, PastNode):
