@@ -12,7 +12,7 @@ from typing import Optional
 
 from .._answers import Limits
 from .._errors import ElephantError, JournalLocked
-from .control import ask, mount_of
+from .client import ask, mount_of
 from .names import spelled
 
 _DESCRIPTION = "Mounts a folder that keeps each save of each file as a version, and sends lines to a mounted one."

@@ -9,9 +9,11 @@ Before it says `ok` it runs the new journal in a fresh store, and compares what 
 
 from __future__ import annotations
 
+import os
 import sys
 from collections.abc import Iterator
 from hashlib import sha256
+from itertools import zip_longest
 from zlib import crc32
 
 from .._answers import Limits
@@ -202,6 +204,22 @@ def shorten(old: str, size: int, new: str) -> None:
     core = Core(Limits(), False)
     shortening = Shortening(core, Core(Limits(), False), census)
     journal = Journal(new, False, 0.0)
+    try:
+        _write(old, size, shortening, journal, census)
+    finally:
+        journal.close()
+    made = Core(Limits(), False)
+    replay = Replay(made)
+    for change in changes_in(new, len(HEADER), os.path.getsize(new), first):
+        replay.run(change)
+    for left, right in zip_longest(told(core), told(made), fillvalue=b""):
+        if left != right:
+            raise JournalError(f"the new journal's store tells {right[:80]!r}, and not {left[:80]!r}")
+
+
+def _write(old: str, size: int, shortening: Shortening, journal: Journal, census: Census) -> None:
+    """Writes the lines of the new journal, and the attributes of what is held."""
+    first = crc32(HEADER[PREFIX - 2:])
     for change in changes_in(old, len(HEADER), size, first):
         lines = shortening.shorten(change)
         if lines:
@@ -211,14 +229,6 @@ def shorten(old: str, size: int, new: str) -> None:
     for start in range(0, len(remarks), REMARKS_AT_ONCE):
         journal.append(remarks[start:start + REMARKS_AT_ONCE])
     journal.sync()
-    made = Core(Limits(), False)
-    replay = Replay(made)
-    for change in changes_in(new, len(HEADER), journal._size, first):
-        replay.run(change)
-    for left, right in zip(told(core), told(made)):
-        if left != right:
-            raise JournalError(f"the new journal's store tells {right[:80]!r}, and not {left[:80]!r}")
-    journal.close()
 
 
 def main() -> int:

@@ -12,7 +12,7 @@ from collections.abc import Iterator
 from typing import Any, Optional, Union
 
 from .names import MOST_NAMES, TooLong, name_in, shown, spelled
-from .records import DIRECTORY_MODE, FILE_MODE, Attributes, Records, directory_key, file_key
+from .records import DIRECTORY_MODE, FILE_MODE, Attributes, directory_key, file_key, saved
 from .store import MountStore
 
 ROOT = 1
@@ -259,5 +259,6 @@ class Tree:
         if row.version == node.version:
             return False
         node.size, node.version, node.entry = row.length, row.version, None
-        node.attributes.mtime = node.attributes.ctime = row.closed * 10**9
+        node.attributes.mtime = node.attributes.ctime = now = row.closed * 10**9
+        self.store.keep(saved(file_key(node.number), now))
         return True
