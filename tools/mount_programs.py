@@ -190,9 +190,12 @@ def editors(mounted, is_long, say):
         "ed": lambda path, text: run(["ed", "-s", path], top, input=f"1,$c\n{text}.\nw\nq\n".encode()),
         "sed": lambda path, text: run(["sed", "-i", f"1c{text[:-1]}", path], top),
     }
+    all_texts = {name: [f"{number} by {name}\n" for number in range(4)] for name in ways}
+    for name, texts in all_texts.items():
+        (top / name).write_text(texts[0])
+    time.sleep(2.1)  # a file that is renamed as soon as it was made was made to be renamed
     for name, save in ways.items():
-        path, texts = top / name, [f"{number} by {name}\n" for number in range(4)]
-        path.write_text(texts[0])
+        path, texts = top / name, all_texts[name]
         for text in texts[1:]:
             save(path, text)
         # What a session writes over a file may be several versions, if it opens the file more than once.

@@ -174,7 +174,7 @@ class Saving(Case):
 
     def test_a_file_moved_away_and_made_anew_goes_on(self):
         it = self.mount()
-        it.save(b"f", b"one")
+        it.save(b"f", b"one").born -= 10
         it.rename(b"f", b"f~")
         it.save(b"f", b"two")
         self.assertEqual(it.versions(b"f"), [b"", b"one", b"two"])
@@ -182,11 +182,47 @@ class Saving(Case):
 
     def test_a_file_moved_away_long_ago_keeps_its_past(self):
         it = self.mount()
-        it.save(b"f", b"one")
+        it.save(b"f", b"one").born -= 10
         it.rename(b"f", b"g")
         with mock.patch("time.monotonic", lambda: 1e12):
             it.save(b"f", b"two")
         self.assertEqual((it.versions(b"f"), it.versions(b"g")), ([b"", b"two"], [b"", b"one"]))
+
+    def test_a_file_moved_over_its_last_backup_goes_on(self):
+        it = self.mount()
+        for text in (b"one", b"two", b"three"):
+            it.save(b"f", text)
+        it.save(b"f~", b"old")
+        it.rename(b"f", b"f~")
+        it.save(b"f", b"four")
+        # Bringing it back makes a version of what it held.
+        self.assertEqual(it.versions(b"f"), [b"", b"one", b"two", b"three", b"three", b"four"])
+        self.assertEqual(it.versions(b"f~"), [b"", b"old", b"three"])
+        while it.store.clean():
+            pass
+        self.assertEqual(len(it.versions(b"f")), 6)
+
+    def test_a_file_deleted_and_made_anew_goes_on(self):
+        it = self.mount()
+        it.save(b"f", b"one")
+        it.naming.unlink(it.top, b"f")
+        it.save(b"f", b"two")
+        self.assertEqual(it.versions(b"f"), [b"", b"one", b"one", b"two"])
+        before = it.all()
+        self.assertEqual(self.mount().all(), before)
+
+    def test_a_new_name_does_not_take_the_past_of_a_file_that_was_saved_by_it(self):
+        it = self.mount()
+        it.save(b"f", b"one")
+        for text in (b"two", b"three"):
+            it.save(b"new", text)
+            it.rename(b"new", b"f")
+        self.assertEqual(it.versions(b"f"), [b"", b"one", b"two", b"three"])
+        it.save(b"new", b"x")
+        self.assertEqual(it.versions(b"new"), [b"", b"x"])
+        it.rename(b"new", b"g")
+        it.save(b"new", b"y")
+        self.assertEqual((it.versions(b"new"), it.versions(b"g")), ([b"", b"y"], [b"", b"x"]))
 
     def test_other_names_keep_what_they_had(self):
         it = self.mount()

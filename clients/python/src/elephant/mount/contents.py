@@ -11,7 +11,7 @@ import time
 from typing import Optional
 
 from .records import file_key, saved
-from .store import MountStore
+from .store import MountStore, NotKept
 from .tree import File, Tree
 
 MOST_BYTES = 1_048_576
@@ -149,7 +149,11 @@ class Contents:
         draft = node.draft
         assert draft is not None
         remark = saved(file_key(node.number), node.attributes.mtime)
-        node.handle = self.store.write_draft(node.path, node.handle, bytes(draft), True, (remark,))
+        try:
+            node.handle = self.store.write_draft(node.path, node.handle, bytes(draft), True, (remark,))
+        except NotKept as fault:
+            node.handle, node.is_unsaved = fault.handle, False
+            raise
         node.is_unsaved = False
 
     def settle(self, node: File) -> None:
@@ -160,6 +164,7 @@ class Contents:
         size, handle = len(node.draft), node.handle
         node.handle, node.is_unsaved, node.entry = None, False, None
         self._set_draft(node, None)
+        self.forget_read()
         if handle is not None:
             node.size = size
             node.version = self.store.close_draft(handle) or node.version

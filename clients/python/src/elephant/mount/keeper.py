@@ -4,9 +4,11 @@ from __future__ import annotations
 
 import threading
 import time
+from collections.abc import Callable
 
 from .._answers import Due, Removable
 from .._errors import ElephantError
+from .control import Changes
 from .log import Log
 from .names import name_in, shown
 from .operations import Operations
@@ -24,7 +26,10 @@ REWRITE_EVERY = 600.0
 class Keeper:
     """A thread beside the one that answers requests. `clean_every` is in seconds, `every` in minutes; 0 is never."""
 
-    def __init__(self, operations: Operations, rewriting: Rewriting, log: Log, clean_every: float, every: float) -> None:
+    def __init__(
+        self, operations: Operations, rewriting: Rewriting, log: Log, changed: Callable[[Changes], None], clean_every: float, every: float
+    ) -> None:
+        self._changed = changed
         self.operations, self.store, self.log = operations, operations.store, log
         self.rewriting = rewriting
         self._clean_every, self._every = clean_every, every * 60
@@ -113,8 +118,11 @@ class Keeper:
     def retry(self) -> None:
         """Tries whether the journal can be written again."""
         with self.operations.lock:
-            if self.store.stopped and self.store.retry():
-                self.log.say("the journal can be written again, and the folder too")
+            if not self.store.stopped or not self.store.retry():
+                return
+            changes = list(self.operations.tree.refresh())
+            self.log.say("the journal can be written again, and the folder too")
+        self._changed(changes)
 
 
 def _why(last: Departed) -> str:

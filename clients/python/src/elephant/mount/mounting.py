@@ -38,7 +38,7 @@ class Mount:
         self.control = Control(self.lines, self._tell_kernel)
         self.past.socket = os.fsencode(self.control.path)
         self.rewriting = Rewriting(self.operations, self.log)
-        self.keeper = Keeper(self.operations, self.rewriting, self.log, clean_every, every)
+        self.keeper = Keeper(self.operations, self.rewriting, self.log, self._tell_kernel, clean_every, every)
         self.lines.more = {"rewrite": self.rewriting.run_and_tell, "clean all": self._clean_all}
 
     def _clean_all(self) -> str:

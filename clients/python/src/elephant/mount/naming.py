@@ -1,8 +1,8 @@
 """What changes the names of a mount: making, linking, removing and renaming, and how a name keeps its past when an editor saves.
 
 Editors save in three ways. They write over the file: that is a version anyway. They write a new file and rename it over the old one:
-`rename` makes the new file's content the next version of the old file. They rename the old file away and make a new one: `create` gives
-the old file its name back, for the new content, and makes another file of what was moved away.
+`rename` makes the new file's content the next version of the old file. They rename or delete the old file and make a new one: `create`
+gives the old file its name back, for the new content, and makes another file of what was renamed.
 """
 
 from __future__ import annotations
@@ -12,7 +12,7 @@ import stat
 import time
 from typing import Optional, Union
 
-from .._errors import ElephantError
+from .._errors import ElephantError, Refused
 from . import records
 from .contents import Contents, Limited
 from .names import MOST_NAMES, TooLong, shown
@@ -20,8 +20,11 @@ from .records import Attributes, directory_key, file_key
 from .store import MountStore
 from .tree import Directory, File, Node, Tree
 
-# For so many seconds after a rename a new file of that name goes on with the past of the one that was renamed.
-MOVED_AWAY = 2.0
+# For so many seconds after a name ended a new file of that name goes on with the past of the one that had it.
+GOES_ON = 2.0
+MOST_LEFT = 64
+# A file that was made and written once has the empty version 1 and one more.
+FRESH = 2
 NO_REPLACE, EXCHANGE = 1, 2
 
 
@@ -75,29 +78,55 @@ class Naming:
         self._require_free(parent, name)
         path = parent.path_of_new(name)
         made = self._new(parent, mode, owner, group)
-        if stat.S_ISREG(mode):
-            found = self._moved_from(parent, name)
-            if found is not None:
-                return self._take_over(parent, name, made, found)
+        found = self._past_of(parent, name) if stat.S_ISREG(mode) else None
+        if isinstance(found, File):
+            return self._take_over(parent, name, made, found)
+        if found is not None and self._revive(path, found):
+            return self._go_on(parent, name, made, found)
         number = self.store.run((b"create", path), remarks=lambda it: [records.made(file_key(it), key_of(parent), made)])
         return self._added(parent, name, number, made)
 
     def _added(self, parent: Directory, name: bytes, number: int, made: Attributes) -> File:
         self.store.records.by_key[file_key(number)] = made
         node = self.tree.new_file(number)
+        node.born = time.monotonic()
         self.tree.add(parent, name, node)
         self._touch(made.ctime, parent)
         return node
 
-    def _moved_from(self, parent: Directory, name: bytes) -> Optional[File]:
-        """Returns the file that had the name until a rename just now, if its past can go on under the name."""
-        if not parent.moved:
+    def _leave(self, parent: Directory, name: bytes, file: Union[File, int]) -> None:
+        """Notes that a name of a regular file ended, so that a new file may go on with its past.
+
+        A file that was made and renamed at once had its name only to be written: its past isn't the name's.
+        """
+        if isinstance(file, File) and (not file.is_regular or time.monotonic() - file.born < GOES_ON):
+            return
+        parent.left[name] = file, time.monotonic()
+        if len(parent.left) > MOST_LEFT:
+            del parent.left[next(iter(parent.left))]
+
+    def _past_of(self, parent: Directory, name: bytes) -> Optional[Union[File, int]]:
+        """Returns the file, or the number of the file, whose past goes on under a name that ended just now."""
+        file, moment = parent.left.pop(name, (0, 0.0))
+        if not file or time.monotonic() - moment > GOES_ON:
             return None
-        file, moment = parent.moved.pop(name, (None, 0.0))
-        if file is None or time.monotonic() - moment > MOVED_AWAY or len(file.names) != 1 or file.draft is not None:
+        if isinstance(file, File) and (len(file.names) != 1 or file.draft is not None):
             return None
-        lacks = self.store.counts.lacking(files=1, names=2, versions=3 + len(self.contents.drafts), handles=2 + len(self.contents.drafts))
+        drafts = len(self.contents.drafts)
+        lacks = self.store.counts.lacking(files=1, names=2, versions=3 + drafts, handles=2 + drafts)
         return None if lacks else file
+
+    def _revive(self, path: bytes, number: int) -> bool:
+        """Brings a name back. Returns whether it is that of the file with this number again."""
+        try:
+            version = self.store.run((b"undelete", path))
+        except Refused:
+            return False
+        self.store.counts.used["versions"] += bool(version)
+        if self.store.stat_row(path).id == number:
+            return True
+        self.store.run((b"unlink", path))
+        return False
 
     def _take_over(self, parent: Directory, name: bytes, made: Attributes, old: File) -> File:
         """Gives a file its name back, for a new content. The node that was renamed stands for another file with the old content."""
@@ -115,9 +144,13 @@ class Naming:
         if content:
             handle = self.store.write_draft(away, None, content, True, (records.whole(file_key(copy), kept),))
             old.version = self.store.close_draft(handle)
+        return self._go_on(parent, name, made, number)
+
+    def _go_on(self, parent: Directory, name: bytes, made: Attributes, number: int) -> File:
+        """Has a new node stand for a file that has a past. It is empty, and its first content is the file's next version."""
         self.store.records.by_key[file_key(number)] = made
         self.store.keep(records.made(file_key(number), key_of(parent), made))
-        row = self.store.stat_row(path)
+        row = self.store.stat_row(parent.path_of(name))
         node = self.tree.new_file(number, row.length, row.version)
         self.tree.add(parent, name, node)
         self.contents.begin(node, is_cut=True)
@@ -168,9 +201,12 @@ class Naming:
         if len(node.names) == 1:
             self.contents.hold(node)
         now = time.time_ns()
+        has_past = node.is_regular and len(node.names) == 1 and not node.opens and node.draft is None
         path = parent.path_of(name)
         self.store.run((b"unlink", path), remarks=lambda _: [records.names_changed(now, key_of(parent), key_of(node))])
         self._gone(parent, name, now)
+        if has_past:
+            self._leave(parent, name, node.number)
         return node
 
     def _gone(self, parent: Directory, name: bytes, now: int) -> None:
@@ -243,10 +279,8 @@ class Naming:
         self.tree.move(parent, name, new_parent, new_name)
         self._touch(now, parent, new_parent, node)
         node.attributes.mtime = mtime
-        if isinstance(node, File) and node.is_regular:
-            parent.moved[name] = node, time.monotonic()
-            if len(parent.moved) > 64:
-                parent.moved = {it: kept for it, kept in parent.moved.items() if time.monotonic() - kept[1] < MOVED_AWAY}
+        if isinstance(node, File):
+            self._leave(parent, name, node)
 
     def _can_merge(self, node: File, found: File) -> bool:
         """Whether the content of a file can become the next version of another, which it is renamed over."""
@@ -262,7 +296,8 @@ class Naming:
         content = self.contents.whole(node)
         self.contents.forget_read()
         node.attributes.ctime = now
-        version = self.store.replace_content(new_path, path, content, (
+        source, is_fresh = node.number, node.version <= FRESH
+        version = self.store.replace_content(new_path, path, content, is_fresh, (
             records.names_changed(now, key_of(parent), key_of(new_parent)), records.whole(file_key(number), node.attributes),
         ))
         self.tree.remove(new_parent, new_name)
@@ -270,6 +305,8 @@ class Naming:
         self.tree.give_number(node, number)
         node.version = version or found.version
         self._touch(now, parent, new_parent, node, found)
+        if not is_fresh:
+            self._leave(parent, name, source)
 
     def _replace(
         self, parent: Directory, name: bytes, new_parent: Directory, new_name: bytes, now: int, path: bytes, new_path: bytes
@@ -294,6 +331,8 @@ class Naming:
         self.tree.move(parent, name, new_parent, new_name)
         self._touch(now, parent, new_parent, node)
         node.attributes.mtime = mtime
+        if isinstance(node, File):
+            self._leave(parent, name, node)
 
     # Attributes.
 

@@ -7,6 +7,7 @@ import functools
 import os
 import stat
 import threading
+import traceback
 from collections.abc import Sequence
 from typing import Any, Callable, NamedTuple, Optional, Union
 
@@ -60,6 +61,10 @@ def answered(method: Callable[..., Any]) -> Callable[..., Any]:
                 return method(self, *words)
         except (OSError, ElephantError, NoSpace) as fault:
             raise pyfuse3.FUSEError(self.errno_of(fault)) from None
+        except Exception:
+            # A fault of this program: this request fails, and the others go on.
+            self.log.say(f"a fault in {method.__name__}: {traceback.format_exc()}")
+            raise pyfuse3.FUSEError(errno.EIO) from None
 
     return call
 

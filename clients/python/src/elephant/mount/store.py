@@ -36,6 +36,14 @@ class NoSpace(Exception):
     """The disk of the journal has no space for a change. Nothing has changed."""
 
 
+class NotKept(JournalError):
+    """The journal can't be written. The store has what was asked of it, and the handle is open."""
+
+    def __init__(self, subject: str, handle: int) -> None:
+        super().__init__(subject)
+        self.handle = handle
+
+
 class Departed(NamedTuple):
     """A file without a name: the path that was its last, and the policy that it had."""
 
@@ -161,7 +169,9 @@ class MountStore(Store):
                 assert self._journal is not None
                 while self._unkept:
                     self._journal.append(self._unkept[0])
-                    self._unkept.pop(0)
+                    for line in self._unkept.pop(0):
+                        if line.startswith(b"# "):
+                            self.records.apply(line[2:])
                 self.reserve(0)
             except (JournalError, NoSpace):
                 return False
@@ -303,7 +313,10 @@ class MountStore(Store):
                 if lines:
                     self._keep(*lines)
                 raise
-            self._keep(*lines, *remarks)
+            try:
+                self._keep(*lines, *remarks)
+            except JournalError as fault:
+                raise NotKept(str(fault), handle) from fault
             return handle
 
     @staticmethod
@@ -318,10 +331,10 @@ class MountStore(Store):
             core.do(core.library.elephant_truncate, path, handle, len(content))
             lines.append(b"truncate %d %d" % (handle, len(content)))
 
-    def replace_content(self, path: bytes, source: bytes, content: bytes, remarks: Iterable[bytes]) -> int:
+    def replace_content(self, path: bytes, source: bytes, content: bytes, is_fresh: bool, remarks: Iterable[bytes]) -> int:
         """Makes a content the next version of a file, and ends the name of the file that it is from. Returns the version's number.
 
-        What the other file held is due at once, since its content goes on in this one.
+        What the other file held is due at once if it is fresh, since all of it goes on in this one.
         """
         lines: list[bytes] = []
         with self._lock, self._change as core:
@@ -333,8 +346,9 @@ class MountStore(Store):
                 version = core.ask(core.library.elephant_close_handle, path, handle)
                 lines.append(b"close %d" % handle)
                 self.counts.used["versions"] += bool(version)
-                core.do(core.library.elephant_policy, source, source, len(source), b"one", 3)
-                lines.append(b"policy %b one" % source)
+                if is_fresh:
+                    core.do(core.library.elephant_policy, source, source, len(source), b"one", 3)
+                    lines.append(b"policy %b one" % source)
                 self.note_end(core, source)
                 core.do(core.library.elephant_unlink, source, source, len(source))
                 lines.append(b"unlink " + source)

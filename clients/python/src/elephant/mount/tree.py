@@ -38,7 +38,7 @@ class File(Node):
     has been given some of the draft.
     """
 
-    __slots__ = ("names", "size", "version", "draft", "is_unsaved", "handle", "opens", "writers", "pending", "info")
+    __slots__ = ("names", "size", "version", "draft", "is_unsaved", "handle", "opens", "writers", "pending", "info", "born")
 
     def __init__(self, ino: int, number: int, attributes: Attributes, size: int = 0, version: int = 1) -> None:
         super().__init__(ino, number, attributes)
@@ -48,6 +48,8 @@ class File(Node):
         self.is_unsaved = False
         self.handle: Optional[int] = None
         self.opens = self.writers = self.pending = 0
+        self.born = 0.0
+        """When it was made, by the monotonic clock, if this mount made it."""
         self.info: Any = None
         """What the kernel is told when it opens the file to read it."""
 
@@ -65,7 +67,7 @@ class File(Node):
 class Directory(Node):
     """A directory with its names."""
 
-    __slots__ = ("parent", "name", "path", "depth", "children", "subdirectories", "odd", "moved", "ended")
+    __slots__ = ("parent", "name", "path", "depth", "children", "subdirectories", "odd", "left", "ended")
 
     def __init__(self, ino: int, number: int, attributes: Attributes) -> None:
         super().__init__(ino, number, attributes)
@@ -75,8 +77,8 @@ class Directory(Node):
         self.subdirectories = 0
         self.odd: dict[bytes, bytes] = {}
         """Names whose spelling isn't the one that the mount makes: a line made them."""
-        self.moved: dict[bytes, tuple[File, float]] = {}
-        """Names that a rename ended, with the file and the time."""
+        self.left: dict[bytes, tuple[Union[File, int], float]] = {}
+        """Names that ended just now, each with the time, and the file that has another name now, or the number of one that has none."""
         self.ended = False
 
     def path_of(self, name: bytes) -> bytes:
