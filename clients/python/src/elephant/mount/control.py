@@ -8,10 +8,13 @@ from __future__ import annotations
 import os
 import shutil
 import socket
+import stat
 import tempfile
 import threading
 from collections.abc import Callable
+from contextlib import suppress
 from typing import Optional, Union
+from zlib import crc32
 
 from .._errors import ElephantError, Refused
 from .._library import AT
@@ -159,10 +162,9 @@ class Lines:
 class Control:
     """Listens at the socket, in a thread of its own."""
 
-    def __init__(self, lines: Lines, changed: Callable[[Changes], None]) -> None:
+    def __init__(self, lines: Lines, journal: str, changed: Callable[[Changes], None]) -> None:
         self._lines, self._changed = lines, changed
-        # Nobody else may look into the folder.
-        self._folder = tempfile.mkdtemp(prefix="elephant-mount-")
+        self._folder = _private_folder(journal)
         self.path = os.path.join(self._folder, "socket")
         self._socket = socket.socket(socket.AF_UNIX, socket.SOCK_STREAM)
         self._socket.bind(self.path)
@@ -202,3 +204,18 @@ class Control:
         self._changed(changes)
         caller.settimeout(None)
         caller.sendall(answer.encode("utf-8", "surrogateescape"))
+
+
+def _private_folder(journal: str) -> str:
+    """Returns a folder that nobody else may look into: of each journal the same one, so that a mount that was killed leaves one at most."""
+    parent = os.environ.get("XDG_RUNTIME_DIR") or tempfile.gettempdir()
+    folder = os.path.join(parent, f"elephant-mount-{os.getuid()}-{crc32(os.fsencode(journal)):08x}")
+    try:
+        os.mkdir(folder, 0o700)
+    except OSError:
+        found = os.lstat(folder) if os.path.lexists(folder) else None
+        if found is None or not stat.S_ISDIR(found.st_mode) or found.st_uid != os.getuid() or found.st_mode & 0o077:
+            return tempfile.mkdtemp(prefix="elephant-mount-")
+        with suppress(FileNotFoundError):
+            os.unlink(os.path.join(folder, "socket"))
+    return folder

@@ -35,7 +35,7 @@ class Mount:
         self.past = Past(self.store, self.tree, b"")
         self.operations = Operations(self.store, self.tree, self.contents, self.naming, self.past, self.log)
         self.lines = Lines(self.operations)
-        self.control = Control(self.lines, self._tell_kernel)
+        self.control = Control(self.lines, journal, self._tell_kernel)
         self.past.socket = os.fsencode(self.control.path)
         self.rewriting = Rewriting(self.operations, self.log)
         self.keeper = Keeper(self.operations, self.rewriting, self.log, self._tell_kernel, clean_every, every)

@@ -303,7 +303,7 @@ class Naming:
         self.tree.remove(new_parent, new_name)
         self.tree.move(parent, name, new_parent, new_name)
         self.tree.give_number(node, number)
-        node.version = version or found.version
+        node.version, node.born = version or found.version, found.born
         self._touch(now, parent, new_parent, node, found)
         if not is_fresh:
             self._leave(parent, name, source)
