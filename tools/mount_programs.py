@@ -20,6 +20,8 @@ STRESSORS = [
     "access", "chdir", "chmod", "dentry", "dir", "dirdeep", "dup", "fcntl", "flock", "fstat", "getdent", "link", "lockf", "locka", "mknod",
     "open", "rename", "sendfile", "symlink", "touch", "utime",
 ]
+# A store makes 10,000 directories and 100,000 files ever, and these would make more at once.
+LESS = {"dir": ["--dir-dirs", "64"], "dentry": ["--dentries", "64"], "dirdeep": ["--dirdeep-inodes", "500"]}
 
 
 def run(words, folder, **options):
@@ -164,9 +166,11 @@ def stress(mounted, is_long, say):
     """Runs the stressors of files that stress-ng has, those that don't want files of more than 1 MiB or names of more than 64 bytes."""
     wrong, place = [], mounted.folder / "stress"
     for name in STRESSORS:
+        mounted.renew()
         place.mkdir()
-        words = ["stress-ng", "--temp-path", place, f"--{name}", "2", f"--{name}-ops", "400" if is_long else "20",
-                 "--timeout", "60" if is_long else "5", "--verify", "--quiet"]
+        # Two of fcntl take away each other's folder.
+        words = ["stress-ng", "--temp-path", place, f"--{name}", "1" if name == "fcntl" else "2", f"--{name}-ops", "100" if is_long else "20",
+                 "--timeout", "20" if is_long else "5", "--verify", "--quiet", *LESS.get(name, [])]
         try:
             run(words, mounted.folder.parent)
         except OSError as fault:

@@ -94,6 +94,12 @@ class Mounted:
             self._release()
         return status
 
+    def renew(self):
+        """Mounts the folder with a new journal, in which nothing was ever made."""
+        self.stop()
+        self.journal.unlink()
+        self.start()
+
     def kill(self):
         """Ends it by a signal that it can't see, and takes away what is left of the mount."""
         self.process.send_signal(signal.SIGKILL)
