@@ -15,7 +15,7 @@ GIT = {
     "GIT_CONFIG_GLOBAL": "/dev/null",
 }
 # What the short form replays of the history.
-SHORT_PATHS, SHORT_COMMITS, LONG_COMMITS = ["docs", "tools", "examples", "include"], 8, 200
+SHORT_PATHS, SHORT_COMMITS, LONG_COMMITS = ["docs", "tools", "examples", "include"], 8, 100
 STRESSORS = [
     "access", "chdir", "chmod", "dentry", "dir", "dirdeep", "dup", "fcntl", "flock", "fstat", "getdent", "link", "lockf", "locka", "mknod",
     "open", "rename", "sendfile", "symlink", "touch", "utime",

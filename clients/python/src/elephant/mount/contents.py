@@ -7,10 +7,9 @@ it lacks of the draft. When the last descriptor that writes is closed, the draft
 from __future__ import annotations
 
 import errno
-import time
 from typing import Optional
 
-from .records import file_key, saved
+from .records import file_key, now_ns, saved
 from .store import MountStore, NotKept
 from .tree import File, Tree
 
@@ -131,13 +130,13 @@ class Contents:
             self.settle(node)
 
     def _touch(self, node: File) -> None:
-        node.attributes.mtime = node.attributes.ctime = now = time.time_ns()
+        node.attributes.mtime = node.attributes.ctime = now = now_ns()
         node.entry = None
         self.store.keep(saved(file_key(node.number), now))
 
     def _written(self, node: File) -> None:
         node.is_unsaved = True
-        node.attributes.mtime = node.attributes.ctime = time.time_ns()
+        node.attributes.mtime = node.attributes.ctime = now_ns()
         node.entry = None
 
     # Saving.

@@ -100,7 +100,8 @@ class Keeper:
         last = self.store.departed.get(key.file)
         if last is None:
             return f"version {key.number} of file {key.file}, which has no name: due since {text_of(key.since)}"
-        return f"version {key.number} of file {key.file}, last {_path(last.path)}, which has no name: due since {text_of(key.since)}, {_why(last)}"
+        which = f"version {key.number} of file {key.file}, last {_path(last.path)}, which has no name"
+        return f"{which}: due since {text_of(key.since)}, {_why(last)}"
 
     # The rest.
 

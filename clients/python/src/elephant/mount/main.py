@@ -27,7 +27,7 @@ def _parser() -> argparse.ArgumentParser:
     words.add_argument("--clean-every", type=float, default=60, metavar="SECONDS", help="remove what is due, as often as this; 0: never")
     words.add_argument("--allow-other", action="store_true", help="let other users in, as far as the modes let them")
     words.add_argument("--limit", action="append", default=[], metavar="NAME=NUMBER", help="a smaller limit, as files=1000")
-    words.add_argument("--at", nargs=argparse.REMAINDER, metavar="FOLDER LINE", help="send a line to the mount of FOLDER, and print its answer")
+    words.add_argument("--at", nargs=argparse.REMAINDER, metavar="FOLDER LINE", help="send a line to the mount, and print its answer")
     return words
 
 

@@ -42,7 +42,7 @@ class Naming:
 
     def _new(self, parent: Directory, mode: int, owner: int, group: int) -> Attributes:
         """Returns the attributes of what is made in a directory."""
-        now = time.time_ns()
+        now = records.now_ns()
         if parent.attributes.mode & stat.S_ISGID:
             group = parent.attributes.group
             if stat.S_ISDIR(mode):
@@ -178,7 +178,7 @@ class Naming:
         if not node.names:
             raise FileNotFoundError(errno.ENOENT, "the file has no name any more")
         self._require_free(parent, name)
-        path, now = parent.path_of_new(name), time.time_ns()
+        path, now = parent.path_of_new(name), records.now_ns()
         self.store.run((b"link", node.path, path), remarks=lambda _: [records.names_changed(now, key_of(parent), key_of(node))])
         self.tree.add(parent, name, node)
         self._touch(now, parent, node)
@@ -200,7 +200,7 @@ class Naming:
             raise IsADirectoryError(errno.EISDIR, shown(name))
         if len(node.names) == 1:
             self.contents.hold(node)
-        now = time.time_ns()
+        now = records.now_ns()
         has_past = node.is_regular and len(node.names) == 1 and not node.opens and node.draft is None
         path = parent.path_of(name)
         self.store.run((b"unlink", path), remarks=lambda _: [records.names_changed(now, key_of(parent), key_of(node))])
@@ -222,7 +222,7 @@ class Naming:
             raise NotADirectoryError(errno.ENOTDIR, shown(name))
         if node.children:
             raise OSError(errno.ENOTEMPTY, shown(name))
-        now = time.time_ns()
+        now = records.now_ns()
         self.store.run((b"rmdir", parent.path_of(name)), remarks=lambda _: [records.names_changed(now, key_of(parent))])
         self._gone(parent, name, now)
         return node
@@ -240,7 +240,7 @@ class Naming:
             return
         path, new_path = parent.path_of(name), new_parent.path_of_new(new_name)
         self._require_place(node, new_parent, found, new_name)
-        now = time.time_ns()
+        now = records.now_ns()
         if found is None:
             self._move(parent, name, new_parent, new_name, now)
         elif isinstance(found, File) and isinstance(node, File) and self._can_merge(node, found):
@@ -341,7 +341,7 @@ class Naming:
         it = node.attributes
         for name, value in changes.items():
             setattr(it, name, stat.S_IFMT(it.mode) | stat.S_IMODE(value) if name == "mode" else value)
-        it.ctime, node.entry = time.time_ns(), None
+        it.ctime, node.entry = records.now_ns(), None
         if isinstance(node, File) and not node.names:
             return
         self.store.keep(records.whole(key_of(node), it))

@@ -169,7 +169,9 @@ class Past:
         elif kind == "version":
             path, tag, number = words[0], VERSION, words[1]
         elif kind == "dead":
-            path, tag, number = self._dead_path(words[0]) + b"/" + words[1], AT, self.store.ends.get((words[0], words[1]), 0) - 1  # type: ignore
+            parent, spelling = words
+            assert isinstance(parent, int) and isinstance(spelling, bytes)
+            path, tag, number = self._dead_path(parent) + b"/" + spelling, AT, self.store.ends.get((parent, spelling), 0) - 1
         else:
             raise IsADirectoryError(errno.EISDIR, "")
         assert isinstance(path, bytes) and isinstance(number, int)

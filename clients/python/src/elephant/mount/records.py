@@ -15,8 +15,10 @@ from __future__ import annotations
 
 import os
 import stat
+import time
 from typing import Optional
 
+_COARSE = 5  # CLOCK_REALTIME_COARSE
 FILE_MODE, DIRECTORY_MODE = stat.S_IFREG | 0o644, stat.S_IFDIR | 0o755
 
 
@@ -35,6 +37,14 @@ class Attributes:
     @property
     def is_link(self) -> bool:
         return stat.S_ISLNK(self.mode)
+
+
+def now_ns() -> int:
+    """Returns the time as a disk's file system takes it, to some milliseconds.
+
+    A file that is made and written at once then has one time. If it had two, the kernel would drop the content that it has of it.
+    """
+    return time.clock_gettime_ns(_COARSE)
 
 
 def word_of(key: int) -> bytes:
