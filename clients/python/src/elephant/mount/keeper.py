@@ -77,7 +77,7 @@ class Keeper:
     def _clean_some(self) -> int:
         deadline, removed = time.monotonic() + MOST_AT_ONCE, 0
         self.operations.hold_past()
-        for key in self.store.due()[:MOST_KEYS]:
+        for key in self.store.first_due(MOST_KEYS):
             cause = self._cause(key)
             self.store.reserve(0)
             found = self.store.clean()

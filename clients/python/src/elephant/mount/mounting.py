@@ -37,7 +37,7 @@ class Mount:
         self.lines = Lines(self.operations)
         self.control = Control(self.lines, journal, self._tell_kernel)
         self.past.socket = os.fsencode(self.control.path)
-        self.rewriting = Rewriting(self.operations, self.log)
+        self.rewriting = Rewriting(self.operations, self.log, every > 0)
         self.keeper = Keeper(self.operations, self.rewriting, self.log, self._tell_kernel, clean_every, every)
         self.lines.more = {"rewrite": self.rewriting.run_and_tell, "clean all": self._clean_all}
 

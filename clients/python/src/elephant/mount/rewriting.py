@@ -24,8 +24,10 @@ SOURCE = str(Path(__file__).resolve().parent.parent.parent)
 class Rewriting:
     """Makes the journal anew."""
 
-    def __init__(self, operations: Operations, log: Log) -> None:
+    def __init__(self, operations: Operations, log: Log, may_settle: bool) -> None:
         self.operations, self.store, self.log = operations, operations.store, log
+        self._may_settle = may_settle
+        """Whether what is being written may become a version for this."""
         self._tried = 0
 
     def _is_worth(self) -> bool:
@@ -49,6 +51,8 @@ class Rewriting:
     def run(self) -> str:
         """Makes the journal anew. Returns why that wasn't done, or an empty text."""
         with self.operations.lock:
+            if self._may_settle:
+                self.operations.contents.settle_all()
             if self.store.has_sessions or any(it.handle is not None for it in self.operations.contents.drafts):
                 return "files are being written; later"
             path, size = self.store.journal_path, self.store.journal_size

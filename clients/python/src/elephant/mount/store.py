@@ -7,11 +7,12 @@ import os
 from collections.abc import Callable, Iterable, Sequence
 from typing import Any, NamedTuple, Optional
 
-from .._answers import Limits
+from .._answers import Limits, Removable
 from .._core import Core
 from .._errors import ElephantError, JournalError, NoEntry
 from .._journal import Journal
 from .._library import NOW
+from .._moments import Moment
 from .._replay import Replay, write_lines
 from .._store import Store
 from .records import Records
@@ -374,6 +375,13 @@ class MountStore(Store):
             self.counts.take(b"open")
             self._keep(b"open read " + path + (b"", b"@%d", b"#%d")[tag] % ((number,) if tag else ()))
             return handle
+
+    def first_due(self, most: int) -> list[Removable]:
+        """Returns the first versions that are due."""
+        with self._lock:
+            core = self._begin()
+            count = core.ask(core.library.elephant_due, "")
+            return [Removable(Moment(since), file, number) for since, file, number in core.keys(min(count, most))]
 
     def names_in(self, path: bytes, tag: int = NOW, number: int = 0) -> list[tuple[bytes, bool, int]]:
         """Returns the names in a directory as they are spelled, each with whether it is a directory's and the number."""
