@@ -18,6 +18,7 @@ LEAST_BYTES = 1 << 20
 # What the commands of a version take of a journal, about.
 COMMANDS_OF_VERSION = 160
 GROWTH = 1.2
+NOT_SHORTER = "it would be as long as before"
 SOURCE = str(Path(__file__).resolve().parent.parent.parent)
 
 
@@ -68,7 +69,7 @@ class Rewriting:
             fault = str(lack)
         if os.path.lexists(new):
             os.unlink(new)
-        if fault:
+        if fault and fault != NOT_SHORTER:
             self.log.say(f"the journal isn't made anew: {fault}")
         return fault
 
@@ -89,7 +90,7 @@ class Rewriting:
             with self.operations.lock:
                 before = self.store.journal_size
                 if journal._size + before - size > 0.9 * before:
-                    return "it would be as long as before"
+                    return NOT_SHORTER
                 for change in changes_in(path, size, before, self.store.checksum_at(size)):
                     journal.append(change)
                 journal.sync()
