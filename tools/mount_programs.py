@@ -170,7 +170,7 @@ def stress(mounted, is_long, say):
         place.mkdir()
         # Two of fcntl take away each other's folder.
         words = ["stress-ng", "--temp-path", place, f"--{name}", "1" if name == "fcntl" else "2", f"--{name}-ops", "100" if is_long else "20",
-                 "--timeout", "20" if is_long else "5", "--verify", "--quiet", *LESS.get(name, [])]
+                 "--timeout", "20" if is_long else "3", "--verify", "--quiet", *LESS.get(name, [])]
         try:
             run(words, mounted.folder.parent)
         except OSError as fault:
