@@ -161,7 +161,7 @@ class Operations(pyfuse3.Operations):  # type: ignore[misc]
         entry.st_ino, entry.st_mode, entry.st_nlink, entry.st_size = node.ino, it.mode, 1, it.size
         entry.st_uid, entry.st_gid, entry.st_blocks = it.owner, it.group, (it.size + 511) // 512
         entry.st_atime_ns = entry.st_mtime_ns = entry.st_ctime_ns = it.moment * 10**9
-        entry.entry_timeout = entry.attr_timeout = 0
+        entry.entry_timeout = entry.attr_timeout = LASTING if stat.S_ISDIR(it.mode) and self.past.is_over(node) else 0
         return entry
 
     def _known(self, node: Node) -> Any:

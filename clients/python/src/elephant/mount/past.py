@@ -222,6 +222,10 @@ class Past:
             # It was made and deleted within one second, or its directory had another name: no moment finds it, and undelete does.
             return Shown(stat.S_IFREG | 0o444, 0, int(self.store.now), root.owner, root.group)
 
+    def is_over(self, node: PastNode) -> bool:
+        """Whether a node is of a tree whose moment is over: no directory of it will ever be another."""
+        return node.key[0] == "at" and len(node.key) > 1 and node.key[1] < self.store.now  # type: ignore[operator]
+
     # Listing.
 
     def names(self, node: PastNode) -> list[tuple[bytes, PastNode]]:
