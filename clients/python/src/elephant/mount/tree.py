@@ -56,8 +56,9 @@ class File(Node):
     @property
     def path(self) -> bytes:
         """One of its paths as the store spells it."""
-        directory, name = next(iter(self.names))
-        return directory.path_of(name)
+        for directory, name in self.names:
+            return directory.path_of(name)
+        raise OSError(errno.ESTALE, "the file has no name any more")
 
     @property
     def is_regular(self) -> bool:
