@@ -76,6 +76,8 @@ class Keeper:
 
     def _clean_some(self) -> int:
         deadline, removed = time.monotonic() + MOST_AT_ONCE, 0
+        if not self.store.first_due(1):
+            return 0
         self.operations.hold_past()
         for key in self.store.first_due(MOST_KEYS):
             cause = self._cause(key)
@@ -112,7 +114,9 @@ class Keeper:
                 self.operations.contents.settle_all()
 
     def sync(self) -> None:
-        """Has the disk hold what was answered some seconds ago."""
+        """Has the disk hold what was answered some seconds ago, and looks whether the journal is still at its place."""
+        if not self.store.has_place:
+            self.log.say_once(f"{self.store.journal_path} was moved or deleted: copy your files out of the folder before you unmount it")
         if self.store.unsynced and not self.store.stopped:
             self.store.sync_journal_aside()
 

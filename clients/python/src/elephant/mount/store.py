@@ -217,6 +217,16 @@ class MountStore(Store):
         return self._journal.path if self._journal else ""
 
     @property
+    def has_place(self) -> bool:
+        """Whether the journal is the file that its path names."""
+        with self._lock:
+            assert self._journal is not None
+            try:
+                return os.path.samestat(os.fstat(self._journal._file), os.stat(self._journal.path))
+            except OSError:
+                return False
+
+    @property
     def has_sessions(self) -> bool:
         """Whether lines have opened files to be written."""
         return bool(self._writers)
