@@ -38,12 +38,15 @@ def run(words, folder, **options):
 def sums_of(folder):
     """Returns a sum of each file below a folder, without git's own, by path, with whether it may be run. A link's is where it leads."""
     sums = {}
-    for path in sorted(Path(folder).rglob("*")):
-        name = path.relative_to(folder)
-        if name.parts[0] == ".git" or (path.is_dir() and not path.is_symlink()):
-            continue
-        content = os.readlink(path).encode() if path.is_symlink() else path.read_bytes()
-        sums[str(name)] = hashlib.sha256(content).hexdigest(), not path.is_symlink() and bool(path.stat().st_mode & 0o100)
+    for place, folders, names in os.walk(folder):
+        if place == str(folder) and ".git" in folders:
+            folders.remove(".git")
+        links = [it for it in folders if os.path.islink(os.path.join(place, it))]
+        for path in (Path(place, it) for it in [*names, *links]):
+            is_link = path.is_symlink()
+            content = os.readlink(path).encode() if is_link else path.read_bytes()
+            may_run = not is_link and bool(path.stat().st_mode & 0o100)
+            sums[str(path.relative_to(folder))] = hashlib.sha256(content).hexdigest(), may_run
     return sums
 
 
