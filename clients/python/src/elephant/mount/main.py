@@ -123,7 +123,8 @@ def run(asked: argparse.Namespace) -> int:
     except (ElephantError, OSError) as lack:
         return _refuse(str(lack))
     for number in (signal.SIGINT, signal.SIGTERM, signal.SIGHUP):
-        signal.signal(number, lambda *_: mount.loop.stop())
+        if signal.getsignal(number) is not signal.SIG_IGN:  # as nohup has it
+            signal.signal(number, lambda *_: mount.loop.stop())
     return mount.run(asked.allow_other)
 
 
