@@ -8,7 +8,7 @@ import sys
 from pathlib import Path
 
 from .._errors import ElephantError
-from .._journal import Journal
+from .._journal import HEADER, Journal
 from .log import Log
 from .operations import Operations
 from .shorter import changes_in
@@ -19,6 +19,7 @@ LEAST_BYTES = 1 << 20
 COMMANDS_OF_VERSION = 160
 GROWTH = 1.2
 NOT_SHORTER = "it would be as long as before"
+SUFFIX = ".rewrite"
 SOURCE = str(Path(__file__).resolve().parent.parent.parent)
 
 
@@ -30,6 +31,7 @@ class Rewriting:
         self._may_settle = may_settle
         """Whether what is being written may become a version for this."""
         self._tried = 0
+        _clear(self.store.journal_path + SUFFIX)
 
     def _is_worth(self) -> bool:
         with self.operations.lock:
@@ -58,17 +60,15 @@ class Rewriting:
                 return "files are being written; later"
             path, size = self.store.journal_path, self.store.journal_size
             self._tried = size
-        new = f"{path}.new"
+        new = path + SUFFIX
         try:
-            if os.path.lexists(new):
-                os.unlink(new)
+            _clear(new)
             fault = self._make(path, size, new)
             if not fault:
                 fault = self._take(path, size, new)
         except (ElephantError, OSError) as lack:
             fault = str(lack)
-        if os.path.lexists(new):
-            os.unlink(new)
+        _clear(new)
         if fault and fault != NOT_SHORTER:
             self.log.say(f"the journal isn't made anew: {fault}")
         return fault
@@ -102,3 +102,14 @@ class Rewriting:
         finally:
             if journal is not None:
                 journal.close()
+
+
+def _clear(path: str) -> None:
+    """Removes a journal that a mount, which was killed, didn't finish. A file that is no journal stays."""
+    try:
+        with open(path, "rb") as file:
+            found = file.read(len(HEADER))
+        if HEADER.startswith(found):
+            os.unlink(path)
+    except FileNotFoundError:
+        pass
