@@ -168,7 +168,8 @@ def fio(mounted, is_long, say):
 def stress(mounted, is_long, say):
     """Runs the stressors of files that stress-ng has, those that don't want files of more than 1 MiB or names of more than 64 bytes."""
     wrong, place = [], mounted.folder / "stress"
-    for name in STRESSORS:
+    stressors = STRESSORS if is_long else STRESSORS[::2]
+    for name in stressors:
         mounted.renew()
         place.mkdir()
         # Two of fcntl take away each other's folder.
@@ -179,7 +180,7 @@ def stress(mounted, is_long, say):
         except OSError as fault:
             wrong.append(str(fault))
         subprocess.run(["rm", "-rf", place], check=False)
-    return len(STRESSORS), wrong
+    return len(stressors), wrong
 
 
 def _versions(mounted, name):
