@@ -20,6 +20,8 @@ Name: elephant-store
 Version: {VERSION}
 Summary: A store of files that keep their earlier versions, and forget them by policies
 Requires-Python: >=3.9
+Provides-Extra: mount
+Requires-Dist: pyfuse3>=3.2; extra == 'mount'
 Description-Content-Type: text/markdown
 
 {(HERE / "README.md").read_text(encoding="utf-8")}"""
@@ -31,6 +33,7 @@ def _write(folder, files, is_pure):
     files = {
         **files,
         f"{INFO}/METADATA": METADATA.encode(),
+        f"{INFO}/entry_points.txt": b"[console_scripts]\nelephant-mount = elephant.mount.main:main\n",
         f"{INFO}/WHEEL": f"Wheel-Version: 1.0\nGenerator: build_wheel\nRoot-Is-Purelib: {str(is_pure).lower()}\nTag: {tag}\n".encode(),
     }
     sums = {name: base64.urlsafe_b64encode(hashlib.sha256(data).digest()).rstrip(b"=").decode() for name, data in files.items()}

@@ -32,13 +32,24 @@ class Journal:
 
     def __init__(self, path: str, syncs_each: bool, wait: float) -> None:
         self.path, self._syncs_each, self._file = os.path.abspath(path), syncs_each, -1
-        self._file = os.open(self.path, os.O_RDWR | os.O_CREAT | os.O_APPEND | os.O_CLOEXEC, 0o666)
         try:
-            self._lock(time.monotonic() + wait)
+            self._open_locked(time.monotonic() + wait)
             self.cut = self._begin()
         except BaseException:
             self.close()
             raise
+
+    def _open_locked(self, deadline: float) -> None:
+        """Opens the file and locks it. Whoever had it may have put another in its place meanwhile, which is opened then."""
+        while True:
+            self._file = os.open(self.path, os.O_RDWR | os.O_CREAT | os.O_APPEND | os.O_CLOEXEC, 0o666)
+            self._lock(deadline)
+            try:
+                if os.path.samestat(os.fstat(self._file), os.stat(self.path)):
+                    return
+            except FileNotFoundError:
+                pass
+            os.close(self._file)
 
     def _lock(self, deadline: float) -> None:
         while True:

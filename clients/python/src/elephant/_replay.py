@@ -34,6 +34,9 @@ class Replay:
             word, _, rest = line.partition(b" ")
             if word == b"write":
                 code = self._write(*rest.split(b" "))
+            elif word == b"#":
+                self.remark(rest)
+                continue
             elif word == b"open" and rest.startswith(b"write "):
                 code = self._open_write(rest[6:])
             elif word == b"close":
@@ -45,6 +48,9 @@ class Replay:
                 code = self._other(line)
             if code:
                 self._refuse(code, line)
+
+    def remark(self, text: bytes) -> None:
+        """Passes over a remark, which is no command: a program that keeps more in its journal than its store wrote it."""
 
     def _write(self, handle: bytes, offset: bytes, digits: bytes) -> int:
         data = unhexlify(digits)

@@ -67,7 +67,7 @@ class Turns:
 
     def _replay(self, core: Core, journal: Journal) -> None:
         """Runs the journal's changes, and closes the sessions that it leaves open."""
-        replay = Replay(core)
+        replay = self._replay_in(core)
         for change in journal.changes():
             replay.run(change)
         closed, lines = [], []
@@ -79,6 +79,10 @@ class Turns:
         if lines:
             journal.append(lines)
         self.recovered, self._now = Recovered(journal.cut, tuple(closed)), core.now()
+
+    def _replay_in(self, core: Core) -> Replay:
+        """Returns what runs the journal's changes."""
+        return Replay(core)
 
     @property
     def is_closed(self) -> bool:

@@ -1,0 +1,204 @@
+"""What files hold: drafts in memory, and how they become versions.
+
+What is written stays in the draft of its file, in memory. When one of the file's descriptors is closed or synced, the journal gets what
+it lacks of the draft. When the last descriptor that writes is closed, the draft becomes a version.
+"""
+
+from __future__ import annotations
+
+import errno
+from typing import Optional
+
+from .records import file_key, now_ns, saved
+from .store import MountStore, NotKept
+from .tree import File, Tree
+
+MOST_BYTES = 1_048_576
+
+
+class Limited(OSError):
+    """The store has used up one of its limits."""
+
+    def __init__(self, limit: str, count: int) -> None:
+        super().__init__(errno.ENOSPC, f"the store has made all {count} {limit} that it ever makes")
+        self.limit = limit
+
+
+class Contents:
+    """Reads and writes files."""
+
+    def __init__(self, store: MountStore, tree: Tree) -> None:
+        self.store, self.tree = store, tree
+        self.drafts: set[File] = set()
+        """The files that have a draft."""
+        self._last: tuple[Optional[File], int, bytes] = (None, 0, b"")
+
+    # Reading.
+
+    def size(self, node: File) -> int:
+        return node.size if node.draft is None else len(node.draft)
+
+    def read(self, node: File, offset: int, size: int) -> bytes:
+        """Returns bytes of what a file holds, with what was written and isn't a version yet."""
+        if node.draft is not None:
+            return bytes(memoryview(node.draft)[offset:offset + size])
+        return self.whole(node)[offset:offset + size]
+
+    def whole(self, node: File) -> bytes:
+        """Returns all that a file holds."""
+        if node.draft is not None:
+            return bytes(node.draft)
+        file, version, content = self._last
+        if file is not node or version != node.version:
+            content = self.store.content(node.path)
+            self._last = node, node.version, content
+        return content
+
+    def forget_read(self) -> None:
+        """Drops the content that was read last. To be called if a node is about to stand for another file."""
+        self._last = None, 0, b""
+
+    # Writing.
+
+    def begin(self, node: File, is_cut: bool = False) -> bytearray:
+        """Returns a file's draft, which is made if there is none. Raises Limited if the store can't make another version."""
+        if node.draft is None:
+            if node.names:
+                self.require_limits(versions=1, handles=1)
+            self._set_draft(node, bytearray() if is_cut else bytearray(self.whole(node)))
+        assert node.draft is not None
+        return node.draft
+
+    def _set_draft(self, node: File, draft: Optional[bytearray]) -> None:
+        node.draft = draft
+        if draft is None:
+            self.drafts.discard(node)
+            self._set_pending(node, 0)
+        else:
+            self.drafts.add(node)
+
+    def require_limits(self, **wanted: int) -> None:
+        """Raises Limited unless the store can make so much more, beside what the drafts will take."""
+        unopened = sum(it.handle is None for it in self.drafts)
+        for name in ("versions", "handles"):
+            if name in wanted:
+                wanted[name] += unopened
+        lacking = self.store.counts.lacking(**wanted)
+        if lacking is not None:
+            raise Limited(lacking, getattr(self.store.counts.limits, lacking))
+
+    def _set_pending(self, node: File, content: int) -> None:
+        wanted = 2 * content + content // 200 + 512 if content else 0
+        self.store.pending += wanted - node.pending
+        node.pending = wanted
+
+    def _reserve(self, node: File, size: int) -> None:
+        """Makes sure that the journal's disk has space for a draft of that size."""
+        self.store.reserve(max(size - node.pending // 2, 0))
+        self._set_pending(node, max(size, 1))
+
+    def write(self, node: File, offset: int, data: bytes) -> int:
+        """Writes bytes into a file's draft. Zeros fill what is between its end and them."""
+        end = offset + len(data)
+        if end > MOST_BYTES:
+            raise TooBig(node, end)
+        draft = self.begin(node)
+        if node.names:
+            self._reserve(node, max(end, len(draft)))
+        if offset > len(draft):
+            draft.extend(bytes(offset - len(draft)))
+        draft[offset:end] = data
+        self._written(node)
+        return len(data)
+
+    def truncate(self, node: File, size: int) -> None:
+        """Gives a file so many bytes. If nobody writes it, that is a version."""
+        if size > MOST_BYTES:
+            raise TooBig(node, size)
+        if node.draft is None and size == node.size:
+            self._touch(node)
+            return
+        draft = self.begin(node, size == 0)
+        if node.names:
+            self._reserve(node, size)
+        if size < len(draft):
+            del draft[size:]
+        else:
+            draft.extend(bytes(size - len(draft)))
+        self._written(node)
+        if not node.writers:
+            self.settle(node)
+
+    def _touch(self, node: File) -> None:
+        node.attributes.mtime = node.attributes.ctime = now = now_ns()
+        node.entry = None
+        self.store.keep(saved(file_key(node.number), now))
+
+    def _written(self, node: File) -> None:
+        node.is_unsaved = True
+        node.attributes.mtime = node.attributes.ctime = now_ns()
+        node.entry = None
+
+    # Saving.
+
+    def save(self, node: File) -> None:
+        """Gives the journal what it lacks of a file's draft."""
+        if not node.is_unsaved or not node.names:
+            return
+        draft = node.draft
+        assert draft is not None
+        remark = saved(file_key(node.number), node.attributes.mtime)
+        try:
+            node.handle = self.store.write_draft(node.path, node.handle, bytes(draft), True, (remark,))
+        except NotKept as fault:
+            node.handle, node.is_unsaved = fault.handle, False
+            raise
+        node.is_unsaved = False
+
+    def settle(self, node: File) -> None:
+        """Makes a file's draft a version. What a file without a name holds is nobody's any more."""
+        if node.draft is None:
+            return
+        self.save(node)
+        size, handle = len(node.draft), node.handle
+        node.handle, node.is_unsaved, node.entry = None, False, None
+        self._set_draft(node, None)
+        self.forget_read()
+        if handle is not None:
+            node.size = size
+            node.version = self.store.close_draft(handle) or node.version
+
+    def closed(self, node: File, writes: bool) -> None:
+        """Notes that a descriptor is closed."""
+        node.opens -= 1
+        if writes:
+            node.writers -= 1
+            if not node.writers and node.names:
+                self.settle(node)
+        if not node.opens and not node.names:
+            self._drop(node)
+
+    def _drop(self, node: File) -> None:
+        """Lets go of a file that has neither a name nor a descriptor."""
+        if node.draft is not None:
+            self.settle(node)
+        self.tree.let_go(node)
+
+    def hold(self, node: File) -> None:
+        """Keeps in memory what an open file holds, which is about to lose its last name."""
+        if node.opens and node.draft is None:
+            self._set_draft(node, bytearray(self.whole(node)))
+
+    def settle_all(self) -> None:
+        """Makes all drafts versions."""
+        for node in list(self.drafts):
+            if node.names:
+                self.settle(node)
+
+
+class TooBig(OSError):
+    """A content would be longer than a file of the store may be."""
+
+    def __init__(self, node: File, size: int) -> None:
+        super().__init__(errno.EFBIG, f"{size} bytes for a file that has at most {MOST_BYTES}")
+        self.node = node

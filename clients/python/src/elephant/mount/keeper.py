@@ -1,0 +1,152 @@
+"""What a mount does by itself: it removes what its policies let go, syncs its journal, makes it anew, and closes long sessions."""
+
+from __future__ import annotations
+
+import threading
+import time
+from collections.abc import Callable
+
+from .._answers import Due, Removable
+from .._errors import ElephantError
+from .control import Changes
+from .log import Log
+from .names import name_in, shown
+from .operations import Operations
+from .past import text_of
+from .rewriting import Rewriting
+from .store import Departed, NoSpace
+
+# The longest that other requests wait for removals, in seconds, and how long these then wait.
+MOST_AT_ONCE, PAUSE = 0.003, 0.03
+MOST_KEYS = 256
+SYNC_EVERY = 5.0
+REWRITE_EVERY = 600.0
+
+
+class Keeper:
+    """A thread beside the one that answers requests. `clean_every` is in seconds, `every` in minutes; 0 is never."""
+
+    def __init__(
+        self, operations: Operations, rewriting: Rewriting, log: Log, changed: Callable[[Changes], None], clean_every: float, every: float
+    ) -> None:
+        self._changed = changed
+        self.operations, self.store, self.log = operations, operations.store, log
+        self.rewriting = rewriting
+        self._clean_every, self._every = clean_every, every * 60
+        self._stopping = threading.Event()
+        self._thread = threading.Thread(target=self._run, daemon=True)
+
+    def start(self) -> None:
+        self._thread.start()
+
+    def stop(self) -> None:
+        self._stopping.set()
+        self._thread.join(30)
+
+    def _run(self) -> None:
+        tasks = [(self._clean_every, self.clean), (self._every, self.settle), (SYNC_EVERY, self.sync), (2.0, self.retry),
+                 (REWRITE_EVERY, self.rewriting.run_if_worth)]
+        due = [time.monotonic() + every for every, _ in tasks]
+        while not self._stopping.wait(0.25):
+            for at, (every, task) in enumerate(tasks):
+                if every and time.monotonic() >= due[at]:
+                    self._guarded(task)
+                    due[at] = time.monotonic() + every
+
+    def _guarded(self, task: object) -> None:
+        try:
+            task()  # type: ignore[operator]
+        except (ElephantError, NoSpace, OSError) as fault:
+            with self.operations.lock:
+                self.operations.errno_of(fault)
+
+    # Removing.
+
+    def clean(self) -> int:
+        """Removes all versions that are due, a few at a time. Returns how many."""
+        removed = 0
+        while not self._stopping.is_set():
+            with self.operations.lock:
+                count = 0 if self.store.stopped else self._clean_some()
+            removed += count
+            if not count:
+                break
+            time.sleep(PAUSE)
+        return removed
+
+    def _clean_some(self) -> int:
+        deadline, removed = time.monotonic() + MOST_AT_ONCE, 0
+        if not self.store.first_due(1):
+            return 0
+        self.operations.hold_past()
+        for key in self.store.first_due(MOST_KEYS):
+            cause = self._cause(key)
+            self.store.reserve(0)
+            found = self.store.clean()
+            if found is None:
+                break
+            if found != key:
+                cause = self._cause(found)
+            self.log.say(f"removed {cause}")
+            removed += 1
+            if time.monotonic() > deadline:
+                break
+        return removed
+
+    def _cause(self, key: Removable) -> str:
+        """Returns which version is removed and why, for the log."""
+        node = self.operations.tree.files.get(key.file)
+        if node is not None:
+            fate = self.store.why(node.path, version=key.number)
+            return f"version {key.number} of {_path(node.path)}: {_told(fate, key)}"
+        last = self.store.departed.get(key.file)
+        if last is None:
+            return f"version {key.number} of file {key.file}, which has no name: due since {text_of(key.since)}"
+        which = f"version {key.number} of file {key.file}, last {_path(last.path)}, which has no name"
+        return f"{which}: due since {text_of(key.since)}, {_why(last)}"
+
+    # The rest.
+
+    def settle(self) -> None:
+        """Makes versions of what long sessions have written so far."""
+        with self.operations.lock:
+            if not self.store.stopped:
+                self.operations.contents.settle_all()
+
+    def sync(self) -> None:
+        """Has the disk hold what was answered some seconds ago, and looks whether the journal is still at its place."""
+        if not self.store.has_place:
+            self.log.say_once(f"{self.store.journal_path} was moved or deleted: copy your files out of the folder before you unmount it")
+        if self.store.unsynced and not self.store.stopped:
+            self.store.sync_journal_aside()
+
+    def retry(self) -> None:
+        """Tries whether the journal can be written again."""
+        with self.operations.lock:
+            if not self.store.stopped or not self.store.retry():
+                return
+            changes = list(self.operations.tree.refresh())
+            self.log.say("the journal can be written again, and the folder too")
+        self._changed(changes)
+
+
+def _why(last: Departed) -> str:
+    """Returns why a version of a file without a name is due."""
+    if last.policy == "one":
+        return "its policy keeps only the newest"
+    return f"by the age that its policy {last.policy} has" if last.policy.startswith("safe") else "a newer one closed in the same span"
+
+
+def _path(spelling: bytes) -> str:
+    return "/".join(shown(name_in(it)) if it else "" for it in spelling.split(b"/"))
+
+
+def _told(fate: object, key: Removable) -> str:
+    if not isinstance(fate, Due):
+        return f"due since {text_of(key.since)}"
+    cause = "its policy keeps only the newest"
+    if fate.age is not None:
+        cause = f"it ended {fate.age} seconds before"
+    if fate.by is not None:
+        cause = f"version {fate.by} closed in the same span at level {fate.level}"
+    return f"due since {text_of(key.since)}, {cause}"

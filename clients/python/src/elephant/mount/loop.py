@@ -1,0 +1,96 @@
+"""A loop for pyfuse3 that handles one request after the other.
+
+pyfuse3 runs on trio. Here no handler ever waits, so trio would only cost time: three times that of a request. pyfuse3 lets its loop be
+replaced (`pyfuse3_asyncio` does so for asyncio), and this one waits for a request by `poll`, in the thread that called it.
+"""
+
+from __future__ import annotations
+
+import os
+import select
+from collections.abc import Coroutine
+from typing import Any, Callable, Optional
+
+import pyfuse3
+
+
+class _Lock:
+    async def __aenter__(self) -> None:
+        pass
+
+    async def __aexit__(self, *_: object) -> None:
+        pass
+
+
+class _Task:
+    name = "mount"
+
+
+class _Nursery:
+    def __init__(self) -> None:
+        self._tasks: list[Coroutine[Any, Any, None]] = []
+
+    async def __aenter__(self) -> _Nursery:
+        return self
+
+    def start_soon(self, task: Callable[..., Coroutine[Any, Any, None]], *words: object, name: Optional[str] = None) -> None:
+        self._tasks.append(task(*words))
+
+    async def __aexit__(self, *_: object) -> None:
+        while self._tasks:
+            await self._tasks.pop()
+
+
+class Loop:
+    """What pyfuse3 asks of trio, and `stop`, which any thread and any signal handler may call."""
+
+    Lock = _Lock
+
+    class ClosedResourceError(Exception):
+        """The loop was stopped while it waited."""
+
+    def __init__(self) -> None:
+        self.lowlevel = self.from_thread = self
+        self._woken, self._waker = os.pipe2(os.O_CLOEXEC | os.O_NONBLOCK)
+        self._poll = select.poll()
+        self._poll.register(self._woken, select.POLLIN)
+        self._is_registered, self._is_stopped = False, False
+
+    def install(self) -> None:
+        """Has pyfuse3 use this loop. To be called before `pyfuse3.init`."""
+        pyfuse3.trio = self
+
+    def run(self) -> None:
+        """Handles requests until the folder is unmounted or `stop` is called."""
+        try:
+            pyfuse3.main(min_tasks=1, max_tasks=1).send(None)
+        except StopIteration:
+            pass
+
+    def stop(self) -> None:
+        """Ends `run` after the present request."""
+        self._is_stopped = True
+        os.write(self._waker, b".")
+
+    async def wait_readable(self, file: int) -> None:
+        if not self._is_registered:
+            self._poll.register(file, select.POLLIN)
+            self._is_registered = True
+        self._poll.poll()
+        if self._is_stopped:
+            raise self.ClosedResourceError
+
+    def notify_closing(self, file: int) -> None:
+        self.stop()
+
+    @staticmethod
+    def current_trio_token() -> str:
+        return "mount"
+
+    @staticmethod
+    def current_task() -> type[_Task]:
+        return _Task
+
+    @staticmethod
+    def open_nursery() -> _Nursery:
+        return _Nursery()

@@ -1,0 +1,106 @@
+"""A mounted folder: its parts, and how it begins and ends."""
+
+from __future__ import annotations
+
+import gc
+import os
+
+import pyfuse3
+
+from .._answers import Limits
+from .._errors import ElephantError
+from .contents import Contents
+from .control import Changes, Control, Lines
+from .keeper import Keeper
+from .log import Log
+from .loop import Loop
+from .naming import Naming
+from .operations import Operations
+from .past import Past
+from .rewriting import Rewriting
+from .store import MountStore, NoSpace
+from .tree import Directory, Tree
+
+
+class Mount:
+    """A folder and its journal. Making it opens the journal; `run` mounts it, and returns when it is unmounted."""
+
+    def __init__(self, folder: str, journal: str, limits: Limits, clean_every: float, every: float) -> None:
+        self.folder, self.log, self.loop = folder, Log(), Loop()
+        self.store = MountStore(journal, limits)
+        self._say_recovered()
+        self.tree = Tree(self.store)
+        self.contents = Contents(self.store, self.tree)
+        self.naming = Naming(self.store, self.tree, self.contents)
+        self.past = Past(self.store, self.tree, b"")
+        self.operations = Operations(self.store, self.tree, self.contents, self.naming, self.past, self.log)
+        self.lines = Lines(self.operations)
+        self.control = Control(self.lines, journal, self._tell_kernel)
+        self.past.socket = os.fsencode(self.control.path)
+        self.rewriting = Rewriting(self.operations, self.log, every > 0)
+        self.keeper = Keeper(self.operations, self.rewriting, self.log, self._tell_kernel, clean_every, every)
+        self.lines.more = {"rewrite": self.rewriting.run_and_tell, "clean all": self._clean_all}
+
+    def _clean_all(self) -> str:
+        return f"ok removed {self.keeper.clean()}\n"
+
+    def _say_recovered(self) -> None:
+        recovered = self.store.recovered
+        if recovered.cut:
+            self.log.say(f"the journal ended in the middle of a change: {recovered.cut} bytes were cut off")
+        for path, version in recovered.closed:
+            if version is not None:
+                self.log.say(f"{path} was being written: what was synced is version {version}")
+
+    def run(self, allows_others: bool) -> int:
+        """Mounts the folder and answers the kernel until it is unmounted."""
+        options = {"fsname=elephant", "subtype=elephant", "default_permissions", *["allow_other"] * allows_others}
+        self.loop.install()
+        _collect_rarely()
+        try:
+            pyfuse3.init(self.operations, self.folder, options)
+        except RuntimeError as fault:
+            self.log.say(f"{self.folder} can't be mounted: {fault}")
+            self._close()
+            return 1
+        self.control.start()
+        self.keeper.start()
+        self.log.say(f"{self.folder} is mounted, with {len(self.tree.files)} files; 'fusermount3 -u {self.folder}' ends it")
+        try:
+            self.loop.run()
+        finally:
+            pyfuse3.close(unmount=True)
+            self._close()
+        return 1 if self.store.stopped else 0
+
+    def _close(self) -> None:
+        self.control.stop()
+        self.keeper.stop()
+        try:
+            self.contents.settle_all()
+            for opened in self.operations.past_handles.values():
+                if opened.reader is not None:
+                    self.store.close_draft(opened.reader)
+            self.store.release_reserve()
+            self.store.close()
+        except (ElephantError, NoSpace, OSError) as fault:
+            self.log.say(f"the journal may lack the last changes: {fault}")
+
+    def _tell_kernel(self, changes: Changes) -> None:
+        """Has the kernel drop what it knows of what a line changed. Not under the lock: the kernel may ask back meanwhile."""
+        for node, name in changes:
+            try:
+                if name is None:
+                    pyfuse3.invalidate_inode(node.ino)
+                elif isinstance(node, Directory):
+                    pyfuse3.invalidate_entry(node.ino, name)
+                    pyfuse3.invalidate_inode(node.ino, attr_only=True)
+            except OSError:
+                pass  # the kernel doesn't know it
+
+
+def _collect_rarely() -> None:
+    """Has Python look for cycles seldom: few objects of a mount are in one, and looking at all of them doubles the time of a request."""
+    gc.collect()
+    gc.freeze()
+    gc.set_threshold(50_000, 50, 1000)

@@ -1,0 +1,348 @@
+"""What changes the names of a mount: making, linking, removing and renaming, and how a name keeps its past when an editor saves.
+
+Editors save in three ways. They write over the file: that is a version anyway. They write a new file and rename it over the old one:
+`rename` makes the new file's content the next version of the old file. They rename or delete the old file and make a new one: `create`
+gives the old file its name back, for the new content, and makes another file of what was renamed.
+"""
+
+from __future__ import annotations
+
+import errno
+import stat
+import time
+from typing import Optional, Union
+
+from .._errors import ElephantError, Refused
+from . import records
+from .contents import Contents, Limited
+from .names import MOST_NAMES, TooLong, shown
+from .records import Attributes, directory_key, file_key
+from .store import MountStore
+from .tree import Directory, File, Node, Tree
+
+# For so many seconds after a name ended a new file of that name goes on with the past of the one that had it.
+GOES_ON = 2.0
+MOST_LEFT = 64
+# A file that was made and written once has the empty version 1 and one more.
+FRESH = 2
+NO_REPLACE, EXCHANGE = 1, 2
+
+
+def key_of(node: Node) -> int:
+    return directory_key(node.number) if isinstance(node, Directory) else file_key(node.number)
+
+
+class Naming:
+    """Changes names, in the store and in the tree."""
+
+    def __init__(self, store: MountStore, tree: Tree, contents: Contents) -> None:
+        self.store, self.tree, self.contents = store, tree, contents
+
+    # Making.
+
+    def _new(self, parent: Directory, mode: int, owner: int, group: int) -> Attributes:
+        """Returns the attributes of what is made in a directory."""
+        now = records.now_ns()
+        if parent.attributes.mode & stat.S_ISGID:
+            group = parent.attributes.group
+            if stat.S_ISDIR(mode):
+                mode |= stat.S_ISGID
+        return Attributes(mode, owner, group, now, now, now)
+
+    @staticmethod
+    def _require_free(parent: Directory, name: bytes) -> None:
+        if name in parent.children:
+            raise FileExistsError(errno.EEXIST, shown(name))
+
+    def _touch(self, now: int, *nodes: Node) -> None:
+        for node in nodes:
+            node.attributes.ctime = now
+            if isinstance(node, Directory):
+                node.attributes.mtime = now
+            node.entry = None
+
+    def mkdir(self, parent: Directory, name: bytes, mode: int, owner: int, group: int) -> Directory:
+        """Makes a directory."""
+        self._require_free(parent, name)
+        path = parent.path_of_new(name)
+        made = self._new(parent, stat.S_IFDIR | stat.S_IMODE(mode), owner, group)
+        number = self.store.run((b"mkdir", path), remarks=lambda it: [records.made(directory_key(it), key_of(parent), made)])
+        self.store.records.by_key[directory_key(number)] = made
+        node = self.tree.new_directory(number)
+        self.tree.add(parent, name, node)
+        self._touch(made.ctime, parent)
+        return node
+
+    def create(self, parent: Directory, name: bytes, mode: int, owner: int, group: int) -> File:
+        """Makes a file, a fifo or a socket. If the file that had the name was renamed just now, its past goes on here."""
+        self._require_free(parent, name)
+        path = parent.path_of_new(name)
+        made = self._new(parent, mode, owner, group)
+        found = self._past_of(parent, name) if stat.S_ISREG(mode) else None
+        if isinstance(found, File):
+            return self._take_over(parent, name, made, found)
+        if found is not None and self._revive(path, found):
+            return self._go_on(parent, name, made, found)
+        number = self.store.run((b"create", path), remarks=lambda it: [records.made(file_key(it), key_of(parent), made)])
+        return self._added(parent, name, number, made)
+
+    def _added(self, parent: Directory, name: bytes, number: int, made: Attributes) -> File:
+        self.store.records.by_key[file_key(number)] = made
+        node = self.tree.new_file(number)
+        node.born = time.monotonic()
+        self.tree.add(parent, name, node)
+        self._touch(made.ctime, parent)
+        return node
+
+    def _leave(self, parent: Directory, name: bytes, file: Union[File, int]) -> None:
+        """Notes that a name of a regular file ended, so that a new file may go on with its past.
+
+        A file that was made and renamed at once had its name only to be written: its past isn't the name's.
+        """
+        if isinstance(file, File) and (not file.is_regular or time.monotonic() - file.born < GOES_ON):
+            return
+        parent.left[name] = file, time.monotonic()
+        if len(parent.left) > MOST_LEFT:
+            del parent.left[next(iter(parent.left))]
+
+    def _past_of(self, parent: Directory, name: bytes) -> Optional[Union[File, int]]:
+        """Returns the file, or the number of the file, whose past goes on under a name that ended just now."""
+        file, moment = parent.left.pop(name, (0, 0.0))
+        if not file or time.monotonic() - moment > GOES_ON:
+            return None
+        if isinstance(file, File) and (len(file.names) != 1 or file.draft is not None):
+            return None
+        drafts = len(self.contents.drafts)
+        lacks = self.store.counts.lacking(files=1, names=2, versions=3 + drafts, handles=2 + drafts)
+        return None if lacks else file
+
+    def _revive(self, path: bytes, number: int) -> bool:
+        """Brings a name back. Returns whether it is that of the file with this number again."""
+        try:
+            version = self.store.run((b"undelete", path))
+        except Refused:
+            return False
+        self.store.counts.used["versions"] += bool(version)
+        if self.store.stat_row(path).id == number:
+            return True
+        self.store.run((b"unlink", path))
+        return False
+
+    def _take_over(self, parent: Directory, name: bytes, made: Attributes, old: File) -> File:
+        """Gives a file its name back, for a new content. The node that was renamed stands for another file with the old content."""
+        path, away = parent.path_of(name), old.path
+        (old_parent, _), number = next(iter(old.names)), old.number
+        content = self.contents.whole(old)
+        self.contents.forget_read()
+        kept = old.attributes
+        copy = self.store.run(
+            (b"rename", away, path), (b"create", away),
+            remarks=lambda it: [records.made(file_key(it), key_of(old_parent), kept), records.whole(file_key(it), kept)],
+        )
+        self.tree.give_number(old, copy)
+        old.version = 1
+        if content:
+            handle = self.store.write_draft(away, None, content, True, (records.whole(file_key(copy), kept),))
+            old.version = self.store.close_draft(handle)
+        return self._go_on(parent, name, made, number)
+
+    def _go_on(self, parent: Directory, name: bytes, made: Attributes, number: int) -> File:
+        """Has a new node stand for a file that has a past. It is empty, and its first content is the file's next version."""
+        self.store.records.by_key[file_key(number)] = made
+        self.store.keep(records.made(file_key(number), key_of(parent), made))
+        row = self.store.stat_row(parent.path_of(name))
+        node = self.tree.new_file(number, row.length, row.version)
+        self.tree.add(parent, name, node)
+        self.contents.begin(node, is_cut=True)
+        node.is_unsaved = True
+        self._touch(made.ctime, parent)
+        return node
+
+    def symlink(self, parent: Directory, name: bytes, target: bytes, owner: int, group: int) -> File:
+        """Makes a symbolic link: a file of the store with where it leads as content."""
+        self._require_free(parent, name)
+        path = parent.path_of_new(name)
+        self.contents.require_limits(files=1, names=1, versions=2, handles=1)
+        made = self._new(parent, stat.S_IFLNK | 0o777, owner, group)
+        number = self.store.run((b"create", path), remarks=lambda it: [records.made(file_key(it), key_of(parent), made)])
+        handle = self.store.write_draft(path, None, target, True, ())
+        version = self.store.close_draft(handle)
+        node = self._added(parent, name, number, made)
+        node.size, node.version = len(target), version
+        return node
+
+    def link(self, node: Node, parent: Directory, name: bytes) -> File:
+        """Gives a file another name."""
+        if not isinstance(node, File):
+            raise PermissionError(errno.EPERM, "a directory has one name")
+        if not node.names:
+            raise FileNotFoundError(errno.ENOENT, "the file has no name any more")
+        self._require_free(parent, name)
+        path, now = parent.path_of_new(name), records.now_ns()
+        self.store.run((b"link", node.path, path), remarks=lambda _: [records.names_changed(now, key_of(parent), key_of(node))])
+        self.tree.add(parent, name, node)
+        self._touch(now, parent, node)
+        return node
+
+    # Removing.
+
+    @staticmethod
+    def child(parent: Directory, name: bytes) -> Union[File, Directory]:
+        node = parent.children.get(name)
+        if node is None:
+            raise FileNotFoundError(errno.ENOENT, shown(name))
+        return node
+
+    def unlink(self, parent: Directory, name: bytes) -> File:
+        """Ends a name of a file."""
+        node = self.child(parent, name)
+        if isinstance(node, Directory):
+            raise IsADirectoryError(errno.EISDIR, shown(name))
+        if len(node.names) == 1:
+            self.contents.hold(node)
+        now = records.now_ns()
+        has_past = node.is_regular and len(node.names) == 1 and not node.opens and node.draft is None
+        path = parent.path_of(name)
+        self.store.run((b"unlink", path), remarks=lambda _: [records.names_changed(now, key_of(parent), key_of(node))])
+        self._gone(parent, name, now)
+        if has_past:
+            self._leave(parent, name, node.number)
+        return node
+
+    def _gone(self, parent: Directory, name: bytes, now: int) -> None:
+        node = self.tree.remove(parent, name)
+        self._touch(now, parent, node)
+        if isinstance(node, File) and not node.names and node.draft is not None and not node.opens:
+            self.contents.settle(node)
+
+    def rmdir(self, parent: Directory, name: bytes) -> Directory:
+        """Ends the name of an empty directory."""
+        node = self.child(parent, name)
+        if isinstance(node, File):
+            raise NotADirectoryError(errno.ENOTDIR, shown(name))
+        if node.children:
+            raise OSError(errno.ENOTEMPTY, shown(name))
+        now = records.now_ns()
+        self.store.run((b"rmdir", parent.path_of(name)), remarks=lambda _: [records.names_changed(now, key_of(parent))])
+        self._gone(parent, name, now)
+        return node
+
+    # Renaming.
+
+    def rename(self, parent: Directory, name: bytes, new_parent: Directory, new_name: bytes, flags: int) -> None:
+        """Gives what has a name another one. What has that one already is replaced, or goes on with the content of a file."""
+        node, found = self.child(parent, name), new_parent.children.get(new_name)
+        if flags & ~NO_REPLACE:
+            raise OSError(errno.EINVAL, "names can't be exchanged")
+        if found is not None and flags & NO_REPLACE:
+            raise FileExistsError(errno.EEXIST, shown(new_name))
+        if found is node:
+            return
+        path, new_path = parent.path_of(name), new_parent.path_of_new(new_name)
+        self._require_place(node, new_parent, found, new_name)
+        now = records.now_ns()
+        if found is None:
+            self._move(parent, name, new_parent, new_name, now)
+        elif isinstance(found, File) and isinstance(node, File) and self._can_merge(node, found):
+            self._merge(parent, name, new_parent, new_name, now)
+        else:
+            self._replace(parent, name, new_parent, new_name, now, path, new_path)
+
+    def _require_place(
+        self, node: Union[File, Directory], new_parent: Directory, found: Optional[Union[File, Directory]], new_name: bytes
+    ) -> None:
+        if isinstance(node, Directory):
+            above: Optional[Directory] = new_parent
+            while above is not None:
+                if above is node:
+                    raise OSError(errno.EINVAL, "a directory can't be in itself")
+                above = above.parent
+            if new_parent.depth + self.tree.height(node) > MOST_NAMES:
+                raise TooLong(f"a path below {shown(new_name)} would have more than {MOST_NAMES} names")
+        if found is None:
+            return
+        if isinstance(found, Directory):
+            if not isinstance(node, Directory):
+                raise IsADirectoryError(errno.EISDIR, shown(new_name))
+            if found.children:
+                raise OSError(errno.ENOTEMPTY, shown(new_name))
+        elif isinstance(node, Directory):
+            raise NotADirectoryError(errno.ENOTDIR, shown(new_name))
+
+    def _move(self, parent: Directory, name: bytes, new_parent: Directory, new_name: bytes, now: int) -> None:
+        node = parent.children[name]
+        keys = (key_of(parent), key_of(new_parent), key_of(node))
+        self.store.run(
+            (b"rename", parent.path_of(name), new_parent.path_of(new_name)), remarks=lambda _: [records.names_changed(now, *keys)],
+        )
+        mtime = node.attributes.mtime
+        self.tree.move(parent, name, new_parent, new_name)
+        self._touch(now, parent, new_parent, node)
+        node.attributes.mtime = mtime
+        if isinstance(node, File):
+            self._leave(parent, name, node)
+
+    def _can_merge(self, node: File, found: File) -> bool:
+        """Whether the content of a file can become the next version of another, which it is renamed over."""
+        alone = all(it.is_regular and len(it.names) == 1 and not it.opens and it.draft is None for it in (node, found))
+        drafts = len(self.contents.drafts)
+        return alone and self.store.counts.lacking(versions=1 + drafts, handles=1 + drafts) is None
+
+    def _merge(self, parent: Directory, name: bytes, new_parent: Directory, new_name: bytes, now: int) -> None:
+        """Makes a file's content the next version of the one that has the new name. The node of the first stands for the second now."""
+        node, found = parent.children[name], new_parent.children[new_name]
+        assert isinstance(node, File) and isinstance(found, File)
+        path, new_path, number = parent.path_of(name), new_parent.path_of(new_name), found.number
+        content = self.contents.whole(node)
+        self.contents.forget_read()
+        node.attributes.ctime = now
+        source, is_fresh = node.number, node.version <= FRESH
+        version = self.store.replace_content(new_path, path, content, is_fresh, (
+            records.names_changed(now, key_of(parent), key_of(new_parent)), records.whole(file_key(number), node.attributes),
+        ))
+        self.tree.remove(new_parent, new_name)
+        self.tree.move(parent, name, new_parent, new_name)
+        self.tree.give_number(node, number)
+        node.version, node.born = version or found.version, found.born
+        self._touch(now, parent, new_parent, node, found)
+        if not is_fresh:
+            self._leave(parent, name, source)
+
+    def _replace(
+        self, parent: Directory, name: bytes, new_parent: Directory, new_name: bytes, now: int, path: bytes, new_path: bytes
+    ) -> None:
+        """Ends what has the new name, and gives that to the other: two commands that are one change."""
+        node, found = parent.children[name], new_parent.children[new_name]
+        lacking = self.store.counts.lacking(names=1)
+        if lacking:
+            raise Limited(lacking, getattr(self.store.counts.limits, lacking))
+        if isinstance(found, File) and len(found.names) == 1:
+            self.contents.hold(found)
+        keys = (key_of(parent), key_of(new_parent), key_of(node), key_of(found))
+        ends = b"rmdir" if isinstance(found, Directory) else b"unlink"
+        mtime = node.attributes.mtime
+        try:
+            self.store.run((ends, new_path), (b"rename", path, new_path), remarks=lambda _: [records.names_changed(now, *keys)])
+        except ElephantError:
+            for _ in self.tree.refresh():
+                pass
+            raise
+        self._gone(new_parent, new_name, now)
+        self.tree.move(parent, name, new_parent, new_name)
+        self._touch(now, parent, new_parent, node)
+        node.attributes.mtime = mtime
+        if isinstance(node, File):
+            self._leave(parent, name, node)
+
+    # Attributes.
+
+    def set_attributes(self, node: Node, changes: dict[str, int]) -> None:
+        """Changes a mode, an owner or times."""
+        it = node.attributes
+        for name, value in changes.items():
+            setattr(it, name, stat.S_IFMT(it.mode) | stat.S_IMODE(value) if name == "mode" else value)
+        it.ctime, node.entry = records.now_ns(), None
+        if isinstance(node, File) and not node.names:
+            return
+        self.store.keep(records.whole(key_of(node), it))
+

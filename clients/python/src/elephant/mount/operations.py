@@ -1,0 +1,490 @@
+"""What the kernel asks of the mount, over pyfuse3. Each request is answered under one lock, without waiting."""
+
+from __future__ import annotations
+
+import errno
+import functools
+import os
+import stat
+import threading
+import traceback
+from collections.abc import Sequence
+from typing import Any, Callable, NamedTuple, Optional, Union
+
+import pyfuse3
+
+from .._errors import ElephantError, Forgotten, Full, JournalError, NoMemory
+from .contents import Contents, Limited, TooBig
+from .log import Log
+from .names import TooLong, shown
+from .naming import Naming
+from .past import NAME, Past, PastNode, Source
+from .store import MountStore, NoSpace
+from .tree import ROOT, Directory, File, Node, Tree
+
+# For as long as this the kernel may keep what it was told: every change comes through it, or it is told of it.
+LASTING = 86_400.0
+FIRST_PAST_HANDLE = 1 << 60
+NAME_MAX = 64
+_CHANGES = os.O_ACCMODE | os.O_TRUNC
+_ERRNOS = {
+    5: errno.ENOENT, 6: errno.ENOTDIR, 7: errno.EISDIR, 8: errno.EEXIST, 9: errno.ENOTEMPTY, 10: errno.EINVAL, 11: errno.EBUSY,
+    12: errno.ENOENT, 13: errno.ENODATA, 14: errno.ENOENT, 15: errno.EBADF, 17: errno.EFBIG, 18: errno.EBUSY, 19: errno.ENOENT,
+    27: errno.ENOSPC, 28: errno.ENAMETOOLONG, 29: errno.ENAMETOOLONG, 1: errno.ENOMEM,
+}
+
+
+class PastHandle:
+    """An open file of the past: its content, and by which handle the store keeps the version, if it does already."""
+
+    __slots__ = ("node", "source", "content", "reader")
+
+    def __init__(self, node: PastNode, source: Optional[Source], content: bytes) -> None:
+        self.node, self.source, self.content = node, source, content
+        self.reader: Optional[int] = None
+
+
+class Listing(NamedTuple):
+    """An open directory: the names as they were when it was read from its beginning."""
+
+    node: Union[Directory, PastNode]
+    names: list[Any]
+
+
+def answered(method: Callable[..., Any]) -> Callable[..., Any]:
+    """Has a method answer a request of the kernel: under the lock, and with an error number for what it raises."""
+
+    @functools.wraps(method)
+    async def call(self: Operations, *words: Any) -> Any:
+        try:
+            with self.lock:
+                return method(self, *words)
+        except (OSError, ElephantError, NoSpace) as fault:
+            raise pyfuse3.FUSEError(self.errno_of(fault)) from None
+        except Exception:
+            # A fault of this program: this request fails, and the others go on.
+            self.log.say(f"a fault in {method.__name__}: {traceback.format_exc()}")
+            raise pyfuse3.FUSEError(errno.EIO) from None
+
+    return call
+
+
+def changing(method: Callable[..., Any]) -> Callable[..., Any]:
+    """The same for a request that changes something, which a mount that is read-only refuses."""
+
+    def checked(self: Operations, *words: Any) -> Any:
+        self.require_writable()
+        return method(self, *words)
+
+    return answered(functools.wraps(method)(checked))
+
+
+class Operations(pyfuse3.Operations):  # type: ignore[misc]
+    """The requests of the kernel."""
+
+    supports_dot_lookup = False
+    enable_writeback_cache = False
+
+    def __init__(self, store: MountStore, tree: Tree, contents: Contents, naming: Naming, past: Past, log: Log) -> None:
+        super().__init__()
+        self.store, self.tree, self.contents, self.naming, self.past, self.log = store, tree, contents, naming, past, log
+        self.lock = threading.RLock()
+        self.by_ino = tree.by_ino
+        self.past_handles: dict[int, PastHandle] = {}
+        self._listings: dict[int, Listing] = {}
+        self._next_handle = FIRST_PAST_HANDLE
+
+    # Errors.
+
+    def errno_of(self, fault: Exception) -> int:
+        """Returns the error number of what a request raised, and logs what its caller can't see from that."""
+        if isinstance(fault, NoSpace):
+            if not self.store.stopped:
+                self.store.stopped = "the disk of the journal is full"
+                self.log.say(f"{self.store.stopped}: the folder is read-only until there is space again")
+            return errno.ENOSPC
+        if isinstance(fault, JournalError):
+            self.log.say(f"the folder is read-only: {fault}")
+            return errno.ENOSPC if "No space left" in str(fault) else errno.EIO
+        if isinstance(fault, Full):
+            limit = fault.what
+            return self.errno_of(Limited(limit, getattr(self.store.counts.limits, limit)))
+        if isinstance(fault, (Limited, TooBig, TooLong)):
+            where = f"{shown(fault.node.path)}: " if isinstance(fault, TooBig) and fault.node.names else ""
+            self.log.say_once(f"refused: {where}{fault.strerror}")
+        elif isinstance(fault, NoMemory):
+            self.log.say("refused: there is no memory")
+        if isinstance(fault, ElephantError):
+            return _ERRNOS.get(fault.number, errno.EIO)
+        assert isinstance(fault, OSError)
+        return fault.errno or errno.EIO
+
+    def require_writable(self) -> None:
+        if self.store.stopped:
+            raise OSError(errno.EROFS, self.store.stopped)
+        self.store.reserve(0)
+
+    # Nodes.
+
+    def _node(self, ino: int) -> Union[Node, PastNode]:
+        node = self.by_ino.get(ino) or self.past.by_ino.get(ino)
+        if node is None:
+            raise OSError(errno.ESTALE, "")
+        return node
+
+    def _directory(self, ino: int) -> Directory:
+        node = self._node(ino)
+        if isinstance(node, Directory):
+            return node
+        raise OSError(errno.EROFS if isinstance(node, PastNode) else errno.ENOTDIR, "")
+
+    def _entry(self, node: Node) -> Any:
+        """Returns what the kernel is told of a node."""
+        if node.entry is not None:
+            return node.entry
+        it, entry = node.attributes, pyfuse3.EntryAttributes()
+        if isinstance(node, Directory):
+            size, links = 4096, 0 if node.ended else 2 + node.subdirectories
+        else:
+            assert isinstance(node, File)
+            size, links = node.size if node.draft is None else len(node.draft), len(node.names)
+        entry.st_ino, entry.st_mode, entry.st_nlink, entry.st_size = node.ino, it.mode, links, size
+        entry.st_uid, entry.st_gid, entry.st_blksize, entry.st_blocks = it.owner, it.group, 4096, (size + 511) // 512
+        entry.st_atime_ns, entry.st_mtime_ns, entry.st_ctime_ns = it.atime, it.mtime, it.ctime
+        entry.entry_timeout = entry.attr_timeout = LASTING
+        node.entry = entry
+        return entry
+
+    def _past_entry(self, node: PastNode) -> Any:
+        entry = pyfuse3.EntryAttributes()
+        it = self.past.show(node)
+        entry.st_ino, entry.st_mode, entry.st_nlink, entry.st_size = node.ino, it.mode, 1, it.size
+        entry.st_uid, entry.st_gid, entry.st_blocks = it.owner, it.group, (it.size + 511) // 512
+        entry.st_atime_ns = entry.st_mtime_ns = entry.st_ctime_ns = it.moment * 10**9
+        entry.entry_timeout = entry.attr_timeout = LASTING if stat.S_ISDIR(it.mode) and self.past.is_over(node) else 0
+        return entry
+
+    def _known(self, node: Node) -> Any:
+        """Returns what the kernel is told of a node that it will know from now on."""
+        node.lookups += 1
+        return self._entry(node)
+
+    # The four requests that come most often are answered here, and what is unusual of them below: a call more costs a reader a fifth.
+
+    async def lookup(self, ino: int, name: bytes, context: Any) -> Any:
+        with self.lock:
+            parent = self.by_ino.get(ino)
+            node = parent.children.get(name) if parent.__class__ is Directory else None  # type: ignore[union-attr]
+            if node is not None:
+                node.lookups += 1
+                return node.entry or self._entry(node)
+        return await self._lookup(ino, name)
+
+    async def getattr(self, ino: int, context: Any) -> Any:
+        with self.lock:
+            node = self.by_ino.get(ino)
+            if node is not None:
+                return node.entry or self._entry(node)
+        return await self._getattr(ino)
+
+    async def open(self, ino: int, flags: int, context: Any) -> Any:
+        with self.lock:
+            node = self.by_ino.get(ino)
+            if not flags & _CHANGES and node.__class__ is File and node.names:  # type: ignore[union-attr]
+                node.opens += 1  # type: ignore[union-attr]
+                return node.info or self._reading_info(node)  # type: ignore[union-attr, arg-type]
+        return await self._open(ino, flags)
+
+    async def flush(self, handle: int) -> None:
+        if handle & 1:
+            await self._flush(handle)
+
+    async def release(self, handle: int) -> None:
+        if not handle & 1:
+            with self.lock:
+                node = self.by_ino.get(handle >> 1)
+                if node is not None and node.names:  # type: ignore[attr-defined]
+                    node.opens -= 1  # type: ignore[attr-defined]
+                    return
+        await self._release(handle)
+
+    def _reading_info(self, node: File) -> Any:
+        node.info = pyfuse3.FileInfo(fh=node.ino * 2, keep_cache=True)
+        return node.info
+
+    @answered
+    def _lookup(self, ino: int, name: bytes) -> Any:
+        parent = self._node(ino)
+        if isinstance(parent, PastNode):
+            return self._lookup_past(parent, name)
+        if not isinstance(parent, Directory):
+            raise NotADirectoryError(errno.ENOTDIR, "")
+        node = parent.children.get(name)
+        if node is not None:
+            return self._known(node)
+        if parent is self.tree.root and name == NAME:
+            self.past.root.lookups += 1
+            return self._past_entry(self.past.root)
+        if name in (b".", b".."):
+            return self._known(parent if name == b"." else parent.parent or parent)
+        parent.path_of(name)  # a name that is too long is refused here
+        absent = pyfuse3.EntryAttributes()
+        absent.st_ino, absent.entry_timeout = 0, LASTING
+        return absent
+
+    def _lookup_past(self, parent: PastNode, name: bytes) -> Any:
+        node = self.past.lookup(parent, name)
+        entry = self._past_entry(node)
+        node.lookups += 1
+        return entry
+
+    @answered
+    def forget(self, inos: Sequence[tuple[int, int]]) -> None:
+        for ino, count in inos:
+            node = self.by_ino.get(ino)
+            if node is not None:
+                node.lookups = max(node.lookups - count, 0)
+                self.tree.let_go(node)
+            elif ino in self.past.by_ino:
+                past = self.past.by_ino[ino]
+                past.lookups = max(past.lookups - count, 0)
+                self.past.forget(past)
+
+    @answered
+    def _getattr(self, ino: int) -> Any:
+        node = self._node(ino)
+        return self._past_entry(node) if isinstance(node, PastNode) else self._entry(node)
+
+    @changing
+    def setattr(self, ino: int, attributes: Any, fields: Any, handle: Optional[int], context: Any) -> Any:
+        node = self._node(ino)
+        if isinstance(node, PastNode):
+            raise OSError(errno.EROFS, "")
+        if fields.update_size:
+            if not isinstance(node, File):
+                raise OSError(errno.EISDIR, "")
+            self.contents.truncate(node, attributes.st_size)
+        asked = (
+            ("mode", fields.update_mode, attributes.st_mode), ("owner", fields.update_uid, attributes.st_uid),
+            ("group", fields.update_gid, attributes.st_gid), ("atime", fields.update_atime, attributes.st_atime_ns),
+            ("mtime", fields.update_mtime, attributes.st_mtime_ns),
+        )
+        changes = {name: value for name, is_asked, value in asked if is_asked}
+        if changes:
+            self.naming.set_attributes(node, changes)
+        return self._entry(node)
+
+    # Names.
+
+    def _parent(self, ino: int, name: bytes) -> Directory:
+        parent = self._directory(ino)
+        if name == NAME and parent is self.tree.root:
+            raise FileExistsError(errno.EEXIST, "the name is the mount's own")
+        return parent
+
+    @changing
+    def mkdir(self, ino: int, name: bytes, mode: int, context: Any) -> Any:
+        return self._known(self.naming.mkdir(self._parent(ino, name), name, mode, context.uid, context.gid))
+
+    @changing
+    def mknod(self, ino: int, name: bytes, mode: int, device: int, context: Any) -> Any:
+        if stat.S_IFMT(mode) not in (stat.S_IFREG, stat.S_IFIFO, stat.S_IFSOCK):
+            raise OSError(errno.EPERM, "")
+        return self._known(self.naming.create(self._parent(ino, name), name, mode, context.uid, context.gid))
+
+    @changing
+    def symlink(self, ino: int, name: bytes, target: bytes, context: Any) -> Any:
+        return self._known(self.naming.symlink(self._parent(ino, name), name, target, context.uid, context.gid))
+
+    @changing
+    def link(self, ino: int, parent: int, name: bytes, context: Any) -> Any:
+        node = self._node(ino)
+        if isinstance(node, PastNode):
+            raise OSError(errno.EXDEV, "")
+        return self._known(self.naming.link(node, self._parent(parent, name), name))
+
+    @changing
+    def unlink(self, ino: int, name: bytes, context: Any) -> None:
+        self.naming.unlink(self._directory(ino), name)
+
+    @changing
+    def rmdir(self, ino: int, name: bytes, context: Any) -> None:
+        if name == NAME and ino == ROOT:
+            raise OSError(errno.EBUSY, "")
+        self.naming.rmdir(self._directory(ino), name)
+
+    @changing
+    def rename(self, ino: int, name: bytes, new_ino: int, new_name: bytes, flags: int, context: Any) -> None:
+        if (ino, name) == (ROOT, NAME):
+            raise OSError(errno.EBUSY, "")
+        self.naming.rename(self._directory(ino), name, self._parent(new_ino, new_name), new_name, flags)
+
+    @answered
+    def readlink(self, ino: int, context: Any) -> bytes:
+        node = self._node(ino)
+        if isinstance(node, PastNode):
+            return self.past.content(node)
+        if not isinstance(node, File):
+            raise OSError(errno.EINVAL, "")
+        return self.contents.whole(node)
+
+    # Files. The handle of one is twice its inode number, and one more if it writes.
+
+    @staticmethod
+    def _info(handle: int, keep_cache: bool) -> Any:
+        return pyfuse3.FileInfo(fh=handle, keep_cache=keep_cache)
+
+    def _opened(self, node: File, flags: int) -> int:
+        writes = flags & os.O_ACCMODE != os.O_RDONLY
+        node.opens += 1
+        node.writers += writes
+        return node.ino * 2 + writes
+
+    @answered
+    def _open(self, ino: int, flags: int) -> Any:
+        node = self.by_ino.get(ino)
+        if not isinstance(node, File):
+            return self._open_past(ino, flags)
+        if not node.names and node.draft is None:
+            raise OSError(errno.ESTALE, "")
+        if flags & (os.O_ACCMODE | os.O_TRUNC):
+            self.require_writable()
+        if flags & os.O_TRUNC and (node.size or node.draft is not None):
+            node.writers += 1
+            try:
+                self.contents.truncate(node, 0)
+            finally:
+                node.writers -= 1
+        return self._info(self._opened(node, flags), True)
+
+    def _open_past(self, ino: int, flags: int) -> Any:
+        node = self._node(ino)
+        if not isinstance(node, PastNode):
+            raise OSError(errno.EISDIR, "")
+        if flags & os.O_ACCMODE != os.O_RDONLY or flags & os.O_TRUNC:
+            raise OSError(errno.EROFS, "")
+        try:
+            source = None if node.key == ("limits",) else self.past.source(node)
+            content = self.past.content(node)
+        except ElephantError as fault:
+            raise OSError(errno.ENODATA, "") if node.key[0] == "dead" and not isinstance(fault, Forgotten) else fault
+        self._next_handle += 1
+        self.past_handles[self._next_handle] = PastHandle(node, source, content)
+        return self._info(self._next_handle, False)
+
+    @changing
+    def create(self, ino: int, name: bytes, mode: int, flags: int, context: Any) -> Any:
+        parent = self._parent(ino, name)
+        self.contents.require_limits(versions=2, handles=1)
+        node = self.naming.create(parent, name, stat.S_IFREG | stat.S_IMODE(mode), context.uid, context.gid)
+        handle = self._opened(node, flags)
+        return self._info(handle, True), self._known(node)
+
+    @answered
+    def read(self, handle: int, offset: int, size: int) -> bytes:
+        if handle >= FIRST_PAST_HANDLE:
+            return self.past_handles[handle].content[offset:offset + size]
+        return self.contents.read(self.by_ino[handle >> 1], offset, size)
+
+    @changing
+    def write(self, handle: int, offset: int, data: bytes) -> int:
+        return self.contents.write(self.by_ino[handle >> 1], offset, data)
+
+    @answered
+    def _flush(self, handle: int) -> None:
+        if handle < FIRST_PAST_HANDLE:
+            self.contents.save(self.by_ino[handle >> 1])
+
+    @answered
+    def _release(self, handle: int) -> None:
+        if handle < FIRST_PAST_HANDLE:
+            self.contents.closed(self.by_ino[handle >> 1], bool(handle & 1))
+            return
+        opened = self.past_handles.pop(handle)
+        if opened.reader is not None:
+            self.store.close_draft(opened.reader)
+
+    @answered
+    def fsync(self, handle: int, only_data: bool) -> None:
+        if handle < FIRST_PAST_HANDLE:
+            self.contents.save(self.by_ino[handle >> 1])
+            self.store.sync_journal()
+
+    def hold_past(self) -> None:
+        """Has the store keep the versions that open files of the past read. To be called before anything is removed."""
+        for opened in self.past_handles.values():
+            source = opened.source
+            if opened.reader is None and source is not None:
+                try:
+                    opened.reader = self.store.open_reader(self._path_now(source), source.tag, source.number)
+                except (ElephantError, OSError):
+                    opened.source = None  # it stays readable, from the copy in memory
+
+    def _path_now(self, source: Source) -> bytes:
+        """Returns the path by which a version is found: a number of a version is that of the file that has the name now."""
+        if source.tag != 2:
+            return source.path
+        node = self.tree.files.get(source.file)
+        return node.path if node is not None else source.path
+
+    # Directories.
+
+    @answered
+    def opendir(self, ino: int, context: Any) -> int:
+        node = self._node(ino)
+        if isinstance(node, File):
+            raise OSError(errno.ENOTDIR, "")
+        self._next_handle += 1
+        self._listings[self._next_handle] = Listing(node, [])  # type: ignore[arg-type]
+        return self._next_handle
+
+    @answered
+    def readdir(self, handle: int, start: int, token: Any) -> None:
+        node, names = self._listings[handle]
+        if start == 0:
+            names[:] = [b".", b"..", *node.children] if isinstance(node, Directory) else self.past.names(node)
+        for index in range(start, len(names)):
+            name, found = self._named(node, names[index])
+            if found is None:
+                continue
+            if not pyfuse3.readdir_reply(token, name, self._listed(found), index + 1):
+                return
+            if name not in (b".", b".."):
+                found.lookups += 1
+
+    @staticmethod
+    def _named(node: Union[Directory, PastNode], name: Any) -> tuple[bytes, Optional[Union[Node, PastNode]]]:
+        """Returns a name of a listing and what it stands for now, if for anything."""
+        if not isinstance(node, Directory):
+            return name  # type: ignore[no-any-return]
+        return name, node if name == b"." else (node.parent or node) if name == b".." else node.children.get(name)
+
+    def _listed(self, node: Union[Node, PastNode]) -> Any:
+        if not isinstance(node, PastNode):
+            return self._entry(node)
+        try:
+            return self._past_entry(node)
+        except (ElephantError, OSError):  # it was forgotten: who asks for it is told so
+            entry = pyfuse3.EntryAttributes()
+            entry.st_ino, entry.st_mode, entry.entry_timeout, entry.attr_timeout = node.ino, stat.S_IFREG | 0o444, 0, 0
+            return entry
+
+    @answered
+    def releasedir(self, handle: int) -> None:
+        del self._listings[handle]
+
+    @answered
+    def fsyncdir(self, handle: int, only_data: bool) -> None:
+        self.store.sync_journal()
+
+    @answered
+    def statfs(self, context: Any) -> Any:
+        disk, it, counts = os.statvfs(os.path.dirname(self.store.journal_path)), pyfuse3.StatvfsData(), self.store.counts
+        it.f_bsize = it.f_frsize = 4096
+        it.f_blocks = disk.f_blocks * disk.f_frsize // 4096
+        # A content takes twice its bytes of the journal.
+        it.f_bfree = it.f_bavail = 0 if self.store.stopped else disk.f_bavail * disk.f_frsize // 8192
+        it.f_files = counts.limits.files
+        it.f_ffree = it.f_favail = min(counts.left("files"), counts.left("names"), counts.left("versions") // 2)
+        it.f_namemax = NAME_MAX
+        return it

@@ -1,0 +1,325 @@
+"""The folder `.elephant`: the tree as it stood at a moment, the held versions of each file, and the deleted names that may come back.
+
+    .elephant/at/2026-11-27T08:00:00Z/PATH    what PATH held at that moment
+    .elephant/versions/PATH/2                 version 2 of the file PATH
+    .elephant/restorable/PATH                 what a deleted file held last
+    .elephant/limits                          how much of each limit is used and left, as text
+    .elephant/socket                          a link to the socket that takes lines
+
+All of it is read only. It is in no listing of the folder that it is in, so that no copy and no search comes by it.
+"""
+
+from __future__ import annotations
+
+import errno
+import stat
+from datetime import datetime, timezone
+from typing import NamedTuple, Optional
+
+from .._errors import ElephantError
+from .._library import AT, VERSION
+from .._moments import LAST_MOMENT
+from .names import name_in, spelled
+from .records import Attributes, directory_key, file_key
+from .store import MountStore
+from .tree import Directory, Tree
+
+NAME = b".elephant"
+FIRST_INO = 1 << 48
+PARTS = (b"at", b"limits", b"restorable", b"socket", b"versions")
+Key = tuple[object, ...]
+
+
+class PastNode:
+    """What an inode number below `.elephant` stands for: a kind and its words."""
+
+    __slots__ = ("ino", "key", "lookups")
+
+    def __init__(self, ino: int, key: Key) -> None:
+        self.ino, self.key, self.lookups = ino, key, 0
+
+
+class Shown(NamedTuple):
+    """What `stat` tells of a node."""
+
+    mode: int
+    size: int
+    moment: int
+    owner: int
+    group: int
+
+
+class Source(NamedTuple):
+    """Where the store has the content of a node: the file, and how a read finds the version."""
+
+    file: int
+    path: bytes
+    tag: int
+    number: int
+
+
+def moment_of(name: bytes) -> int:
+    """Returns the moment that a name of the folder `at` spells: seconds since 1970, or a date and time; without a zone it is local."""
+    text = name.decode("ascii", "replace")
+    try:
+        if text.isdigit():
+            seconds = int(text)
+        else:
+            when = datetime.fromisoformat(text[:-1] + "+00:00" if text[-1:] in "Zz" else text)
+            seconds = int((when if when.tzinfo else when.astimezone()).timestamp())
+    except (ValueError, OverflowError):
+        raise FileNotFoundError(errno.ENOENT, f"{text} is no moment") from None
+    if not 0 <= seconds <= LAST_MOMENT:
+        raise FileNotFoundError(errno.ENOENT, f"{text} is no moment")
+    return seconds
+
+
+def text_of(moment: int) -> str:
+    return datetime.fromtimestamp(moment, timezone.utc).strftime("%Y-%m-%dT%H:%M:%SZ")
+
+
+class Past:
+    """Answers what is below `.elephant`."""
+
+    def __init__(self, store: MountStore, tree: Tree, socket: bytes) -> None:
+        self.store, self.tree, self.socket = store, tree, socket
+        self.by_ino: dict[int, PastNode] = {}
+        self._by_key: dict[Key, PastNode] = {}
+        self._next = FIRST_INO
+        self._dead: dict[int, dict[bytes, Key]] = {}
+        self._dead_paths: dict[int, bytes] = {}
+        self._dead_changes = -1
+        self.root = self.node("root")
+
+    def node(self, *key: object) -> PastNode:
+        found = self._by_key.get(key)
+        if found is None:
+            found = self._by_key[key] = self.by_ino[self._next] = PastNode(self._next, key)
+            self._next += 1
+        return found
+
+    def forget(self, node: PastNode) -> None:
+        """Drops a node that the kernel doesn't know any more."""
+        if node is not self.root and not node.lookups:
+            del self.by_ino[node.ino], self._by_key[node.key]
+
+    # Looking up.
+
+    def lookup(self, node: PastNode, name: bytes) -> PastNode:
+        """Returns what a name in a directory stands for. Raises FileNotFoundError, or Forgotten."""
+        kind, *words = node.key
+        if kind == "root":
+            found = self._part(name)
+        elif kind == "at":
+            found = self._lookup_at(words, name)
+        elif kind == "versions":
+            found = self._lookup_versions(words[0], name)
+        elif kind == "file":
+            found = self.node("version", words[0], _number(name))
+        elif kind == "restorable":
+            key = self._dead_names(words[0]).get(name)
+            found = self.node(*key) if key else None
+        else:
+            raise NotADirectoryError(errno.ENOTDIR, "")
+        if found is None:
+            raise FileNotFoundError(errno.ENOENT, "")
+        self.show(found)
+        return found
+
+    def _part(self, name: bytes) -> Optional[PastNode]:
+        if name not in PARTS:
+            return None
+        words: dict[bytes, Key] = {b"versions": (b"",), b"restorable": (0,)}
+        return self.node(name.decode(), *words.get(name, ()))
+
+    def _lookup_at(self, words: list[object], name: bytes) -> PastNode:
+        if not words:
+            moment = moment_of(name)
+            if moment > self.store.now:
+                raise FileNotFoundError(errno.ENOENT, "the moment is to come")
+            return self.node("at", moment, b"")
+        moment, path = words
+        assert isinstance(path, bytes)
+        return self.node("at", moment, path + b"/" + spelled(name))
+
+    def _directory(self, path: object) -> Directory:
+        directory = self.tree.root
+        assert isinstance(path, bytes)
+        for spelling in path.split(b"/")[1:]:
+            child = directory.children.get(name_in(spelling))
+            if not isinstance(child, Directory):
+                raise FileNotFoundError(errno.ENOENT, "")
+            directory = child
+        return directory
+
+    def _lookup_versions(self, path: object, name: bytes) -> Optional[PastNode]:
+        directory = self._directory(path)
+        child = directory.children.get(name)
+        if child is None:
+            return None
+        return self.node("versions" if isinstance(child, Directory) else "file", directory.path_of(name))
+
+    # Attributes and contents.
+
+    def source(self, node: PastNode) -> Source:
+        """Returns where the content of a file is. Raises IsADirectoryError, or Forgotten."""
+        kind, *words = node.key
+        if kind == "at" and words and words[1]:
+            path, tag, number = words[1], AT, words[0]
+        elif kind == "version":
+            path, tag, number = words[0], VERSION, words[1]
+        elif kind == "dead":
+            parent, spelling = words
+            assert isinstance(parent, int) and isinstance(spelling, bytes)
+            path, tag, number = self._dead_path(parent) + b"/" + spelling, AT, self.store.ends.get((parent, spelling), 0) - 1
+        else:
+            raise IsADirectoryError(errno.EISDIR, "")
+        assert isinstance(path, bytes) and isinstance(number, int)
+        row = self.store.stat_row(path, tag, max(number, 0))
+        if row.is_directory:
+            raise IsADirectoryError(errno.EISDIR, "")
+        return Source(row.id, path, tag, number)
+
+    def content(self, node: PastNode) -> bytes:
+        """Returns what a file holds."""
+        if node.key == ("limits",):
+            return self.limits()
+        if node.key == ("socket",):
+            return self.socket
+        _, path, tag, number = self.source(node)
+        return self.store.content(path, tag, number)
+
+    def show(self, node: PastNode) -> Shown:
+        """Returns the attributes of a node. Raises Forgotten for a version that was removed."""
+        kind, *words = node.key
+        now, root = int(self.store.now), self.tree.root.attributes
+        if kind in ("limits", "socket"):
+            content = self.content(node)
+            return Shown((stat.S_IFREG | 0o444) if kind == "limits" else (stat.S_IFLNK | 0o777), len(content), now, root.owner, root.group)
+        if kind == "dead":
+            return self._show_dead(node)
+        if kind in ("at", "version") and words and (kind == "version" or words[1]):
+            path, number = (words[1], words[0]) if kind == "at" else words
+            row = self.store.stat_row(path, AT if kind == "at" else VERSION, number)  # type: ignore[arg-type]
+            found = self.tree.records.of((directory_key if row.is_directory else file_key)(row.id))
+            moment = words[0] if row.is_directory else row.closed
+            return _shown(found, bool(row.is_directory), row.length, moment, root)
+        if kind == "file":
+            path = words[0]
+            assert isinstance(path, bytes)
+            return Shown(stat.S_IFDIR | 0o555, 0, self.store.stat_row(path).closed, root.owner, root.group)
+        if kind == "versions":
+            return _shown(self._directory(words[0]).attributes, True, 0, now, root)
+        return Shown(stat.S_IFDIR | 0o555, 0, int(words[0]) if kind == "at" and words else now, root.owner, root.group)  # type: ignore
+
+    def _show_dead(self, node: PastNode) -> Shown:
+        root = self.tree.root.attributes
+        try:
+            _, path, tag, number = self.source(node)
+            row = self.store.stat_row(path, tag, number)
+            return _shown(self.tree.records.of(file_key(row.id)), False, row.length, row.closed, root)
+        except (ElephantError, OSError):
+            # It was made and deleted within one second, or its directory had another name: no moment finds it, and undelete does.
+            return Shown(stat.S_IFREG | 0o444, 0, int(self.store.now), root.owner, root.group)
+
+    def is_over(self, node: PastNode) -> bool:
+        """Whether a node is of a tree whose moment is over: no directory of it will ever be another."""
+        return node.key[0] == "at" and len(node.key) > 1 and node.key[1] < self.store.now  # type: ignore[operator]
+
+    # Listing.
+
+    def names(self, node: PastNode) -> list[tuple[bytes, PastNode]]:
+        """Returns the names in a directory with what they stand for."""
+        kind, *words = node.key
+        if kind == "root":
+            return [(it, found) for it in PARTS for found in [self._part(it)] if found is not None]
+        if kind == "at" and words:
+            moment, path = words
+            assert isinstance(path, bytes) and isinstance(moment, int)
+            rows = self.store.names_in(path or b"/", AT, moment)
+            return [(name_in(it), self.node("at", moment, path + b"/" + it)) for it, _, _ in rows]
+        if kind == "versions":
+            directory = self._directory(words[0])
+            kinds = [(name, "versions" if isinstance(child, Directory) else "file") for name, child in directory.children.items()]
+            return [(name, self.node(it, directory.path_of(name))) for name, it in sorted(kinds)]
+        if kind == "file":
+            held = self.store.versions(words[0])  # type: ignore[arg-type]
+            return [(b"%d" % it.number, self.node("version", words[0], it.number)) for it in held]
+        if kind == "restorable":
+            return [(name, self.node(*key)) for name, key in sorted(self._dead_names(words[0]).items())]
+        return []
+
+    # Deleted names.
+
+    def _dead_path(self, number: object) -> bytes:
+        self._refresh_dead()
+        assert isinstance(number, int)
+        return self._dead_paths.get(number, b"")
+
+    def _dead_names(self, number: object) -> dict[bytes, Key]:
+        self._refresh_dead()
+        assert isinstance(number, int)
+        return self._dead.get(number, {})
+
+    def _refresh_dead(self) -> None:
+        """Lists the deleted names again if anything has changed: those of files that have no other name, by directory."""
+        if self._dead_changes == self.store.changes:
+            return
+        dead: dict[int, dict[bytes, Key]] = {}
+        places: dict[int, tuple[int, bytes]] = {0: (0, b"")}
+        for directory in self.tree.directories():
+            assert directory.parent is not None
+            places[directory.number] = directory.parent.number, directory.parent.path_of(directory.name).rpartition(b"/")[2]
+        rows = self.store.restorable()
+        for row in rows:
+            if row.is_directory:
+                places.setdefault(row.number, (row.parent, row.spelled))
+        for row in rows:
+            if not row.is_directory and row.number not in self.tree.files and row.parent in places:
+                dead.setdefault(row.parent, {})[name_in(row.spelled)] = ("dead", row.parent, row.spelled)
+                _add_above(dead, places, row.parent)
+        self._dead, self._dead_changes = dead, self.store.changes
+        self._dead_paths = {it: _path_in(places, it) for it in dead}
+
+    # Text.
+
+    def limits(self) -> bytes:
+        """Returns the text of the file `limits`."""
+        counts = self.store.counts
+        rows = [f"{name:<12}{used:>10}{counts.left(name):>10}\n" for name, used in counts.used.items()]
+        return ("limit             used      left\n" + "".join(rows)).encode()
+
+
+def _add_above(dead: dict[int, dict[bytes, Key]], places: dict[int, tuple[int, bytes]], number: int) -> None:
+    """Lists a directory that has deleted names in the one that it is in, and so on."""
+    while number:
+        parent, spelling = places[number]
+        names = dead.setdefault(parent, {})
+        if name_in(spelling) in names:
+            return
+        names[name_in(spelling)] = ("restorable", number)
+        number = parent
+        if number not in places:
+            return
+
+
+def _path_in(places: dict[int, tuple[int, bytes]], number: int) -> bytes:
+    names = []
+    while number and number in places:
+        number, spelling = places[number]
+        names.append(b"/" + spelling)
+    return b"".join(reversed(names))
+
+
+def _number(name: bytes) -> int:
+    if not name.isdigit() or name[:1] == b"0":
+        raise FileNotFoundError(errno.ENOENT, "")
+    return min(int(name), (1 << 64) - 1)
+
+
+def _shown(found: Optional[Attributes], is_directory: bool, size: int, moment: object, root: Attributes) -> Shown:
+    assert isinstance(moment, int)
+    if found is None:
+        return Shown(stat.S_IFDIR | 0o555 if is_directory else stat.S_IFREG | 0o444, size, moment, root.owner, root.group)
+    mode = found.mode if found.is_link else found.mode & ~0o222
+    return Shown(mode, size, moment, found.owner, found.group)

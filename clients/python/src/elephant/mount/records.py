@@ -1,0 +1,122 @@
+"""What the mount keeps of files and directories beside the store: modes, owners and times. It has no past.
+
+They are kept in the store's journal, as remarks:
+
+    # made f12 d3 100644 0 0 NS           file 12 was made in directory 3: mode (octal), owner, group, and the time
+    # names NS d3 d5 f12                  names in directories 3 and 5 changed, and with them file 12
+    # saved f12 NS                        the content of file 12 was written
+    # attr f12 100644 0 0 NS NS NS        all of file 12: mode, owner, group, times of access, content and attributes
+
+NS is a time in nanoseconds since 1970. A mode has the kind of the file too: a symbolic link is a file of the store whose content is
+where it leads.
+"""
+
+from __future__ import annotations
+
+import os
+import stat
+import time
+from typing import Optional
+
+_COARSE = 5  # CLOCK_REALTIME_COARSE
+FILE_MODE, DIRECTORY_MODE = stat.S_IFREG | 0o644, stat.S_IFDIR | 0o755
+
+
+class Attributes:
+    """The mode, owner, group and times (in nanoseconds) of a file or directory."""
+
+    __slots__ = ("mode", "owner", "group", "atime", "mtime", "ctime")
+
+    def __init__(self, mode: int, owner: int, group: int, atime: int, mtime: int, ctime: int) -> None:
+        self.mode, self.owner, self.group = mode, owner, group
+        self.atime, self.mtime, self.ctime = atime, mtime, ctime
+
+    def copy(self) -> Attributes:
+        return Attributes(self.mode, self.owner, self.group, self.atime, self.mtime, self.ctime)
+
+    @property
+    def is_link(self) -> bool:
+        return stat.S_ISLNK(self.mode)
+
+
+def now_ns() -> int:
+    """Returns the time as a disk's file system takes it, to some milliseconds.
+
+    A file that is made and written at once then has one time. If it had two, the kernel would drop the content that it has of it.
+    """
+    return time.clock_gettime_ns(_COARSE)
+
+
+def word_of(key: int) -> bytes:
+    """Returns the word of a key."""
+    return b"%b%d" % (b"d" if key & 1 else b"f", key >> 1)
+
+
+def key_of(word: bytes) -> int:
+    """Returns the key of a word: twice the number of a file, or one more than twice the number of a directory."""
+    return 2 * int(word[1:]) + (word[:1] == b"d")
+
+
+def file_key(number: int) -> int:
+    return 2 * number
+
+
+def directory_key(number: int) -> int:
+    return 2 * number + 1
+
+
+def made(key: int, parent: int, it: Attributes) -> bytes:
+    return b"# made %b %b %o %d %d %d" % (word_of(key), word_of(parent), it.mode, it.owner, it.group, it.ctime)
+
+
+def names_changed(now: int, *keys: int) -> bytes:
+    return b"# names %d %b" % (now, b" ".join(map(word_of, keys)))
+
+
+def saved(key: int, now: int) -> bytes:
+    return b"# saved %b %d" % (word_of(key), now)
+
+
+def whole(key: int, it: Attributes) -> bytes:
+    return b"# attr %b %o %d %d %d %d %d" % (word_of(key), it.mode, it.owner, it.group, it.atime, it.mtime, it.ctime)
+
+
+class Records:
+    """The attributes of all files and directories that ever were, by key."""
+
+    def __init__(self) -> None:
+        self.by_key: dict[int, Attributes] = {}
+
+    def apply(self, remark: bytes) -> None:
+        """Takes in a remark of the journal. One of another program is passed over."""
+        word, *rest = remark.split(b" ")
+        if word == b"made":
+            self._made(rest)
+        elif word == b"names":
+            self._names(int(rest[0]), rest[1:])
+        elif word == b"saved":
+            self.touch(key_of(rest[0]), int(rest[1]), content=True)
+        elif word == b"attr":
+            self.by_key[key_of(rest[0])] = Attributes(int(rest[1], 8), *map(int, rest[2:]))
+
+    def _made(self, rest: list[bytes]) -> None:
+        now = int(rest[5])
+        self.by_key[key_of(rest[0])] = Attributes(int(rest[2], 8), int(rest[3]), int(rest[4]), now, now, now)
+        self.touch(key_of(rest[1]), now, content=True)
+
+    def _names(self, now: int, words: list[bytes]) -> None:
+        for key in map(key_of, words):
+            self.touch(key, now, content=bool(key & 1))
+
+    def touch(self, key: int, now: int, content: bool) -> None:
+        """Sets the time of the attributes, and that of the content too."""
+        it = self.by_key.get(key)
+        if it is None and key & 1:
+            it = self.by_key[key] = Attributes(DIRECTORY_MODE, os.getuid(), os.getgid(), now, now, now)
+        if it is not None:
+            it.ctime = now
+            if content:
+                it.mtime = now
+
+    def of(self, key: int) -> Optional[Attributes]:
+        return self.by_key.get(key)

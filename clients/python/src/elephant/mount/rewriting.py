@@ -1,0 +1,115 @@
+"""Makes the journal of a mount anew if that is shorter: by a process of its own, a new file, and a rename."""
+
+from __future__ import annotations
+
+import os
+import subprocess
+import sys
+from pathlib import Path
+
+from .._errors import ElephantError
+from .._journal import HEADER, Journal
+from .log import Log
+from .operations import Operations
+from .shorter import changes_in
+
+# A journal is made anew if it is longer than this, and probably more than twice as long as the new one.
+LEAST_BYTES = 1 << 20
+# What the commands of a version take of a journal, about.
+COMMANDS_OF_VERSION = 160
+GROWTH = 1.2
+NOT_SHORTER = "it would be as long as before"
+SUFFIX = ".rewrite"
+SOURCE = str(Path(__file__).resolve().parent.parent.parent)
+
+
+class Rewriting:
+    """Makes the journal anew."""
+
+    def __init__(self, operations: Operations, log: Log, may_settle: bool) -> None:
+        self.operations, self.store, self.log = operations, operations.store, log
+        self._may_settle = may_settle
+        """Whether what is being written may become a version for this."""
+        self._tried = 0
+        _clear(self.store.journal_path + SUFFIX)
+
+    def _is_worth(self) -> bool:
+        with self.operations.lock:
+            size = self.store.journal_size
+            held = sum(it.blocks for it in self.store.usage()) * 512
+            least = 2 * held + COMMANDS_OF_VERSION * self.store.counts.used["versions"]
+            return size > max(LEAST_BYTES, 2 * least, self._tried * GROWTH) and not self.store.stopped
+
+    def run_if_worth(self) -> None:
+        """Makes the journal anew if it is likely to be half as long then."""
+        if self._is_worth():
+            self.run()
+
+    def run_and_tell(self) -> str:
+        """Makes the journal anew, and says how long it was and is."""
+        before = self.store.journal_size
+        fault = self.run()
+        return f"elephant-mount: {fault}\n" if fault else f"ok journal {before} {self.store.journal_size}\n"
+
+    def run(self) -> str:
+        """Makes the journal anew. Returns why that wasn't done, or an empty text."""
+        with self.operations.lock:
+            if self._may_settle:
+                self.operations.contents.settle_all()
+            if self.store.has_sessions or any(it.handle is not None for it in self.operations.contents.drafts):
+                return "files are being written; later"
+            path, size = self.store.journal_path, self.store.journal_size
+            self._tried = size
+        new = path + SUFFIX
+        try:
+            _clear(new)
+            fault = self._make(path, size, new)
+            if not fault:
+                fault = self._take(path, size, new)
+        except (ElephantError, OSError) as lack:
+            fault = str(lack)
+        _clear(new)
+        if fault and fault != NOT_SHORTER:
+            self.log.say(f"the journal isn't made anew: {fault}")
+        return fault
+
+    @staticmethod
+    def _make(path: str, size: int, new: str) -> str:
+        """Has another process make the new journal, while this one goes on. Returns what it lacks."""
+        words = [sys.executable, "-m", "elephant.mount.shorter", path, str(size), new]
+        environment = {**os.environ, "PYTHONPATH": os.pathsep.join(filter(None, [SOURCE, os.environ.get("PYTHONPATH", "")]))}
+        ran = subprocess.run(words, env=environment, stdin=subprocess.DEVNULL, capture_output=True, text=True, check=False)
+        return "" if ran.returncode == 0 and ran.stdout == "ok\n" else ran.stderr.strip() or f"it ended with {ran.returncode}"
+
+    def _take(self, path: str, size: int, new: str) -> str:
+        """Adds what came meanwhile to the new journal, and puts it in place of the old one. Returns why it doesn't."""
+        journal = Journal(new, False, 5.0)
+        try:
+            for _ in journal.changes():
+                pass
+            with self.operations.lock:
+                before = self.store.journal_size
+                if journal._size + before - size > 0.9 * before:
+                    return NOT_SHORTER
+                for change in changes_in(path, size, before, self.store.checksum_at(size)):
+                    journal.append(change)
+                journal.sync()
+                os.rename(new, path)
+                self.store.change_journal(journal)
+                journal = None  # type: ignore[assignment]
+            self.log.say(f"the journal was made anew: {before} bytes before, {self.store.journal_size} now")
+            return ""
+        finally:
+            if journal is not None:
+                journal.close()
+
+
+def _clear(path: str) -> None:
+    """Removes a journal that a mount, which was killed, didn't finish. A file that is no journal stays."""
+    try:
+        with open(path, "rb") as file:
+            found = file.read(len(HEADER))
+        if HEADER.startswith(found):
+            os.unlink(path)
+    except FileNotFoundError:
+        pass

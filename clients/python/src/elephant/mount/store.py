@@ -1,0 +1,428 @@
+"""The store of a mount: its journal also keeps attributes, its limits are counted, and a full disk stops changes and nothing else."""
+
+from __future__ import annotations
+
+import ctypes
+import os
+from collections.abc import Callable, Iterable, Sequence
+from typing import Any, NamedTuple, Optional
+
+from .._answers import Limits, Removable
+from .._core import Core
+from .._errors import ElephantError, JournalError, NoEntry
+from .._journal import Journal
+from .._library import NOW
+from .._moments import Moment
+from .._replay import Replay, write_lines
+from .._store import Store
+from .records import Records
+
+BLOCK = 4096
+# What a change takes of the journal at most, beside contents.
+MOST_CHANGE = 16_384
+RESERVE_STEP = 1 << 20
+# No line of a journal is longer.
+MOST_LINE = 8300
+_KEEP_SIZE = 1
+# Which counts a command takes one of.
+_TAKES = {
+    b"create": ("files", "names", "versions"), b"mkdir": ("directories", "names"), b"link": ("names",), b"rename": ("names",),
+    b"undelete": ("names",), b"open": ("handles",), b"revert": ("versions",), b"group make": ("groups",), b"group add": ("members",),
+    b"mark": ("marks",),
+}
+Remarks = Callable[[int], Sequence[bytes]]
+
+
+class NoSpace(Exception):
+    """The disk of the journal has no space for a change. Nothing has changed."""
+
+
+class NotKept(JournalError):
+    """The journal can't be written. The store has what was asked of it, and the handle is open."""
+
+    def __init__(self, subject: str, handle: int) -> None:
+        super().__init__(subject)
+        self.handle = handle
+
+
+class Departed(NamedTuple):
+    """A file without a name: the path that was its last, and the policy that it had."""
+
+    path: bytes
+    policy: str
+
+
+class Counts:
+    """How many of each limit the store has used. What is removed gives nothing back."""
+
+    def __init__(self, limits: Limits) -> None:
+        self.limits = limits
+        self.used = dict.fromkeys(limits._fields[1:], 0)
+
+    def take(self, words: bytes) -> None:
+        for name in _TAKES.get(words, ()):
+            self.used[name] += 1
+
+    def take_line(self, line: bytes) -> None:
+        """Counts the line of a command that was answered."""
+        words = line.split(b" ", 2)
+        self.take(b" ".join(words[:2]) if words[0] == b"group" else words[0])
+
+    def left(self, name: str) -> int:
+        return max(int(getattr(self.limits, name)) - self.used[name], 0)
+
+    def lacking(self, **wanted: int) -> Optional[str]:
+        """Returns a limit of which less is left, or None."""
+        return next((name for name, count in wanted.items() if self.left(name) < count), None)
+
+
+class _MountReplay(Replay):
+    """Runs a journal again, and takes in what the mount keeps in it."""
+
+    def __init__(self, core: Core, store: MountStore) -> None:
+        super().__init__(core)
+        self._store = store
+
+    def remark(self, text: bytes) -> None:
+        self._store.records.apply(text)
+
+    def _open_write(self, path: bytes) -> int:
+        self._store.counts.take(b"open")
+        return super()._open_write(path)
+
+    def _close(self, handle: int) -> int:
+        code = super()._close(handle)
+        if not code and self._core.number:
+            self._store.counts.used["versions"] += 1
+        return code
+
+    def _other(self, line: bytes) -> int:
+        word, *paths = line.split(b" ")
+        if word in (b"unlink", b"rename", b"rmdir"):
+            self._store.note_end(self._core, paths[0])
+        self._store.counts.take_line(line)
+        return super()._other(line)
+
+
+class MountStore(Store):
+    """A store in a journal, with the records of a mount.
+
+    Many commands may be one change of the journal. `is_stopped` says why the journal can't be written, if it can't: what was answered
+    before stays in memory, and is written as soon as that works again.
+    """
+
+    def __init__(self, journal: str, limits: Optional[Limits] = None) -> None:
+        self.records = Records()
+        self.counts = Counts(limits or Limits())
+        self.ends: dict[tuple[int, bytes], int] = {}
+        """For a name of a directory, by number, the last moment at which it ended."""
+        self.departed: dict[int, Departed] = {}
+        self.stopped = ""
+        """Why the journal can't be written, if it can't."""
+        self.changes = 0
+        self.unsynced = False
+        self._unkept: list[Sequence[bytes]] = []
+        self._reserved, self.pending = 0, 0
+        super().__init__(journal, limits=limits, clock="system", fsync="sync")
+        self.counts.used["versions"] += sum(it.version is not None for it in self.recovered.closed)
+
+    def _replay_in(self, core: Core) -> Replay:
+        return _MountReplay(core, self)
+
+    # The journal.
+
+    @property
+    def journal_size(self) -> int:
+        """The bytes of the journal."""
+        return self._journal._size if self._journal else 0
+
+    def _keep(self, *lines: bytes) -> None:
+        if not self._is_clock_kept:
+            lines = (b"clock %d" % self._now, *lines)
+            self._is_clock_kept = True
+        self.changes += 1
+        self.unsynced = True
+        if self._unkept:
+            self._unkept.append(lines)
+            raise JournalError(self.stopped)
+        try:
+            assert self._journal is not None
+            self._journal.append(lines)
+        except JournalError as fault:
+            self._unkept.append(lines)
+            self.stopped = str(fault)
+            raise
+
+    def _keep_close(self, handle: int, makes_version: bool) -> None:
+        self.counts.used["versions"] += makes_version
+        super()._keep_close(handle, makes_version)
+
+    def keep(self, *remarks: bytes) -> None:
+        """Keeps remarks alone."""
+        with self._lock:
+            self._begin()
+            self._keep(*remarks)
+
+    def retry(self) -> bool:
+        """Writes what the journal lacks, if that works again. Returns whether it lacks nothing."""
+        with self._lock:
+            try:
+                assert self._journal is not None
+                while self._unkept:
+                    self._journal.append(self._unkept[0])
+                    for line in self._unkept.pop(0):
+                        if line.startswith(b"# "):
+                            self.records.apply(line[2:])
+                self.reserve(0)
+            except (JournalError, NoSpace):
+                return False
+            self.stopped = ""
+            return True
+
+    def reserve(self, content: int) -> None:
+        """Makes sure that the disk has space for what is pending, a content of so many bytes, and a change. Raises NoSpace."""
+        assert self._journal is not None
+        wanted = self._journal._size + self.pending + 2 * content + content // 200 + MOST_CHANGE
+        if wanted <= self._reserved:
+            return
+        file = self._journal._file
+        for end in (wanted + RESERVE_STEP, wanted):
+            fault = _allocate(file, self._journal._size, end - self._journal._size)
+            if fault != ENOSPC:  # some file systems can't reserve: then the first append that fails stops the changes
+                self._reserved = end
+                return
+        raise NoSpace
+
+    def sync_journal(self) -> None:
+        """Has all that was answered on the disk."""
+        with self._lock:
+            journal = self._journal
+            self.unsynced = False
+        if journal is not None:
+            journal.sync()
+
+    def sync_journal_aside(self) -> None:
+        """The same, without the lock: other calls go on meanwhile."""
+        with self._lock:
+            assert self._journal is not None
+            file = os.dup(self._journal._file)
+            self.unsynced = False
+        try:
+            os.fdatasync(file)
+        finally:
+            os.close(file)
+
+    @property
+    def journal_path(self) -> str:
+        return self._journal.path if self._journal else ""
+
+    @property
+    def has_place(self) -> bool:
+        """Whether the journal is the file that its path names."""
+        with self._lock:
+            assert self._journal is not None
+            try:
+                return os.path.samestat(os.fstat(self._journal._file), os.stat(self._journal.path))
+            except OSError:
+                return False
+
+    @property
+    def has_sessions(self) -> bool:
+        """Whether lines have opened files to be written."""
+        return bool(self._writers)
+
+    def checksum_at(self, size: int) -> int:
+        """Returns the checksum of the journal up to a place, the end of a change."""
+        with open(self.journal_path, "rb") as file:
+            file.seek(max(size - MOST_LINE, 0))
+            last = file.read(size - file.tell()).rstrip(b"\n").rpartition(b"\n")[2]
+        return int(last[:8], 16)
+
+    def change_journal(self, journal: Journal) -> None:
+        """Goes on with another journal, which is at this one's place already."""
+        with self._lock:
+            old, path = self._journal, self.journal_path
+            assert old is not None
+            journal.path = path
+            self._journal, self._reserved = journal, 0
+            journal._sync_folder()
+            old.close()
+
+    def release_reserve(self) -> None:
+        """Gives back what was reserved and isn't used."""
+        with self._lock:
+            if self._journal is not None and self._journal._file >= 0:
+                os.ftruncate(self._journal._file, self._journal._size)
+                self._reserved = 0
+
+    # Commands.
+
+    def run(self, *commands: Sequence[bytes], remarks: Remarks = lambda _: ()) -> int:
+        """Runs commands, as one change with the remarks that a number gives: the one that the last command answers, and returns it."""
+        lines: list[bytes] = []
+        with self._lock, self._change as core:
+            number = 0
+            try:
+                for word, *words in commands:
+                    number = self._command(core, word, words)
+                    lines.append(b" ".join((word, *words)))
+                    self.counts.take(word)
+            except ElephantError:
+                if lines:
+                    self._keep(*lines)
+                raise
+            self._keep(*lines, *remarks(number))
+            return number
+
+    def _command(self, core: Core, word: bytes, words: Sequence[bytes]) -> int:
+        call = getattr(core.library, f"elephant_{word.decode()}")
+        parts: list[Any] = [part for it in words for part in (it, len(it))]
+        if word in (b"create", b"mkdir", b"undelete"):
+            return core.ask(call, words[0], *parts)
+        if word in (b"unlink", b"rename", b"rmdir"):
+            self.note_end(core, words[0])
+        core.do(call, words[0], *parts)
+        return 0
+
+    def note_end(self, core: Core, path: bytes) -> None:
+        """Notes that a name is about to end, and what its file was."""
+        parent, _, name = path.rpartition(b"/")
+        try:
+            row = core.stat(path, path)
+            if not row.is_directory:
+                self.departed[row.id] = Departed(path, core.policy_of(row).word)
+            self.ends[core.stat(parent, parent or b"/").id, name] = core.now()
+        except NoEntry:
+            pass  # the command itself is refused
+
+    # Contents.
+
+    def content(self, path: bytes, tag: int = NOW, number: int = 0) -> bytes:
+        """Returns the content of a version."""
+        with self._lock:
+            return self._begin().read(path, path, tag, number)
+
+    def stat_row(self, path: bytes, tag: int = NOW, number: int = 0) -> Any:
+        """Returns the row of a path, which the next call writes over."""
+        with self._lock:
+            return self._begin().stat(path, path, tag, number)
+
+    def write_draft(self, path: bytes, handle: Optional[int], content: bytes, is_changed: bool, remarks: Iterable[bytes]) -> int:
+        """Gives a file's draft a content, opening it if there is no handle. Returns the handle. The journal has it when this returns.
+
+        `is_changed`: the draft counts as changed, also if it has the same bytes as before.
+        """
+        lines: list[bytes] = []
+        with self._lock, self._change as core:
+            try:
+                if handle is None:
+                    handle = core.ask(core.library.elephant_open_write, path, path, len(path))
+                    lines.append(b"open write " + path)
+                    self.counts.take(b"open")
+                self._fill_draft(core, path, handle, content, is_changed, lines)
+            except ElephantError:
+                if lines:
+                    self._keep(*lines)
+                raise
+            try:
+                self._keep(*lines, *remarks)
+            except JournalError as fault:
+                raise NotKept(str(fault), handle) from fault
+            return handle
+
+    @staticmethod
+    def _fill_draft(core: Core, path: bytes, handle: int, content: bytes, is_changed: bool, lines: list[bytes]) -> None:
+        length = core.ask(core.library.elephant_read_handle, path, handle)
+        old = core.kept_bytes(core.library.elephant_take, length) if length else b""
+        for start, end in changed_parts(old, content, is_changed):
+            data = content[start:end]
+            core.do(core.library.elephant_write, path, handle, start, data, len(data))
+            lines.extend(write_lines(handle, start, data))
+        if len(content) < length:
+            core.do(core.library.elephant_truncate, path, handle, len(content))
+            lines.append(b"truncate %d %d" % (handle, len(content)))
+
+    def replace_content(self, path: bytes, source: bytes, content: bytes, is_fresh: bool, remarks: Iterable[bytes]) -> int:
+        """Makes a content the next version of a file, and ends the name of the file that it is from. Returns the version's number.
+
+        What the other file held is due at once if it is fresh, since all of it goes on in this one.
+        """
+        lines: list[bytes] = []
+        with self._lock, self._change as core:
+            try:
+                handle = core.ask(core.library.elephant_open_write, path, path, len(path))
+                lines.append(b"open write " + path)
+                self.counts.take(b"open")
+                self._fill_draft(core, path, handle, content, True, lines)
+                version = core.ask(core.library.elephant_close_handle, path, handle)
+                lines.append(b"close %d" % handle)
+                self.counts.used["versions"] += bool(version)
+                if is_fresh:
+                    core.do(core.library.elephant_policy, source, source, len(source), b"one", 3)
+                    lines.append(b"policy %b one" % source)
+                self.note_end(core, source)
+                core.do(core.library.elephant_unlink, source, source, len(source))
+                lines.append(b"unlink " + source)
+            except ElephantError:
+                if lines:
+                    self._keep(*lines)
+                raise
+            self._keep(*lines, *remarks)
+            return version
+
+    def close_draft(self, handle: int, remarks: Iterable[bytes] = ()) -> int:
+        """Closes a handle. Returns the number of the version that this made, or 0."""
+        with self._lock, self._change as core:
+            version = core.ask(core.library.elephant_close_handle, "", handle)
+            self.counts.used["versions"] += bool(version)
+            self._keep(b"close %d" % handle, *remarks)
+            return version
+
+    def open_reader(self, path: bytes, tag: int, number: int) -> int:
+        """Opens a handle that keeps a version from being removed."""
+        with self._lock, self._change as core:
+            handle = core.ask(core.library.elephant_open_read, path, path, len(path), tag, number)
+            self.counts.take(b"open")
+            self._keep(b"open read " + path + (b"", b"@%d", b"#%d")[tag] % ((number,) if tag else ()))
+            return handle
+
+    def first_due(self, most: int) -> list[Removable]:
+        """Returns the first versions that are due."""
+        with self._lock:
+            core = self._begin()
+            count = core.ask(core.library.elephant_due, "")
+            return [Removable(Moment(since), file, number) for since, file, number in core.keys(min(count, most))]
+
+    def names_in(self, path: bytes, tag: int = NOW, number: int = 0) -> list[tuple[bytes, bool, int]]:
+        """Returns the names in a directory as they are spelled, each with whether it is a directory's and the number."""
+        with self._lock:
+            core = self._begin()
+            rows = self._names(core, core.ask(core.library.elephant_list, path, path, len(path), tag, number))
+        return [(spelling, is_directory, target) for _, is_directory, target, spelling in rows]
+
+
+def changed_parts(old: bytes, new: bytes, is_changed: bool) -> list[tuple[int, int]]:
+    """Returns the parts of the new content that differ from the old one, in whole blocks. If none does, and the content counts as
+    changed, the first byte is one."""
+    parts: list[tuple[int, int]] = []
+    for start in range(0, len(new), BLOCK):
+        end = min(start + BLOCK, len(new))
+        if old[start:end] == new[start:end] and end <= len(old):
+            continue
+        if parts and parts[-1][1] == start:
+            parts[-1] = parts[-1][0], end
+        else:
+            parts.append((start, end))
+    if not parts and is_changed and new:
+        return [(0, 1)]
+    return parts
+
+
+ENOSPC = 28
+_libc = ctypes.CDLL(None, use_errno=True)
+_libc.fallocate.argtypes = [ctypes.c_int, ctypes.c_int, ctypes.c_int64, ctypes.c_int64]
+
+
+def _allocate(file: int, offset: int, length: int) -> int:
+    """Has the disk keep space for a file beyond its end. Returns 0, or why it doesn't."""
+    return 0 if _libc.fallocate(file, _KEEP_SIZE, offset, length) == 0 else ctypes.get_errno()

@@ -1,0 +1,267 @@
+"""The names of a mount as they are now: what the kernel knows by an inode number, and what the store knows by the number of a file.
+
+The tree holds what the store holds. A command is asked of the store first, and then done here.
+"""
+
+from __future__ import annotations
+
+import errno
+import os
+import stat
+from collections.abc import Iterator
+from typing import Any, Optional, Union
+
+from .names import MOST_NAMES, TooLong, name_in, shown, spelled
+from .records import DIRECTORY_MODE, FILE_MODE, Attributes, directory_key, file_key, saved
+from .store import MountStore
+
+ROOT = 1
+# Inode numbers that no file and no directory has by its own number.
+FIRST_SPARE = 1 << 40
+
+
+class Node:
+    """What an inode number stands for. `entry` is what the kernel was last told of it, if that still holds."""
+
+    __slots__ = ("ino", "number", "attributes", "lookups", "entry")
+
+    def __init__(self, ino: int, number: int, attributes: Attributes) -> None:
+        self.ino, self.number, self.attributes = ino, number, attributes
+        self.lookups = 0
+        self.entry: Any = None
+
+
+class File(Node):
+    """A file or a symbolic link.
+
+    While something of it is written and isn't a version, `draft` is the content. `handle` is then the store's handle, if the store
+    has been given some of the draft.
+    """
+
+    __slots__ = ("names", "size", "version", "draft", "is_unsaved", "handle", "opens", "writers", "pending", "info", "born")
+
+    def __init__(self, ino: int, number: int, attributes: Attributes, size: int = 0, version: int = 1) -> None:
+        super().__init__(ino, number, attributes)
+        self.names: dict[tuple[Directory, bytes], None] = {}
+        self.size, self.version = size, version
+        self.draft: Optional[bytearray] = None
+        self.is_unsaved = False
+        self.handle: Optional[int] = None
+        self.opens = self.writers = self.pending = 0
+        self.born = 0.0
+        """When it was made, by the monotonic clock, if this mount made it."""
+        self.info: Any = None
+        """What the kernel is told when it opens the file to read it."""
+
+    @property
+    def path(self) -> bytes:
+        """One of its paths as the store spells it."""
+        for directory, name in self.names:
+            return directory.path_of(name)
+        raise OSError(errno.ESTALE, "the file has no name any more")
+
+    @property
+    def is_regular(self) -> bool:
+        return stat.S_ISREG(self.attributes.mode)
+
+
+class Directory(Node):
+    """A directory with its names."""
+
+    __slots__ = ("parent", "name", "path", "depth", "children", "subdirectories", "odd", "left", "ended")
+
+    def __init__(self, ino: int, number: int, attributes: Attributes) -> None:
+        super().__init__(ino, number, attributes)
+        self.parent: Optional[Directory] = None
+        self.name, self.path, self.depth = b"", b"", 0
+        self.children: dict[bytes, Union[File, Directory]] = {}
+        self.subdirectories = 0
+        self.odd: dict[bytes, bytes] = {}
+        """Names whose spelling isn't the one that the mount makes: a line made them."""
+        self.left: dict[bytes, tuple[Union[File, int], float]] = {}
+        """Names that ended just now, each with the time, and the file that has another name now, or the number of one that has none."""
+        self.ended = False
+
+    def path_of(self, name: bytes) -> bytes:
+        """Returns the path of a name in it as the store spells it."""
+        return self.path + b"/" + (self.odd.get(name) or spelled(name))
+
+    def path_of_new(self, name: bytes) -> bytes:
+        """Returns the path of a name that is to be made. Raises TooLong."""
+        if self.depth >= MOST_NAMES:
+            raise TooLong(f"the path of {shown(name)} has more than {MOST_NAMES} names")
+        if self.ended:
+            raise FileNotFoundError(errno.ENOENT, "the directory was removed")
+        return self.path_of(name)
+
+
+class Tree:
+    """All files and directories that have a name or that the kernel still knows."""
+
+    def __init__(self, store: MountStore) -> None:
+        self.store, self.records = store, store.records
+        self.by_ino: dict[int, Node] = {}
+        self.files: dict[int, File] = {}
+        """By the number of the store's file, those that have a name."""
+        self._spare = FIRST_SPARE
+        self.root = self.new_directory(0)
+        for _ in self.refresh():
+            pass
+
+    # Making.
+
+    def _ino_of(self, key: int) -> int:
+        """Returns the inode number of a new node: that of its number, unless another node has it."""
+        if key not in self.by_ino:
+            return key
+        self._spare += 1
+        return self._spare
+
+    def attributes_of(self, key: int, mode: int, now: int) -> Attributes:
+        """Returns the attributes of a file or directory, which it gets if it has none."""
+        found = self.records.of(key)
+        if found is None:
+            found = self.records.by_key[key] = Attributes(mode, os.getuid(), os.getgid(), now, now, now)
+        return found
+
+    def new_file(self, number: int, size: int = 0, version: int = 1, closed: int = 0) -> File:
+        key = file_key(number)
+        node = File(self._ino_of(key), number, self.attributes_of(key, FILE_MODE, closed * 10**9), size, version)
+        self.by_ino[node.ino] = self.files[number] = node
+        return node
+
+    def new_directory(self, number: int) -> Directory:
+        key = directory_key(number)
+        node = Directory(self._ino_of(key), number, self.attributes_of(key, DIRECTORY_MODE, self.store.now * 10**9))
+        self.by_ino[node.ino] = node
+        return node
+
+    # Names.
+
+    def add(self, parent: Directory, name: bytes, node: Union[File, Directory], spelling: Optional[bytes] = None) -> None:
+        """Gives a node a name."""
+        parent.children[name] = node
+        parent.entry = node.entry = None
+        if spelling is not None and spelled(name) != spelling:
+            parent.odd[name] = spelling
+        if isinstance(node, File):
+            node.names[parent, name] = None
+            self.files[node.number] = node
+            return
+        parent.subdirectories += 1
+        node.parent, node.name = parent, name
+        self._set_path(node)
+
+    def _set_path(self, node: Directory) -> None:
+        parent = node.parent
+        assert parent is not None
+        node.path, node.depth = parent.path_of(node.name), parent.depth + 1
+        for child in node.children.values():
+            if isinstance(child, Directory):
+                self._set_path(child)
+
+    def remove(self, parent: Directory, name: bytes) -> Union[File, Directory]:
+        """Takes a name away. A node without names is let go when the kernel has forgotten it."""
+        node = parent.children.pop(name)
+        parent.odd.pop(name, None)
+        parent.entry = node.entry = None
+        if isinstance(node, Directory):
+            parent.subdirectories -= 1
+            node.parent, node.ended = None, True
+            self.let_go(node)
+            return node
+        del node.names[parent, name]
+        if not node.names:
+            if self.files.get(node.number) is node:
+                del self.files[node.number]
+            self.let_go(node)
+        return node
+
+    def move(self, parent: Directory, name: bytes, new_parent: Directory, new_name: bytes) -> None:
+        """Gives what has a name another one, which is free, in its place."""
+        node = parent.children[name]
+        if isinstance(node, File):
+            self.add(new_parent, new_name, node)
+            self.remove(parent, name)
+            return
+        del parent.children[name]
+        parent.odd.pop(name, None)
+        parent.subdirectories -= 1
+        parent.entry = None
+        self.add(new_parent, new_name, node)
+
+    def let_go(self, node: Node) -> None:
+        """Drops a node that has no name, no opening, and that the kernel doesn't know."""
+        has_name = bool(node.names) or node.opens > 0 if isinstance(node, File) else not getattr(node, "ended", False)
+        if not has_name and not node.lookups:
+            self.by_ino.pop(node.ino, None)
+
+    def give_number(self, node: File, number: int) -> None:
+        """Has a node stand for another of the store's files. Its own attributes go with it."""
+        if self.files.get(node.number) is node:
+            del self.files[node.number]
+        node.number = number
+        self.files[number] = node
+        self.records.by_key[file_key(number)] = node.attributes
+
+    def height(self, node: Union[File, Directory]) -> int:
+        """Returns how many names the longest path has that begins with a node's own."""
+        below = node.children.values() if isinstance(node, Directory) else ()
+        return 1 + max((self.height(it) for it in below), default=0)
+
+    # After commands that weren't the kernel's.
+
+    def refresh(self) -> Iterator[tuple[Node, Optional[bytes]]]:
+        """Makes the tree that of the store. Yields what differs: a directory and a name in it, or a file whose content is another."""
+        known = {0: self.root}
+        for directory in self.directories():
+            known[directory.number] = directory
+        yield from self._refresh(self.root, known)
+
+    def directories(self, above: Optional[Directory] = None) -> Iterator[Directory]:
+        """Yields all directories but the root, each after the one that it is in."""
+        for child in (above or self.root).children.values():
+            if isinstance(child, Directory):
+                yield child
+                yield from self.directories(child)
+
+    def _refresh(self, directory: Directory, known: dict[int, Directory]) -> Iterator[tuple[Node, Optional[bytes]]]:
+        rows = {name_in(it[0]): it for it in self.store.names_in(directory.path or b"/")}
+        for name, node in list(directory.children.items()):
+            row = rows.get(name)
+            if row is None or (isinstance(node, Directory), node.number) != row[1:]:
+                self.remove(directory, name)
+                yield directory, name
+        for name, (spelling, is_directory, number) in rows.items():
+            if name not in directory.children:
+                node = known.get(number) or self.new_directory(number) if is_directory else self._file(directory, spelling, number)
+                if isinstance(node, Directory):
+                    node.ended = False
+                    if node.parent is not None and node.parent.children.get(node.name) is node:
+                        self.remove(node.parent, node.name)
+                        node.ended = False
+                self.add(directory, name, node, spelling)
+                yield directory, name
+            child = directory.children[name]
+            if isinstance(child, Directory):
+                yield from self._refresh(child, known)
+            elif self._is_changed(child):
+                yield child, None
+
+    def _file(self, directory: Directory, spelling: bytes, number: int) -> File:
+        found = self.files.get(number)
+        if found is not None:
+            return found
+        row = self.store.stat_row(directory.path + b"/" + spelling)
+        return self.new_file(number, row.length, row.version, row.closed)
+
+    def _is_changed(self, node: File) -> bool:
+        if node.draft is not None:
+            return False
+        row = self.store.stat_row(node.path)
+        if row.version == node.version:
+            return False
+        node.size, node.version, node.entry = row.length, row.version, None
+        node.attributes.mtime = node.attributes.ctime = now = row.closed * 10**9
+        self.store.keep(saved(file_key(node.number), now))
+        return True

@@ -1,0 +1,250 @@
+"""Random calls to two folders, of which one is a mount: both have to give the same answers, errors and bytes."""
+
+import ctypes
+import errno
+import os
+import random
+import stat
+
+NAMES = ["a", "b", "c", "d e", "\u00e4", "f%", "g@h", "x#y", "~z"]
+MOST_OPEN = 12
+MOST_BYTES = 1_048_576
+NO_REPLACE = 1
+_libc = ctypes.CDLL(None, use_errno=True)
+FLAGS = [
+    os.O_RDONLY, os.O_WRONLY, os.O_RDWR, os.O_RDWR | os.O_CREAT, os.O_WRONLY | os.O_CREAT | os.O_TRUNC, os.O_RDWR | os.O_CREAT | os.O_EXCL,
+    os.O_WRONLY | os.O_APPEND | os.O_CREAT, os.O_RDWR | os.O_TRUNC, os.O_RDONLY | os.O_DIRECTORY, os.O_WRONLY | os.O_CREAT | os.O_NOFOLLOW,
+]
+
+
+def rename_no_replace(old, new):
+    if _libc.renameat2(-100, os.fsencode(old), -100, os.fsencode(new), NO_REPLACE):
+        raise OSError(ctypes.get_errno(), "")
+
+
+class Folder:
+    """One of the two folders, with what is open in it."""
+
+    def __init__(self, top):
+        self.top, self.files = str(top), []
+
+    def path(self, words):
+        return os.path.join(self.top, *words)
+
+    def call(self, name, words):
+        """Makes a call, and returns what it answers: a value, or an error's name."""
+        try:
+            return getattr(self, name)(*words)
+        except OSError as fault:
+            return errno.errorcode.get(fault.errno, fault.errno)
+
+    def open(self, path, flags, mode):
+        file = os.open(self.path(path), flags, mode)
+        if len(self.files) >= MOST_OPEN:
+            os.close(self.files.pop(0))
+        self.files.append(file)
+        return "opened"
+
+    def close(self, at):
+        os.close(self.files.pop(at))
+
+    def duplicate(self, at):
+        self.files.append(os.dup(self.files[at]))
+
+    def read(self, at, size):
+        return os.read(self.files[at], size)
+
+    def pread(self, at, size, offset):
+        return os.pread(self.files[at], size, offset)
+
+    def write(self, at, data):
+        return os.write(self.files[at], data)
+
+    def pwrite(self, at, data, offset):
+        return os.pwrite(self.files[at], data, offset)
+
+    def seek(self, at, offset, whence):
+        if stat.S_ISDIR(os.fstat(self.files[at]).st_mode):
+            return "a directory's places are its file system's own"
+        return os.lseek(self.files[at], offset, whence)
+
+    def ftruncate(self, at, size):
+        return os.ftruncate(self.files[at], size)
+
+    def fsync(self, at):
+        return os.fsync(self.files[at])
+
+    def fstat(self, at):
+        return self.told(os.fstat(self.files[at]))
+
+    def fchmod(self, at, mode):
+        return os.fchmod(self.files[at], mode)
+
+    def truncate(self, path, size):
+        return os.truncate(self.path(path), size)
+
+    def stat(self, path):
+        return self.told(os.stat(self.path(path)))
+
+    def lstat(self, path):
+        return self.told(os.lstat(self.path(path)))
+
+    @staticmethod
+    def told(found):
+        """What both folders have to tell alike of a file. A directory's size is its file system's own."""
+        size = 0 if stat.S_ISDIR(found.st_mode) else found.st_size
+        return oct(found.st_mode), found.st_nlink, size, found.st_uid, found.st_gid
+
+    def unlink(self, path):
+        return os.unlink(self.path(path))
+
+    def mkdir(self, path, mode):
+        return os.mkdir(self.path(path), mode)
+
+    def rmdir(self, path):
+        return os.rmdir(self.path(path))
+
+    def rename(self, path, new):
+        return os.rename(self.path(path), self.path(new))
+
+    def rename_new(self, path, new):
+        return rename_no_replace(self.path(path), self.path(new))
+
+    def link(self, path, new):
+        return os.link(self.path(path), self.path(new))
+
+    def symlink(self, target, path):
+        return os.symlink(target, self.path(path))
+
+    def readlink(self, path):
+        return os.readlink(self.path(path))
+
+    def chmod(self, path, mode):
+        return os.chmod(self.path(path), mode)
+
+    def utime(self, path, times):
+        os.utime(self.path(path), ns=times)
+        found = os.stat(self.path(path))
+        return found.st_atime_ns, found.st_mtime_ns
+
+    def list(self, path):
+        return sorted(os.listdir(self.path(path)))
+
+    def whole(self, path):
+        with open(self.path(path), "rb") as file:
+            return file.read()
+
+    def replace(self, path, data, mode):
+        """Saves as an editor does that writes a new file and renames it over the old one."""
+        new = [*path[:-1], ".new"]
+        with open(self.path(new), "wb") as file:
+            file.write(data)
+        os.chmod(self.path(new), mode)
+        os.rename(self.path(new), self.path(path))
+
+    def move_away(self, path, data):
+        """Saves as an editor does that renames the old file first."""
+        old = [*path[:-1], path[-1] + "~"]
+        os.rename(self.path(path), self.path(old))
+        with open(self.path(path), "wb") as file:
+            file.write(data)
+        if len(data) % 2:
+            os.unlink(self.path(old))
+
+    def tree(self, path=()):
+        """Everything that is in the folder."""
+        rows = []
+        for name in self.list(path):
+            here = [*path, name]
+            found = self.lstat(here)
+            rows.append((here, found))
+            if found[0].startswith("0o4"):
+                rows += self.tree(here)
+            elif found[0].startswith("0o12"):
+                rows.append(self.readlink(here))
+            else:
+                rows.append(self.whole(here))
+        return rows
+
+    def end(self):
+        while self.files:
+            os.close(self.files.pop())
+
+
+class Calls:
+    """Draws calls."""
+
+    def __init__(self, seed):
+        self.random = random.Random(seed)
+
+    def path(self):
+        return self.random.choices(NAMES[:5] if self.random.random() < 0.7 else NAMES, k=self.random.choice([1, 1, 1, 2, 2, 3]))
+
+    def data(self):
+        size = self.random.choice([0, 1, 3, 10, 100, 511, 512, 513, 4096, 5000, 20_000, 70_000, self.random.randrange(200_000)])
+        return self.random.randbytes(size)
+
+    def offset(self):
+        return self.random.choice([0, 0, 1, 100, 4095, 4096, 10_000, self.random.randrange(300_000), MOST_BYTES - 10, MOST_BYTES])
+
+    def draw(self, open_files):
+        """Returns the name and the words of a call."""
+        it, of_files = self.random, ["read", "pread", "write", "pwrite", "seek", "ftruncate", "fsync", "fstat", "fchmod", "close", "duplicate"]
+        if open_files and it.random() < 0.5:
+            return self.draw_of_file(it.choice(of_files), it.randrange(open_files))
+        name = it.choice([
+            "open", "open", "open", "open", "truncate", "stat", "lstat", "unlink", "mkdir", "rmdir", "rename", "rename", "rename_new", "link",
+            "symlink", "readlink", "chmod", "utime", "list", "whole", "replace", "replace", "move_away",
+        ])
+        mode = it.choice([0o600, 0o644, 0o664, 0o755, 0o400, 0o4755, 0o000])
+        words = {
+            "open": lambda: [self.path(), it.choice(FLAGS), mode], "truncate": lambda: [self.path(), self.offset()],
+            "mkdir": lambda: [self.path(), mode | 0o700], "rename": lambda: [self.path(), self.path()],
+            "rename_new": lambda: [self.path(), self.path()], "link": lambda: [self.path(), self.path()],
+            "symlink": lambda: ["/".join(self.path()), self.path()], "chmod": lambda: [self.path(), mode],
+            "utime": lambda: [self.path(), (it.randrange(2**60), it.randrange(2**60))],
+            "list": lambda: [self.path() if it.random() < 0.5 else []], "replace": lambda: [self.path(), self.data(), mode],
+            "move_away": lambda: [self.path(), self.data()],
+        }
+        return name, words.get(name, lambda: [self.path()])()
+
+    def draw_of_file(self, name, at):
+        it = self.random
+        words = {
+            "read": lambda: [it.choice([1, 100, 5000, 300_000])], "pread": lambda: [it.choice([1, 100, 5000, 300_000]), self.offset()],
+            "write": lambda: [self.data()], "pwrite": lambda: [self.data(), self.offset()],
+            "seek": lambda: [it.choice([0, 5, 5000, -3]), it.choice([0, 1, 2])], "ftruncate": lambda: [self.offset()],
+            "fchmod": lambda: [it.choice([0o600, 0o644, 0o444])],
+        }
+        return name, [at, *words.get(name, list)()]
+
+
+def compare(mounted, ordinary, seed, count, say=print):
+    """Makes calls in both folders, and returns how many were answered otherwise."""
+    left, right, calls, differing = Folder(mounted), Folder(ordinary), Calls(seed), 0
+    for number in range(count):
+        name, words = calls.draw(len(left.files))
+        answers = [it.call(name, words) for it in (left, right)]
+        if answers[0] != answers[1] or len(left.files) != len(right.files):
+            differing += 1
+            say(f"call {number} of seed {seed}: {name} {str(words)[:200]}: the mount {_short(answers[0])}, the folder {_short(answers[1])}")
+            if len(left.files) != len(right.files) or differing > 20:
+                break
+        if number % 500 == 499 and left.tree() != right.tree():
+            differing += 1
+            say(f"after call {number} of seed {seed} the trees differ: {_difference(left.tree(), right.tree())}")
+            break
+    left.end()
+    right.end()
+    if left.tree() != right.tree():
+        differing += 1
+        say(f"at the end of seed {seed} the trees differ: {_difference(left.tree(), right.tree())}")
+    return differing
+
+
+def _short(answer):
+    return repr(answer)[:160]
+
+
+def _difference(left, right):
+    return next((f"{_short(a)} and {_short(b)}" for a, b in zip(left, right) if a != b), f"{len(left)} and {len(right)} rows")

@@ -1,0 +1,44 @@
+"""Types docs/MOUNT.md: runs the commands of its blocks of `console`, and compares what they print with the page."""
+
+import os
+import re
+import subprocess
+from pathlib import Path
+
+import mounts
+from building import ROOT
+
+MARK = "== command"
+
+
+def commands_in(page):
+    """Returns the commands of a page, each with what it prints."""
+    found = []
+    for block in re.findall(r"^```console\n(.*?)^```$", page, re.M | re.S):
+        for command, output in re.findall(r"^\$ (.*)\n((?:(?!\$ ).*\n)*)", block, re.M):
+            found.append((command, output))
+    return found
+
+
+def page(room, asked):
+    """Types the page. Returns how many commands it has, and how many print something else."""
+    words = commands_in((ROOT / "docs" / "MOUNT.md").read_text(encoding="utf-8"))
+    command = Path(room, "bin", "elephant-mount")
+    command.parent.mkdir()
+    command.write_text(f'#!/bin/sh\nexec {mounts.python()} -m elephant.mount "$@"\n')
+    command.chmod(0o755)
+    environment = {**mounts.Mounted.environment(), "PATH": f"{command.parent}:{os.environ['PATH']}"}
+    script = "".join(f"{typed}\necho '{MARK} {number}'\n" for number, (typed, _) in enumerate(words))
+    try:
+        ran = subprocess.run(["bash"], input=script, cwd=room, env=environment, capture_output=True, text=True, timeout=300, check=False)
+    finally:
+        subprocess.run(["fusermount3", "-u", "-z", Path(room, "letters")], capture_output=True, check=False)
+    printed = re.split(rf"^{MARK} \d+\n", ran.stdout, flags=re.M)[:-1]
+    wrong = abs(len(printed) - len(words))
+    for (typed, wanted), output in zip(words, printed):
+        if output != wanted:
+            wrong += 1
+            print(f"mount: docs/MOUNT.md: {typed!r} prints {output!r}, and not {wanted!r}")
+    if wrong:
+        print(f"mount: docs/MOUNT.md: {ran.stderr[-500:]}")
+    return len(words), wrong

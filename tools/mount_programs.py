@@ -1,0 +1,221 @@
+"""What others' programs do in a mounted folder. Each check returns how many things it looked at, and what was wrong."""
+
+import hashlib
+import io
+import os
+import subprocess
+import tarfile
+import time
+from pathlib import Path
+
+from building import ROOT
+
+GIT = {
+    "GIT_AUTHOR_NAME": "a", "GIT_AUTHOR_EMAIL": "a@b", "GIT_COMMITTER_NAME": "a", "GIT_COMMITTER_EMAIL": "a@b", "GIT_CONFIG_NOSYSTEM": "1",
+    "GIT_CONFIG_GLOBAL": "/dev/null",
+}
+# What the short form replays of the history.
+SHORT_PATHS, SHORT_COMMITS, LONG_COMMITS = ["docs", "tools", "examples", "include"], 8, 100
+STRESSORS = [
+    "access", "chdir", "chmod", "dentry", "dir", "dirdeep", "dup", "fcntl", "flock", "fstat", "getdent", "link", "lockf", "locka", "mknod",
+    "open", "rename", "sendfile", "symlink", "touch", "utime",
+]
+# A store makes 10,000 directories and 100,000 files ever, and these would make more at once.
+LESS = {"dir": ["--dir-dirs", "64"], "dentry": ["--dentries", "64"], "dirdeep": ["--dirdeep-inodes", "500"]}
+
+
+def run(words, folder, **options):
+    """Runs a program, and returns its output. Raises CalledProcessError with what it said."""
+    ran = subprocess.run(
+        words, cwd=folder, env={**os.environ, **GIT}, capture_output=True, check=False, timeout=900, stdin=None if options else subprocess.DEVNULL,
+        **options,
+    )
+    if ran.returncode:
+        raise OSError(f"{' '.join(map(str, words))[:200]} ended with {ran.returncode}: {(ran.stdout + ran.stderr).decode(errors='replace')[-600:]}")
+    return ran.stdout
+
+
+def sums_of(folder):
+    """Returns a sum of each file below a folder, without git's own, by path, with whether it may be run. A link's is where it leads."""
+    sums = {}
+    for place, folders, names in os.walk(folder):
+        if place == str(folder) and ".git" in folders:
+            folders.remove(".git")
+        links = [it for it in folders if os.path.islink(os.path.join(place, it))]
+        for path in (Path(place, it) for it in [*names, *links]):
+            is_link = path.is_symlink()
+            content = os.readlink(path).encode() if is_link else path.read_bytes()
+            may_run = not is_link and bool(path.stat().st_mode & 0o100)
+            sums[str(path.relative_to(folder))] = hashlib.sha256(content).hexdigest(), may_run
+    return sums
+
+
+def sums_of_commit(commit, paths):
+    """Returns the same of a commit of this repository."""
+    sums, archive = {}, run(["git", "archive", commit, "--", *paths], ROOT)
+    with tarfile.open(fileobj=io.BytesIO(archive)) as files:
+        for it in files:
+            if it.isfile():
+                sums[it.name] = hashlib.sha256(files.extractfile(it).read()).hexdigest(), bool(it.mode & 0o100)
+            elif it.issym():
+                sums[it.name] = hashlib.sha256(it.linkname.encode()).hexdigest(), False
+    return sums
+
+
+def next_second():
+    """Waits until another second has begun, and returns the one before."""
+    now = int(time.time())
+    while int(time.time()) == now:
+        time.sleep(0.01)
+    return now
+
+
+def paths_in(commit, paths):
+    """Returns those of the paths that a commit has."""
+    found = run(["git", "ls-tree", "--name-only", commit], ROOT).decode().split()
+    return [it for it in paths if it in found] if paths else found
+
+
+def git(mounted, is_long, say):
+    """Replays commits in a repository in the mount, and reads each back from the past."""
+    paths, count = ([], LONG_COMMITS) if is_long else (SHORT_PATHS, SHORT_COMMITS)
+    commits = run(["git", "rev-list", "--first-parent", "--reverse", f"-{count}", "HEAD"], ROOT).decode().split()
+    if len(commits) < 2:
+        return 1, ["this is no repository with a history"]
+    top, wrong, moments = mounted.folder / "repository", [], []
+    run(["git", "init", "-q", str(top)], mounted.folder)
+    run(["git", "config", "gc.auto", "0"], top)
+    run(["tar", "-x"], top, input=run(["git", "archive", commits[0], "--", *paths_in(commits[0], paths)], ROOT))
+    for before, commit in zip([None, *commits], commits):
+        if before is not None:
+            patch = run(["git", "diff", "--binary", before, commit, "--", *paths], ROOT)
+            if patch:
+                run(["git", "apply", "--whitespace=nowarn", "-"], top, input=patch)
+        run(["git", "add", "-A"], top)
+        run(["git", "commit", "-q", "--allow-empty", "-m", commit], top)
+        moments.append(next_second())
+    wrong += [f"git fsck says {it!r}" for it in run(["git", "fsck", "--full", "--strict"], top).decode().splitlines() if "notice" not in it]
+    wrong += [f"git status says {it!r}" for it in run(["git", "status", "--porcelain"], top).decode().splitlines()[:3]]
+    for commit, moment in zip(commits, moments):
+        wanted = sums_of_commit(commit, paths_in(commit, paths))
+        found = sums_of(mounted.folder / ".elephant" / "at" / time.strftime("%Y-%m-%dT%H:%M:%SZ", time.gmtime(moment)) / "repository")
+        if found != wanted:
+            differing = sorted(it for it in {*found, *wanted} if found.get(it) != wanted.get(it))
+            wrong.append(f"{commit} reads otherwise in the past: {differing[:5]}")
+    say(f"git: {len(commits)} commits of {len(wanted)} files replayed and read back")
+    return 2 + len(commits), wrong
+
+
+def sqlite(mounted, is_long, say):
+    """Keeps databases with a journal and with a write-ahead log, and reads one as it was."""
+    wrong, rows = [], 4000 if is_long else 1000
+    for mode in ("delete", "truncate", "persist", "wal"):
+        base = mounted.folder / f"{mode}.db"
+        script = f"""pragma journal_mode={mode}; create table t(a integer primary key, b);
+            with recursive c(i) as (select 1 union all select i+1 from c where i<{rows}) insert into t select i, hex(randomblob(40)) from c;
+            begin; update t set b = 'x' where a % 7 = 0; commit; begin; delete from t where a % 2; rollback; pragma integrity_check;
+            select count(*), sum(b = 'x') from t;"""
+        told = run(["sqlite3", base, script], mounted.folder).decode().split()
+        if told != [mode, "ok", f"{rows}|{rows // 7}"]:
+            wrong.append(f"sqlite3 with {mode} prints {told}")
+    moment = next_second()
+    run(["sqlite3", mounted.folder / "delete.db", "delete from t;"], mounted.folder)
+    old = mounted.folder / ".elephant" / "at" / str(moment) / "delete.db"
+    told = run(["sqlite3", f"file:{old}?immutable=1", "pragma integrity_check; select count(*) from t;"], mounted.folder).decode().split()
+    if told != ["ok", str(rows)]:
+        wrong.append(f"the database of {moment} says {told}")
+    return 5, wrong
+
+
+def copies(mounted, is_long, say):
+    """Copies folders there and back, by tar, rsync and cp."""
+    wrong, source = [], ROOT / ("crates" if is_long else "docs")
+    wanted = sums_of(source)
+    for name, words in {
+        "tar": ["sh", "-c", 'mkdir tar && tar cf - -C "$1" . | tar xf - -C tar && mkdir "$2" && tar cf - -C tar . | tar xf - -C "$2"'],
+        "rsync": ["sh", "-c", 'rsync -a "$1"/ rsync/ && rsync -a --checksum rsync/ "$2"/ && test -z "$(rsync -ai "$1"/ rsync/)"'],
+        "cp": ["sh", "-c", 'cp -a "$1" cp && cp -a cp "$2"'],
+    }.items():
+        back = mounted.folder.parent / name
+        run([*words, "sh", source, back], mounted.folder)
+        for place in (mounted.folder / name, back):
+            if sums_of(place) != wanted:
+                wrong.append(f"{name} has other files in {place}")
+    next_second()
+    run(["rm", "-r", "tar", "rsync", "cp"], mounted.folder)
+    if os.listdir(mounted.folder):
+        wrong.append("rm -r leaves something")
+    return 7, wrong
+
+
+def fio(mounted, is_long, say):
+    """Has fio verify what it wrote, in several ways."""
+    wrong, jobs = [], {
+        "random": "--rw=randwrite --bs=4k", "mixed": "--rw=randrw --bs=1k-16k", "sequential": "--rw=write --bs=64k --fsync=4",
+        "mapped": "--rw=randwrite --bs=4k --ioengine=mmap", "direct": "--rw=randwrite --bs=4k --direct=1", "many": "--rw=randwrite --nrfiles=20",
+    }
+    size = "16m" if is_long else "2m"
+    for name, words in jobs.items():
+        words = ["fio", f"--name={name}", f"--directory={mounted.folder}", f"--size={size}", "--filesize=512k", "--verify=crc32c", "--do_verify=1",
+                 "--fallocate=none", *(["--nrfiles=4"] if "nrfiles" not in words else []), *words.split()]
+        try:
+            run(words, mounted.folder.parent)
+        except OSError as fault:
+            wrong.append(str(fault))
+    return len(jobs), wrong
+
+
+def stress(mounted, is_long, say):
+    """Runs the stressors of files that stress-ng has, those that don't want files of more than 1 MiB or names of more than 64 bytes."""
+    wrong, place = [], mounted.folder / "stress"
+    stressors = STRESSORS if is_long else STRESSORS[::2]
+    for name in stressors:
+        mounted.renew()
+        place.mkdir()
+        # Two of fcntl take away each other's folder.
+        words = ["stress-ng", "--temp-path", place, f"--{name}", "1" if name == "fcntl" else "2", f"--{name}-ops", "100" if is_long else "20",
+                 "--timeout", "20" if is_long else "3", "--verify", "--quiet", *LESS.get(name, [])]
+        try:
+            run(words, mounted.folder.parent)
+        except OSError as fault:
+            wrong.append(str(fault))
+        subprocess.run(["rm", "-rf", place], check=False)
+    return len(stressors), wrong
+
+
+def _versions(mounted, name):
+    folder = mounted.folder / ".elephant" / "versions" / name
+    return {int(it.name): it.read_bytes() for it in folder.iterdir()}
+
+
+def editors(mounted, is_long, say):
+    """Saves in each of the three ways, and looks whether the name's past goes on."""
+    top, wrong = mounted.folder, []
+    ways = {
+        "over": lambda path, text: path.write_text(text),
+        "renamed": lambda path, text: (path.with_name("new").write_text(text), path.with_name("new").rename(path)),
+        "moved": lambda path, text: (path.rename(f"{path}~"), path.write_text(text), Path(f"{path}~").unlink()),
+        "ed": lambda path, text: run(["ed", "-s", path], top, input=f"1,$c\n{text}.\nw\nq\n".encode()),
+        "sed": lambda path, text: run(["sed", "-i", f"1c{text[:-1]}", path], top),
+    }
+    all_texts = {name: [f"{number} by {name}\n" for number in range(4)] for name in ways}
+    for name, texts in all_texts.items():
+        (top / name).write_text(texts[0])
+    time.sleep(2.1)  # a file that is renamed as soon as it was made was made to be renamed
+    for name, save in ways.items():
+        path, texts = top / name, all_texts[name]
+        for text in texts[1:]:
+            save(path, text)
+        # What a session writes over a file may be several versions, if it opens the file more than once.
+        held = [it.decode() for _, it in sorted(_versions(mounted, name).items()) if it]
+        if [it for at, it in enumerate(held) if held[at - 1:at] != [it]] != texts:
+            wrong.append(f"the versions of {name} are {held}")
+        if path.read_text() != texts[-1]:
+            wrong.append(f"{name} has {path.read_text()!r}")
+    told = mounted.ask("undo", "over")
+    if (top / "over").read_text() != "2 by over\n" or not told.startswith("ok version "):
+        wrong.append(f"undo says {told!r} and leaves {(top / 'over').read_text()!r}")
+    return 2 * len(ways) + 1, wrong
+
+
+CHECKS = [git, sqlite, copies, fio, stress, editors]
