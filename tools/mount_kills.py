@@ -18,13 +18,15 @@ def _is_begun(folder, name):
 
 def faults_after(folder, notes):
     """Returns which files don't have what they had when their last save ended, or what one that was begun would have made of them."""
-    wanted = {}
+    wanted, deleted = {}, {}
     for line in notes.read_text(encoding="ascii").splitlines():
         word, name, number = line.split()
         allowed = wanted.setdefault(name, [None])
         if word == "begin":
-            allowed.append(number)
+            # A file that is made soon after its name was deleted goes on with the past: until its save ends, it is as before the deletion.
+            allowed += [number, *deleted.get(name, [])]
         else:
+            deleted[name] = [it for it in allowed if it not in (None, "gone")] if number == "gone" else []
             allowed[:] = [number]
     faults = []
     for name, allowed in wanted.items():
@@ -68,7 +70,10 @@ def kills(room, asked):
 
 
 def _tear(journal):
-    """Puts a begun change at the end of a journal, as a machine leaves it that stops within a write."""
+    """Puts a begun change at the end of a journal, as a machine leaves it that stops within a write. The kill may have torn it already."""
+    *_, last, behind = journal.read_bytes().split(b"\n")
+    if behind or last[9:11] not in (b"= ", b"> "):
+        return
     with open(journal, "ab") as file:
         file.write(b"0badc0de < create /never\n0badc0de - open wri")
 
