@@ -6,10 +6,11 @@ import os
 import random
 import stat
 
-NAMES = ["a", "b", "c", "d e", "\u00e4", "f%", "g@h", "x#y", "~z"]
+NAMES = ["a", "b", "c", "d e", "\u00e4", "f%", "g@h", "x#y", "~z", "\udcff\x01"]
+ATTRIBUTES = ["user.a", "user.b", "user.\u00e4", "trusted", "nobody.a"]
 MOST_OPEN = 12
 MOST_BYTES = 1_048_576
-NO_REPLACE = 1
+NO_REPLACE, EXCHANGE = 1, 2
 _libc = ctypes.CDLL(None, use_errno=True)
 FLAGS = [
     os.O_RDONLY, os.O_WRONLY, os.O_RDWR, os.O_RDWR | os.O_CREAT, os.O_WRONLY | os.O_CREAT | os.O_TRUNC, os.O_RDWR | os.O_CREAT | os.O_EXCL,
@@ -17,8 +18,8 @@ FLAGS = [
 ]
 
 
-def rename_no_replace(old, new):
-    if _libc.renameat2(-100, os.fsencode(old), -100, os.fsencode(new), NO_REPLACE):
+def rename_how(old, new, flags):
+    if _libc.renameat2(-100, os.fsencode(old), -100, os.fsencode(new), flags):
         raise OSError(ctypes.get_errno(), "")
 
 
@@ -108,7 +109,22 @@ class Folder:
         return os.rename(self.path(path), self.path(new))
 
     def rename_new(self, path, new):
-        return rename_no_replace(self.path(path), self.path(new))
+        return rename_how(self.path(path), self.path(new), NO_REPLACE)
+
+    def exchange(self, path, new):
+        return rename_how(self.path(path), self.path(new), EXCHANGE)
+
+    def set_attribute(self, path, name, value, flags):
+        return os.setxattr(self.path(path), name, value, flags, follow_symlinks=False)
+
+    def get_attribute(self, path, name):
+        return os.getxattr(self.path(path), name, follow_symlinks=False)
+
+    def remove_attribute(self, path, name):
+        return os.removexattr(self.path(path), name, follow_symlinks=False)
+
+    def attributes(self, path):
+        return {it: os.getxattr(self.path(path), it) for it in sorted(os.listxattr(self.path(path))) if it.startswith("user.")}
 
     def link(self, path, new):
         return os.link(self.path(path), self.path(new))
@@ -157,7 +173,7 @@ class Folder:
         for name in self.list(path):
             here = [*path, name]
             found = self.lstat(here)
-            rows.append((here, found))
+            rows.append((here, found, found[0].startswith("0o12") or self.attributes(here)))
             if found[0].startswith("0o4"):
                 rows += self.tree(here)
             elif found[0].startswith("0o12"):
@@ -194,7 +210,8 @@ class Calls:
             return self.draw_of_file(it.choice(of_files), it.randrange(open_files))
         name = it.choice([
             "open", "open", "open", "open", "truncate", "stat", "lstat", "unlink", "mkdir", "rmdir", "rename", "rename", "rename_new", "link",
-            "symlink", "readlink", "chmod", "utime", "list", "whole", "replace", "replace", "move_away",
+            "symlink", "readlink", "chmod", "utime", "list", "whole", "replace", "replace", "move_away", "exchange", "set_attribute",
+            "set_attribute", "get_attribute", "remove_attribute", "attributes",
         ])
         mode = it.choice([0o600, 0o644, 0o664, 0o755, 0o400, 0o4755, 0o000])
         words = {
@@ -204,7 +221,11 @@ class Calls:
             "symlink": lambda: ["/".join(self.path()), self.path()], "chmod": lambda: [self.path(), mode],
             "utime": lambda: [self.path(), (it.randrange(2**60), it.randrange(2**60))],
             "list": lambda: [self.path() if it.random() < 0.5 else []], "replace": lambda: [self.path(), self.data(), mode],
-            "move_away": lambda: [self.path(), self.data()],
+            "move_away": lambda: [self.path(), self.data()], "exchange": lambda: [self.path(), self.path()],
+            "set_attribute": lambda: [
+                self.path(), it.choice(ATTRIBUTES), it.randbytes(it.choice([0, 1, 300])), it.choice([0, 0, 0, os.XATTR_CREATE, os.XATTR_REPLACE]),
+            ],
+            "get_attribute": lambda: [self.path(), it.choice(ATTRIBUTES)], "remove_attribute": lambda: [self.path(), it.choice(ATTRIBUTES)],
         }
         return name, words.get(name, lambda: [self.path()])()
 

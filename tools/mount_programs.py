@@ -14,8 +14,8 @@ GIT = {
     "GIT_AUTHOR_NAME": "a", "GIT_AUTHOR_EMAIL": "a@b", "GIT_COMMITTER_NAME": "a", "GIT_COMMITTER_EMAIL": "a@b", "GIT_CONFIG_NOSYSTEM": "1",
     "GIT_CONFIG_GLOBAL": "/dev/null",
 }
-# What the short form replays of the history.
-SHORT_PATHS, SHORT_COMMITS, LONG_COMMITS = ["docs", "tools", "examples", "include"], 8, 100
+# What the short form replays of the history. The long one replays all of it.
+SHORT_PATHS, SHORT_COMMITS = ["docs", "tools", "examples", "include"], 8
 STRESSORS = [
     "access", "chdir", "chmod", "dentry", "dir", "dirdeep", "dup", "fcntl", "flock", "fstat", "getdent", "link", "lockf", "locka", "mknod",
     "open", "rename", "sendfile", "symlink", "touch", "utime",
@@ -38,15 +38,21 @@ def run(words, folder, **options):
 def sums_of(folder):
     """Returns a sum of each file below a folder, without git's own, by path, with whether it may be run. A link's is where it leads."""
     sums = {}
-    for place, folders, names in os.walk(folder):
-        if place == str(folder) and ".git" in folders:
-            folders.remove(".git")
-        links = [it for it in folders if os.path.islink(os.path.join(place, it))]
-        for path in (Path(place, it) for it in [*names, *links]):
-            is_link = path.is_symlink()
-            content = os.readlink(path).encode() if is_link else path.read_bytes()
-            may_run = not is_link and bool(path.stat().st_mode & 0o100)
-            sums[str(path.relative_to(folder))] = hashlib.sha256(content).hexdigest(), may_run
+
+    def add(place, above):
+        with os.scandir(place) as rows:
+            for row in rows:
+                if row.is_symlink():
+                    sums[above + row.name] = hashlib.sha256(os.readlink(row.path).encode()).hexdigest(), False
+                elif row.is_dir():
+                    if above or row.name != ".git":
+                        add(row.path, f"{above}{row.name}/")
+                else:
+                    with open(row.path, "rb", buffering=0) as file:
+                        may_run = bool(os.fstat(file.fileno()).st_mode & 0o100)
+                        sums[above + row.name] = hashlib.sha256(file.readall()).hexdigest(), may_run
+
+    add(folder, "")
     return sums
 
 
@@ -76,15 +82,12 @@ def paths_in(commit, paths):
     return [it for it in paths if it in found] if paths else found
 
 
-def git(mounted, is_long, say):
-    """Replays commits in a repository in the mount, and reads each back from the past."""
-    paths, count = ([], LONG_COMMITS) if is_long else (SHORT_PATHS, SHORT_COMMITS)
-    commits = run(["git", "rev-list", "--first-parent", "--reverse", f"-{count}", "HEAD"], ROOT).decode().split()
-    if len(commits) < 2:
-        return 1, ["this is no repository with a history"]
-    top, wrong, moments = mounted.folder / "repository", [], []
-    run(["git", "init", "-q", str(top)], mounted.folder)
-    run(["git", "config", "gc.auto", "0"], top)
+def replay(top, commits, paths):
+    """Commits again in a repository what the commits of this one have, each in a second of its own.
+
+    Returns of each the last moment of that second, a sum over all its files, and how many these are.
+    """
+    rows = []
     run(["tar", "-x"], top, input=run(["git", "archive", commits[0], "--", *paths_in(commits[0], paths)], ROOT))
     for before, commit in zip([None, *commits], commits):
         if before is not None:
@@ -93,16 +96,41 @@ def git(mounted, is_long, say):
                 run(["git", "apply", "--whitespace=nowarn", "-"], top, input=patch)
         run(["git", "add", "-A"], top)
         run(["git", "commit", "-q", "--allow-empty", "-m", commit], top)
-        moments.append(next_second())
+        moment = int(time.time())
+        wanted = sums_of_commit(commit, paths_in(commit, paths))
+        if int(time.time()) == moment:
+            next_second()
+        rows.append((moment, sum_of_all(wanted), len(wanted)))
+    return rows
+
+
+def sum_of_all(sums):
+    """Returns one sum for those of many files."""
+    return hashlib.sha256(repr(sorted(sums.items())).encode()).hexdigest()
+
+
+def git(mounted, is_long, say):
+    """Replays commits in a repository in the mount, and reads each back from the past."""
+    paths, count = ([], []) if is_long else (SHORT_PATHS, [f"-{SHORT_COMMITS}"])
+    commits = run(["git", "rev-list", "--first-parent", "--reverse", *count, "HEAD"], ROOT).decode().split()
+    if len(commits) < 2:
+        return 1, ["this is no repository with a history"]
+    top, wrong, began = mounted.folder / "repository", [], time.monotonic()
+    run(["git", "init", "-q", str(top)], mounted.folder)
+    run(["git", "config", "gc.auto", "0"], top)
+    rows = replay(top, commits, paths)
+    replayed = time.monotonic() - began
     wrong += [f"git fsck says {it!r}" for it in run(["git", "fsck", "--full", "--strict"], top).decode().splitlines() if "notice" not in it]
     wrong += [f"git status says {it!r}" for it in run(["git", "status", "--porcelain"], top).decode().splitlines()[:3]]
-    for commit, moment in zip(commits, moments):
-        wanted = sums_of_commit(commit, paths_in(commit, paths))
+    for commit, (moment, wanted, _) in zip(commits, rows):
         found = sums_of(mounted.folder / ".elephant" / "at" / time.strftime("%Y-%m-%dT%H:%M:%SZ", time.gmtime(moment)) / "repository")
-        if found != wanted:
-            differing = sorted(it for it in {*found, *wanted} if found.get(it) != wanted.get(it))
+        if sum_of_all(found) != wanted:
+            sums = sums_of_commit(commit, paths_in(commit, paths))
+            differing = sorted(it for it in {*found, *sums} if found.get(it) != sums.get(it))
             wrong.append(f"{commit} reads otherwise in the past: {differing[:5]}")
-    say(f"git: {len(commits)} commits of {len(wanted)} files replayed and read back")
+    count, read = sum(files for *_, files in rows), time.monotonic() - began - replayed
+    say(f"git: {len(commits)} commits of up to {max(files for *_, files in rows)} files replayed in {replayed:.0f} seconds; {count} files of all"
+        f" of them read back from the past in {read:.0f} seconds; a journal of {mounted.journal.stat().st_size / 1e6:.0f} MB")
     return 2 + len(commits), wrong
 
 

@@ -6,6 +6,7 @@ import shutil
 import signal
 import subprocess
 import sys
+import tempfile
 import time
 from pathlib import Path
 
@@ -19,6 +20,12 @@ START, END = 120, 120
 
 class Fault(Exception):
     """A mount did not start, or did not end."""
+
+
+def heed_signals():
+    """Has a mount heed the signals that end it. A shell script has the commands that it starts with `&` ignore SIGINT."""
+    for number in (signal.SIGINT, signal.SIGTERM, signal.SIGHUP):
+        signal.signal(number, signal.SIG_DFL)
 
 
 @functools.lru_cache(maxsize=None)
@@ -37,6 +44,11 @@ def lacking(programs):
     if python() is None:
         missing.append("pyfuse3")
     lines = [f"there is no {name}: '{INSTALL} {packages[name]}' installs it" for name in missing]
+    with tempfile.NamedTemporaryFile() as file:
+        try:
+            os.setxattr(file.name, "user.a", b"")
+        except OSError as fault:
+            lines.append(f"files in {tempfile.gettempdir()} take no extended attributes ({fault.strerror}): set TMPDIR to a folder of a disk")
     if not os.path.exists("/dev/fuse"):
         lines.append("there is no /dev/fuse: FUSE is not in this kernel, or not let into this container")
     return lines
@@ -69,7 +81,7 @@ class Mounted:
     def start(self):
         words = self.words(self.folder, "--journal", self.journal, *self.options)
         with open(self.log_path, "ab") as log:
-            self.process = subprocess.Popen(words, env=self.environment(), stdin=subprocess.DEVNULL, stderr=log)
+            self.process = subprocess.Popen(words, env=self.environment(), stdin=subprocess.DEVNULL, stderr=log, preexec_fn=heed_signals)
         deadline = time.monotonic() + START
         while not os.path.ismount(self.folder):
             if self.process.poll() is not None or time.monotonic() > deadline:

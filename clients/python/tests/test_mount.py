@@ -85,8 +85,8 @@ class Mounted:
                     below(node, path + b"/" + name)
                     continue
                 it = node.attributes
-                rows.append((path + b"/" + name, it.mode, it.owner, it.group, it.atime, it.mtime, it.ctime, len(node.names),
-                             self.contents.whole(node)))
+                rows.append((path + b"/" + name, it.mode, it.owner, it.group, it.atime, it.mtime, it.ctime, it.extended or {},
+                             len(node.names), self.contents.whole(node)))
 
         below(self.top, b"")
         return rows
@@ -141,7 +141,8 @@ class Attribute(unittest.TestCase):
         self.assertEqual((records.of(1).mtime, records.of(1).ctime), (13, 13))
         records.apply(whole(file_key(3), Attributes(0o120777, 1, 2, 3, 4, 5))[2:])
         self.assertTrue(records.of(file_key(3)).is_link)
-        records.apply(b"of another program")
+        for remark in (b"of another program", b"saved by me", b"names", b"made f1", b"attr f1 x 1 2 3", b"xattr f1 1 zz =zz"):
+            records.apply(remark)
 
     def test_parts(self):
         block = stores.BLOCK
@@ -260,7 +261,7 @@ class Saving(Case):
         folder = it.naming.mkdir(it.top, b"d", FOLDER, 0, 0)
         it.save(b"x", b"", folder)
         for words, number in (((b"f", b"g", NO_REPLACE), errno.EEXIST), ((b"f", b"d"), errno.EISDIR), ((b"d", b"f"), errno.ENOTDIR),
-                              ((b"none", b"f"), errno.ENOENT), ((b"f", b"g", 2), errno.EINVAL)):
+                              ((b"none", b"f"), errno.ENOENT), ((b"f", b"g", 4), errno.EINVAL)):
             with self.assertRaises(OSError) as caught:
                 it.rename(*words)
             self.assertEqual(caught.exception.errno, number)

@@ -5,7 +5,7 @@ use ele_core::Core;
 use ele_history::History;
 use ele_model::{ByteList, Event, FileId, Handle, Limits, NoMemory, Reply, Step, Stop};
 use ele_script::read_event;
-use ele_shared_history::{Seat, Shared};
+use ele_shared_history::{Seat, Shared, TryStop};
 use std::alloc::Global;
 use std::sync::Wait;
 use std::test::Fail;
@@ -13,9 +13,9 @@ use std::test::Fail;
 /// What a call is answered.
 pub type Answer = Result<Reply, Stop>;
 
-/// What four calls are answered, how many events a seat is told then, and how many the closed
-/// history has.
-type Filled = ([Answer; 4], [u64; 2]);
+/// What four calls are answered, whether an attempt then says that the history is full, how many
+/// events a seat is told, and how many the closed history has.
+type Filled = ([Answer; 4], bool, [u64; 2]);
 
 /// How many events each of three seats is told, which of four attempts are answered, and how many
 /// events a seat is told then.
@@ -66,8 +66,9 @@ pub fn ask<C: Step, R: Wait>(
     Ok(shared.call(rt, seat, event))
 }
 
-/// What a history of three events answers three calls of one seat and one of another; how many
-/// events this one is told, and how many the closed history has.
+/// What a history of three events answers three calls of one seat and one of another; whether an
+/// attempt of this one is told that it is full; how many events it is told, and how many the closed
+/// history has.
 fn fill<C: Step, R: Wait>(rt: &R, alloc: Global, joins: bool) -> Result<Filled, Fail> {
     let (shared, mut one, mut other) = opened::<C>(alloc, 3)?;
     let answers = [
@@ -76,16 +77,18 @@ fn fill<C: Step, R: Wait>(rt: &R, alloc: Global, joins: bool) -> Result<Filled, 
         ask(rt, alloc, &shared, &mut one, "write 1 0 61")?,
         ask(rt, alloc, &shared, &mut other, "usage")?,
     ];
+    let attempt = shared.try_call(&mut other, Event::UsageAll);
     if joins {
         shared.join(&mut other, one);
     }
     let told = shared.published(&mut other);
-    Ok((answers, [told, shared.close(other)?.count()]))
+    let is_full = matches!(attempt, Err(TryStop::HistoryFull));
+    Ok((answers, is_full, [told, shared.close(other)?.count()]))
 }
 
 /// How many events the seats of a fresh history are told, and one that is split off; which of four
 /// attempts of the first one are answered; and how many events the second one is told then, which
-/// never called.
+/// never called, and of which it was asked before whether it agrees with the first.
 fn attempt_four<C: Step>(alloc: Global) -> Result<Attempts, Fail> {
     let (shared, mut one, mut other) = opened::<C>(alloc, 1_000)?;
     let mut third = shared.split(&mut one)?;
@@ -100,6 +103,7 @@ fn attempt_four<C: Step>(alloc: Global) -> Result<Attempts, Fail> {
         shared.try_call(&mut one, Event::UsageAll).is_ok(),
         shared.try_call(&mut one, Event::UsageAll).is_ok(),
     ];
+    shared.agree(&mut one, &mut other);
     Ok((fresh, answered, shared.published(&mut other)))
 }
 
@@ -141,8 +145,8 @@ fn three_answers() -> [Answer; 4] {
 #[test]
 fn seats_are_answered_in_turn(rt: HostRuntime) -> Result<(), Fail> {
     let (full, joined, attempts, read) = call_in_turn::<Core, _>(&rt, rt.alloc())?;
-    assert_eq!(rt; full, (three_answers(), [3, 3]));
-    assert_eq!(rt; joined, (three_answers(), [3, 3]));
+    assert_eq!(rt; full, (three_answers(), true, [3, 3]));
+    assert_eq!(rt; joined, (three_answers(), true, [3, 3]));
     assert_eq!(rt; attempts, ([0, 0, 0], [true; 4], 4));
     let bytes = ByteList::from_vec(Vec::from_slice(rt.alloc(), b"ab")?);
     assert_eq!(rt; read, Ok(Reply::Bytes(bytes)));

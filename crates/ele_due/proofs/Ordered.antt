@@ -10,9 +10,11 @@ use Rattle.std.proofs.lemmas.List.Kept.{IsStrictlySortedBy-filter}
 use Rattle.std.proofs.lemmas.List.Sums.{take_while-cons}
 use Rattle.std.proofs.lemmas.Bool.Decides.{nat_tests}
 use Rattle.ele_due.specs.declared.key.Key.{Key}
-use Rattle.ele_due.specs.Key.{key_cmp, is_ripe_by}
+use Rattle.ele_due.specs.Key.{key_cmp}
+use Rattle.ele_due.specs.Queue.{is_ripe_by}
 use Rattle.ele_due.specs.HasKey.{has_key}
-use Rattle.ele_due.specs.InOrder.{IsInOrder, in_order}
+use Rattle.ele_due.specs.InOrder.{in_order}
+use Rattle.ele_due.specs.Queue.{IsInOrder}
 use Rattle.ele_due.proofs.Keys.{key_total, key_exact, less-ripe}
 use Rattle.ele_due.proofs.Members.{has_key-in_order, has_key-filter}
 

@@ -1,13 +1,8 @@
 -- Lists of keys in order, each key once.
 use Rattle.std.specs.Prelude.{List, [], fold}
-use Rattle.std.specs.List.Sorted.{IsStrictlySortedBy}
 use Rattle.std.specs.BTreeSet.{insert_key}
 use Rattle.ele_due.specs.declared.key.Key.{Key}
 use Rattle.ele_due.specs.Key.{key_cmp}
-
--- each key is below those after it
-abbrev pub IsInOrder : List Key → Type 0
-IsInOrder keys = IsStrictlySortedBy key_cmp keys
 
 -- each key at its place in the order
 abbrev pub in_order : List Key → List Key

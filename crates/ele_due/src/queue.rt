@@ -4,8 +4,9 @@ ghost use Rattle.std.specs.Prelude.{◌≡◌, ◌<◌, ◌^◌, ◌↔◌, ◌|
 ghost use Rattle.std.specs.BTreeSet.{insert_key};
 ghost use Rattle.std.specs.Set.{remove_key};
 ghost use Rattle.ele_due.specs.declared.key.Key.{Key};
-ghost use Rattle.ele_due.specs.Key.{key_cmp, is_key, is_ripe_by, if_ripe};
-ghost use Rattle.ele_due.specs.InOrder.{IsInOrder, in_order};
+ghost use Rattle.ele_due.specs.Key.{key_cmp, is_key};
+ghost use Rattle.ele_due.specs.Queue.{is_ripe_by, if_ripe, IsInOrder};
+ghost use Rattle.ele_due.specs.InOrder.{in_order};
 ghost use Rattle.ele_due.specs.HasKey.{has_key};
 
 use crate::key::Key;
@@ -24,7 +25,7 @@ pub struct DueQueue {
 impl Model for DueQueue {
     ghost use Rattle.std.specs.Prelude.{List};
     ghost use Rattle.ele_due.specs.declared.key.Key.{Key};
-    ghost use Rattle.ele_due.specs.InOrder.{IsInOrder};
+    ghost use Rattle.ele_due.specs.Queue.{IsInOrder};
 
     ghost Value = { List Key };
 

@@ -22,8 +22,9 @@ pub use ele_core::Copied;
 use ele_core::Core;
 use ele_history::History;
 use ele_model::{Event, Limits, Moment, NoMemory, PassEnd, Refusal, Reply, Source, TaggedPath};
+use ele_output::{Printer, WriteFault};
 pub use ele_runs::Said;
-use ele_script::{LineFault, Printer, WriteFault};
+use ele_script::LineFault;
 use std::alloc::Global;
 use std::marker::Model;
 
@@ -222,6 +223,6 @@ fn write_said(said: &Said, keeper: &Keeper, answer: &mut Vec<u8>) -> Result<(), 
     ensures { OnOk result (IsTold (state_of keeper.now) said.now answer.new.items) }
 {
     let mut printer = Printer::new(answer);
-    put_said(said, keeper, &mut printer)?;
+    put_said(said, keeper, &mut printer);
     printer.hand_over()
 }

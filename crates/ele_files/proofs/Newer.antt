@@ -9,8 +9,8 @@ use Rattle.ele_files.specs.Held.{Held}
 use Rattle.ele_files.specs.declared.files.newer.Beside.{Beside}
 use Rattle.ele_files.proofs.Words.{VersionInfo, map}
 use Rattle.ele_model.specs.Neighbours.{next_closing}
-use Rattle.ele_policy.specs.Ripe.{case_of}
-use Rattle.ele_policy.specs.Rule.{rule_in}
+use Rattle.ele_policy.specs.RipeCase.{case_of}
+use Rattle.ele_policy.specs.RipeCase.{rule_in}
 
 module _ (s : Store) (files : List File) (a : AllSessions) (kept : Keeps s files a) (file : ℕ) where
   abbrev versions : List VersionRow

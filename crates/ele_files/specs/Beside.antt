@@ -8,7 +8,7 @@ use Rattle.ele_model.specs.Neighbours.{case_in, is_newer_of}
 use Rattle.ele_model.specs.Told.{info_of}
 use Rattle.ele_model.specs.World.{policy_of}
 use Rattle.ele_policy.specs.declared.rule.Rule.{Rule}
-use Rattle.ele_policy.specs.Rule.{rule_in}
+use Rattle.ele_policy.specs.RipeCase.{rule_in}
 
 -- its case under the rule of its file, which is live or not, and the next held version
 pub record IsBeside (h : Held) (file : ℕ) (info : VersionInfo) (is_live : Bool) (beside : Beside) : Type 0 where

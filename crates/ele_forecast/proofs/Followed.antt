@@ -6,7 +6,7 @@ use Rattle.ele_forecast.proofs.Words.{map, slice_get}
 use Rattle.ele_forecast.specs.ForecastOf.{GoesFor}
 use Rattle.ele_model.specs.Fate.{newer_version, newer_versions}
 use Rattle.ele_policy.specs.Cause.{IsCause}
-use Rattle.ele_policy.specs.Ripe.{ripe_by}
+use Rattle.ele_policy.specs.RipeCase.{ripe_by}
 use Rattle.ele_policy.specs.declared.cause.Cause.{Cause}
 use Rattle.ele_policy.specs.declared.cause.Newer.{Newer}
 

@@ -1,6 +1,6 @@
 -- A version with newer ones behind it. No public clause cites this module.
 use Rattle.std.specs.Prelude.{◌≡◌, ℕ, true, List, [], ◌∷◌, filter, Some}
-use Rattle.ele_policy.specs.Ripe.{IsBeside, case_of}
+use Rattle.ele_policy.specs.RipeCase.{IsBeside, case_of}
 use Rattle.ele_policy.specs.Rule.{meets_floor}
 use Rattle.ele_policy.specs.declared.policy.Policy.{Policy}
 use Rattle.ele_model.specs.declared.rows.VersionRow.{VersionRow}

@@ -5,7 +5,8 @@ use Rattle.ele_policy.specs.declared.cause.Cause.{Cause}
 use Rattle.ele_policy.specs.declared.policy.Policy.{Policy}
 use Rattle.ele_model.specs.declared.rows.VersionRow.{VersionRow}
 use Rattle.ele_model.specs.Fate.{HasCause}
-use Rattle.ele_model.specs.FileView.{FileView, is_numbered, ripe_in}
+use Rattle.ele_model.specs.FileView.{FileView, ripe_in}
+use Rattle.ele_model.specs.RipeRows.{is_numbered}
 use Rattle.ele_forecast.specs.FileOf.{IsFileOf, Life, lives_from}
 use Rattle.ele_forecast.specs.declared.forecast.Forecast.{Forecast}
 use Rattle.ele_forecast.specs.declared.forecast.Why.{Why}

@@ -62,6 +62,8 @@ impl Closings {
         ensures err { OnErr result (self.new ≡ self.old) }
         ensures falls { IfErr result (λ why. why ≡ NotClosed.OutOfOrder
             → IfSome (slice_get self.old (length self.old - 1)) (λ last. closed < last)) }
+        ensures memory { IfErr result (λ why. why ≡ NotClosed.NoMemory
+            → AllByRecursion (λ other. other ≤ closed) self.old) }
     {
         if self.is_before_last(closed) {
             return Err(NotClosed::OutOfOrder);

@@ -4,7 +4,7 @@ ghost use Rattle.std.specs.Prelude.{◌≡◌, ◌≤◌, ℕ, ◌<◌, ◌+◌,
 ghost use Rattle.ele_lists.specs.Lists.{AllLater};
 ghost use Rattle.ele_policy.specs.Cause.{IsCause};
 ghost use Rattle.ele_policy.specs.Rule.{meets_floor};
-ghost use Rattle.ele_policy.specs.Ripe.{alone, ripe_by};
+ghost use Rattle.ele_policy.specs.RipeCase.{alone, ripe_by};
 ghost use Rattle.ele_policy.specs.declared.cause.Newer.{Newer};
 ghost use Rattle.ele_model.specs.FileView.{FileView};
 ghost use Rattle.ele_model.specs.declared.rows.VersionRow.{VersionRow};

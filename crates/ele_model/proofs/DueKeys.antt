@@ -2,7 +2,7 @@
 use Rattle.ele_model.proofs.Basics.{nat_tests, arith, ◌≡◌, ℕ, ◌+◌, ◌<◌, ◌≤◌, Bool, true, false, cond, List, [], ◌∷◌, length, get_or, take, Option, Some, None}
 use Rattle.ele_model.proofs.Basics.{refl, fold, filter, nat_le, option_and_then, filter_map, cons_option, take_more, filter_map-append, fold-append, insert_key, filter-both}
 use Rattle.ele_model.proofs.Words.{Key, last_moment, Policy, candidates, IsLawful, VersionRow, FileView, file_view, cover_of, ripe_past, is_version_of, is_newer, closings, is_newer_of, IsDueFromRipe, in_order, key_cmp, key_of, World, is_live, is_open, policy_of}
-use Rattle.ele_policy.specs.Ripe.{ripe_by}
+use Rattle.ele_policy.specs.RipeCase.{ripe_by}
 use Rattle.ele_model.specs.Due.{ripe_of}
 use Rattle.ele_model.specs.Scan.{due_key}
 use Rattle.ele_model.proofs.Readers.{numbers_are}

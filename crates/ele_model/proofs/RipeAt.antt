@@ -2,7 +2,7 @@
 use Rattle.ele_model.proofs.Basics.{◌≡◌, ℕ, ◌≤◌, Bool, true, false, ◌&&◌, ◌++◌, List, [], ◌∷◌, Option, Some, None, refl, ap, ◌∙◌, arith, find, nat_le, option_and_then, AllByRecursion, filter_map, list_any, option_map_or, nat_tests, AllLater, found_passes, find-filter_both}
 use Rattle.ele_model.proofs.Words.{Time, after_change, Key, has_key, is_key, is_ripe_by, last_moment, MarkRow, Policy, candidates, earliest_of, ends_over, VersionRow, ripe_at, is_moment, FileView, file_view, is_version_of, is_numbered, due_in, ripe_in, IsDueFromRipe, ArePlaced, HasParts, World, is_version}
 use Rattle.ele_model.specs.Due.{is_due, is_due_at, ripe_of}
-use Rattle.ele_model.specs.FileView.{ripe_numbered}
+use Rattle.ele_model.specs.RipeRows.{ripe_numbered}
 use Rattle.ele_model.specs.Scan.{due_key}
 use Rattle.ele_policy.proofs.Earliest.{earliest_same}
 use Rattle.ele_model.proofs.RipeMoments.{ripens}

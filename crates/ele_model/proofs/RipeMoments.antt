@@ -1,7 +1,7 @@
 -- A held version is due from its ripe moment on, which its next held version and the marks that cover it tell.
 use Rattle.ele_model.proofs.Basics.{AllByRecursion, ◌≡◌, ℕ, ◌≤◌, ◌&&◌, ◌||◌, ◌++◌, ◌==◌, Bool, true, false, not, cond, List, [], ◌∷◌, nat_tests, Option, Some, None, refl, ap, sym, subst, ◌∙◌, nat_le, max, option_and_then, IfSome, list_any, list_any-append, option_map_or, all-split, all-any, arith}
 use Rattle.ele_model.proofs.Words.{Cover, Always, Free, Until, Policy, is_due_by, candidates, earliest_of, last_moment, IsLawful, VersionRow, FileView, file_view, beside, cover_by, due_in, ends_over, is_protected, keeps_at, lasts, ripe_in, ripe_past, IsDueFromRipe, RipeIsAnswer, HasParts, World, policy_of}
-use Rattle.ele_policy.specs.Ripe.{ripe_by}
+use Rattle.ele_policy.specs.RipeCase.{ripe_by}
 use Rattle.ele_model.specs.Due.{is_due_at, ripe_of}
 use Rattle.ele_model.proofs.Covers.{end_stands, lasts_by}
 use Rattle.ele_model.proofs.Views.{view_is, closings_in_order}

@@ -4,13 +4,16 @@ pub use Rattle.ele_content.specs.Content.{content_of, longest_content, writer_at
 pub use Rattle.ele_content.specs.Place.{Place, different, is_place}
 pub use Rattle.ele_content.specs.declared.cell.Cell.{Cell}
 pub use Rattle.ele_due.specs.HasKey.{has_key}
-pub use Rattle.ele_due.specs.Key.{is_key, is_ripe_by}
+pub use Rattle.ele_due.specs.Key.{is_key}
+pub use Rattle.ele_due.specs.Queue.{is_ripe_by}
 pub use Rattle.ele_due.specs.declared.key.Key.{Key}
 pub use Rattle.ele_moment.specs.Last.{last_moment}
-pub use Rattle.ele_policy.specs.Rule.{floor_of, meets_floor, rule_in}
+pub use Rattle.ele_policy.specs.Rule.{floor_of, meets_floor}
+pub use Rattle.ele_policy.specs.RipeCase.{rule_in}
 pub use Rattle.ele_policy.specs.Lawful.{IsLawful, PoliciesAreLawful}
 pub use Rattle.ele_policy.specs.Policy.{IsPolicy, is_kind, kind_of}
-pub use Rattle.ele_policy.specs.Ripe.{Beside, candidates, case_beside, case_of, earliest_of, is_due_by, lets_go, ripe_case}
+pub use Rattle.ele_policy.specs.Ripe.{Beside, candidates, earliest_of, is_due_by, lets_go}
+pub use Rattle.ele_policy.specs.RipeCase.{case_beside, case_of, ripe_case}
 pub use Rattle.ele_policy.specs.declared.policy.Kind.{Kind}
 pub use Rattle.ele_policy.specs.declared.policy.Policy.{Policy}
 pub use Rattle.ele_policy.specs.declared.policy.Policy.TheVariants.{All, One, Safe}
@@ -19,14 +22,17 @@ pub use Rattle.ele_policy.specs.declared.rule.Rule.{Rule}
 pub use Rattle.ele_path.specs.declared.tagged.Tag.{Tag}
 pub use Rattle.ele_path.specs.declared.tagged.TaggedPath.{TaggedPath}
 pub use Rattle.ele_usage.specs.OnlyAt.{only_at}
-pub use Rattle.ele_usage.specs.Sums.{Fits, IsWithin, nothing, plus}
+pub use Rattle.ele_usage.specs.Sums.{Fits}
+pub use Rattle.ele_usage.specs.Adding.{IsWithin, nothing, plus}
 pub use Rattle.ele_usage.specs.declared.usage.Usage.{Usage}
 pub use Rattle.ele_model.specs.Bounds.{AreBounds, Bounds}
 pub use Rattle.ele_model.specs.Change.{AddMark, AddMember, AddName, Append, Change, DropGroup, DropIdle, EndDraft, EndFileName, EndName, SetDirectoryDefault, MakeDirectory, MakeFile, MakeGroup, MoveName, OpenHandle, SetFilePolicy, RemoveMark, RemoveMember, Revive, ShutHandle, StartDraft, Take, Time, TruncateDraft, WriteDraft, after_change, after_changes, changed_by, current_cells, ended_at, fitted_by, governed_by, is_idle, new_draft, next_version, numbered_on, set_policy, with_end, with_file, with_name, with_version, without_file, without_name}
 pub use Rattle.ele_model.specs.CleanKeepsKeys.{CleanKeepsKeys, TakesOneKey}
-pub use Rattle.ele_model.specs.Due.{is_due_at, kept_rows, ripe_at, ripe_of}
+pub use Rattle.ele_model.specs.Due.{is_due_at, kept_rows, ripe_of}
+pub use Rattle.ele_model.specs.RipeRows.{ripe_at}
 pub use Rattle.ele_model.specs.FileUsage.{file_usage}
-pub use Rattle.ele_model.specs.FileView.{FileView, beside, closings, due_in, ends_over, is_newer, is_numbered, is_protected, is_version_of, numbers_read, ripe_in, ripe_numbered, file_view}
+pub use Rattle.ele_model.specs.FileView.{FileView, beside, closings, due_in, ends_over, is_newer, is_protected, is_version_of, numbers_read, ripe_in, file_view}
+pub use Rattle.ele_model.specs.RipeRows.{is_numbered, ripe_numbered}
 pub use Rattle.ele_model.specs.GroupRows.{adds, covers_moment, forgets, forgotten, group_named, has_covering, has_group, has_mark, has_member, is_group, is_in_force, is_mark, is_marked, is_marked_at, is_member, keeps_at, mark_at, marks, marks_over, new_group, removes, unmarks, with_mark, with_member, without_group, without_mark, without_member}
 pub use Rattle.ele_model.specs.Cover.{cover_by, cover_of, cover_until, lasts, longer, ripe_past}
 pub use Rattle.ele_model.specs.GroupsAsked.{cover_with, cover_without, is_left_out, marks_left, marks_of, members_of}

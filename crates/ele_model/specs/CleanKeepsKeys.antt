@@ -1,7 +1,7 @@
 -- No clean changes another key: where the first version of the scan is removed, every other version keeps its ripe moment.
 use Rattle.std.specs.Prelude.{◌≡◌, ℕ, ◌==◌, false, ◌&&◌, Some, None}
 use Rattle.ele_due.specs.declared.key.Key.{Key}
-use Rattle.ele_model.specs.Due.{ripe_at}
+use Rattle.ele_model.specs.RipeRows.{ripe_at}
 use Rattle.ele_model.specs.Scan.{first_due}
 use Rattle.ele_model.specs.Step.{clean_step}
 use Rattle.ele_model.specs.WellFormed.{IsWellFormed}

@@ -1,5 +1,5 @@
 -- One file as its policy sees it: all that the fate of its versions depends on.
-use Rattle.std.specs.Prelude.{ℕ, ◌==◌, nat_lt, Bool, false, not, ◌&&◌, ◌||◌, ◌++◌, List, Option, Some, None, filter, find, map, option_and_then, if◌then◌else◌}
+use Rattle.std.specs.Prelude.{ℕ, ◌==◌, nat_lt, Bool, false, not, ◌&&◌, ◌||◌, ◌++◌, List, Option, Some, None, filter, map, option_and_then, if◌then◌else◌}
 use Rattle.std.specs.List.{list_any, filter_map}
 use Rattle.std.specs.Option.{option_map_or}
 use Rattle.ele_policy.specs.declared.policy.Policy.{Policy}
@@ -71,10 +71,3 @@ ends_over closed ended marks = filter_map (λ mark. mark.until) (filter (λ mark
 abbrev pub ripe_in : FileView → VersionRow → Option ℕ
 ripe_in v row =
     option_and_then (λ policy. option_and_then (λ ended. earliest_of (due_in v row) (candidates policy ended ++ ends_over row.closed row.ended v.marks)) row.ended) v.policy
-
-abbrev pub is_numbered : ℕ → VersionRow → Bool
-is_numbered number row = row.number == number
-
--- that moment of the version with the number, if it is held
-unfoldable pub ripe_numbered : FileView → ℕ → Option ℕ
-ripe_numbered v number = option_and_then (ripe_in v) (find (is_numbered number) v.rows)

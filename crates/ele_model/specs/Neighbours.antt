@@ -6,8 +6,7 @@ use Rattle.std.specs.Option.{option_map, option_map_or}
 use Rattle.ele_lists.specs.Last.{last_passing}
 use Rattle.ele_policy.specs.declared.rule.Case.{Case}
 use Rattle.ele_policy.specs.declared.rule.Rule.{Rule}
-use Rattle.ele_policy.specs.Rule.{rule_in}
-use Rattle.ele_policy.specs.Ripe.{case_of, ripe_case}
+use Rattle.ele_policy.specs.RipeCase.{rule_in, case_of, ripe_case}
 use Rattle.ele_model.specs.declared.cover.Cover.{Cover}
 use Rattle.ele_model.specs.declared.rows.VersionRow.{VersionRow}
 use Rattle.ele_model.specs.Cover.{ripe_past}

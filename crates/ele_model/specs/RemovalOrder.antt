@@ -1,7 +1,8 @@
 -- In whichever order due versions are removed: to remove one of them leaves the others due, and makes no other due.
 use Rattle.std.specs.Prelude.{◌≡◌, true, List, ◌∷◌, ◌++◌}
 use Rattle.ele_model.specs.declared.rows.VersionRow.{VersionRow}
-use Rattle.ele_model.specs.Due.{is_due_at, due_rows, kept_rows}
+use Rattle.ele_model.specs.Due.{is_due_at, kept_rows}
+use Rattle.ele_model.specs.RipeRows.{due_rows}
 use Rattle.ele_model.specs.WellFormed.{IsWellFormed}
 use Rattle.ele_model.specs.World.{World}
 

@@ -4,7 +4,7 @@ use Rattle.std.specs.List.{AllByRecursion}
 use Rattle.std.specs.Option.{option_map_or}
 use Rattle.ele_moment.specs.Last.{last_moment}
 use Rattle.ele_policy.specs.declared.policy.Policy.{Policy}
-use Rattle.ele_policy.specs.Ripe.{IsRipe, case_beside}
+use Rattle.ele_policy.specs.RipeCase.{IsRipe, case_beside}
 use Rattle.ele_model.specs.declared.rows.VersionRow.{VersionRow}
 use Rattle.ele_model.specs.Due.{is_due_at, ripe_of}
 use Rattle.ele_model.specs.FileView.{file_view, beside, is_protected}

@@ -18,12 +18,17 @@ is_live_name directory name row = (row.directory == directory) && (bytes_eq row.
 abbrev pub live_target : List NameRow → ℕ → List ℕ → Option Target
 live_target rows directory name = option_map (λ row. row.target) (find (is_live_name directory name) rows)
 
--- from a place along the names: a name that isn't there is NoEntry, one behind a file NotDirectory
+-- from a place along the names, where that is what a name in a directory leads to: one that leads nowhere is NoEntry, one behind a file
+-- NotDirectory
+abbrev pub walk_by : (ℕ → List ℕ → Option Target) → Target → List (List ℕ) → Result Target Refusal
+walk_by leads at [] = Ok at
+walk_by leads (File file) (name ∷ names) = Err NotDirectory
+walk_by leads (Directory directory) (name ∷ names) =
+    option_map_or (λ target. walk_by leads target names) (leads directory name) (Err NoEntry)
+
+-- along live names
 abbrev pub walk : List NameRow → Target → List (List ℕ) → Result Target Refusal
-walk rows at [] = Ok at
-walk rows (File file) (name ∷ names) = Err NotDirectory
-walk rows (Directory directory) (name ∷ names) =
-    option_map_or (λ target. walk rows target names) (live_target rows directory name) (Err NoEntry)
+walk rows at names = walk_by (live_target rows) at names
 
 -- from the root
 abbrev pub walk_now : List NameRow → List (List ℕ) → Result Target Refusal

@@ -1,20 +1,17 @@
--- Where a path led at an earlier moment, name by name from the root.
-use Rattle.std.specs.Prelude.{ℕ, nat_lt, List, [], ◌∷◌, Result, Ok, Err, if◌then◌else◌}
-use Rattle.std.specs.Option.{option_map_or}
+-- Where a path led at an earlier moment.
+use Rattle.std.specs.Prelude.{ℕ, nat_lt, List, Result, Err, if◌then◌else◌}
 use Rattle.ele_model.specs.declared.refusal.Refusal.{Refusal}
-use Rattle.ele_model.specs.declared.refusal.Refusal.TheVariants.{Future, NoEntry, NotDirectory}
+use Rattle.ele_model.specs.declared.refusal.Refusal.TheVariants.{Future}
 use Rattle.ele_model.specs.declared.rows.NameRow.{NameRow}
 use Rattle.ele_model.specs.declared.rows.Target.{Target}
-use Rattle.ele_model.specs.declared.rows.Target.TheVariants.{File, Directory}
+use Rattle.ele_model.specs.declared.rows.Target.TheVariants.{Directory}
 use Rattle.ele_model.specs.NameRows.{target_at}
+use Rattle.ele_model.specs.Walk.{walk_by}
 use Rattle.ele_model.specs.World.{root}
 
--- from a place along the names that covered the moment: one that stood for nothing is NoEntry, one behind a file NotDirectory
+-- along names that covered the moment
 abbrev pub walk_covering : List NameRow → ℕ → Target → List (List ℕ) → Result Target Refusal
-walk_covering rows moment at [] = Ok at
-walk_covering rows moment (File file) (name ∷ names) = Err NotDirectory
-walk_covering rows moment (Directory directory) (name ∷ names) =
-    option_map_or (λ target. walk_covering rows moment target names) (target_at rows moment directory name) (Err NoEntry)
+walk_covering rows moment at names = walk_by (target_at rows moment) at names
 
 -- from the root; what is later than now is Future
 abbrev pub walk_at : List NameRow → (moment now : ℕ) → List (List ℕ) → Result Target Refusal

@@ -3,7 +3,7 @@ use Rattle.std.specs.Prelude.{◌≡◌, ℕ, ◌==◌, not, length, filter, if�
 use Rattle.ele_content.specs.Place.{is_place, different}
 use Rattle.ele_policy.specs.declared.policy.Kind.{Kind}
 use Rattle.ele_usage.specs.declared.usage.Usage.{Usage}
-use Rattle.ele_usage.specs.Sums.{nothing}
+use Rattle.ele_usage.specs.Adding.{nothing}
 use Rattle.ele_model.specs.Usage.{is_of, is_file_of, places, bytes_in}
 use Rattle.ele_model.specs.World.{World}
 

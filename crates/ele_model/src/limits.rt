@@ -1,6 +1,7 @@
 //! How much may ever be made. A contract sees limits as their numbers.
 ghost use Rattle.std.specs.Prelude.{◌≡◌, ◌≤◌, ◌↔◌, IsSome, IsTrue, IfSome};
-ghost use Rattle.ele_model.specs.Bounds.{AreBounds, bounds_of, largest_bounds, limit_of};
+ghost use Rattle.ele_model.specs.Bounds.{AreBounds, largest_bounds};
+ghost use Rattle.ele_model.specs.LimitsOf.{bounds_of, limit_of};
 
 use crate::refusal::Which;
 use std::marker::Model;

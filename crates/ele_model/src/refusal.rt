@@ -92,7 +92,7 @@ pub enum Refusal {
     NotMember,
     /// A limit is reached.
     Full(Which),
-    /// The end is not later than now.
+    /// A mark is to end now or earlier, or `ahead` asks of a moment earlier than now.
     NotAhead,
 }
 

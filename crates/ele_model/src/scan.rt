@@ -2,7 +2,7 @@
 ghost use Rattle.std.specs.Prelude.{◌≡◌, if◌then◌else◌, IfOk, OnOk, OnErr, filter, fold, [], ◌∷◌};
 ghost use Rattle.std.specs.List.{cons_option, list_any};
 ghost use Rattle.std.specs.BTreeSet.{insert_key};
-ghost use Rattle.ele_policy.specs.Ripe.{ripe_by};
+ghost use Rattle.ele_policy.specs.RipeCase.{ripe_by};
 ghost use Rattle.ele_model.specs.Due.{ripe_of};
 ghost use Rattle.ele_model.specs.IgnoresNewer.{ignores_newer};
 ghost use Rattle.ele_model.specs.FileView.{closings};

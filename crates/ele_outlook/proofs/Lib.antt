@@ -1,6 +1,4 @@
--- what a writer holds, and the words of a line
+-- what is written and flushed
 mod Known
 -- the lines of an input
 mod Lines
--- dates, one after another
-mod Dates

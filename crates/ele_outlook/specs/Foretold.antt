@@ -1,7 +1,7 @@
 -- A forecast from the bytes that are read to those that are written, by how it ends.
 use Rattle.std.specs.Prelude.{◌≡◌, ◌≢◌, ℕ, true, length, List, [], Option, Result, Ok, Err, ◌⊎◌}
 use Rattle.std.specs.Io.KnownBytes.{Appends, Consumes, IsAtEnd, Keeps}
-use Rattle.ele_printer.specs.Front.{AppendsFront}
+use Rattle.ele_output.specs.Front.{AppendsFront}
 use Rattle.ele_outlook.specs.Input.{IsFirstBad, SpellClosings, lines_of}
 use Rattle.ele_outlook.specs.Told.{IsForecastText, are_too_many}
 use Rattle.ele_outlook.specs.declared.options.ForecastOptions.{ForecastOptions}

@@ -3,7 +3,7 @@ use Rattle.std.specs.Prelude.{◌≡◌, ℕ, ◌+◌, ◌-◌, ◌<◌, ◌≤�
 use Rattle.std.specs.List.{AllZip, slice_split}
 use Rattle.ele_lists.specs.Lists.{AllLater}
 use Rattle.ele_moment.specs.Spelled.{SpellsMoment}
-use Rattle.ele_printer.specs.Printed.{line_text}
+use Rattle.ele_output.specs.Line.{line_text}
 use Rattle.ele_outlook.specs.declared.fault.BadLine.{BadLine}
 use Rattle.ele_outlook.specs.declared.fault.BadLine.TheVariants.{NotMoment, OutOfOrder}
 

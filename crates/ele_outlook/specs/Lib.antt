@@ -1,10 +1,4 @@
 pub mod Input
 pub mod Reading
-pub mod Stamp
-pub mod Why
-pub mod Table
-pub mod Page
-pub mod Mark
-pub mod Drawing
 pub mod Told
 pub mod Foretold

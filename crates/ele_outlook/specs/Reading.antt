@@ -4,7 +4,7 @@ use Rattle.std.specs.List.{AllZip}
 use Rattle.std.specs.Io.KnownBytes.{Appends, Consumes, Keeps}
 use Rattle.ele_lists.specs.Lists.{AllLater}
 use Rattle.ele_moment.specs.Spelled.{SpellsMoment}
-use Rattle.ele_printer.specs.Front.{AppendsFront}
+use Rattle.ele_output.specs.Front.{AppendsFront}
 use Rattle.ele_outlook.specs.Input.{IsBad, IsFirstBad, SpellClosings, lines_of}
 use Rattle.ele_outlook.specs.Told.{IsForecastText, are_too_many}
 use Rattle.ele_outlook.specs.declared.options.ForecastOptions.{ForecastOptions}
@@ -46,11 +46,6 @@ ReadsClosings input (Err NoMemory) = input ≢ []
 ReadsClosings input (Err ReadFault) = ⊥
 ReadsClosings input (Err TooMany) = ⊥
 ReadsClosings input (Err WriteFault) = ⊥
-
--- a text was written, or a front of it
-abbrev pub WritesText : {A E : Type 0} → List ℕ → Option (List ℕ) → Option (List ℕ) → Result A E → Type 0
-WritesText text old new (Ok _) = Appends old new text
-WritesText text old new (Err _) = AppendsFront old new text
 
 -- what becomes of the versions of these closings was told
 abbrev pub TellsClosings : {A : Type 0} → ForecastOptions → List ℕ → Option (List ℕ) → Option (List ℕ) → Result A ForecastFault → Type 0

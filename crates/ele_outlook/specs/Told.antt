@@ -3,11 +3,11 @@ use Rattle.std.specs.Prelude.{◌≡◌, ℕ, nat_lt, Bool, false, List, length}
 use Rattle.ele_policy.specs.declared.policy.Policy.{Policy}
 use Rattle.ele_forecast.specs.ForecastOf.{AreForecasts}
 use Rattle.ele_forecast.specs.declared.forecast.Forecast.{Forecast}
-use Rattle.ele_outlook.specs.Drawing.{drawing_text}
-use Rattle.ele_outlook.specs.Table.{AreStayings, table_text}
+use Rattle.ele_svg.specs.Drawing.{drawing_text}
+use Rattle.ele_forecast_text.specs.Table.{AreStayings, table_text}
 use Rattle.ele_outlook.specs.declared.options.Form.{Form}
 use Rattle.ele_outlook.specs.declared.options.Form.TheVariants.{Table, Drawing}
-use Rattle.ele_outlook.specs.declared.staying.Staying.{Staying}
+use Rattle.ele_forecast_text.specs.declared.staying.Staying.{Staying}
 
 abbrev pub told_text : Form → Policy → List Forecast → List Staying → List ℕ
 told_text Table policy forecasts stayings = table_text policy forecasts stayings

@@ -1,11 +1,10 @@
 //! Why a forecast ends early. A contract sees each fault as itself.
-ghost use Rattle.std.specs.Prelude.{◌≡◌, OnOk, OnErr};
-ghost use Rattle.std.specs.Io.KnownBytes.{Appends};
-ghost use Rattle.ele_printer.specs.Front.{AppendsFront};
-ghost use Rattle.ele_printer.specs.Prints.{Prints};
+ghost use Rattle.std.specs.Prelude.{◌≡◌};
+ghost use Rattle.ele_output.specs.Front.{WritesText};
+ghost use Rattle.ele_output.specs.Prints.{Prints};
 ghost use Rattle.ele_outlook.specs.Input.{bad_line_text, bad_word};
 
-use ele_printer::{Printer, WriteFault, put_line};
+use ele_output::{Printer, WriteFault, put_line};
 use itoa::Buffer;
 use std::io::Write;
 use thiserror::Error;
@@ -66,25 +65,19 @@ impl BadLine {
 
 /// Writes the line that tells of a bad line. At a fault of the writer it took a front of that line.
 pub fn write_bad_line<W: Write>(number: u64, why: BadLine, writer: &mut W) -> Result<(), WriteFault>
-    ensures ok { OnOk result (Appends (W.contents writer.old) (W.contents writer.new)
-        (bad_line_text number why)) }
-    ensures err { OnErr result (AppendsFront (W.contents writer.old) (W.contents writer.new)
-        (bad_line_text number why)) }
+    ensures { WritesText (bad_line_text number why) (W.contents writer.old) (W.contents writer.new)
+        result }
 {
     let mut printer = Printer::new(writer);
-    put_bad_line(number, why, &mut printer)?;
+    put_bad_line(number, why, &mut printer);
     printer.hand_over()
 }
 
 // Puts the line that tells of a bad line.
-fn put_bad_line<W: Write>(
-    number: u64,
-    why: BadLine,
-    printer: &mut Printer<'_, W>,
-) -> Result<(), WriteFault>
-    ensures { Prints W.contents printer.old printer.new (bad_line_text number why) result }
+fn put_bad_line<W: Write>(number: u64, why: BadLine, printer: &mut Printer<'_, W>)
+    ensures { Prints W.contents printer.old printer.new (bad_line_text number why) }
 {
     let mut digits = Buffer::new();
     let number = digits.format(number).as_bytes();
-    put_line(b"elephant: line", &[number, why.word().as_bytes()], printer)
+    put_line(b"elephant: line", &[number, why.word().as_bytes()], printer);
 }

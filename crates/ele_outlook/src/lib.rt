@@ -4,19 +4,10 @@
 //! known to hold.
 #![tactic(auto)]
 
-mod drawing;
 mod fault;
 mod input;
-mod mark;
-mod marks;
 mod options;
-mod page;
-mod row;
-mod staying;
-mod table;
 mod telling;
-mod unit;
-mod why;
 
 pub use fault::{BadLine, ForecastFault, write_bad_line};
 pub use options::{ForecastOptions, Form};

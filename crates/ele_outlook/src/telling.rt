@@ -1,22 +1,20 @@
 //! A forecast from the first byte to the last. A contract sees what was read and what was written.
-ghost use Rattle.std.specs.Prelude.{◌≡◌, OnOk, OnErr};
-ghost use Rattle.std.specs.Io.KnownBytes.{Appends, Keeps};
-ghost use Rattle.ele_printer.specs.Front.{AppendsFront};
-ghost use Rattle.ele_printer.specs.Prints.{Prints};
+ghost use Rattle.std.specs.Prelude.{◌≡◌};
+ghost use Rattle.std.specs.Io.KnownBytes.{Keeps};
+ghost use Rattle.ele_output.specs.Front.{WritesText};
+ghost use Rattle.ele_output.specs.Prints.{Prints};
 ghost use Rattle.ele_outlook.specs.Foretold.{Foretells, TellsForecast};
-ghost use Rattle.ele_outlook.specs.Reading.{TellsClosings, WritesText};
+ghost use Rattle.ele_outlook.specs.Reading.{TellsClosings};
 ghost use Rattle.ele_outlook.specs.Told.{are_too_many, told_text};
 
-use crate::drawing::put_drawing;
 use crate::fault::ForecastFault;
 use crate::input::{read_closings, read_input};
 use crate::options::{ForecastOptions, Form};
-use crate::page::MOST;
-use crate::staying::{Staying, staying_at};
-use crate::table::put_table;
 use ele_forecast::{Closings, Forecast};
+use ele_forecast_text::{Staying, put_table, staying_at};
+use ele_output::{Printer, WriteFault};
 use ele_policy::Policy;
-use ele_printer::{Printer, WriteFault};
+use ele_svg::{MOST, put_drawing};
 use std::alloc::Global;
 use std::io::{Read, Write};
 
@@ -42,7 +40,7 @@ pub fn write_forecast<R: Read, W: Write>(
     tell(alloc, options, input.as_slice(), writer)
 }
 
-// WritesText what becomes of the versions of the closings that the input spells.
+// Writes what becomes of the versions of the closings that the input spells.
 fn tell<W: Write>(
     alloc: Global,
     options: &ForecastOptions,
@@ -55,7 +53,7 @@ fn tell<W: Write>(
     tell_closings(alloc, options, &closings, writer)
 }
 
-// WritesText what becomes of the versions of these closings.
+// Writes what becomes of the versions of these closings.
 fn tell_closings<W: Write>(
     alloc: Global,
     options: &ForecastOptions,
@@ -85,7 +83,7 @@ fn tell_closings<W: Write>(
     Ok(())
 }
 
-// WritesText what is told, and flushes it.
+// Writes what is told, and flushes it.
 fn write_told<W: Write>(
     form: Form,
     policy: &Policy,
@@ -100,7 +98,7 @@ fn write_told<W: Write>(
     flush(writer)
 }
 
-// WritesText what is told.
+// Writes what is told.
 fn put_whole<W: Write>(
     form: Form,
     policy: &Policy,
@@ -108,13 +106,11 @@ fn put_whole<W: Write>(
     stayings: &[Staying],
     writer: &mut W,
 ) -> Result<(), WriteFault>
-    ensures ok { OnOk result (Appends (W.contents writer.old) (W.contents writer.new)
-        (told_text form policy.now forecasts.now stayings.now)) }
-    ensures err { OnErr result (AppendsFront (W.contents writer.old) (W.contents writer.new)
-        (told_text form policy.now forecasts.now stayings.now)) }
+    ensures { WritesText (told_text form policy.now forecasts.now stayings.now) (W.contents writer.old)
+        (W.contents writer.new) result }
 {
     let mut printer = Printer::new(writer);
-    put_told(form, policy, forecasts, stayings, &mut printer)?;
+    put_told(form, policy, forecasts, stayings, &mut printer);
     printer.hand_over()
 }
 
@@ -125,9 +121,9 @@ fn put_told<W: Write>(
     forecasts: &[Forecast],
     stayings: &[Staying],
     printer: &mut Printer<'_, W>,
-) -> Result<(), WriteFault>
+)
     ensures { Prints W.contents printer.old printer.new
-        (told_text form policy.now forecasts.now stayings.now) result }
+        (told_text form policy.now forecasts.now stayings.now) }
 {
     match form {
         Form::Table => put_table(policy, forecasts, stayings, printer),

@@ -6,7 +6,8 @@ use Rattle.std.specs.Option.{option_map_or}
 use Rattle.std.proofs.lemmas.Bool.Decides.{nat_tests}
 use Rattle.ele_policy.specs.Cause.{IsDisplaced, displacing}
 use Rattle.ele_policy.specs.Ladder.{Rung, level_of, rung_at, shares}
-use Rattle.ele_policy.specs.Ripe.{alone, is_due_by}
+use Rattle.ele_policy.specs.Ripe.{is_due_by}
+use Rattle.ele_policy.specs.RipeCase.{alone}
 use Rattle.ele_policy.specs.declared.cause.Newer.{Newer}
 use Rattle.ele_policy.specs.declared.policy.Policy.{Policy}
 use Rattle.ele_policy.specs.declared.policy.Policy.TheVariants.{Landmarks}

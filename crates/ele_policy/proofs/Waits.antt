@@ -14,8 +14,10 @@ use Rattle.ele_policy.specs.declared.rule.Case.{Case}
 use Rattle.ele_policy.specs.Lawful.{PoliciesAreLawful}
 use Rattle.ele_policy.specs.Ladder.{Rung, ground, climbs, level_of, rung_at, shares}
 use Rattle.ele_policy.specs.Policy.{IsPolicy}
-use Rattle.ele_policy.specs.Rule.{counts_newer, floor_of, meets_floor}
-use Rattle.ele_policy.specs.Ripe.{Beside, IsBeside, IsRipe, alone, case_of, lets_go, is_due_by, candidates, earliest_of, ripe_by, ripe_case}
+use Rattle.ele_policy.specs.Rule.{floor_of, meets_floor}
+use Rattle.ele_policy.specs.RipeCase.{counts_newer}
+use Rattle.ele_policy.specs.Ripe.{Beside, lets_go, is_due_by, candidates, earliest_of}
+use Rattle.ele_policy.specs.RipeCase.{IsBeside, IsRipe, alone, case_of, ripe_by, ripe_case}
 use Rattle.ele_policy.specs.Wait.{has_newer, wait, in_time, ripe_after}
 use Rattle.ele_policy.proofs.Earliest.{earliest_from, earliest_same, is_candidate, never_due}
 use Rattle.ele_policy.proofs.Nesting.{climbed, nests, nearest_decides, shares_on}

@@ -8,10 +8,6 @@ use Rattle.ele_policy.specs.declared.policy.Policy.{Policy}
 use Rattle.ele_policy.specs.declared.policy.Policy.TheVariants.{One, Safe, Landmarks}
 use Rattle.ele_policy.specs.Ladder.{Rung, level_of, rung_at, shares}
 
--- when that version closed, if there is one
-abbrev pub closing_of : Option Newer → Option ℕ
-closing_of nearest = option_map (λ other. other.closed) nearest
-
 -- the number of the nearest of the newer versions that closed in the span of the rung in which this one closed
 abbrev pub displacing : List Newer → ℕ → Rung → Option ℕ
 displacing newer closed rung = option_map (λ other. other.number) (find (λ other. shares closed other.closed rung) newer)

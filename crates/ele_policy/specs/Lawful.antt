@@ -6,7 +6,8 @@ use Rattle.ele_policy.specs.declared.policy.Policy.{Policy}
 use Rattle.ele_policy.specs.declared.rule.Case.{Case}
 use Rattle.ele_policy.specs.Rule.{floor_of, meets_floor}
 use Rattle.ele_policy.specs.Policy.{IsPolicy}
-use Rattle.ele_policy.specs.Ripe.{Beside, IsBeside, is_due_by, lets_go, ripe_by, ripe_case}
+use Rattle.ele_policy.specs.Ripe.{Beside, is_due_by, lets_go}
+use Rattle.ele_policy.specs.RipeCase.{IsBeside, ripe_by, ripe_case}
 
 pub record IsLawful (policy : Policy) : Type 0 where
   -- its numbers are such as can be given

@@ -3,7 +3,8 @@ use Rattle.std.specs.Prelude.{◌≡◌, ℕ, nat_le, false, Option}
 use Rattle.std.specs.Option.{option_map_or}
 use Rattle.ele_policy.specs.declared.rule.Case.{Case}
 use Rattle.ele_policy.specs.Policy.{IsPolicy}
-use Rattle.ele_policy.specs.Ripe.{Beside, IsBeside, lets_go}
+use Rattle.ele_policy.specs.Ripe.{Beside, lets_go}
+use Rattle.ele_policy.specs.RipeCase.{IsBeside}
 
 abbrev pub LetsGoFrom : Type 0
 LetsGoFrom =

@@ -1,7 +1,8 @@
 //! Why a policy lets a version go. A contract sees a cause, and a newer version, as plain data.
 ghost use Rattle.std.specs.Prelude.{◌≡◌, true, List, slice_get};
-ghost use Rattle.ele_policy.specs.Cause.{IsCause, closing_of};
-ghost use Rattle.ele_policy.specs.Ripe.{alone, is_due_by};
+ghost use Rattle.ele_policy.specs.Cause.{IsCause};
+ghost use Rattle.ele_policy.specs.RipeCase.{closing_of, alone};
+ghost use Rattle.ele_policy.specs.Ripe.{is_due_by};
 ghost use Rattle.ele_policy.specs.declared.cause.Newer.{Newer};
 
 use crate::interval::Interval;

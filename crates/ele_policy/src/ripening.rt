@@ -4,7 +4,8 @@ ghost use Rattle.std.specs.Prelude.{◌≡◌, ◌≤◌, ℕ, false, nat_le, If
 ghost use Rattle.std.specs.Option.{option_map_or};
 ghost use Rattle.ele_moment.specs.Last.{last_moment};
 ghost use Rattle.ele_policy.specs.Policy.{IsPolicy};
-ghost use Rattle.ele_policy.specs.Ripe.{Beside, IsBeside, IsRipe, case_of, is_due_by, ripe_by, ripe_case};
+ghost use Rattle.ele_policy.specs.Ripe.{Beside, is_due_by};
+ghost use Rattle.ele_policy.specs.RipeCase.{IsBeside, IsRipe, case_of, ripe_by, ripe_case};
 ghost use Rattle.ele_policy.specs.Wait.{wait, ripe_after};
 
 use crate::policy::Policy;

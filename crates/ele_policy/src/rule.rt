@@ -2,8 +2,8 @@
 //! A contract sees both as plain data.
 ghost use Rattle.std.specs.Prelude.{◌≡◌, ◌≤◌, ℕ, false, nat_le, IfSome, IfNone};
 ghost use Rattle.ele_moment.specs.Last.{last_moment};
-ghost use Rattle.ele_policy.specs.Rule.{rule_in};
-ghost use Rattle.ele_policy.specs.Ripe.{Beside, IsBeside, IsRipe, alone, is_due_by, ripe_by, ripe_case};
+ghost use Rattle.ele_policy.specs.RipeCase.{rule_in, IsBeside, IsRipe, alone, ripe_by, ripe_case};
+ghost use Rattle.ele_policy.specs.Ripe.{Beside, is_due_by};
 
 use crate::policy::Policy;
 use crate::ripening::ripe_beside;

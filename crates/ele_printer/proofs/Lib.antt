@@ -1,5 +1,4 @@
 mod Prelude
 mod Basics
-pub mod Known
 pub mod Lines
 pub mod Words

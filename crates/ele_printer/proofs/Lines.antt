@@ -1,6 +1,7 @@
 -- The bytes of a line, word after word.
-use Rattle.ele_printer.proofs.Basics.{nat_tests, arith, ◌==◌, true, ◌≡◌, ℕ, ◌+◌, ◌<◌, List, [], ◌∷◌, ◌++◌, length, map, take, drop, get_or, ◌/◌, ◌%◌, refl, sym, ap, ◌∙◌, append_assoc, codes, decimal, decimal_digit, drop_more, append-nil, take-append-drop, join_with_byte, flat_map, IsFirstAndRest, encode_lower, lower_digits}
+use Rattle.ele_printer.proofs.Basics.{nat_tests, arith, ◌==◌, true, ◌≡◌, ℕ, List, [], ◌∷◌, ◌++◌, length, map, take, drop, get_or, ◌/◌, ◌%◌, refl, sym, ap, ◌∙◌, append_assoc, codes, decimal, decimal_digit, append-nil, take-append-drop, join_with_byte, flat_map, IsFirstAndRest, encode_lower, lower_digits}
 use Rattle.ele_printer.proofs.Prelude.{Rung, line_text, ladder_word, pair_word, bytes_text, kind_words, usage_line, usage_lines, numbers_word, mark_word, marks_word, group_line, end_word, file_text, rest_text, times_text, version_line}
+use Rattle.ele_output.proofs.Lists.{joined_are}
 use Rattle.ele_usage.specs.declared.usage.Usage.{Usage}
 use Rattle.ele_model.specs.declared.rows.GroupRow.{GroupRow}
 use Rattle.ele_model.specs.declared.rows.MarkRow.{MarkRow}
@@ -16,11 +17,6 @@ behind_word (word ∷ words) = (32 ∷ word) ++ behind_word words
 pub line_is : (first : List ℕ) (words : List (List ℕ)) → line_text (first ∷ words) ≡ first ++ behind_word words
 line_is first [] = refl
 line_is first (word ∷ words) = grind (arith, nat_tests, append_assoc, line_is word words)
-
--- joined words are the first, and the byte between them and a word for each other
-pub joined_are : {A : Type 0} (byte : ℕ) (v : A → List ℕ) (first : List ℕ) (xs : List A) → join_with_byte byte (first ∷ map v xs) ≡ first ++ flat_map (λ x. byte ∷ v x) xs
-joined_are {A} byte v first [] = sym (append-nil first)
-joined_are {A} byte v first (x ∷ xs) = ap (λ (rest : List ℕ). first ++ byte ∷ rest) (joined_are byte v (v x) xs)
 
 -- the words of pairs are that of the first, and a comma and a word for each other
 pub pairs_are : (pairs : List Rung) (first : Rung) (rest : List Rung) → IsFirstAndRest pairs first rest → ladder_word pairs ≡ pair_word first ++ flat_map (λ (pair : Rung). 44 ∷ pair_word pair) rest
@@ -47,14 +43,6 @@ last_word first last (word ∷ words) = grind (arith, nat_tests, append_assoc, l
 -- the line of what a mark keeps, in its parts
 pub marked_parts : (group : List ℕ) (mark : MarkRow) → line_text (codes "ok why" ∷ codes "marked" ∷ group ∷ mark_word mark ∷ []) ≡ join_with_byte 32 (codes "ok why" ∷ codes "marked" ∷ group ∷ []) ++ ((32 ∷ mark_word mark) ++ 10 ∷ [])
 marked_parts group mark = last_word (codes "ok why") (mark_word mark) (codes "marked" ∷ group ∷ [])
-
--- at a place, what stands there is next
-pub here : {A : Type 0} (line : A → List ℕ) (xs : List A) (i : ℕ) (d : A) → i < length xs → flat_map line (drop i xs) ≡ line (get_or xs i d) ++ flat_map line (drop (i + 1) xs)
-here {A} line xs i d lt = ap (λ (ys : List A). flat_map line ys) (drop_more xs i d lt)
-
--- at an item, its line is next
-pub lines_here : {A : Type 0} (line : A → List ℕ) (xs : List A) (i : ℕ) (x : A) → i < length xs → x ≡ get_or xs i x → flat_map line (drop i xs) ≡ line x ++ flat_map line (drop (i + 1) xs)
-lines_here {A} line xs i x lt is = grind (arith, nat_tests, drop_more)
 
 digits_append : (xs ys : List ℕ) → encode_lower (xs ++ ys) ≡ encode_lower xs ++ encode_lower ys
 unfolding encode_with

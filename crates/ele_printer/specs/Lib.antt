@@ -1,12 +1,9 @@
 pub mod Command
 pub mod EventText
-pub mod Front
 pub mod HistoryText
 pub mod LineFault
-pub mod Outlet
 pub mod Parts
 pub mod Printed
-pub mod Prints
 pub mod PutsParts
 pub mod Value
 pub mod Why

@@ -35,12 +35,3 @@ fault_of_path path.NoMemory = NoMemory
 abbrev pub fault_of_path_at : PathAtFault → LineFault
 fault_of_path_at (timed.Path fault) = fault_of_path fault
 fault_of_path_at timed.Numbered = Syntax
-
-abbrev pub write_fault_answer : ℕ × List ℕ
-write_fault_answer = (35, codes "WriteFault")
-
-abbrev pub write_fault_number : ℕ
-write_fault_number = write_fault_answer.0
-
-abbrev pub write_fault_name : List ℕ
-write_fault_name = write_fault_answer.1

@@ -2,7 +2,6 @@
 use Rattle.std.specs.Prelude.{◌≡◌, ℕ, List, [], ◌∷◌, ◌++◌, length, map, codes, Option, Some, None, Result, Ok, Err}
 use Rattle.std.specs.Fmt.{decimal}
 use Rattle.std.specs.List.{flat_map, join_with_byte}
-use Rattle.std.specs.Io.KnownBytes.{Appends}
 use Rattle.std.specs.Option.{option_map_or}
 use Rattle.ele_moment.specs.Spelled.{SpellsTimestamp}
 use Rattle.ele_model.specs.AnswerText.{refusal_words, stop_words, pass_words}
@@ -25,13 +24,10 @@ use Rattle.ele_model.specs.declared.rows.Target.TheVariants as target
 use Rattle.ele_usage.specs.declared.usage.Usage.{Usage}
 use Rattle.ele_model.specs.declared.pass.PassEnd.{PassEnd}
 use Rattle.hex.specs.Hex.{encode_lower}
-use Rattle.ele_printer.specs.Front.{AppendsFront}
+use Rattle.ele_output.specs.Front.{WritesText}
 use Rattle.ele_printer.specs.LineFault.{fault_number, fault_name}
 use Rattle.ele_printer.specs.declared.fault.LineFault.{LineFault}
-
--- words with a space between each two, and a line feed
-abbrev pub line_text : List (List ℕ) → List ℕ
-line_text words = join_with_byte 32 words ++ 10 ∷ []
+use Rattle.ele_output.specs.Line.{line_text}
 
 -- the words of a key: its moment, its file and its number
 abbrev pub key_words : Key → List (List ℕ)
@@ -200,14 +196,8 @@ pass_text end = line_text (pass_words end)
 abbrev pub bad_text : LineFault → List ℕ
 bad_text fault = line_text (codes "bad" ∷ decimal (fault_number fault) ∷ fault_name fault ∷ [])
 
--- the known bytes grew by the answer's text
-pub record WritesAnswer (answer : Result Reply Stop) (old new : Option (List ℕ)) : Type 0 where
+-- the text of the answer was written, or at a fault a front of it
+pub record WritesAnswer {A E : Type 0} (answer : Result Reply Stop) (old new : Option (List ℕ)) (result : Result A E) : Type 0 where
   pub text : List ℕ
   pub is : IsAnswerText answer text
-  pub written : Appends old new text
-
--- the known bytes grew by a front of the answer's text
-pub record WritesAnswerFront (answer : Result Reply Stop) (old new : Option (List ℕ)) : Type 0 where
-  pub text : List ℕ
-  pub is : IsAnswerText answer text
-  pub written : AppendsFront old new text
+  pub written : WritesText text old new result

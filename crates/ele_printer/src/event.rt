@@ -5,38 +5,34 @@ ghost use Rattle.std.specs.List.{AllByRecursion, join_with_byte};
 ghost use Rattle.ele_printer.specs.Command.{command_words};
 ghost use Rattle.ele_printer.specs.EventText.{IsValue, event_text, event_words};
 ghost use Rattle.ele_printer.specs.Parts.{parts_of};
-ghost use Rattle.ele_printer.specs.Printed.{bytes_word, line_text};
-ghost use Rattle.ele_printer.specs.Prints.{Prints};
+ghost use Rattle.ele_output.specs.Line.{line_text};
+ghost use Rattle.ele_printer.specs.Printed.{bytes_word};
+ghost use Rattle.ele_output.specs.Prints.{Prints};
 ghost use Rattle.ele_printer.specs.PutsParts.{PutsParts};
 ghost use Rattle.ele_printer.specs.Value as value;
 ghost use Rattle.ele_printer.specs.Value.{end_values, Number, Bytes};
 
 use crate::command::Command;
-use crate::fault::WriteFault;
-use crate::printer::{Printer, put_words};
 use crate::reply::put_hexadecimal;
 use crate::word::Word;
 use ele_model::Event;
 use ele_moment::{Handle, Moment, Name};
+use ele_output::{Printer, put_words};
 use std::io::Write;
 
 /// Puts the line of an event.
-pub(crate) fn put_event_line<W: Write>(
-    event: &Event,
-    printer: &mut Printer<'_, W>,
-) -> Result<(), WriteFault>
-    ensures text { Prints W.contents printer.old printer.new (line_text (event_words event.now))
-        result }
+pub(crate) fn put_event_line<W: Write>(event: &Event, printer: &mut Printer<'_, W>)
+    ensures text { Prints W.contents printer.old printer.new (line_text (event_words event.now)) }
     ensures values { AllByRecursion IsValue (parts_of event.now).1 }
 {
-    put_event(event, printer)?;
-    printer.put(b"\n")
+    put_event(event, printer);
+    printer.put(b"\n");
 }
 
 /// Puts the words of an event, without the end of a line: those that name its command, and one for
-/// each value behind it. At a fault of the writer it took a front of all that was put.
-pub fn put_event<W: Write>(event: &Event, printer: &mut Printer<'_, W>) -> Result<(), WriteFault>
-    ensures text { Prints W.contents printer.old printer.new (event_text event.now) result }
+/// each value behind it.
+pub fn put_event<W: Write>(event: &Event, printer: &mut Printer<'_, W>)
+    ensures text { Prints W.contents printer.old printer.new (event_text event.now) }
     ensures values { AllByRecursion IsValue (parts_of event.now).1 }
 {
     match event {
@@ -76,36 +72,32 @@ pub fn put_event<W: Write>(event: &Event, printer: &mut Printer<'_, W>) -> Resul
 }
 
 // Puts the words of a command.
-fn put_command<W: Write>(command: Command, printer: &mut Printer<'_, W>) -> Result<(), WriteFault>
+fn put_command<W: Write>(command: Command, printer: &mut Printer<'_, W>)
     ensures { Prints W.contents printer.old printer.new
-        (join_with_byte 32 (command_words command)) result }
+        (join_with_byte 32 (command_words command)) }
 {
     let (first, second) = command.words();
     if second.is_empty() {
-        return printer.put(first.as_bytes());
+        printer.put(first.as_bytes());
+    } else {
+        put_words(first.as_bytes(), &[second.as_bytes()], printer);
     }
-    put_words(first.as_bytes(), &[second.as_bytes()], printer)
 }
 
 // Puts a command with no value behind it.
-fn put_alone<W: Write>(command: Command, printer: &mut Printer<'_, W>) -> Result<(), WriteFault>
-    ensures { PutsParts W.contents printer.old printer.new (command, []) result }
+fn put_alone<W: Write>(command: Command, printer: &mut Printer<'_, W>)
+    ensures { PutsParts W.contents printer.old printer.new (command, []) }
 {
-    put_command(command, printer)
+    put_command(command, printer);
 }
 
 // Puts a command and a value.
-fn put_one<A: Word, W: Write>(
-    command: Command,
-    value: &A,
-    printer: &mut Printer<'_, W>,
-) -> Result<(), WriteFault>
-    ensures { PutsParts W.contents printer.old printer.new (command, A.value value.now ∷ [])
-        result }
+fn put_one<A: Word, W: Write>(command: Command, value: &A, printer: &mut Printer<'_, W>)
+    ensures { PutsParts W.contents printer.old printer.new (command, A.value value.now ∷ []) }
 {
     value.lemma_value();
-    put_alone(command, printer)?;
-    value.put_value(printer)
+    put_alone(command, printer);
+    value.put_value(printer);
 }
 
 // Puts a command and two values.
@@ -114,28 +106,23 @@ fn put_two<A: Word, B: Word, W: Write>(
     first: &A,
     second: &B,
     printer: &mut Printer<'_, W>,
-) -> Result<(), WriteFault>
+)
     ensures { PutsParts W.contents printer.old printer.new
-        (command, A.value first.now ∷ B.value second.now ∷ []) result }
+        (command, A.value first.now ∷ B.value second.now ∷ []) }
 {
     second.lemma_value();
-    put_one(command, first, printer)?;
-    second.put_value(printer)
+    put_one(command, first, printer);
+    second.put_value(printer);
 }
 
 // Puts the command that writes bytes.
-fn put_write<W: Write>(
-    handle: &Handle,
-    offset: &u64,
-    bytes: &[u8],
-    printer: &mut Printer<'_, W>,
-) -> Result<(), WriteFault>
+fn put_write<W: Write>(handle: &Handle, offset: &u64, bytes: &[u8], printer: &mut Printer<'_, W>)
     ensures { PutsParts W.contents printer.old printer.new
-        (Command.Write, value.Handle handle.now ∷ Number offset.now ∷ Bytes bytes.now ∷ []) result }
+        (Command.Write, value.Handle handle.now ∷ Number offset.now ∷ Bytes bytes.now ∷ []) }
 {
     lemma_bytes(bytes);
-    put_two(Command::Write, handle, offset, printer)?;
-    put_byte_word(bytes, printer)
+    put_two(Command::Write, handle, offset, printer);
+    put_byte_word(bytes, printer);
 }
 
 // Puts the command that marks a group, with the mark's end, if it has one.
@@ -144,9 +131,9 @@ fn put_mark<W: Write>(
     moment: &Moment,
     until: &Option<Moment>,
     printer: &mut Printer<'_, W>,
-) -> Result<(), WriteFault>
+)
     ensures { PutsParts W.contents printer.old printer.new
-        (Command.Mark, value.Name name.now ∷ value.Moment moment.now ∷ end_values until.now) result }
+        (Command.Mark, value.Name name.now ∷ value.Moment moment.now ∷ end_values until.now) }
 {
     match until {
         Some(end) => put_ended(name, moment, end, printer),
@@ -155,19 +142,13 @@ fn put_mark<W: Write>(
 }
 
 // And one that ends.
-fn put_ended<W: Write>(
-    name: &Name,
-    moment: &Moment,
-    end: &Moment,
-    printer: &mut Printer<'_, W>,
-) -> Result<(), WriteFault>
+fn put_ended<W: Write>(name: &Name, moment: &Moment, end: &Moment, printer: &mut Printer<'_, W>)
     ensures { PutsParts W.contents printer.old printer.new
-        (Command.Mark, value.Name name.now ∷ value.Moment moment.now ∷ value.End end.now ∷ [])
-        result }
+        (Command.Mark, value.Name name.now ∷ value.Moment moment.now ∷ value.End end.now ∷ []) }
 {
     end.lemma_value();
-    put_two(Command::Mark, name, moment, printer)?;
-    end.put_value(printer)
+    put_two(Command::Mark, name, moment, printer);
+    end.put_value(printer);
 }
 
 // Says of bytes that each is one.
@@ -176,12 +157,13 @@ fn lemma_bytes(bytes: &[u8])
 {}
 
 // Puts a space and two digits for each byte, or `-` for none.
-fn put_byte_word<W: Write>(bytes: &[u8], printer: &mut Printer<'_, W>) -> Result<(), WriteFault>
-    ensures { Prints W.contents printer.old printer.new (32 ∷ bytes_word bytes.now) result }
+fn put_byte_word<W: Write>(bytes: &[u8], printer: &mut Printer<'_, W>)
+    ensures { Prints W.contents printer.old printer.new (32 ∷ bytes_word bytes.now) }
 {
     if bytes.is_empty() {
-        return printer.put(b" -");
+        printer.put(b" -");
+    } else {
+        printer.put(b" ");
+        put_hexadecimal(bytes, printer);
     }
-    printer.put(b" ")?;
-    put_hexadecimal(bytes, printer)
 }

@@ -1,6 +1,6 @@
-//! What is wrong with a line, and a writer that refuses. A contract sees each fault as itself.
+//! What is wrong with a line. A contract sees each fault as itself.
 ghost use Rattle.std.specs.Prelude.{◌≡◌};
-ghost use Rattle.ele_printer.specs.LineFault.{fault_number, fault_name, write_fault_number, write_fault_name, fault_of_path, fault_of_path_at};
+ghost use Rattle.ele_printer.specs.LineFault.{fault_number, fault_name, fault_of_path, fault_of_path_at};
 ghost use Rattle.ele_printer.specs.declared.fault.LineFault.TheVariants.{BadName, BadLadder, NoMemory};
 
 use ele_path::{PathAtFault, PathFault};
@@ -118,26 +118,5 @@ impl From<PathAtFault> for LineFault {
             PathAtFault::Path(fault) => LineFault::from(fault),
             PathAtFault::Numbered => LineFault::Syntax,
         }
-    }
-}
-
-/// A writer refused some bytes. What it took until then is a front of what it was given.
-#[derive(Clone, Copy, Debug, PartialEq, Eq, Error)]
-#[error("the output can't be written")]
-pub struct WriteFault;
-
-impl WriteFault {
-    /// Its number.
-    pub fn number(self) -> u8
-        ensures { result ≡ write_fault_number }
-    {
-        35
-    }
-
-    /// Its name.
-    pub fn name(self) -> &'static str
-        ensures { result.now ≡ write_fault_name }
-    {
-        "WriteFault"
     }
 }

@@ -2,56 +2,45 @@
 //! stored, and a printer as its outlet.
 ghost use Rattle.std.specs.Prelude.{◌∷◌, [], decimal};
 ghost use Rattle.ele_printer.specs.HistoryText.{entry_line, history_text, trimmed_text};
-ghost use Rattle.ele_printer.specs.Printed.{line_text};
-ghost use Rattle.ele_printer.specs.Prints.{Prints};
+ghost use Rattle.ele_output.specs.Line.{line_text};
+ghost use Rattle.ele_output.specs.Prints.{Prints};
 
 use crate::event::put_event_line;
-use crate::fault::WriteFault;
-use crate::numbers::{put_number, put_number_line};
-use crate::printer::Printer;
+use crate::numbers::{put_number_line, put_numbers_line};
 use crate::row::{Row, put_lines};
 use ele_model::Entry;
+use ele_output::Printer;
 use std::io::Write;
 
 /// Puts the text of a history: how many entries were folded, how many are stored, and the line of
-/// the event of each of these. At a fault of the writer it took a front of all that was put.
-pub fn put_history<W: Write>(
-    folded: u64,
-    entries: &[Entry],
-    printer: &mut Printer<'_, W>,
-) -> Result<(), WriteFault>
-    ensures { Prints W.contents printer.old printer.new (history_text folded entries.now) result }
+/// the event of each of these.
+pub fn put_history<W: Write>(folded: u64, entries: &[Entry], printer: &mut Printer<'_, W>)
+    ensures { Prints W.contents printer.old printer.new (history_text folded entries.now) }
 {
-    put_numbers(b"ok history", folded, entries.len() as u64, printer)?;
-    put_lines(entries, printer)
+    put_numbers(b"ok history", folded, entries.len() as u64, printer);
+    put_lines(entries, printer);
 }
 
-/// Puts the line of a trim: how many entries it folded. At a fault of the writer it took a front of
-/// all that was put.
-pub fn put_trimmed<W: Write>(count: u64, printer: &mut Printer<'_, W>) -> Result<(), WriteFault>
-    ensures { Prints W.contents printer.old printer.new (trimmed_text count) result }
+/// Puts the line of a trim: how many entries it folded.
+pub fn put_trimmed<W: Write>(count: u64, printer: &mut Printer<'_, W>)
+    ensures { Prints W.contents printer.old printer.new (trimmed_text count) }
 {
-    put_number(b"ok trimmed", count, printer)
+    put_number_line(b"ok trimmed", count, printer);
 }
 
 impl Row for Entry {
     ghost row_line = { entry_line };
 
-    fn put_row<W: Write>(&self, printer: &mut Printer<'_, W>) -> Result<(), WriteFault> {
-        printer.put(b"- ")?;
-        put_event_line(&self.event, printer)
+    fn put_row<W: Write>(&self, printer: &mut Printer<'_, W>) {
+        printer.put(b"- ");
+        put_event_line(&self.event, printer);
     }
 }
 
 // Puts a line of a first word and two numbers.
-fn put_numbers<W: Write>(
-    first: &[u8],
-    one: u64,
-    other: u64,
-    printer: &mut Printer<'_, W>,
-) -> Result<(), WriteFault>
+fn put_numbers<W: Write>(first: &[u8], one: u64, other: u64, printer: &mut Printer<'_, W>)
     ensures { Prints W.contents printer.old printer.new
-        (line_text (first.now ∷ decimal one ∷ decimal other ∷ [])) result }
+        (line_text (first.now ∷ decimal one ∷ decimal other ∷ [])) }
 {
-    put_number_line(first, &[one, other], printer)
+    put_numbers_line(first, &[one, other], printer);
 }

@@ -2,51 +2,45 @@
 //! its outlet.
 ghost use Rattle.std.specs.Prelude.{◌≡◌, ◌∷◌};
 ghost use Rattle.ele_printer.specs.EventText.{IsTag};
-ghost use Rattle.ele_printer.specs.Prints.{Prints};
+ghost use Rattle.ele_output.specs.Prints.{Prints};
 ghost use Rattle.ele_path.specs.PathAt.{tag_at};
 ghost use Rattle.ele_path.specs.PathText.{path_word, tag_text};
 
-use crate::fault::WriteFault;
-use crate::printer::Printer;
-use crate::rows::put_listed;
 use ele_moment::Moment;
+use ele_output::{Printer, put_with_number};
 use ele_path::{Path, Tag};
 use std::io::Write;
 
 /// Puts a space and a path: a slash for the root, or the names, each with a slash in front.
-pub(crate) fn put_path<W: Write>(
-    path: &Path,
-    printer: &mut Printer<'_, W>,
-) -> Result<(), WriteFault>
-    ensures { Prints W.contents printer.old printer.new (32 ∷ path_word path.now) result }
+pub(crate) fn put_path<W: Write>(path: &Path, printer: &mut Printer<'_, W>)
+    ensures { Prints W.contents printer.old printer.new (32 ∷ path_word path.now) }
 {
     let names = path.names();
     if names.is_empty() {
         return printer.put(b" /");
     }
-    printer.put(b" ")?;
+    printer.put(b" ");
     for name in names {
-        put_step(name.bytes(), printer)?;
+        put_step(name.bytes(), printer);
     }
-    Ok(())
 }
 
 // Puts a slash and the bytes of a name.
-fn put_step<W: Write>(name: &[u8], printer: &mut Printer<'_, W>) -> Result<(), WriteFault>
-    ensures { Prints W.contents printer.old printer.new (47 ∷ name.now) result }
+fn put_step<W: Write>(name: &[u8], printer: &mut Printer<'_, W>)
+    ensures { Prints W.contents printer.old printer.new (47 ∷ name.now) }
 {
-    printer.put(b"/")?;
-    printer.put(name)
+    printer.put(b"/");
+    printer.put(name);
 }
 
 /// Puts what stands behind a path for a tag.
-pub(crate) fn put_tag<W: Write>(tag: Tag, printer: &mut Printer<'_, W>) -> Result<(), WriteFault>
-    ensures { Prints W.contents printer.old printer.new (tag_text tag) result }
+pub(crate) fn put_tag<W: Write>(tag: Tag, printer: &mut Printer<'_, W>)
+    ensures { Prints W.contents printer.old printer.new (tag_text tag) }
 {
     match tag {
         Tag::Now => printer.put(b""),
-        Tag::At(moment) => put_listed(b"@", moment.seconds(), printer),
-        Tag::Number(number) => put_listed(b"#", number.0, printer),
+        Tag::At(moment) => put_with_number(b"@", moment.seconds(), printer),
+        Tag::Number(number) => put_with_number(b"#", number.0, printer),
     }
 }
 

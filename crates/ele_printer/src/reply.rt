@@ -1,32 +1,29 @@
 //! Putting replies into an output. A contract sees a reply as itself, and a printer as its
 //! outlet.
 ghost use Rattle.std.specs.Prelude.{◌≤◌, ◌++◌, ◌∷◌, [], Ok, List, ℕ, length, decimal, codes};
-ghost use Rattle.ele_printer.specs.Prints.{Prints};
-ghost use Rattle.ele_printer.specs.Printed.{line_text, key_words, closed_text, restorable_line, restorable_text, due_line, due_text, bytes_text, usage_line, usage_text, stop_text, pass_text, bad_text, IsAnswerText, IsReplyText};
+ghost use Rattle.ele_output.specs.Prints.{Prints};
+ghost use Rattle.ele_output.specs.Line.{line_text};
+ghost use Rattle.ele_printer.specs.Printed.{key_words, closed_text, restorable_line, restorable_text, due_line, due_text, bytes_text, usage_line, usage_text, stop_text, pass_text, bad_text, IsAnswerText, IsReplyText};
 ghost use Rattle.hex.specs.Hex.{encode_lower};
 
-use crate::fault::{LineFault, WriteFault};
+use crate::fault::LineFault;
 use crate::group_rows::put_groups;
-use crate::numbers::{put_number, put_number_line, put_numbers};
-use crate::printer::{Printer, put_line, put_word};
+use crate::numbers::{put_number_line, put_numbers, put_numbers_line};
 use crate::refusal::put_refusal;
 use crate::row::{Row, put_rows};
-use crate::rows::{put_directory, put_file, put_listed, put_names, put_number_word, put_versions};
+use crate::rows::{put_directory, put_file, put_names, put_versions};
 use ele_model::{DeadName, Key, PassEnd, Reply, Stop, Target, Usage, VersionNo};
+use ele_output::{Printer, put_line, put_number, put_with_number, put_word};
 use itoa::Buffer;
 use std::io::Write;
 
 /// So many bytes are told as digits at a time.
 const PIECE: usize = 256;
 
-/// Puts the lines of a reply, or of the stop that came in its place. At a fault the writer took a
-/// front of all that was put.
-pub fn put_reply<W: Write>(
-    reply: &Result<Reply, Stop>,
-    printer: &mut Printer<'_, W>,
-) -> Result<(), WriteFault>
+/// Puts the lines of a reply, or of the stop that came in its place.
+pub fn put_reply<W: Write>(reply: &Result<Reply, Stop>, printer: &mut Printer<'_, W>)
     ensures { (text : List ℕ) × IsAnswerText reply.now text × Prints W.contents printer.old
-        printer.new text result }
+        printer.new text }
 {
     match reply {
         Ok(reply) => put_answer(reply, printer),
@@ -34,39 +31,37 @@ pub fn put_reply<W: Write>(
     }
 }
 
-/// Puts the line that tells a bad line's fault. At a fault of the writer it took a front of all
-/// that was put.
-pub fn put_fault<W: Write>(fault: LineFault, printer: &mut Printer<'_, W>) -> Result<(), WriteFault>
-    ensures { Prints W.contents printer.old printer.new (bad_text fault) result }
+/// Puts the line that tells a bad line's fault.
+pub fn put_fault<W: Write>(fault: LineFault, printer: &mut Printer<'_, W>)
+    ensures { Prints W.contents printer.old printer.new (bad_text fault) }
 {
-    put_named(b"bad", fault.number(), fault.name(), printer)
+    put_named(b"bad", fault.number(), fault.name(), printer);
 }
 
-/// Puts the line that tells how a pass ended, and how many versions it removed. At a fault of the
-/// writer it took a front of all that was put.
-pub fn put_pass<W: Write>(end: &PassEnd, printer: &mut Printer<'_, W>) -> Result<(), WriteFault>
-    ensures { Prints W.contents printer.old printer.new (pass_text end.now) result }
+/// Puts the line that tells how a pass ended, and how many versions it removed.
+pub fn put_pass<W: Write>(end: &PassEnd, printer: &mut Printer<'_, W>)
+    ensures { Prints W.contents printer.old printer.new (pass_text end.now) }
 {
     match *end {
-        PassEnd::Finished(removed) => put_number(b"ok pass finished", removed, printer),
-        PassEnd::Budget(removed) => put_number(b"ok pass budget", removed, printer),
+        PassEnd::Finished(removed) => put_number_line(b"ok pass finished", removed, printer),
+        PassEnd::Budget(removed) => put_number_line(b"ok pass budget", removed, printer),
         PassEnd::Stopped(stop, removed) => put_stopped(stop, removed, printer),
     }
 }
 
-/// Puts the lines of a reply. At a fault the writer took a front of all that was put.
-pub fn put_answer<W: Write>(reply: &Reply, printer: &mut Printer<'_, W>) -> Result<(), WriteFault>
+/// Puts the lines of a reply.
+pub fn put_answer<W: Write>(reply: &Reply, printer: &mut Printer<'_, W>)
     ensures { (text : List ℕ) × IsReplyText reply.now text × Prints W.contents printer.old
-        printer.new text result }
+        printer.new text }
 {
     match reply {
         Reply::Done => printer.put(b"ok done\n"),
         Reply::Nothing => printer.put(b"ok nothing\n"),
         Reply::Now(moment) => put_now(moment.seconds(), &moment.text(), printer),
-        Reply::Directory(directory) => put_number(b"ok directory", directory.0, printer),
-        Reply::File(file) => put_number(b"ok file", file.0, printer),
-        Reply::Handle(handle) => put_number(b"ok handle", handle.0, printer),
-        Reply::Version(number) => put_number(b"ok version", number.0, printer),
+        Reply::Directory(directory) => put_number_line(b"ok directory", directory.0, printer),
+        Reply::File(file) => put_number_line(b"ok file", file.0, printer),
+        Reply::Handle(handle) => put_number_line(b"ok handle", handle.0, printer),
+        Reply::Version(number) => put_number_line(b"ok version", number.0, printer),
         Reply::Closed(made) => put_closed(*made, printer),
         Reply::Removed(key) => put_key(b"ok removed", *key, printer),
         Reply::Bytes(bytes) => put_bytes(bytes.as_slice(), printer),
@@ -83,28 +78,21 @@ pub fn put_answer<W: Write>(reply: &Reply, printer: &mut Printer<'_, W>) -> Resu
 }
 
 // Puts the line of a moment, with its date and time.
-fn put_now<W: Write>(
-    seconds: u64,
-    stamp: &[u8],
-    printer: &mut Printer<'_, W>,
-) -> Result<(), WriteFault>
+fn put_now<W: Write>(seconds: u64, stamp: &[u8], printer: &mut Printer<'_, W>)
     ensures { Prints W.contents printer.old printer.new
-        (line_text (codes "ok now" ∷ decimal seconds ∷ stamp.now ∷ [])) result }
+        (line_text (codes "ok now" ∷ decimal seconds ∷ stamp.now ∷ [])) }
 {
-    put_listed(b"ok now ", seconds, printer)?;
-    put_word(stamp, printer)?;
-    printer.put_byte(b'\n')
+    put_with_number(b"ok now ", seconds, printer);
+    put_word(stamp, printer);
+    printer.put_byte(b'\n');
 }
 
 // Puts the line of a closing, with the version that it made, if it made one.
-fn put_closed<W: Write>(
-    made: Option<VersionNo>,
-    printer: &mut Printer<'_, W>,
-) -> Result<(), WriteFault>
-    ensures { Prints W.contents printer.old printer.new (closed_text made) result }
+fn put_closed<W: Write>(made: Option<VersionNo>, printer: &mut Printer<'_, W>)
+    ensures { Prints W.contents printer.old printer.new (closed_text made) }
 {
     match made {
-        Some(number) => put_number(b"ok closed version", number.0, printer),
+        Some(number) => put_number_line(b"ok closed version", number.0, printer),
         None => put_line(b"ok closed", &[], printer),
     }
 }
@@ -116,62 +104,58 @@ pub(crate) fn put_placed<W: Write>(
     middle: &[u8],
     last: &[u8],
     printer: &mut Printer<'_, W>,
-) -> Result<(), WriteFault>
+)
     ensures { Prints W.contents printer.old printer.new
-        (line_text (first.now ∷ decimal number ∷ middle.now ∷ last.now ∷ [])) result }
+        (line_text (first.now ∷ decimal number ∷ middle.now ∷ last.now ∷ [])) }
 {
     let mut digits = Buffer::new();
     let digits = digits.format(number).as_bytes();
-    put_line(first, &[digits, middle, last], printer)
+    put_line(first, &[digits, middle, last], printer);
 }
 
-/// Puts a number and a space, which stand in front of a line. At a fault the writer took a front of
-/// all that was put.
-pub fn put_in_front<W: Write>(number: u64, printer: &mut Printer<'_, W>) -> Result<(), WriteFault>
-    ensures { Prints W.contents printer.old printer.new (decimal number ++ 32 ∷ []) result }
+/// Puts a number and a space, which stand in front of a line.
+pub fn put_in_front<W: Write>(number: u64, printer: &mut Printer<'_, W>)
+    ensures { Prints W.contents printer.old printer.new (decimal number ++ 32 ∷ []) }
 {
-    put_number_word(number, printer)?;
-    printer.put(b" ")
+    put_number(number, printer);
+    printer.put(b" ");
 }
 
 // Puts a line of a first word and a key.
-fn put_key<W: Write>(first: &[u8], key: Key, printer: &mut Printer<'_, W>) -> Result<(), WriteFault>
+fn put_key<W: Write>(first: &[u8], key: Key, printer: &mut Printer<'_, W>)
     ensures { Prints W.contents printer.old printer.new
-        (line_text (first.now ∷ key_words key)) result }
+        (line_text (first.now ∷ key_words key)) }
 {
     let numbers = [key.ripe.seconds(), key.file.0, key.number.0];
-    put_number_line(first, &numbers, printer)
+    put_numbers_line(first, &numbers, printer);
 }
 
 // Puts how many keys there are, and the line of each.
-fn put_keys<W: Write>(keys: &[Key], printer: &mut Printer<'_, W>) -> Result<(), WriteFault>
-    ensures { Prints W.contents printer.old printer.new (due_text keys.now) result }
+fn put_keys<W: Write>(keys: &[Key], printer: &mut Printer<'_, W>)
+    ensures { Prints W.contents printer.old printer.new (due_text keys.now) }
 {
-    put_rows(b"ok due", keys, printer)
+    put_rows(b"ok due", keys, printer);
 }
 
 impl Row for Key {
     ghost row_line = { due_line };
 
-    fn put_row<W: Write>(&self, printer: &mut Printer<'_, W>) -> Result<(), WriteFault> {
-        put_key(b"-", *self, printer)
+    fn put_row<W: Write>(&self, printer: &mut Printer<'_, W>) {
+        put_key(b"-", *self, printer);
     }
 }
 
 // Puts how many names may come back, and the line of each.
-fn put_dead_names<W: Write>(
-    names: &[DeadName],
-    printer: &mut Printer<'_, W>,
-) -> Result<(), WriteFault>
-    ensures { Prints W.contents printer.old printer.new (restorable_text names.now) result }
+fn put_dead_names<W: Write>(names: &[DeadName], printer: &mut Printer<'_, W>)
+    ensures { Prints W.contents printer.old printer.new (restorable_text names.now) }
 {
-    put_rows(b"ok restorable", names, printer)
+    put_rows(b"ok restorable", names, printer);
 }
 
 impl Row for DeadName {
     ghost row_line = { restorable_line };
 
-    fn put_row<W: Write>(&self, printer: &mut Printer<'_, W>) -> Result<(), WriteFault> {
+    fn put_row<W: Write>(&self, printer: &mut Printer<'_, W>) {
         match self.target {
             Target::File(file) => put_target(self, b"file", file.0, printer),
             Target::Directory(directory) => { put_target(self, b"directory", directory.0, printer) }
@@ -180,67 +164,58 @@ impl Row for DeadName {
 }
 
 // Puts the line of a name that stood for a target of this kind and number.
-fn put_target<W: Write>(
-    dead: &DeadName,
-    kind: &[u8],
-    target: u64,
-    printer: &mut Printer<'_, W>,
-) -> Result<(), WriteFault>
+fn put_target<W: Write>(dead: &DeadName, kind: &[u8], target: u64, printer: &mut Printer<'_, W>)
     ensures { Prints W.contents printer.old printer.new
         (line_text (codes "-" ∷ decimal dead.now.directory ∷ dead.now.name ∷ kind.now ∷ decimal
-        target ∷ [])) result }
+        target ∷ [])) }
 {
     let mut directory = Buffer::new();
     let mut number = Buffer::new();
     let directory = directory.format(dead.directory.0).as_bytes();
     let number = number.format(target).as_bytes();
-    put_line(b"-", &[directory, dead.name.bytes(), kind, number], printer)
+    put_line(b"-", &[directory, dead.name.bytes(), kind, number], printer);
 }
 
 // Puts bytes, which stay in the line of the reply however many they are.
-fn put_bytes<W: Write>(bytes: &[u8], printer: &mut Printer<'_, W>) -> Result<(), WriteFault>
-    ensures { Prints W.contents printer.old printer.new (bytes_text bytes.now) result }
+fn put_bytes<W: Write>(bytes: &[u8], printer: &mut Printer<'_, W>)
+    ensures { Prints W.contents printer.old printer.new (bytes_text bytes.now) }
 {
     if bytes.is_empty() {
-        return put_line(b"ok bytes", &[b"0", b"-"], printer);
+        put_line(b"ok bytes", &[b"0", b"-"], printer);
+    } else {
+        put_digits(bytes, printer);
     }
-    put_digits(bytes, printer)
 }
 
 // Puts some bytes, as their number and their digits.
-fn put_digits<W: Write>(bytes: &[u8], printer: &mut Printer<'_, W>) -> Result<(), WriteFault>
+fn put_digits<W: Write>(bytes: &[u8], printer: &mut Printer<'_, W>)
     ensures { Prints W.contents printer.old printer.new
-        (line_text (codes "ok bytes" ∷ decimal (length bytes.now) ∷ encode_lower bytes.now ∷ []))
-        result }
+        (line_text (codes "ok bytes" ∷ decimal (length bytes.now) ∷ encode_lower bytes.now ∷ [])) }
 {
     let mut length = Buffer::new();
-    printer.put(b"ok bytes ")?;
-    printer.put(length.format(bytes.len() as u64).as_bytes())?;
-    printer.put(b" ")?;
-    put_hexadecimal(bytes, printer)?;
-    printer.put(b"\n")
+    printer.put(b"ok bytes ");
+    printer.put(length.format(bytes.len() as u64).as_bytes());
+    printer.put(b" ");
+    put_hexadecimal(bytes, printer);
+    printer.put(b"\n");
 }
 
 /// Puts two digits for each byte.
-pub(crate) fn put_hexadecimal<W: Write>(
-    bytes: &[u8],
-    printer: &mut Printer<'_, W>,
-) -> Result<(), WriteFault>
-    ensures { Prints W.contents printer.old printer.new (encode_lower bytes.now) result }
+pub(crate) fn put_hexadecimal<W: Write>(bytes: &[u8], printer: &mut Printer<'_, W>)
+    ensures { Prints W.contents printer.old printer.new (encode_lower bytes.now) }
 {
     let mut rest = bytes;
     'pieces: while !rest.is_empty() {
         let (piece, behind) = rest.split_at(rest.len().min(PIECE));
-        put_piece(piece, printer)?;
+        put_piece(piece, printer);
         rest = behind;
     }
-    Ok(())
 }
 
 // Puts two digits for each byte of a few hundred.
-fn put_piece<W: Write>(piece: &[u8], printer: &mut Printer<'_, W>) -> Result<(), WriteFault>
+fn put_piece<W: Write>(piece: &[u8], printer: &mut Printer<'_, W>)
     requires { length piece.now ≤ PIECE }
-    ensures { Prints W.contents printer.old printer.new (encode_lower piece.now) result }
+    ensures { Prints W.contents printer.old printer.new (encode_lower piece.now) }
 {
     let mut digits = [0; 2 * PIECE];
     let digits = &mut digits[..2 * piece.len()];
@@ -251,24 +226,20 @@ fn put_piece<W: Write>(piece: &[u8], printer: &mut Printer<'_, W>) -> Result<(),
 }
 
 // Puts what the files of each kind of policy use.
-fn put_usages<W: Write>(usages: &[Usage; 4], printer: &mut Printer<'_, W>) -> Result<(), WriteFault>
-    ensures { Prints W.contents printer.old printer.new (usage_text usages.now) result }
+fn put_usages<W: Write>(usages: &[Usage; 4], printer: &mut Printer<'_, W>)
+    ensures { Prints W.contents printer.old printer.new (usage_text usages.now) }
 {
     let [one, all, safe, landmarks] = *usages;
-    put_number(b"ok usage", 4, printer)?;
-    put_usage(b"one", one, printer)?;
-    put_usage(b"all", all, printer)?;
-    put_usage(b"safe", safe, printer)?;
-    put_usage(b"landmarks", landmarks, printer)
+    put_number_line(b"ok usage", 4, printer);
+    put_usage(b"one", one, printer);
+    put_usage(b"all", all, printer);
+    put_usage(b"safe", safe, printer);
+    put_usage(b"landmarks", landmarks, printer);
 }
 
 // Puts the line of what the files of a kind of policy use.
-fn put_usage<W: Write>(
-    kind: &[u8],
-    usage: Usage,
-    printer: &mut Printer<'_, W>,
-) -> Result<(), WriteFault>
-    ensures { Prints W.contents printer.old printer.new (usage_line kind.now usage) result }
+fn put_usage<W: Write>(kind: &[u8], usage: Usage, printer: &mut Printer<'_, W>)
+    ensures { Prints W.contents printer.old printer.new (usage_line kind.now usage) }
 {
     let mut files = Buffer::new();
     let mut versions = Buffer::new();
@@ -278,7 +249,7 @@ fn put_usage<W: Write>(
     let versions = versions.format(usage.versions).as_bytes();
     let bytes = bytes.format(usage.bytes).as_bytes();
     let blocks = blocks.format(usage.blocks).as_bytes();
-    put_line(b"-", &[kind, files, versions, bytes, blocks], printer)
+    put_line(b"-", &[kind, files, versions, bytes, blocks], printer);
 }
 
 /// Puts a line of a first word, a number and a name.
@@ -287,36 +258,31 @@ pub(crate) fn put_named<W: Write>(
     number: u8,
     name: &str,
     printer: &mut Printer<'_, W>,
-) -> Result<(), WriteFault>
+)
     ensures { Prints W.contents printer.old printer.new
-        (line_text (first.now ∷ decimal number ∷ name.now ∷ [])) result }
+        (line_text (first.now ∷ decimal number ∷ name.now ∷ [])) }
 {
-    put_numbers(first, &[number as u64], printer)?;
-    put_word(name.as_bytes(), printer)?;
-    printer.put_byte(b'\n')
+    put_numbers(first, &[number as u64], printer);
+    put_word(name.as_bytes(), printer);
+    printer.put_byte(b'\n');
 }
 
-/// Puts the line of a stop that came in a reply's place. At a fault of the writer it took a front
-/// of all that was put.
-pub fn put_stop<W: Write>(stop: Stop, printer: &mut Printer<'_, W>) -> Result<(), WriteFault>
-    ensures { Prints W.contents printer.old printer.new (stop_text stop) result }
+/// Puts the line of a stop that came in a reply's place.
+pub fn put_stop<W: Write>(stop: Stop, printer: &mut Printer<'_, W>)
+    ensures { Prints W.contents printer.old printer.new (stop_text stop) }
 {
-    put_named(b"stop", stop.number(), stop.name(), printer)
+    put_named(b"stop", stop.number(), stop.name(), printer);
 }
 
 // Puts the line of a pass that a stop ended, with how many versions it removed.
-fn put_stopped<W: Write>(
-    stop: Stop,
-    removed: u64,
-    printer: &mut Printer<'_, W>,
-) -> Result<(), WriteFault>
+fn put_stopped<W: Write>(stop: Stop, removed: u64, printer: &mut Printer<'_, W>)
     ensures { Prints W.contents printer.old printer.new
-        (pass_text (PassEnd.Stopped stop removed)) result }
+        (pass_text (PassEnd.Stopped stop removed)) }
 {
     let mut number = Buffer::new();
     let mut count = Buffer::new();
     let number = number.format(stop.number()).as_bytes();
     let count = count.format(removed).as_bytes();
     let name = stop.name().as_bytes();
-    put_line(b"stop", &[number, name, b"removed", count], printer)
+    put_line(b"stop", &[number, name, b"removed", count], printer);
 }

@@ -2,46 +2,36 @@
 //! itself, and a printer as its outlet.
 ghost use Rattle.std.specs.Prelude.{◌∷◌, [], ◌++◌, List, ℕ, length, decimal};
 ghost use Rattle.std.specs.List.{flat_map};
-ghost use Rattle.ele_printer.specs.Prints.{Prints};
-ghost use Rattle.ele_printer.specs.Printed.{line_text};
+ghost use Rattle.ele_output.specs.Prints.{Prints};
+ghost use Rattle.ele_output.specs.Line.{line_text};
 
-use crate::fault::WriteFault;
-use crate::numbers::put_number;
-use crate::printer::Printer;
+use crate::numbers::put_number_line;
+use ele_output::Printer;
 use std::io::Write;
 
 /// What is told in a line of its own.
 pub(crate) trait Row {
     ghost row_line: { Self → List ℕ };
 
-    /// Puts its line. At a fault the writer took a front of all that was put.
-    fn put_row<W: Write>(&self, printer: &mut Printer<'_, W>) -> Result<(), WriteFault>
-        ensures { Prints W.contents printer.old printer.new (row_line self.now) result };
+    /// Puts its line.
+    fn put_row<W: Write>(&self, printer: &mut Printer<'_, W>)
+        ensures { Prints W.contents printer.old printer.new (row_line self.now) };
 }
 
 /// Puts how many rows there are, and the line of each.
-pub(crate) fn put_rows<T: Row, W: Write>(
-    first: &[u8],
-    rows: &[T],
-    printer: &mut Printer<'_, W>,
-) -> Result<(), WriteFault>
+pub(crate) fn put_rows<T: Row, W: Write>(first: &[u8], rows: &[T], printer: &mut Printer<'_, W>)
     ensures { Prints W.contents printer.old printer.new
-        (line_text (first.now ∷ decimal (length rows.now) ∷ []) ++ flat_map T.row_line rows.now)
-        result }
+        (line_text (first.now ∷ decimal (length rows.now) ∷ []) ++ flat_map T.row_line rows.now) }
 {
-    put_number(first, rows.len() as u64, printer)?;
-    put_lines(rows, printer)
+    put_number_line(first, rows.len() as u64, printer);
+    put_lines(rows, printer);
 }
 
 /// Puts the line of each row.
-pub(crate) fn put_lines<T: Row, W: Write>(
-    rows: &[T],
-    printer: &mut Printer<'_, W>,
-) -> Result<(), WriteFault>
-    ensures { Prints W.contents printer.old printer.new (flat_map T.row_line rows.now) result }
+pub(crate) fn put_lines<T: Row, W: Write>(rows: &[T], printer: &mut Printer<'_, W>)
+    ensures { Prints W.contents printer.old printer.new (flat_map T.row_line rows.now) }
 {
     for row in rows {
-        row.put_row(printer)?;
+        row.put_row(printer);
     }
-    Ok(())
 }

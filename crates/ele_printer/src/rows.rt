@@ -2,62 +2,52 @@
 //! each as itself, and a printer as its outlet.
 ghost use Rattle.std.specs.Prelude.{◌≡◌, ◌∷◌, [], ◌++◌, map, decimal, codes};
 ghost use Rattle.ele_policy.specs.PolicyText.{floor_word, ladder_word, pair_word, policy_word};
-ghost use Rattle.ele_printer.specs.Prints.{Prints};
-ghost use Rattle.ele_printer.specs.Printed.{line_text, end_word, file_text, directory_text, rest_text, times_text, version_line, versions_text, name_line, names_text};
+ghost use Rattle.ele_output.specs.Prints.{Prints};
+ghost use Rattle.ele_output.specs.Line.{line_text};
+ghost use Rattle.ele_printer.specs.Printed.{end_word, file_text, directory_text, rest_text, times_text, version_line, versions_text, name_line, names_text};
 
-use crate::fault::WriteFault;
 use crate::numbers::put_numbers;
-use crate::printer::{Printer, put_line, put_words};
 use crate::row::{Row, put_rows};
 use ele_model::{DirectoryRow, FileStat, Target, VersionInfo};
 use ele_moment::{Moment, Name};
+use ele_output::{Printer, put_line, put_number, put_with_number, put_words};
 use ele_policy::{Floor, Ladder, Policy};
 use itoa::Buffer;
 use std::io::Write;
 
 /// Puts the line of a file's version.
-pub(crate) fn put_file<W: Write>(
-    stat: &FileStat,
-    printer: &mut Printer<'_, W>,
-) -> Result<(), WriteFault>
-    ensures { Prints W.contents printer.old printer.new (file_text stat.now) result }
+pub(crate) fn put_file<W: Write>(stat: &FileStat, printer: &mut Printer<'_, W>)
+    ensures { Prints W.contents printer.old printer.new (file_text stat.now) }
 {
-    put_listed(b"ok file ", stat.file.0, printer)?;
-    put_times(&stat.info, printer)?;
-    put_rest(&stat.info, &stat.policy, printer)
+    put_with_number(b"ok file ", stat.file.0, printer);
+    put_times(&stat.info, printer);
+    put_rest(&stat.info, &stat.policy, printer);
 }
 
 // Puts the number of a version, and when it was opened, closed and ended.
-fn put_times<W: Write>(info: &VersionInfo, printer: &mut Printer<'_, W>) -> Result<(), WriteFault>
-    ensures { Prints W.contents printer.old printer.new (times_text info.now) result }
+fn put_times<W: Write>(info: &VersionInfo, printer: &mut Printer<'_, W>)
+    ensures { Prints W.contents printer.old printer.new (times_text info.now) }
 {
-    put_listed(b" version ", info.number.0, printer)?;
-    put_listed(b" opened ", info.opened.seconds(), printer)?;
-    put_listed(b" closed ", info.closed.seconds(), printer)?;
-    printer.put(b" ended")?;
-    put_end(info.ended, printer)
+    put_with_number(b" version ", info.number.0, printer);
+    put_with_number(b" opened ", info.opened.seconds(), printer);
+    put_with_number(b" closed ", info.closed.seconds(), printer);
+    printer.put(b" ended");
+    put_end(info.ended, printer);
 }
 
 // Puts the length of a version and the policy of its file, and a line feed.
-fn put_rest<W: Write>(
-    info: &VersionInfo,
-    policy: &Policy,
-    printer: &mut Printer<'_, W>,
-) -> Result<(), WriteFault>
-    ensures { Prints W.contents printer.old printer.new (rest_text info.now policy.now) result }
+fn put_rest<W: Write>(info: &VersionInfo, policy: &Policy, printer: &mut Printer<'_, W>)
+    ensures { Prints W.contents printer.old printer.new (rest_text info.now policy.now) }
 {
-    put_listed(b" length ", info.length, printer)?;
-    printer.put(b" policy")?;
-    put_policy(policy, printer)?;
-    printer.put_byte(b'\n')
+    put_with_number(b" length ", info.length, printer);
+    printer.put(b" policy");
+    put_policy(policy, printer);
+    printer.put_byte(b'\n');
 }
 
 /// Puts the line of a directory.
-pub(crate) fn put_directory<W: Write>(
-    row: &DirectoryRow,
-    printer: &mut Printer<'_, W>,
-) -> Result<(), WriteFault>
-    ensures { Prints W.contents printer.old printer.new (directory_text row.now) result }
+pub(crate) fn put_directory<W: Write>(row: &DirectoryRow, printer: &mut Printer<'_, W>)
+    ensures { Prints W.contents printer.old printer.new (directory_text row.now) }
 {
     let mut directory = Buffer::new();
     let directory = directory.format(row.id.0).as_bytes();
@@ -66,7 +56,7 @@ pub(crate) fn put_directory<W: Write>(
         &[directory, b"default"],
         &row.default,
         printer,
-    )
+    );
 }
 
 // Puts the line of these words and a policy.
@@ -75,155 +65,112 @@ fn put_with_policy<W: Write>(
     words: &[&[u8]],
     policy: &Policy,
     printer: &mut Printer<'_, W>,
-) -> Result<(), WriteFault>
+)
     ensures { Prints W.contents printer.old printer.new
-        (line_text (first.now ∷ map (λ word. word.now) words.now ++ policy_word policy.now ∷ []))
-        result }
+        (line_text (first.now ∷ map (λ word. word.now) words.now ++ policy_word policy.now ∷ [])) }
 {
-    put_words(first, words, printer)?;
-    put_policy(policy, printer)?;
-    printer.put(b"\n")
+    put_words(first, words, printer);
+    put_policy(policy, printer);
+    printer.put(b"\n");
 }
 
 /// Puts a space and a policy.
-pub(crate) fn put_policy<W: Write>(
-    policy: &Policy,
-    printer: &mut Printer<'_, W>,
-) -> Result<(), WriteFault>
-    ensures { Prints W.contents printer.old printer.new (32 ∷ policy_word policy.now) result }
+pub(crate) fn put_policy<W: Write>(policy: &Policy, printer: &mut Printer<'_, W>)
+    ensures { Prints W.contents printer.old printer.new (32 ∷ policy_word policy.now) }
 {
     match policy {
         Policy::One => printer.put(b" one"),
         Policy::All => printer.put(b" all"),
         Policy::Safe(interval, floor) => {
-            put_listed(b" safe:", interval.seconds(), printer)?;
-            put_floor(*floor, printer)
+            put_with_number(b" safe:", interval.seconds(), printer);
+            put_floor(*floor, printer);
         }
         Policy::Landmarks(ladder) => put_ladder(ladder, printer),
     }
 }
 
 // Puts a slash and a floor, or nothing for none.
-fn put_floor<W: Write>(floor: Floor, printer: &mut Printer<'_, W>) -> Result<(), WriteFault>
-    ensures { Prints W.contents printer.old printer.new (floor_word floor) result }
+fn put_floor<W: Write>(floor: Floor, printer: &mut Printer<'_, W>)
+    ensures { Prints W.contents printer.old printer.new (floor_word floor) }
 {
     match floor.number() {
-        0 => Ok(()),
-        versions => put_listed(b"/", versions, printer),
+        0 => {}
+        versions => put_with_number(b"/", versions, printer),
     }
 }
 
 // Puts a space, `landmarks:` and the pairs of a ladder.
-fn put_ladder<W: Write>(ladder: &Ladder, printer: &mut Printer<'_, W>) -> Result<(), WriteFault>
+fn put_ladder<W: Write>(ladder: &Ladder, printer: &mut Printer<'_, W>)
     ensures { Prints W.contents printer.old printer.new
-        (codes " landmarks:" ++ ladder_word ladder.now) result }
+        (codes " landmarks:" ++ ladder_word ladder.now) }
 {
-    printer.put(b" landmarks:")?;
-    put_pairs(ladder.pairs(), printer)
+    printer.put(b" landmarks:");
+    put_pairs(ladder.pairs(), printer);
 }
 
 // Puts pairs with a comma between each two.
-fn put_pairs<W: Write>(pairs: &[(u64, u64)], printer: &mut Printer<'_, W>) -> Result<(), WriteFault>
-    ensures { Prints W.contents printer.old printer.new (ladder_word pairs.now) result }
+fn put_pairs<W: Write>(pairs: &[(u64, u64)], printer: &mut Printer<'_, W>)
+    ensures { Prints W.contents printer.old printer.new (ladder_word pairs.now) }
 {
     let Some((first, rest)) = pairs.split_first() else {
-        return Ok(());
+        return;
     };
-    put_pair(b"", first, printer)?;
+    put_pair(b"", first, printer);
     for pair in rest {
-        put_pair(b",", pair, printer)?;
+        put_pair(b",", pair, printer);
     }
-    Ok(())
 }
 
 // Puts what stands before a pair, and the pair.
-fn put_pair<W: Write>(
-    before: &[u8],
-    pair: &(u64, u64),
-    printer: &mut Printer<'_, W>,
-) -> Result<(), WriteFault>
-    ensures { Prints W.contents printer.old printer.new (before.now ++ pair_word pair.now) result }
+fn put_pair<W: Write>(before: &[u8], pair: &(u64, u64), printer: &mut Printer<'_, W>)
+    ensures { Prints W.contents printer.old printer.new (before.now ++ pair_word pair.now) }
 {
-    printer.put(before)?;
-    put_number_word(pair.0, printer)?;
-    printer.put(b"/")?;
-    put_number_word(pair.1, printer)
-}
-
-/// Puts a number.
-#[tactic(auto, using(std::proofs::lemmas::Fmt::decimal_digit))]
-pub(crate) fn put_number_word<W: Write>(
-    number: u64,
-    printer: &mut Printer<'_, W>,
-) -> Result<(), WriteFault>
-    ensures { Prints W.contents printer.old printer.new (decimal number) result }
-{
-    // Many numbers that are told are small.
-    if number < 10 {
-        return printer.put_byte(b'0' + number as u8);
-    }
-    let mut digits = Buffer::new();
-    printer.put(digits.format(number).as_bytes())
-}
-
-/// Puts what stands before a number, and the number.
-pub(crate) fn put_listed<W: Write>(
-    before: &[u8],
-    number: u64,
-    printer: &mut Printer<'_, W>,
-) -> Result<(), WriteFault>
-    ensures { Prints W.contents printer.old printer.new (before.now ++ decimal number) result }
-{
-    printer.put(before)?;
-    put_number_word(number, printer)
+    printer.put(before);
+    put_number(pair.0, printer);
+    printer.put(b"/");
+    put_number(pair.1, printer);
 }
 
 // Puts a space and an end.
-fn put_end<W: Write>(ended: Option<Moment>, printer: &mut Printer<'_, W>) -> Result<(), WriteFault>
-    ensures { Prints W.contents printer.old printer.new (32 ∷ end_word ended) result }
+fn put_end<W: Write>(ended: Option<Moment>, printer: &mut Printer<'_, W>)
+    ensures { Prints W.contents printer.old printer.new (32 ∷ end_word ended) }
 {
     match ended {
-        Some(moment) => put_listed(b" ", moment.seconds(), printer),
+        Some(moment) => put_with_number(b" ", moment.seconds(), printer),
         None => printer.put(b" -"),
     }
 }
 
 /// Puts how many versions there are, and the line of each.
-pub(crate) fn put_versions<W: Write>(
-    versions: &[VersionInfo],
-    printer: &mut Printer<'_, W>,
-) -> Result<(), WriteFault>
-    ensures { Prints W.contents printer.old printer.new (versions_text versions.now) result }
+pub(crate) fn put_versions<W: Write>(versions: &[VersionInfo], printer: &mut Printer<'_, W>)
+    ensures { Prints W.contents printer.old printer.new (versions_text versions.now) }
 {
-    put_rows(b"ok versions", versions, printer)
+    put_rows(b"ok versions", versions, printer);
 }
 
 impl Row for VersionInfo {
     ghost row_line = { version_line };
 
-    fn put_row<W: Write>(&self, printer: &mut Printer<'_, W>) -> Result<(), WriteFault> {
+    fn put_row<W: Write>(&self, printer: &mut Printer<'_, W>) {
         let before = [self.number.0, self.opened.seconds(), self.closed.seconds()];
-        put_numbers(b"-", &before, printer)?;
-        put_end(self.ended, printer)?;
-        put_listed(b" ", self.length, printer)?;
-        printer.put_byte(b'\n')
+        put_numbers(b"-", &before, printer);
+        put_end(self.ended, printer);
+        put_with_number(b" ", self.length, printer);
+        printer.put_byte(b'\n');
     }
 }
 
 /// Puts how many names there are, and the line of each.
-pub(crate) fn put_names<W: Write>(
-    names: &[(Name, Target)],
-    printer: &mut Printer<'_, W>,
-) -> Result<(), WriteFault>
-    ensures { Prints W.contents printer.old printer.new (names_text names.now) result }
+pub(crate) fn put_names<W: Write>(names: &[(Name, Target)], printer: &mut Printer<'_, W>)
+    ensures { Prints W.contents printer.old printer.new (names_text names.now) }
 {
-    put_rows(b"ok names", names, printer)
+    put_rows(b"ok names", names, printer);
 }
 
 impl Row for (Name, Target) {
     ghost row_line = { name_line };
 
-    fn put_row<W: Write>(&self, printer: &mut Printer<'_, W>) -> Result<(), WriteFault> {
+    fn put_row<W: Write>(&self, printer: &mut Printer<'_, W>) {
         let name = self.0.bytes();
         match self.1 {
             Target::File(file) => put_named_target(name, b"file", file.0, printer),
@@ -235,16 +182,11 @@ impl Row for (Name, Target) {
 }
 
 // Puts the line of a name that stands for a target of this kind and number.
-fn put_named_target<W: Write>(
-    name: &[u8],
-    kind: &[u8],
-    target: u64,
-    printer: &mut Printer<'_, W>,
-) -> Result<(), WriteFault>
+fn put_named_target<W: Write>(name: &[u8], kind: &[u8], target: u64, printer: &mut Printer<'_, W>)
     ensures { Prints W.contents printer.old printer.new
-        (line_text (codes "-" ∷ name.now ∷ kind.now ∷ decimal target ∷ [])) result }
+        (line_text (codes "-" ∷ name.now ∷ kind.now ∷ decimal target ∷ [])) }
 {
     let mut number = Buffer::new();
     let number = number.format(target).as_bytes();
-    put_line(b"-", &[name, kind, number], printer)
+    put_line(b"-", &[name, kind, number], printer);
 }

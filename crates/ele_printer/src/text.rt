@@ -1,70 +1,59 @@
 //! Writing answers whole. A contract sees an answer as itself, and a writer as the bytes that it is
 //! known to hold.
-ghost use Rattle.std.specs.Prelude.{◌∷◌, [], OnOk, OnErr, decimal};
+ghost use Rattle.std.specs.Prelude.{◌∷◌, [], decimal};
 ghost use Rattle.std.specs.List.{AllByRecursion};
-ghost use Rattle.std.specs.Io.KnownBytes.{Appends};
 ghost use Rattle.ele_printer.specs.EventText.{IsValue, event_words};
-ghost use Rattle.ele_printer.specs.Front.{AppendsFront};
+ghost use Rattle.ele_output.specs.Front.{WritesText};
 ghost use Rattle.ele_printer.specs.Parts.{parts_of};
-ghost use Rattle.ele_printer.specs.Printed.{line_text, WritesAnswer, WritesAnswerFront};
+ghost use Rattle.ele_output.specs.Line.{line_text};
+ghost use Rattle.ele_printer.specs.Printed.{WritesAnswer};
 
 use crate::event::put_event_line;
-use crate::fault::WriteFault;
-use crate::printer::Printer;
 use crate::reply::{put_named, put_placed, put_reply};
 use ele_model::{Event, Reply, Stop};
+use ele_output::{Printer, WriteFault};
 use std::io::Write;
 
 /// Writes the lines of a reply, or of the stop that came in its place. At a fault the writer took a
 /// front of them.
 pub fn write_reply<W: Write>(reply: &Result<Reply, Stop>, writer: &mut W) -> Result<(), WriteFault>
-    ensures ok { OnOk result
-        (WritesAnswer reply.now (W.contents writer.old) (W.contents writer.new)) }
-    ensures err { OnErr result
-        (WritesAnswerFront reply.now (W.contents writer.old) (W.contents writer.new)) }
+    ensures { WritesAnswer reply.now (W.contents writer.old) (W.contents writer.new) result }
 {
     let mut printer = Printer::new(writer);
-    put_reply(reply, &mut printer)?;
+    put_reply(reply, &mut printer);
     printer.hand_over()
 }
 
 /// Writes the line of an event: the words that name its command, and one for each value behind it.
 /// At a fault of the writer it took a front of that line.
-#[tactic(auto, using(crate::proofs::Known::err_over))]
 pub fn write_event_text<W: Write>(event: &Event, writer: &mut W) -> Result<(), WriteFault>
-    ensures ok { OnOk result (Appends (W.contents writer.old) (W.contents writer.new)
-        (line_text (event_words event.now))) }
-    ensures err { OnErr result (AppendsFront (W.contents writer.old) (W.contents writer.new)
-        (line_text (event_words event.now))) }
+    ensures text { WritesText (line_text (event_words event.now))
+        (W.contents writer.old) (W.contents writer.new) result }
     ensures values { AllByRecursion IsValue (parts_of event.now).1 }
 {
     let mut printer = Printer::new(writer);
-    put_event_line(event, &mut printer)?;
+    put_event_line(event, &mut printer);
     printer.hand_over()
 }
 
 /// Writes a line of a first word, a number and a name. At a fault of the writer it took a front of
 /// that line.
-#[tactic(auto, using(crate::proofs::Known::err_over))]
 pub fn write_named<W: Write>(
     first: &[u8],
     number: u8,
     name: &str,
     writer: &mut W,
 ) -> Result<(), WriteFault>
-    ensures ok { OnOk result (Appends (W.contents writer.old) (W.contents writer.new)
-        (line_text (first.now ∷ decimal number ∷ name.now ∷ []))) }
-    ensures err { OnErr result (AppendsFront (W.contents writer.old) (W.contents writer.new)
-        (line_text (first.now ∷ decimal number ∷ name.now ∷ []))) }
+    ensures { WritesText (line_text (first.now ∷ decimal number ∷ name.now ∷ []))
+        (W.contents writer.old) (W.contents writer.new) result }
 {
     let mut printer = Printer::new(writer);
-    put_named(first, number, name, &mut printer)?;
+    put_named(first, number, name, &mut printer);
     printer.hand_over()
 }
 
 /// Writes a line of a first word, a number and two words more. At a fault of the writer it took a
 /// front of that line.
-#[tactic(auto, using(crate::proofs::Known::err_over))]
 pub fn write_placed<W: Write>(
     first: &[u8],
     number: u64,
@@ -72,12 +61,10 @@ pub fn write_placed<W: Write>(
     last: &[u8],
     writer: &mut W,
 ) -> Result<(), WriteFault>
-    ensures ok { OnOk result (Appends (W.contents writer.old) (W.contents writer.new)
-        (line_text (first.now ∷ decimal number ∷ middle.now ∷ last.now ∷ []))) }
-    ensures err { OnErr result (AppendsFront (W.contents writer.old) (W.contents writer.new)
-        (line_text (first.now ∷ decimal number ∷ middle.now ∷ last.now ∷ []))) }
+    ensures { WritesText (line_text (first.now ∷ decimal number ∷ middle.now ∷ last.now ∷ []))
+        (W.contents writer.old) (W.contents writer.new) result }
 {
     let mut printer = Printer::new(writer);
-    put_placed(first, number, middle, last, &mut printer)?;
+    put_placed(first, number, middle, last, &mut printer);
     printer.hand_over()
 }

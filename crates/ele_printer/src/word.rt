@@ -2,16 +2,15 @@
 //! a printer as its outlet.
 ghost use Rattle.std.specs.Prelude.{◌<◌, ◌^◌, ◌∷◌};
 ghost use Rattle.ele_printer.specs.EventText.{IsValue, value_word};
-ghost use Rattle.ele_printer.specs.Prints.{Prints};
+ghost use Rattle.ele_output.specs.Prints.{Prints};
 ghost use Rattle.ele_printer.specs.Value as of;
 ghost use Rattle.ele_printer.specs.Value.{Value};
 
-use crate::fault::WriteFault;
 use crate::path_words::{lemma_tag, put_path, put_tag, tag_of};
-use crate::printer::{Printer, put_word};
-use crate::rows::{put_listed, put_policy};
+use crate::rows::put_policy;
 use ele_model::Source;
 use ele_moment::{Handle, Moment, Name, VersionNo};
+use ele_output::{Printer, put_with_number, put_word};
 use ele_path::{Path, PathAt, TaggedPath};
 use ele_policy::Policy;
 use std::io::Write;
@@ -24,10 +23,9 @@ pub(crate) trait Word {
     fn lemma_value(&self)
         ensures { IsValue (value self.now) };
 
-    /// Puts a space and its word. At a fault the writer took a front of all that was put.
-    fn put_value<W: Write>(&self, printer: &mut Printer<'_, W>) -> Result<(), WriteFault>
-        ensures { Prints W.contents printer.old printer.new (32 ∷ value_word (value self.now))
-            result };
+    /// Puts a space and its word.
+    fn put_value<W: Write>(&self, printer: &mut Printer<'_, W>)
+        ensures { Prints W.contents printer.old printer.new (32 ∷ value_word (value self.now)) };
 }
 
 impl Word for u64 {
@@ -37,8 +35,8 @@ impl Word for u64 {
         lemma_number(*self);
     }
 
-    fn put_value<W: Write>(&self, printer: &mut Printer<'_, W>) -> Result<(), WriteFault> {
-        put_listed(b" ", *self, printer)
+    fn put_value<W: Write>(&self, printer: &mut Printer<'_, W>) {
+        put_with_number(b" ", *self, printer);
     }
 }
 
@@ -49,8 +47,8 @@ impl Word for Handle {
         lemma_number(self.0);
     }
 
-    fn put_value<W: Write>(&self, printer: &mut Printer<'_, W>) -> Result<(), WriteFault> {
-        put_listed(b" ", self.0, printer)
+    fn put_value<W: Write>(&self, printer: &mut Printer<'_, W>) {
+        put_with_number(b" ", self.0, printer);
     }
 }
 
@@ -61,8 +59,8 @@ impl Word for VersionNo {
         lemma_number(self.0);
     }
 
-    fn put_value<W: Write>(&self, printer: &mut Printer<'_, W>) -> Result<(), WriteFault> {
-        put_listed(b" ", self.0, printer)
+    fn put_value<W: Write>(&self, printer: &mut Printer<'_, W>) {
+        put_with_number(b" ", self.0, printer);
     }
 }
 
@@ -73,8 +71,8 @@ impl Word for Moment {
         self.lemma_in_range();
     }
 
-    fn put_value<W: Write>(&self, printer: &mut Printer<'_, W>) -> Result<(), WriteFault> {
-        put_listed(b" ", self.seconds(), printer)
+    fn put_value<W: Write>(&self, printer: &mut Printer<'_, W>) {
+        put_with_number(b" ", self.seconds(), printer);
     }
 }
 
@@ -85,8 +83,8 @@ impl Word for Name {
         self.bytes();
     }
 
-    fn put_value<W: Write>(&self, printer: &mut Printer<'_, W>) -> Result<(), WriteFault> {
-        put_word(self.bytes(), printer)
+    fn put_value<W: Write>(&self, printer: &mut Printer<'_, W>) {
+        put_word(self.bytes(), printer);
     }
 }
 
@@ -97,8 +95,8 @@ impl Word for Path {
         self.names();
     }
 
-    fn put_value<W: Write>(&self, printer: &mut Printer<'_, W>) -> Result<(), WriteFault> {
-        put_path(self, printer)
+    fn put_value<W: Write>(&self, printer: &mut Printer<'_, W>) {
+        put_path(self, printer);
     }
 }
 
@@ -110,9 +108,9 @@ impl Word for TaggedPath {
         lemma_tag(self.tag());
     }
 
-    fn put_value<W: Write>(&self, printer: &mut Printer<'_, W>) -> Result<(), WriteFault> {
-        put_path(self.path(), printer)?;
-        put_tag(self.tag(), printer)
+    fn put_value<W: Write>(&self, printer: &mut Printer<'_, W>) {
+        put_path(self.path(), printer);
+        put_tag(self.tag(), printer);
     }
 }
 
@@ -124,9 +122,9 @@ impl Word for PathAt {
         lemma_tag(tag_of(self.moment));
     }
 
-    fn put_value<W: Write>(&self, printer: &mut Printer<'_, W>) -> Result<(), WriteFault> {
-        put_path(&self.path, printer)?;
-        put_tag(tag_of(self.moment), printer)
+    fn put_value<W: Write>(&self, printer: &mut Printer<'_, W>) {
+        put_path(&self.path, printer);
+        put_tag(tag_of(self.moment), printer);
     }
 }
 
@@ -140,7 +138,7 @@ impl Word for Source {
         }
     }
 
-    fn put_value<W: Write>(&self, printer: &mut Printer<'_, W>) -> Result<(), WriteFault> {
+    fn put_value<W: Write>(&self, printer: &mut Printer<'_, W>) {
         match self {
             Source::Tagged(tagged) => tagged.put_value(printer),
             Source::Of(handle) => handle.put_value(printer),
@@ -155,8 +153,8 @@ impl Word for Policy {
         self.lemma_valid();
     }
 
-    fn put_value<W: Write>(&self, printer: &mut Printer<'_, W>) -> Result<(), WriteFault> {
-        put_policy(self, printer)
+    fn put_value<W: Write>(&self, printer: &mut Printer<'_, W>) {
+        put_policy(self, printer);
     }
 }
 

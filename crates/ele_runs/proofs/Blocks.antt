@@ -1,13 +1,12 @@
 -- The answer to a line, and its block.
-use Rattle.ele_runs.proofs.Basics.{◌≡◌, ◌≢◌, ℕ, ◌≤◌, ◌+◌, Bool, true, false, List, [], ◌∷◌, length, Option, Some, None, Result, Ok, Err, ◌⊎◌, inl, inr, refl, sym, ap, subst, append_assoc, arith, nat_tests, ◌++◌, ◌-◌, ◌∙◌, IsErr, length-append, slice_get}
-use Rattle.std.specs.Prelude.{not, ◌&&◌, if◌then◌else◌}
+use Rattle.ele_runs.proofs.Basics.{◌≡◌, ◌≢◌, ℕ, ◌≤◌, ◌+◌, Bool, true, false, List, [], ◌∷◌, length, Option, Some, None, Result, Ok, Err, ◌⊎◌, inl, inr, refl, sym, ap, subst, arith, nat_tests, ◌++◌, ◌-◌, ◌∙◌, length-append, slice_get}
+use Rattle.std.specs.Prelude.{not, ◌&&◌, if◌then◌else◌, IsErr, ◌<◌}
 use Rattle.std.specs.Option.{option_and_then}
 use Rattle.ele_model.specs.World.{World}
-use Rattle.ele_runs.proofs.Words.{Reply, Stop, HistoryFull, AppendsFront, RunState, Outlet, Takes, TakesFront, Puts, HasRoom, IsNoted, recorded, MayReply, MayAnswer, as_entry, as_trim, IsTold, cut_told, front_of, heard, is_well, noting, Past, PutsBlock, reply_to, world_of}
+use Rattle.ele_runs.proofs.Words.{Reply, Stop, HistoryFull, RunState, Outlet, Puts, HasRoom, IsNoted, recorded, MayReply, MayAnswer, as_entry, as_trim, IsTold, front_of, heard, is_well, noting, Past, PutsBlock, reply_to, world_of}
 use Rattle.ele_model.specs.declared.entry.Entry.{Entry}
 use Rattle.ele_model.specs.declared.event.Event.{Event}
 use Rattle.ele_model.specs.declared.refusal.Stop.TheVariants.{NoMemory}
-use Rattle.ele_model.specs.declared.reply.Reply.TheVariants as reply
 use Rattle.ele_script.specs.Spells.{Asks, AsksEvent}
 use Rattle.ele_script.specs.Question.{ReadsQuestion, asked_in}
 use Rattle.ele_printer.specs.declared.kind.WordKind.{WordKind}
@@ -20,17 +19,18 @@ use Rattle.ele_printer.specs.declared.fault.LineFault.TheVariants as fault
 use Rattle.ele_script.specs.declared.reading.Line.TheVariants as asks
 use Rattle.ele_runs.specs.Answer.{Answer}
 use Rattle.ele_runs.specs.Answer as answer
-use Rattle.ele_runs.specs.Block.{IsText}
+use Rattle.ele_runs.specs.Block.{IsText, cut_count}
 use Rattle.ele_runs.specs.Explained.{IsBlockOf, IsExplained, asked_by}
 use Rattle.ele_runs.specs.Explained as explained
 use Rattle.ele_runs.specs.Said.{AsksBy, Explains, Hears, HearsKept, HearsNext, HasText, IsSaidText, Means, Replies, Trims, has_no_reply, said_front}
-use Rattle.ele_runs.specs.declared.end.RunEnd.{RunEnd}
 use Rattle.ele_runs.specs.declared.options.RunOptions.{RunOptions}
 use Rattle.ele_runs.specs.declared.said.Said.{Said}
 use Rattle.ele_runs.specs.declared.said.Said.TheVariants.{Nothing, Bad, Stopped, Replied, Passed, History, Trimmed, Why, Ahead}
-use Rattle.ele_runs.specs.Written.{WritesLast}
 use Rattle.ele_runs.proofs.InTime.{IsInTime, asked_in_time, some_text, told_in_time}
-use Rattle.ele_runs.proofs.Joins.{front_behind, front_then, takes_then}
+use Rattle.ele_output.proofs.Known.{puts_no_more, puts_then}
+use Rattle.ele_runs.specs.Told.{cut_told}
+use Rattle.ele_runs.specs.Written.{WritesLast, end_by}
+use Rattle.ele_runs.specs.declared.end.RunEnd.{RunEnd}
 
 -- what an event may be answered, the line that spells it may be
 pub may_answer : (before after : Past) (line : List ℕ) (event : Event) (r : Result Reply Stop)
@@ -259,56 +259,38 @@ told_next before after line said text old new on hears noted is = record {
   after_is = ap (λ (run_state : RunState). noting run_state new) (hears.after_is text is);
 }
 
--- all of x was put, and then y or a front of it
-pub puts_both : {A E : Type 0} (a b c : Outlet) (x y : List ℕ) (r : Result A E) → Takes a b x → Puts b c y r → Puts a c (x ++ y) r
-puts_both a b c x y (Ok v) p q = takes_then a b c x y p q
-puts_both a b c x y (Err e) p q = record { same = q.same ∙ p.same; front = front_then a b c x y p q }
-
--- a front of x was put, which is one of x and more
-pub puts_some : {A E : Type 0} (a b : Outlet) (x y : List ℕ) (r : Result A E) → IsErr r → TakesFront a b x → Puts a b (x ++ y) r
-puts_some a b x y (Ok v) is p = absurd cc
-puts_some a b x y (Err e) is p = record { same = p.same; front = front_more a b x y p }
-  where
-    front_more : (a b : Outlet) (x y : List ℕ) → TakesFront a b x → AppendsFront a.known b.known (a.held ++ (x ++ y))
-    front_more a b x y q =
-        let parts : a.held ++ (x ++ y) ≡ q.front.front ++ (q.front.back ++ y) = cc (append_assoc a.held x y, append_assoc q.front.front q.front.back y) in
-        record { front = q.front.front; back = q.front.back ++ y; parts = parts; written = q.front.written }
-
 -- the number in front and the text were put
-put_here : {A E : Type 0} (before after : RunState) (line : Option (List ℕ)) (said : Said) (old new : Option (List ℕ)) (a b c : Outlet) (r : Result A E) → before.ended ≡ false → HearsNext before line said after
-    → Notes after line said old new → Takes a b (said_front after.options after.number said) → (text : List ℕ) × IsSaidText after.past said text × Puts b c text r
-    → PutsBlock (noting before old) line (noting after new) a c r
-put_here before after line said old new a b c r on hears noted front told = record {
+put_here : (before after : RunState) (line : Option (List ℕ)) (said : Said) (old new : Option (List ℕ)) (a b c : Outlet) → before.ended ≡ false → HearsNext before line said after
+    → Notes after line said old new → Puts a b (said_front after.options after.number said) → (text : List ℕ) × IsSaidText after.past said text × Puts b c text
+    → PutsBlock (noting before old) line (noting after new) a c
+put_here before after line said old new a b c on hears noted front told = record {
   block = said_front after.options after.number said ++ told.0;
   is = told_next before after line said told.0 old new on hears noted told.1;
-  put = puts_both a b c (said_front after.options after.number said) told.0 r front told.2;
+  put = puts_then front told.2;
 }
 
-pub block_put : {A E : Type 0} (before after view : RunState) (line : Option (List ℕ)) (said : Said) (old new : Option (List ℕ)) (a b c : Outlet) (r : Result A E) → view ≡ after → before.ended ≡ false → HearsNext before line said after
-    → Notes after line said old new → Takes a b (said_front view.options view.number said) → (text : List ℕ) × IsSaidText view.past said text × Puts b c text r
-    → PutsBlock (noting before old) line (noting after new) a c r
-block_put {A} {E} before after view line said old new a b c r is on hears noted front told =
-    subst (λ (run_state : RunState). PutsBlock (noting before old) line (noting run_state new) a c r) is
-    (put_here before view line said old new a b c r on (subst (λ (run_state : RunState). HearsNext before line said run_state) (sym is) hears) (subst (λ (run_state : RunState). Notes run_state line said old new) (sym is) noted) front told)
+pub block_put : (before after view : RunState) (line : Option (List ℕ)) (said : Said) (old new : Option (List ℕ)) (a b c : Outlet) → view ≡ after → before.ended ≡ false → HearsNext before line said after
+    → Notes after line said old new → Puts a b (said_front view.options view.number said) → (text : List ℕ) × IsSaidText view.past said text × Puts b c text
+    → PutsBlock (noting before old) line (noting after new) a c
+block_put before after view line said old new a b c is on hears noted front told =
+    subst (λ (run_state : RunState). PutsBlock (noting before old) line (noting run_state new) a c) is
+    (put_here before view line said old new a b c on (subst (λ (run_state : RunState). HearsNext before line said run_state) (sym is) hears) (subst (λ (run_state : RunState). Notes run_state line said old new) (sym is) noted) front told)
 
--- the writer failed in that number
-cut_here : {A E : Type 0} (before after : RunState) (line : Option (List ℕ)) (said : Said) (old new : Option (List ℕ)) (a b : Outlet) (r : Result A E) → before.ended ≡ false → HearsNext before line said after
-    → Notes after line said old new → HasText after.past said → IsErr r → TakesFront a b (said_front after.options after.number said) → PutsBlock (noting before old) line (noting after new) a b r
-cut_here before after line said old new a b r on hears noted told is front = record {
-  block = said_front after.options after.number said ++ told.0;
-  is = told_next before after line said told.0 old new on hears noted told.1;
-  put = puts_some a b (said_front after.options after.number said) told.0 r is front;
-}
+-- the writer failed as what is told for a last line was handed over
+pub finishes_err : {E : Type 0} (run_state : RunState) (buffer : Option (List ℕ)) (a b c : Outlet) (r : Result RunEnd E) → IsErr r → Puts a b (cut_told run_state buffer) → Puts b c [] → WritesLast run_state buffer a c r
+finishes_err run_state buffer a b c (Ok x) is p q = absurd cc
+finishes_err run_state buffer a b c (Err x) is p q = (tt, puts_no_more p q)
 
-pub block_cut : {A E : Type 0} (before after view : RunState) (line : Option (List ℕ)) (said : Said) (old new : Option (List ℕ)) (a b : Outlet) (r : Result A E) → view ≡ after → before.ended ≡ false → HearsNext before line said after
-    → Notes after line said old new → IsErr r → TakesFront a b (said_front view.options view.number said) → PutsBlock (noting before old) line (noting after new) a b r
-block_cut {A} {E} before after view line said old new a b r same on hears noted is front =
-    cut_here before after line said old new a b r on hears noted hears.kept.has_text is
-    (subst (λ (run_state : RunState). TakesFront a b (said_front run_state.options run_state.number said)) same front)
+-- a last line that isn't empty ends a strict run
+pub ends_at_cut : (run_state : RunState) (buffer : Option (List ℕ)) (count : ℕ) → count ≡ cut_count buffer → 0 < count → run_state.options.strict ≡ true
+    → Some (record { line = buffer; is_cut = true }) ≡ end_by run_state buffer
+ends_at_cut run_state None count is some strict = rw strict refl
+ends_at_cut run_state (Some []) count is some strict = absurd (omega (arith, is, some))
+ends_at_cut run_state (Some (byte ∷ bytes)) count is some strict = rw strict refl
 
--- what is held fails to be handed over, with what is told for a last line behind it
-pub finishes_front : {E : Type 0} (run_state : RunState) (buffer : Option (List ℕ)) (a b c : Outlet) (r : Result RunEnd E) → IsErr r
-    → Takes a b (cut_told run_state buffer) → (c.writer ≡ b.writer) × AppendsFront b.known c.known b.held → WritesLast run_state buffer a c r
-finishes_front run_state buffer a b c (Ok x) is p q = absurd cc
-finishes_front run_state buffer a b c (Err x) is p q =
-    (q.0 ∙ p.same, rw p.parts (front_behind a.known b.known c.known p.sent b.held p.written q.1))
+pub no_end_at : (run_state : RunState) (buffer : Option (List ℕ)) (count : ℕ) → count ≡ cut_count buffer → (run_state.options.strict ≡ false) ⊎ (count ≤ 0) → None ≡ end_by run_state buffer
+no_end_at run_state (Some []) count is either = refl
+no_end_at run_state None count is (inl loose) = rw loose refl
+no_end_at run_state None count is (inr none) = absurd (omega (arith, is, none))
+no_end_at run_state (Some (byte ∷ bytes)) count is (inl loose) = rw loose refl
+no_end_at run_state (Some (byte ∷ bytes)) count is (inr none) = absurd (omega (arith, is, none))

@@ -1,7 +1,6 @@
 -- How a run ends.
-use Rattle.ele_runs.proofs.Basics.{◌≡◌, ◌≢◌, true, length-append, ℕ, ◌+◌, ◌≤◌, List, [], ◌∷◌, ◌++◌, length, take, get_or, min, ◌-◌, Option, Some, None, Result, Ok, Err, refl, sym, ap, subst, ◌∙◌, arith, append_assoc, inl, inr, append-nil, length-take, nat_tests}
-use Rattle.ele_runs.proofs.Basics.{flat_map-append, cases_order, IfOk, AllByRecursion, Consumes, Keeps, Appends, IsAtEnd, Consumes-trans, Consumes-kept, Appends-trans}
-use Rattle.ele_runs.proofs.Words.{AppendsFront, Outlet, cut_note, Takes, TakesFront, longest_line, cut_count, cut_told, end_by, most_lines, line_unless_long, IsUnbroken, whole_line, whole_lines, line_count, AreTold, AnswersLast, AnswersSome, RunState}
+use Rattle.ele_runs.proofs.Basics.{◌≡◌, ◌≢◌, true, length-append, ℕ, ◌+◌, ◌≤◌, List, [], ◌∷◌, ◌++◌, length, take, get_or, min, ◌-◌, Option, Some, None, Result, Ok, Err, refl, sym, ap, subst, ◌∙◌, arith, append_assoc, inl, inr, append-nil, length-take, nat_tests, flat_map-append, cases_order, IfOk, AllByRecursion, Consumes, Keeps, Appends, IsAtEnd, Consumes-trans, Consumes-kept}
+use Rattle.ele_runs.proofs.Words.{AppendsFront, Outlet, cut_note, longest_line, cut_count, cut_told, end_by, most_lines, line_unless_long, IsUnbroken, whole_line, whole_lines, line_count, AreTold, AnswersLast, AnswersSome, RunState}
 use Rattle.ele_lists.proofs.Alls.{all-append}
 use Rattle.ele_runs.specs.declared.fault.ShellFault.{ShellFault}
 use Rattle.ele_runs.specs.declared.fault.ShellFault.TheVariants.{ReadFault}
@@ -14,9 +13,11 @@ use Rattle.std.specs.Prelude.{Bool, false, nat_le, if◌then◌else◌}
 use Rattle.ele_runs.proofs.Courses.{clash, manner_stays, strict_run}
 use Rattle.std.proofs.KnownBytes.{Keeps-refl}
 use Rattle.ele_runs.proofs.Notes.{strict_cut}
-use Rattle.ele_runs.proofs.Joins.{told_append, front_behind, front_then, takes_over, takes_then}
+use Rattle.ele_runs.proofs.Joins.{told_append}
 use Rattle.ele_runs.specs.declared.options.RunOptions.{RunOptions}
 use Rattle.ele_runs.proofs.Ran.{RanSoFar, written_all, few_whole}
+use Rattle.ele_output.specs.Outlet.{IsHandedOver, Puts}
+use Rattle.ele_output.proofs.Known.{all_written, front_written, puts_as, puts_no_more, puts_then}
 
 -- what was read is all, where nothing is left
 whole_input : (input rest : Option (List ℕ)) (given : List ℕ) → Consumes input rest given → IsAtEnd rest → Keeps input (Some given)
@@ -93,22 +94,17 @@ filled : (part : List ℕ) (byte : ℕ) (bytes : List ℕ) → part ≡ byte ∷
 filled [] byte bytes e h = absurd cc
 filled (x ∷ xs) byte bytes e h = absurd cc
 
--- what was put fails to be handed over
-handed_front : (a b c : Outlet) (text : List ℕ) → Takes a b text → (c.writer ≡ b.writer) × AppendsFront b.known c.known b.held → TakesFront a c text
-handed_front a b c text p q = record { same = q.0 ∙ p.same; front = rw p.parts (front_behind a.known b.known c.known p.sent b.held p.written q.1) }
-
 module _ {start state : RunState} {room : ℕ} {buffer input mid : Option (List ℕ)} {old so_far : Outlet} (ran : RanSoFar start state room buffer input mid old so_far) where
   -- the writer failed as it was handed what is held
-  pub ends_over : (new : Outlet) → AppendsFront so_far.known new.known so_far.held → ToldToAWriteFault start input old.known new.known state.notes
+  pub ends_over : (new : Outlet) → Puts so_far new [] → ToldToAWriteFault start input old.known new.known state.notes
   ends_over new front =
-      let parts : ran.text ≡ ran.put.sent ++ so_far.held = cc (ran.none, ran.put.parts) in
       fails_in start state ran.given ran.part ran.text ran.lines input mid old.known new.known ran.are.parts ran.are.whole ran.told ran.taken
-      (rw parts (front_behind old.known so_far.known new.known ran.put.sent so_far.held ran.put.written front))
+      (front_written ran.none (puts_no_more ran.put front))
 
   -- the reader failed
-  pub ends_read : (rest : Option (List ℕ)) (most : ℕ) (piece : List ℕ) (fault : ShellFault) → so_far.held ≡ [] → TakesPiece mid rest most piece (Err fault)
+  pub ends_read : (rest : Option (List ℕ)) (most : ℕ) (piece : List ℕ) (fault : ShellFault) → IsHandedOver so_far → TakesPiece mid rest most piece (Err fault)
       → Tells start input rest old.known so_far.known state.notes (Err fault)
-  ends_read rest most piece ReadFault none keeps = record {
+  ends_read rest most piece ReadFault over keeps = record {
     given = ran.given;
     lines = ran.lines;
     part = ran.part;
@@ -120,15 +116,15 @@ module _ {start state : RunState} {room : ℕ} {buffer input mid : Option (List 
     few_bytes = omega (arith, ran.size);
     told = ran.told;
     goes_on = ran.goes_on;
-    written = written_all ran none;
+    written = written_all ran over;
     noted = Keeps-refl _;
   }
-  ends_read rest most piece fault none h = absurd h
+  ends_read rest most piece fault over h = absurd h
 
   -- a byte stands behind as much as a script may be
-  pub ends_past : (rest : Option (List ℕ)) (piece : List ℕ) (count : ℕ) → so_far.held ≡ [] → min room (most_lines - state.number) ≡ 0 → 1 ≤ length piece → count ≡ 1
+  pub ends_past : (rest : Option (List ℕ)) (piece : List ℕ) (count : ℕ) → IsHandedOver so_far → min room (most_lines - state.number) ≡ 0 → 1 ≤ length piece → count ≡ 1
       → Consumes mid rest (take count piece) → ToldPastABound start input rest old.known so_far.known state.notes
-  ends_past rest piece count none full some one took = record {
+  ends_past rest piece count over full some one took = record {
     given = ran.given;
     byte = get_or piece 0 0;
     lines = ran.lines;
@@ -148,7 +144,7 @@ module _ {start state : RunState} {room : ℕ} {buffer input mid : Option (List 
     ];
     told = ran.told;
     goes_on = ran.goes_on;
-    written = written_all ran none;
+    written = written_all ran over;
     noted = Keeps-refl _;
   }
 
@@ -158,8 +154,8 @@ module _ {start state : RunState} {room : ℕ} {buffer input mid : Option (List 
       is ∙ ap (λ (b : Option (List ℕ)). state.number + cut_count b) ran.keeps ∙ ap (λ (m : ℕ). m + cut_count (line_unless_long ran.part)) (sym ran.count)
       ∙ sym (counts_cut ran.lines ran.part)
 
-  cut_is : so_far.held ≡ [] → so_far.held ++ cut_told state buffer ≡ cut_told state (line_unless_long ran.part)
-  cut_is e = ap (λ (w : List ℕ). w ++ cut_told state buffer) e ∙ ap (cut_told state) ran.keeps
+  cut_is : cut_told state buffer ≡ cut_told state (line_unless_long ran.part)
+  cut_is = ap (cut_told state) ran.keeps
 
   note_is : (notes : Option (List ℕ)) → AppendsFront state.notes notes (cut_note state buffer) → AppendsFront state.notes notes (cut_note state (line_unless_long ran.part))
   note_is notes told = subst (λ (b : Option (List ℕ)). AppendsFront state.notes notes (cut_note state b)) ran.keeps told
@@ -167,17 +163,15 @@ module _ {start state : RunState} {room : ℕ} {buffer input mid : Option (List 
   all_taken : (rest : Option (List ℕ)) → Consumes mid rest [] → Consumes input rest ran.given
   all_taken rest took = subst (Consumes input rest) (append-nil ran.given) (Consumes-trans input mid rest ran.given [] ran.taken took)
 
-  all_written : (new : Outlet) → so_far.held ≡ [] → Appends so_far.known new.known (so_far.held ++ cut_told state buffer)
-      → Appends old.known new.known (ran.text ++ cut_told state (line_unless_long ran.part))
-  all_written new none done =
-      Appends-trans old.known so_far.known new.known ran.text (cut_told state (line_unless_long ran.part)) (written_all ran none)
-      (subst (Appends so_far.known new.known) (cut_is none) done)
+  cut_written : (new : Outlet) → Puts so_far new (cut_told state buffer) × IsHandedOver new → Appends old.known new.known (ran.text ++ cut_told state (line_unless_long ran.part))
+  cut_written new done =
+      all_written ran.none (puts_as (ap (λ (w : List ℕ). ran.text ++ w) cut_is) (puts_then ran.put done.0)) done.1
 
   -- the input ends, and no last line ends the run
-  ends_all : (rest notes : Option (List ℕ)) (new : Outlet) (count : ℕ) → so_far.held ≡ [] → Consumes mid rest [] → IsAtEnd rest
+  ends_all : (rest notes : Option (List ℕ)) (new : Outlet) (count : ℕ) → Consumes mid rest [] → IsAtEnd rest
       → count ≡ state.number + cut_count buffer → (start.options.strict ≡ true → ran.part ≡ [])
-      → Appends so_far.known new.known (so_far.held ++ cut_told state buffer) → AppendsFront state.notes notes (cut_note state buffer) → ToldToTheEnd start count input rest old.known new.known notes
-  ends_all rest notes new count none took at_end is uncut done noted =
+      → Puts so_far new (cut_told state buffer) × IsHandedOver new → AppendsFront state.notes notes (cut_note state buffer) → ToldToTheEnd start count input rest old.known new.known notes
+  ends_all rest notes new count took at_end is uncut done noted =
       let counted = counted_cut count is in
       record {
         given = ran.given;
@@ -194,15 +188,15 @@ module _ {start state : RunState} {room : ℕ} {buffer input mid : Option (List 
         told = ran.told;
         goes_on = ran.goes_on;
         uncut = uncut;
-        written = all_written new none done;
+        written = cut_written new done;
         noted = note_is notes noted;
       }
 
   -- it does
-  ends_cut : (rest notes : Option (List ℕ)) (new : Outlet) (count : ℕ) (kept : Option (List ℕ)) → so_far.held ≡ [] → Consumes mid rest [] → IsAtEnd rest
+  ends_cut : (rest notes : Option (List ℕ)) (new : Outlet) (count : ℕ) (kept : Option (List ℕ)) → Consumes mid rest [] → IsAtEnd rest
       → count ≡ state.number + 1 → kept ≡ buffer → start.options.strict ≡ true → ran.part ≢ []
-      → Appends so_far.known new.known (so_far.held ++ cut_told state buffer) → Keeps state.notes notes → ToldToAnEnd start count (cut_line kept) input rest old.known new.known notes
-  ends_cut rest notes new count kept none took at_end is same strict some done noted =
+      → Puts so_far new (cut_told state buffer) × IsHandedOver new → Keeps state.notes notes → ToldToAnEnd start count (cut_line kept) input rest old.known new.known notes
+  ends_cut rest notes new count kept took at_end is same strict some done noted =
       record {
         given = ran.given;
         lines = ran.lines;
@@ -215,12 +209,12 @@ module _ {start state : RunState} {room : ℕ} {buffer input mid : Option (List 
         count = omega (arith, is, ran.count);
         keeps = same ∙ ran.keeps;
         by = record { text = ran.text; run_state = state; parts = ran.are.parts; at_end = at_end; some = some; are = ran.told; goes_on = ran.goes_on; told_is = refl; noted = noted };
-        written = all_written new none done;
+        written = cut_written new done;
       }
 
   -- whether it does is told
-  module _ (rest notes : Option (List ℕ)) (new : Outlet) (count : ℕ) (kept : Option EndLine) (none : so_far.held ≡ []) (took : Consumes mid rest []) (at_end : IsAtEnd rest)
-      (is : count ≡ state.number + cut_count buffer) (by : kept ≡ end_by state buffer) (done : Appends so_far.known new.known (so_far.held ++ cut_told state buffer)) (noted : AppendsFront state.notes notes (cut_note state buffer)) where
+  module _ (rest notes : Option (List ℕ)) (new : Outlet) (count : ℕ) (kept : Option EndLine) (took : Consumes mid rest []) (at_end : IsAtEnd rest)
+      (is : count ≡ state.number + cut_count buffer) (by : kept ≡ end_by state buffer) (done : Puts so_far new (cut_told state buffer) × IsHandedOver new) (noted : AppendsFront state.notes notes (cut_note state buffer)) where
     strict_is : state.options.strict ≡ start.options.strict
     strict_is = ap (λ (m : RunOptions). m.strict) (manner_stays start state ran.lines ran.text ran.told)
 
@@ -230,23 +224,23 @@ module _ {start state : RunState} {room : ℕ} {buffer input mid : Option (List 
     by_part : (part : List ℕ) → ran.part ≡ part → (strict : Bool) → start.options.strict ≡ strict → HasTold start input rest old.known new.known notes count kept
     by_part part e false s =
         subst (HasTold start input rest old.known new.known notes count) (sym (by ∙ never_ended state buffer (strict_is ∙ s)))
-        (ends_all rest notes new count none took at_end is (λ t. clash start.options.strict t s) done noted)
+        (ends_all rest notes new count took at_end is (λ t. clash start.options.strict t s) done noted)
     by_part [] e true s =
-        subst (HasTold start input rest old.known new.known notes count) (sym (by ∙ ap (end_by state) (buffer_is [] e))) (ends_all rest notes new count none took at_end is (λ t. e) done noted)
+        subst (HasTold start input rest old.known new.known notes count) (sym (by ∙ ap (end_by state) (buffer_is [] e))) (ends_all rest notes new count took at_end is (λ t. e) done noted)
     by_part (byte ∷ bytes) e true s =
         let buffered = buffer_is (byte ∷ bytes) e in
         let ended : end_by state buffer ≡ Some (cut_line buffer) =
         ap (end_by state) buffered ∙ ended_cut state byte bytes (strict_is ∙ s) ∙ ap (λ (b : Option (List ℕ)). Some (cut_line b)) (sym buffered) in
         subst (HasTold start input rest old.known new.known notes count) (sym (by ∙ ended))
-        (ends_cut rest notes new count buffer none took at_end (is ∙ ap (λ (b : Option (List ℕ)). state.number + cut_count b) buffered ∙ ap (λ (m : ℕ). state.number + m) (counts_one byte bytes)) refl s (λ h. filled ran.part byte bytes e h) done (strict_cut state buffer state.notes notes (strict_is ∙ s) noted))
+        (ends_cut rest notes new count buffer took at_end (is ∙ ap (λ (b : Option (List ℕ)). state.number + cut_count b) buffered ∙ ap (λ (m : ℕ). state.number + m) (counts_one byte bytes)) refl s (λ h. filled ran.part byte bytes e h) done (strict_cut state buffer state.notes notes (strict_is ∙ s) noted))
 
     pub ends_by : HasTold start input rest old.known new.known notes count kept
     ends_by = by_part ran.part refl start.options.strict refl
 
   -- the writer failed in the block of a last line without its line feed
-  pub ends_in_cut : (rest notes : Option (List ℕ)) (new : Outlet) → so_far.held ≡ [] → Consumes mid rest [] → IsAtEnd rest
-      → AppendsFront so_far.known new.known (so_far.held ++ cut_told state buffer) → AppendsFront state.notes notes (cut_note state buffer) → ToldToAWriteFault start input old.known new.known notes
-  ends_in_cut rest notes new none took at_end front noted = record {
+  pub ends_in_cut : (rest notes : Option (List ℕ)) (new : Outlet) → Consumes mid rest [] → IsAtEnd rest
+      → Puts so_far new (cut_told state buffer) → AppendsFront state.notes notes (cut_note state buffer) → ToldToAWriteFault start input old.known new.known notes
+  ends_in_cut rest notes new took at_end front noted = record {
     lines = ran.lines;
     rest = ran.part;
     text = ran.text;
@@ -257,8 +251,7 @@ module _ {start state : RunState} {room : ℕ} {buffer input mid : Option (List 
     told = ran.told;
     written = inr (
       ran.are.cut,
-      front_behind old.known so_far.known new.known ran.text (cut_told state (line_unless_long ran.part)) (written_all ran none)
-          (subst (AppendsFront so_far.known new.known) (cut_is none) front),
+      front_written ran.none (puts_as (ap (λ (w : List ℕ). ran.text ++ w) cut_is) (puts_then ran.put front)),
       note_is notes noted,
     );
   }
@@ -273,11 +266,11 @@ module _ {start state : RunState} {room : ℕ} {buffer input mid : Option (List 
       (all-append IsUnbroken ran.lines did.lines ran.are.whole did.whole)
       (told_append start state after ran.lines did.lines ran.text did.text ran.told did.told)
       (Consumes-trans input mid rest ran.given piece ran.taken took)
-      (subst (λ (w : List ℕ). AppendsFront old.known new.known (w ++ (ran.text ++ did.text))) ran.none (front_then old so_far new ran.text did.text ran.put did.put))
+      (front_written ran.none (puts_then ran.put did.put))
 
   -- a line of a piece ended the run
   pub ends_last : (after : RunState) (rest : Option (List ℕ)) (new over : Outlet) (piece : List ℕ) (kept : Option (List ℕ)) → Consumes mid rest piece
-      → AnswersLast state after ran.part piece kept so_far new → (over.writer ≡ new.writer) × (over.held ≡ []) × Appends new.known over.known new.held
+      → AnswersLast state after ran.part piece kept so_far new → Puts new over [] × IsHandedOver over
       → ToldToAnEnd start after.number (record { line = kept; is_cut = false }) input rest old.known over.known after.notes
   ends_last after rest new over piece kept took did handed =
       let parts = ap (λ (w : List ℕ). w ++ piece) ran.are.parts ∙ append_assoc (whole_lines ran.lines) ran.part piece ∙ ap (λ (w : List ℕ). whole_lines ran.lines ++ w) did.parts
@@ -303,12 +296,12 @@ module _ {start state : RunState} {room : ℕ} {buffer input mid : Option (List 
           ended = did.ended;
           noted = Keeps-refl _;
         };
-        written = takes_over old new over (ran.text ++ did.text) ran.none (takes_then old so_far new ran.text did.text ran.put did.put) handed.2;
+        written = all_written ran.none (puts_no_more (puts_then ran.put did.put) handed.0) handed.1;
       }
 
   -- the writer failed as it was handed that
   pub ends_in_last : (after : RunState) (rest : Option (List ℕ)) (new over : Outlet) (piece : List ℕ) (kept : Option (List ℕ)) → Consumes mid rest piece
-      → AnswersLast state after ran.part piece kept so_far new → (over.writer ≡ new.writer) × AppendsFront new.known over.known new.held → ToldToAWriteFault start input old.known over.known after.notes
+      → AnswersLast state after ran.part piece kept so_far new → Puts new over [] → ToldToAWriteFault start input old.known over.known after.notes
   ends_in_last after rest new over piece kept took did front =
       ends_in_piece after rest over piece took (record {
         lines = did.lines ++ did.line ∷ [];
@@ -317,7 +310,7 @@ module _ {start state : RunState} {room : ℕ} {buffer input mid : Option (List 
         parts = did.parts;
         whole = all-append IsUnbroken did.lines (did.line ∷ []) did.whole (did.unbroken, tt);
         told = did.told;
-        put = handed_front so_far new over did.text did.put front;
+        put = puts_no_more did.put front;
       })
 
 -- what a run has done at each end

@@ -1,7 +1,6 @@
 -- What is told beside a block.
-use Rattle.ele_runs.proofs.Basics.{◌≡◌, ℕ, List, [], ◌∷◌, ◌++◌, Option, Some, None, Result, Ok, Err, true, false, refl, sym, subst, ◌∙◌, Keeps, Appends, append-nil}
-use Rattle.std.specs.Prelude.{Bool, IfSome, OnOk, OnErr, not, ◌&&◌, ◌+◌, if◌then◌else◌}
-use Rattle.std.proofs.KnownBytes.{Appends-kept}
+use Rattle.ele_runs.proofs.Basics.{◌≡◌, ℕ, List, [], ◌∷◌, ◌++◌, Option, Some, None, true, false, refl, subst, ◌∙◌, Keeps, Appends, append-nil}
+use Rattle.std.specs.Prelude.{Bool, IfSome, not, ◌&&◌, ◌+◌, if◌then◌else◌}
 use Rattle.ele_runs.proofs.Words.{AppendsFront, RunState, IsNoted, Past, cut_note, tells_reasons}
 use Rattle.ele_printer.specs.declared.fault.LineFault.{LineFault}
 use Rattle.ele_runs.specs.Answer.{Answer}
@@ -25,12 +24,6 @@ appended_none (Some xs) (Some ys) is = is ∙ append-nil xs
 
 pub front_of_none : (old new : Option (List ℕ)) → AppendsFront old new [] → Keeps old new
 front_of_none old new is = appended_none old new (subst (Appends old new) (first_none is.front is.back is.parts) is.written)
-
--- all of a text or a front of it was written, and then a flush
-pub front_flushed : {A E : Type 0} (old mid new : Option (List ℕ)) (text : List ℕ) (r : Result A E) → OnOk r (Appends old mid text) → OnErr r (AppendsFront old mid text) → Keeps mid new → AppendsFront old new text
-front_flushed old mid new text (Ok x) all front same = record { front = text; back = []; parts = sym (append-nil text); written = Appends-kept old mid new text all same }
-front_flushed old mid new text (Err e) all front same =
-    record { front = front.front; back = front.back; parts = front.parts; written = Appends-kept old mid new front.front front.written same }
 
 -- the reason of a bad line was told
 pub noted_bad : (options : RunOptions) (past : Past) (number : ℕ) (line : Option (List ℕ)) (fault : LineFault) (why : Option Reason) (old new : Option (List ℕ)) → tells_reasons options ≡ true

@@ -2,7 +2,8 @@
 use Rattle.ele_runs.proofs.Basics.{◌≡◌, ◌≢◌, ℕ, List, [], ◌∷◌, ◌++◌, Option, Some, None, Ok, Err, refl, sym, ap, subst, ◌∙◌, append_assoc}
 use Rattle.ele_runs.proofs.Words.{Reply, IsBlock, MayAnswer, line_unless_long, AreBlocks, Past, cut_block}
 use Rattle.ele_moment.proofs.Moments.{one_text}
-use Rattle.ele_printer.specs.Printed.{IsReplyText, line_text, pass_text, stop_text}
+use Rattle.ele_printer.specs.Printed.{IsReplyText, pass_text, stop_text}
+use Rattle.ele_output.specs.Line.{line_text}
 use Rattle.std.specs.Fmt.{decimal}
 use Rattle.std.specs.Prelude.{codes}
 use Rattle.ele_model.specs.declared.pass.PassEnd.TheVariants.{Stopped}

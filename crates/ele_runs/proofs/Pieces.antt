@@ -1,16 +1,16 @@
 -- A piece that was answered so far.
-use Rattle.ele_runs.proofs.Basics.{◌≢◌, ◌≡◌, ℕ, ◌+◌, ◌<◌, ◌≤◌, ◌⊎◌, List, [], ◌∷◌, ◌++◌, length, take, drop, get_or, Option, Some, None, Result, Ok, Err, refl, sym, ap, subst, ◌∙◌, arith, append_assoc, length-append, inl, inr, true, false, ◌==◌, zero}
-use Rattle.ele_runs.proofs.Basics.{nat_tests, suc, IsErr, length-drop, eq-eqb, eqb-true, AllByRecursion}
-use Rattle.ele_runs.proofs.Words.{Outlet, Takes, TakesFront, IsTold, line_unless_long, IsUnbroken, whole_line, whole_lines, AreTold, Answers, AnswersAll, AnswersLast, AnswersSome, RunState, PutsBlock}
+use Rattle.ele_runs.proofs.Basics.{◌≢◌, ◌≡◌, ℕ, ◌+◌, ◌<◌, ◌≤◌, ◌⊎◌, List, [], ◌∷◌, ◌++◌, length, take, drop, get_or, Option, Some, None, Result, Ok, Err, refl, sym, ap, subst, ◌∙◌, arith, append_assoc, length-append, inl, inr, true, false, ◌==◌, zero, nat_tests, suc, IsErr, length-drop, eq-eqb, eqb-true, AllByRecursion}
+use Rattle.ele_runs.proofs.Words.{Outlet, IsTold, line_unless_long, IsUnbroken, whole_line, whole_lines, AreTold, Answers, AnswersAll, AnswersLast, AnswersSome, RunState, PutsBlock}
 use Rattle.ele_lists.proofs.Alls.{all-append}
 use Rattle.ele_lists.proofs.Taken.{cut-at}
 use Rattle.std.specs.Prelude.{Bool}
 use Rattle.std.specs.Option.{option_and_then}
 use Rattle.ele_runs.specs.Piece.{AnswersBy}
 use Rattle.memchr.specs.Find.{IsFirstByte, is_byte}
-use Rattle.ele_printer.specs.declared.fault.WriteFault.{WriteFault}
+use Rattle.ele_output.specs.declared.fault.WriteFault.{WriteFault}
 use Rattle.ele_runs.proofs.Ran.{told_push, joined_push}
-use Rattle.ele_runs.proofs.Joins.{takes_nil, takes_then, front_then}
+use Rattle.ele_output.specs.Outlet.{Puts}
+use Rattle.ele_output.proofs.Known.{puts_nil, puts_then}
 
 -- these lines of a piece were answered, and so much of it is left; a line that began before is only the first
 pub record HasAnswered (before state : RunState) (part piece left : List ℕ) (buffer : Option (List ℕ)) (old new : Outlet) : Type 0 where
@@ -26,7 +26,7 @@ pub record HasAnswered (before state : RunState) (part piece left : List ℕ) (b
   pub first : (begun ≡ []) ⊎ (lines ≡ [])
   pub keeps : buffer ≡ line_unless_long begun
   pub told : AreTold before lines text state
-  pub put : Takes old new text
+  pub put : Puts old new text
 
 -- each line counts
 pub number_told : {before after : RunState} {told : List ℕ} {line : Option (List ℕ)} → IsTold before line told after → after.number ≡ before.number + 1
@@ -60,7 +60,7 @@ answered_none before part piece buffer old goes_on whole keeps =
       first = inr refl;
       keeps = keeps;
       told = (refl, refl);
-      put = takes_nil old;
+      put = puts_nil old;
     }
 
 -- no line feed stands in what is searched in vain
@@ -102,18 +102,18 @@ module _ {before between : RunState} {part piece left : List ℕ} {buffer : Opti
   kept_at at line e =
       ap (λ (l : List ℕ). option_and_then (λ (b : List ℕ). line_unless_long (b ++ l)) buffer) e ∙ ap (option_and_then (λ (b : List ℕ). line_unless_long (b ++ take at left))) done.keeps ∙ kept_more done.begun (take at left)
 
-  block_at : {A E : Type 0} (at : ℕ) (line : List ℕ) (after : RunState) (new : Outlet) (r : Result A E) → line ≡ take at left
-      → (wrote : PutsBlock between (option_and_then (λ l. line_unless_long (l ++ line)) buffer) after mid new r) → IsTold between (line_unless_long (done.begun ++ take at left)) wrote.block after
-  block_at at line after new r e wrote =
+  block_at : (at : ℕ) (line : List ℕ) (after : RunState) (new : Outlet) → line ≡ take at left
+      → (wrote : PutsBlock between (option_and_then (λ l. line_unless_long (l ++ line)) buffer) after mid new) → IsTold between (line_unless_long (done.begun ++ take at left)) wrote.block after
+  block_at at line after new e wrote =
       subst (λ (l : Option (List ℕ)). IsTold between l wrote.block after) (kept_at at line e) wrote.is
 
   -- one line more is answered
-  pub answered_more : {A E : Type 0} {after : RunState} {new : Outlet} {buffer' : Option (List ℕ)} (at : ℕ) (line left' : List ℕ) (r : Result A E) → IsFirstByte (is_byte 10) left (Some at)
+  pub answered_more : {after : RunState} {new : Outlet} {buffer' : Option (List ℕ)} (at : ℕ) (line left' : List ℕ) → IsFirstByte (is_byte 10) left (Some at)
       → line ≡ take at left → left' ≡ drop (at + 1) left
-      → (wrote : PutsBlock between (option_and_then (λ l. line_unless_long (l ++ line)) buffer) after mid new r) → Takes mid new wrote.block → after.ended ≡ false → buffer' ≡ Some []
+      → (wrote : PutsBlock between (option_and_then (λ l. line_unless_long (l ++ line)) buffer) after mid new) → after.ended ≡ false → buffer' ≡ Some []
       → HasAnswered before after part piece left' buffer' old new
-  answered_more {A} {E} {after} {new} {buffer'} at line left' r h e f wrote put goes_on begun =
-      let is = block_at at line after new r e wrote in
+  answered_more {after} {new} {buffer'} at line left' h e f wrote goes_on begun =
+      let is = block_at at line after new e wrote in
       record {
         lines = done.lines ++ (done.begun ++ take at left) ∷ [];
         begun = [];
@@ -127,15 +127,15 @@ module _ {before between : RunState} {part piece left : List ℕ} {buffer : Opti
         first = inl refl;
         keeps = begun;
         told = told_push before between after done.lines (done.begun ++ take at left) done.text wrote.block done.told is;
-        put = takes_then old mid new done.text wrote.block done.put put;
+        put = puts_then done.put wrote.put;
       }
 
   -- one more was answered, and ended the run
-  answered_last : {A E : Type 0} {after : RunState} {new : Outlet} {buffer' : Option (List ℕ)} (at : ℕ) (line : List ℕ) (r : Result A E) → IsFirstByte (is_byte 10) left (Some at)
-      → line ≡ take at left → (wrote : PutsBlock between (option_and_then (λ l. line_unless_long (l ++ line)) buffer) after mid new r) → Takes mid new wrote.block → after.ended ≡ true
+  answered_last : {after : RunState} {new : Outlet} {buffer' : Option (List ℕ)} (at : ℕ) (line : List ℕ) → IsFirstByte (is_byte 10) left (Some at)
+      → line ≡ take at left → (wrote : PutsBlock between (option_and_then (λ l. line_unless_long (l ++ line)) buffer) after mid new) → after.ended ≡ true
       → buffer' ≡ option_and_then (λ l. line_unless_long (l ++ line)) buffer → AnswersLast before after part piece buffer' old new
-  answered_last {A} {E} {after} {new} {buffer'} at line r h e wrote put ended kept =
-      let is = block_at at line after new r e wrote in
+  answered_last {after} {new} {buffer'} at line h e wrote ended kept =
+      let is = block_at at line after new e wrote in
       record {
         lines = done.lines;
         line = done.begun ++ take at left;
@@ -148,21 +148,21 @@ module _ {before between : RunState} {part piece left : List ℕ} {buffer : Opti
         keeps = kept ∙ kept_at at line e;
         ended = ended;
         told = told_push before between after done.lines (done.begun ++ take at left) done.text wrote.block done.told is;
-        put = takes_then old mid new done.text wrote.block done.put put;
+        put = puts_then done.put wrote.put;
       }
 
   -- so the lines of the piece are answered
-  pub answers_last : {A E : Type 0} {after : RunState} {new : Outlet} {buffer' : Option (List ℕ)} (at : ℕ) (line : List ℕ) (r : Result A E) → IsFirstByte (is_byte 10) left (Some at)
-      → line ≡ take at left → (wrote : PutsBlock between (option_and_then (λ l. line_unless_long (l ++ line)) buffer) after mid new r) → Takes mid new wrote.block → after.ended ≡ true
+  pub answers_last : {after : RunState} {new : Outlet} {buffer' : Option (List ℕ)} (at : ℕ) (line : List ℕ) → IsFirstByte (is_byte 10) left (Some at)
+      → line ≡ take at left → (wrote : PutsBlock between (option_and_then (λ l. line_unless_long (l ++ line)) buffer) after mid new) → after.ended ≡ true
       → buffer' ≡ option_and_then (λ l. line_unless_long (l ++ line)) buffer → AnswersBy after.ended before after part piece buffer' old new
-  answers_last {A} {E} {after} {new} {buffer'} at line r h e wrote put ended kept =
-      subst (λ (over : Bool). AnswersBy over before after part piece buffer' old new) (sym ended) (answered_last at line r h e wrote put ended kept)
+  answers_last {after} {new} {buffer'} at line h e wrote ended kept =
+      subst (λ (over : Bool). AnswersBy over before after part piece buffer' old new) (sym ended) (answered_last at line h e wrote ended kept)
 
   -- the writer failed in the block of one line more
-  pub answered_some : {A E : Type 0} {after : RunState} {new : Outlet} (at : ℕ) (line : List ℕ) (r : Result A E) → IsFirstByte (is_byte 10) left (Some at)
-      → line ≡ take at left → (wrote : PutsBlock between (option_and_then (λ l. line_unless_long (l ++ line)) buffer) after mid new r) → TakesFront mid new wrote.block → AnswersSome before after part piece old new
-  answered_some {A} {E} {after} {new} at line r h e wrote put =
-      let is = block_at at line after new r e wrote in
+  pub answered_some : {after : RunState} {new : Outlet} (at : ℕ) (line : List ℕ) → IsFirstByte (is_byte 10) left (Some at)
+      → line ≡ take at left → (wrote : PutsBlock between (option_and_then (λ l. line_unless_long (l ++ line)) buffer) after mid new) → AnswersSome before after part piece old new
+  answered_some {after} {new} at line h e wrote =
+      let is = block_at at line after new e wrote in
       record {
         lines = done.lines ++ (done.begun ++ take at left) ∷ [];
         rest = drop (at + 1) left;
@@ -170,7 +170,7 @@ module _ {before between : RunState} {part piece left : List ℕ} {buffer : Opti
         parts = parts_at at h;
         whole = whole_at at h;
         told = told_push before between after done.lines (done.begun ++ take at left) done.text wrote.block done.told is;
-        put = record { same = put.same ∙ done.put.same; front = front_then old mid new done.text wrote.block done.put put };
+        put = puts_then done.put wrote.put;
       }
 
   -- no line feed is left

@@ -1,8 +1,9 @@
 -- A run so far, and how it goes on.
-use Rattle.ele_runs.proofs.Basics.{◌≡◌, ℕ, ◌+◌, ◌≤◌, ◌⊎◌, List, [], ◌∷◌, ◌++◌, length, Option, Some, false, refl, sym, ap, subst, ◌∙◌, arith, append_assoc, length-append, append-nil, flat_map-append, flat_map-cons}
-use Rattle.ele_runs.proofs.Basics.{Consumes, Appends, Consumes-nil, Consumes-trans, Appends-nil}
-use Rattle.ele_runs.proofs.Words.{Outlet, Takes, IsTold, most_lines, most_bytes, line_unless_long, AreLines, whole_line, whole_lines, line_count, AreTold, AnswersAll, RunState}
-use Rattle.ele_runs.proofs.Joins.{lines_before, told_append, takes_nil, takes_then, takes_over}
+use Rattle.ele_runs.proofs.Basics.{◌≡◌, ℕ, ◌+◌, ◌≤◌, ◌⊎◌, List, [], ◌∷◌, ◌++◌, length, Option, Some, false, refl, sym, ap, subst, ◌∙◌, arith, append_assoc, length-append, append-nil, flat_map-append, flat_map-cons, Consumes, Appends, Consumes-nil, Consumes-trans}
+use Rattle.ele_runs.proofs.Words.{Outlet, IsTold, most_lines, most_bytes, line_unless_long, AreLines, whole_line, whole_lines, line_count, AreTold, AnswersAll, RunState}
+use Rattle.ele_runs.proofs.Joins.{lines_before, told_append}
+use Rattle.ele_output.specs.Outlet.{IsHandedOver, Puts}
+use Rattle.ele_output.proofs.Known.{all_written, puts_nil, puts_no_more, puts_then}
 
 -- whole lines were read and a part of one more, and what is told for them put, up to this state; there is room for so many bytes more
 pub record RanSoFar (start state : RunState) (room : ℕ) (buffer input rest : Option (List ℕ)) (old new : Outlet) : Type 0 where
@@ -20,7 +21,7 @@ pub record RanSoFar (start state : RunState) (room : ℕ) (buffer input rest : O
   pub keeps : buffer ≡ line_unless_long part
   pub told : AreTold start lines text state
   pub taken : Consumes input rest given
-  pub put : Takes old new text
+  pub put : Puts old new text
 
 -- a run that begins
 pub ran_none : (start : RunState) (buffer input : Option (List ℕ)) (old : Outlet) → buffer ≡ Some [] → old.held ≡ []
@@ -41,7 +42,7 @@ ran_none start buffer input old clear none first goes_on =
       keeps = clear;
       told = (refl, refl);
       taken = Consumes-nil input;
-      put = takes_nil old;
+      put = puts_nil old;
     }
 
 -- what is told for some lines, and then for one more
@@ -64,7 +65,7 @@ joined_push lines line = flat_map-append whole_line lines (line ∷ []) ∙ ap (
 
 -- what is held is handed over
 pub ran_over : {start state : RunState} {room : ℕ} {buffer input rest : Option (List ℕ)} {old known new : Outlet}
-    → RanSoFar start state room buffer input rest old known → (new.writer ≡ known.writer) × (new.held ≡ []) × Appends known.known new.known known.held
+    → RanSoFar start state room buffer input rest old known → Puts known new [] × IsHandedOver new
     → RanSoFar start state room buffer input rest old new
 ran_over {start} {state} {room} {buffer} {input} {rest} {old} {known} {new} ran over =
     record {
@@ -82,19 +83,13 @@ ran_over {start} {state} {room} {buffer} {input} {rest} {old} {known} {new} ran 
       keeps = ran.keeps;
       told = ran.told;
       taken = ran.taken;
-      put = record {
-        same = over.0 ∙ ran.put.same;
-        sent = ran.text;
-        parts = cc (ran.none, over.1, append-nil ran.text);
-        written = takes_over old known new ran.text ran.none ran.put over.2;
-      };
+      put = puts_no_more ran.put over.0;
     }
 
 -- then all that was put is written
 pub written_all : {start state : RunState} {room : ℕ} {buffer input rest : Option (List ℕ)} {old new : Outlet}
-    → (ran : RanSoFar start state room buffer input rest old new) → new.held ≡ [] → Appends old.known new.known ran.text
-written_all {start} {state} {room} {buffer} {input} {rest} {old} {new} ran none =
-    takes_over old new new ran.text ran.none ran.put (rw none (Appends-nil new.known))
+    → (ran : RanSoFar start state room buffer input rest old new) → IsHandedOver new → Appends old.known new.known ran.text
+written_all ran over = all_written ran.none ran.put over
 
 -- a line counts at most once
 count_below : (lines : List (List ℕ)) (last : List ℕ) → line_count lines last ≤ length lines + length last
@@ -130,5 +125,5 @@ ran_on {start} {between} {after} {room} {left} {buffer} {buffer'} {input} {mid} 
       keeps = did.keeps;
       told = told_append start between after ran.lines did.lines ran.text did.text ran.told did.told;
       taken = Consumes-trans input mid rest ran.given piece ran.taken taken;
-      put = takes_then old so_far new ran.text did.text ran.put did.put;
+      put = puts_then ran.put did.put;
     }

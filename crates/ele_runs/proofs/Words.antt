@@ -2,9 +2,9 @@
 pub use Rattle.ele_history.specs.Pass.{MayPass, Removes, RemovesOne}
 pub use Rattle.ele_history.specs.Past.{HasRoom, IsFull, Past, answered, count_of, recorded, reply_to, trimmed, world_of}
 pub use Rattle.ele_history.specs.Reply.{MayReply}
-pub use Rattle.ele_printer.specs.Front.{AppendsFront}
-pub use Rattle.ele_printer.specs.Outlet.{Outlet, Puts, Takes, TakesFront}
-pub use Rattle.ele_printer.specs.Prints.{outlet}
+pub use Rattle.ele_output.specs.Front.{AppendsFront}
+pub use Rattle.ele_output.specs.Outlet.{HandsOver, IsHandedOver, Outlet, Puts}
+pub use Rattle.ele_output.specs.Prints.{outlet}
 pub use Rattle.ele_script.specs.Words.{longest_line}
 pub use Rattle.ele_runs.specs.Block.{IsBlock, MayAnswer, as_entry, as_trim, cut_block, cut_count}
 pub use Rattle.ele_runs.specs.RunState.{RunState, begun, noting}

@@ -1,7 +1,7 @@
 -- What a run has written that its writer ended is a front of an output of its input.
 use Rattle.std.specs.Prelude.{ℕ, List, Option, Some}
 use Rattle.std.specs.Io.KnownBytes.{Keeps}
-use Rattle.ele_printer.specs.Front.{AppendsFront}
+use Rattle.ele_output.specs.Front.{AppendsFront}
 use Rattle.ele_runs.specs.Lines.{AreLines}
 use Rattle.ele_runs.specs.Output.{IsOutput}
 use Rattle.ele_runs.specs.Running.{RanToAWriteFault}

@@ -1,8 +1,8 @@
 -- The lines that end in a piece of the input. No public clause cites this module.
 use Rattle.std.specs.Prelude.{◌≡◌, ℕ, ◌+◌, ◌≤◌, Bool, true, false, List, [], ◌∷◌, ◌++◌, length, Option, Result, Ok, Err, ◌⊎◌}
 use Rattle.std.specs.List.{AllByRecursion}
-use Rattle.ele_printer.specs.declared.fault.WriteFault.{WriteFault}
-use Rattle.ele_printer.specs.Outlet.{Outlet, Takes, TakesFront}
+use Rattle.ele_output.specs.declared.fault.WriteFault.{WriteFault}
+use Rattle.ele_output.specs.Outlet.{Outlet, Puts}
 use Rattle.ele_runs.specs.RunState.{RunState}
 use Rattle.ele_runs.specs.LineLength.{line_unless_long}
 use Rattle.ele_runs.specs.Lines.{IsUnbroken, AreLines, whole_lines}
@@ -19,7 +19,7 @@ pub record AnswersAll (before after : RunState) (part piece : List ℕ) (buffer 
   pub keeps : buffer ≡ line_unless_long last
   pub goes_on : after.ended ≡ false
   pub told : AreTold before lines text after
-  pub put : Takes old new text
+  pub put : Puts old new text
 
 -- the last of these lines ended the run, and is kept
 pub record AnswersLast (before after : RunState) (part piece : List ℕ) (buffer : Option (List ℕ)) (old new : Outlet) : Type 0 where
@@ -34,7 +34,7 @@ pub record AnswersLast (before after : RunState) (part piece : List ℕ) (buffer
   pub keeps : buffer ≡ line_unless_long line
   pub ended : after.ended ≡ true
   pub told : AreTold before (lines ++ line ∷ []) text after
-  pub put : Takes old new text
+  pub put : Puts old new text
 
 -- the writer failed in a block of these lines, or in what stood before them
 pub record AnswersSome (before after : RunState) (part piece : List ℕ) (old new : Outlet) : Type 0 where
@@ -44,7 +44,7 @@ pub record AnswersSome (before after : RunState) (part piece : List ℕ) (old ne
   pub parts : part ++ piece ≡ whole_lines lines ++ rest
   pub whole : AllByRecursion IsUnbroken lines
   pub told : AreTold before lines text after
-  pub put : TakesFront old new text
+  pub put : Puts old new text
 
 -- whether the run was ended by them
 abbrev pub AnswersBy : Bool → RunState → RunState → List ℕ → List ℕ → Option (List ℕ) → Outlet → Outlet → Type 0

@@ -2,7 +2,7 @@
 use Rattle.std.specs.Prelude.{◌≡◌, ◌≢◌, ℕ, ◌+◌, ◌≤◌, Bool, true, false, List, [], ◌∷◌, ◌++◌, length, Option, Some, None, Result, Ok, Err, ◌⊎◌}
 use Rattle.std.specs.List.{AllByRecursion}
 use Rattle.std.specs.Io.KnownBytes.{Appends, Consumes, Keeps, IsAtEnd}
-use Rattle.ele_printer.specs.Front.{AppendsFront}
+use Rattle.ele_output.specs.Front.{AppendsFront}
 use Rattle.ele_runs.specs.declared.end.EndLine.{EndLine}
 use Rattle.ele_runs.specs.declared.end.RunEnd.{RunEnd}
 use Rattle.ele_runs.specs.declared.fault.ShellFault.{ShellFault}

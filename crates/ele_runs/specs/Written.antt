@@ -1,8 +1,6 @@
 -- What was put for a line, and for a script. No public clause cites this module.
-use Rattle.std.specs.Prelude.{◌≡◌, ℕ, ◌+◌, List, [], ◌++◌, true, Option, Some, None, Result, Ok, Err, if◌then◌else◌}
-use Rattle.std.specs.Io.KnownBytes.{Appends}
-use Rattle.ele_printer.specs.Front.{AppendsFront}
-use Rattle.ele_printer.specs.Outlet.{Outlet, Puts}
+use Rattle.std.specs.Prelude.{◌≡◌, ℕ, ◌+◌, List, [], true, Option, Some, None, Result, Ok, Err, if◌then◌else◌}
+use Rattle.ele_output.specs.Outlet.{HandsOver, Outlet, Puts}
 use Rattle.ele_runs.specs.Block.{cut_count}
 use Rattle.ele_runs.specs.RunState.{RunState}
 use Rattle.ele_runs.specs.Telling.{Tells}
@@ -11,25 +9,25 @@ use Rattle.ele_runs.specs.declared.end.EndLine.{EndLine}
 use Rattle.ele_runs.specs.declared.end.RunEnd.{RunEnd}
 use Rattle.ele_runs.specs.declared.fault.ShellFault.{ShellFault}
 
--- what is told for the line was put, or at an error a front of all that was to be written was taken
-pub record PutsBlock {A E : Type 0} (before : RunState) (line : Option (List ℕ)) (after : RunState) (old new : Outlet) (result : Result A E) : Type 0 where
+-- what is told for the line was put
+pub record PutsBlock (before : RunState) (line : Option (List ℕ)) (after : RunState) (old new : Outlet) : Type 0 where
   pub block : List ℕ
   pub is : IsTold before line block after
-  pub put : Puts old new block result
+  pub put : Puts old new block
 
 -- a last line without its line feed ends a strict run, unless it is empty
 abbrev pub end_by : RunState → Option (List ℕ) → Option EndLine
 end_by run_state (Some []) = None
 end_by run_state last = if run_state.options.strict then Some (record { line = last; is_cut = true }) else None
 
--- all that was to be written and what is told for a last line were written, or at an error a front of these; the line
--- counts unless it is empty
+-- the last line counts unless it is empty
+abbrev pub CountsLast : {E : Type 0} → RunState → Option (List ℕ) → Result RunEnd E → Type 0
+CountsLast run_state buffer (Ok ran) = (ran.lines ≡ run_state.number + cut_count buffer) × (ran.ended_by ≡ end_by run_state buffer)
+CountsLast run_state buffer (Err fault) = Unit {0}
+
+-- and what is told for it was put, and all was handed over, or the writer failed
 abbrev pub WritesLast : {E : Type 0} → RunState → Option (List ℕ) → Outlet → Outlet → Result RunEnd E → Type 0
-WritesLast run_state buffer old new (Ok ran) =
-    (new.writer ≡ old.writer) × (ran.lines ≡ run_state.number + cut_count buffer) × (ran.ended_by ≡ end_by run_state buffer)
-    × Appends old.known new.known (old.held ++ cut_told run_state buffer)
-WritesLast run_state buffer old new (Err fault) =
-    (new.writer ≡ old.writer) × AppendsFront old.known new.known (old.held ++ cut_told run_state buffer)
+WritesLast run_state buffer old new result = CountsLast run_state buffer result × HandsOver old new (cut_told run_state buffer) result
 
 -- what a run has done at its writers, by how it ends
 abbrev pub RunsAt : RunState → Option (List ℕ) → Option (List ℕ) → Outlet → Outlet → Option (List ℕ) → Result RunEnd ShellFault → Type 0

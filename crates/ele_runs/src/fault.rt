@@ -5,7 +5,7 @@ ghost use Rattle.ele_runs.specs.Fault.{number_of, name_of};
 ghost use Rattle.ele_runs.specs.declared.fault.ShellFault.TheVariants as shell;
 
 use ele_moment::NoMemory;
-use ele_script::WriteFault;
+use ele_output::WriteFault;
 use thiserror::Error;
 
 /// Why a run ended early. Its text is its number and its name, as `34 ReadFault`.

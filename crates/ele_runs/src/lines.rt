@@ -1,11 +1,11 @@
 //! The lines of a piece, and their blocks.
 //! A contract sees the lines that end in the piece, and what was put for them.
-ghost use Rattle.std.specs.Prelude.{◌≡◌, ◌+◌, ◌^◌, ◌<◌, ◌≤◌, ◌++◌, [], true, false, Some, length, OnOk, IfOk};
+ghost use Rattle.std.specs.Prelude.{◌≡◌, ◌+◌, ◌^◌, ◌<◌, ◌≤◌, ◌++◌, [], true, false, Some, length};
 ghost use Rattle.std.specs.Option.{option_map, option_and_then};
 ghost use Rattle.memchr.specs.Find.{IsFirstByte, is_byte};
-ghost use Rattle.ele_printer.specs.Front.{AppendsFront};
+ghost use Rattle.ele_output.specs.Front.{AppendsFront};
 ghost use Rattle.ele_printer.specs.Printed.{bad_text};
-ghost use Rattle.ele_printer.specs.Prints.{outlet, Prints};
+ghost use Rattle.ele_output.specs.Prints.{outlet, Prints};
 ghost use Rattle.ele_runs.specs.Block.{cut_count};
 ghost use Rattle.ele_runs.specs.RunState.{noting};
 ghost use Rattle.ele_runs.specs.LineLength.{line_unless_long};
@@ -20,7 +20,8 @@ use crate::line_buffer::{LineBuffer, kept_line};
 use crate::runner::Runner;
 use crate::said::Said;
 use ele_model::Explain;
-use ele_script::{LineFault, Printer, WriteFault, put_fault};
+use ele_output::{Printer, WriteFault};
+use ele_script::{LineFault, put_fault};
 use memchr::memchr;
 use std::io::Write;
 
@@ -31,30 +32,29 @@ fn put_whole<C: Explain, W: Write, E: Write>(
     runner: &mut Runner<C>,
     printer: &mut Printer<'_, W>,
     reasons: &mut E,
-) -> Result<(), WriteFault>
+)
     requires goes_on { runner.old.ended ≡ false }
     requires few { runner.old.number + 1 < 2 ^ 64 }
     ensures block { PutsBlock (noting runner.old (E.contents reasons.old))
         (option_and_then (λ line. line_unless_long (line ++ end.now)) buffer.old)
         (noting runner.new (E.contents reasons.new))
-        (outlet W.contents printer.old) (outlet W.contents printer.new) result }
-    ensures begun { OnOk result (runner.new.ended ≡ false → buffer.new ≡ Some []) }
-    ensures kept { OnOk result (runner.new.ended ≡ true → buffer.new
-        ≡ option_and_then (λ line. line_unless_long (line ++ end.now)) buffer.old) }
+        (outlet W.contents printer.old) (outlet W.contents printer.new) }
+    ensures begun { runner.new.ended ≡ false → buffer.new ≡ Some [] }
+    ensures kept { runner.new.ended ≡ true → buffer.new
+        ≡ option_and_then (λ line. line_unless_long (line ++ end.now)) buffer.old }
 {
     if buffer.is_empty() {
-        runner.put_block(kept_line(end), printer, reasons)?;
+        runner.put_block(kept_line(end), printer, reasons);
         if runner.has_ended() {
             buffer.extend(end);
         }
-        return Ok(());
+        return;
     }
     buffer.extend(end);
-    runner.put_block(buffer.line(), printer, reasons)?;
+    runner.put_block(buffer.line(), printer, reasons);
     if !runner.has_ended() {
         buffer.clear();
     }
-    Ok(())
 }
 
 // Where the first line feed stands.
@@ -65,7 +65,7 @@ fn line_end(bytes: &[u8]) -> Option<usize>
 }
 
 /// Answers the lines that end in the piece, and keeps what is behind them, or the line that ended
-/// the run.
+/// the run. At a fault of the writer no line is answered behind the one in whose block it failed.
 pub(crate) fn answer_piece<C: Explain, W: Write, E: Write>(
     piece: &[u8],
     buffer: &mut LineBuffer,
@@ -81,7 +81,8 @@ pub(crate) fn answer_piece<C: Explain, W: Write, E: Write>(
 {
     let mut rest = piece;
     'lines: while let Some(at) = line_end(rest) {
-        put_whole(&rest[..at], buffer, runner, printer, reasons)?;
+        put_whole(&rest[..at], buffer, runner, printer, reasons);
+        printer.check()?;
         if runner.has_ended() {
             return Ok(());
         }
@@ -97,14 +98,13 @@ fn put_cut_fault<C: Explain, W: Write>(
     fault: LineFault,
     runner: &Runner<C>,
     printer: &mut Printer<'_, W>,
-) -> Result<(), WriteFault>
+)
     requires { runner.now.number + 1 < 2 ^ 64 }
     ensures { Prints W.contents printer.old printer.new
-        (said_front runner.now.options (runner.now.number + 1) (Said.Bad fault) ++ bad_text fault)
-        result }
+        (said_front runner.now.options (runner.now.number + 1) (Said.Bad fault) ++ bad_text fault) }
 {
-    Said::Bad(fault).put_front(runner.options(), runner.lines() + 1, printer)?;
-    put_fault(fault, printer)
+    Said::Bad(fault).put_front(runner.options(), runner.lines() + 1, printer);
+    put_fault(fault, printer);
 }
 
 // Puts what is told for a last line without its line feed, which is never run, and tells by how much
@@ -113,20 +113,20 @@ fn put_cut<C: Explain, W: Write>(
     line: Option<&[u8]>,
     runner: &Runner<C>,
     printer: &mut Printer<'_, W>,
-) -> Result<u64, WriteFault>
+) -> u64
     requires { runner.now.number + 1 < 2 ^ 64 }
-    ensures count { IfOk result (λ n. n ≡ cut_count (option_map (λ line. line.now) line.entry)) }
-    ensures few { IfOk result (λ n. n ≤ 1) }
+    ensures count { result ≡ cut_count (option_map (λ line. line.now) line.entry) }
+    ensures few { result ≤ 1 }
     ensures put { Prints W.contents printer.old printer.new
-        (cut_told runner.now (option_map (λ line. line.now) line.entry)) result }
+        (cut_told runner.now (option_map (λ line. line.now) line.entry)) }
 {
     let fault = match line {
         None => LineFault::LineTooLong,
-        Some([]) => return Ok(0),
+        Some([]) => return 0,
         Some(_) => LineFault::Syntax,
     };
-    put_cut_fault(fault, runner, printer)?;
-    Ok(1)
+    put_cut_fault(fault, runner, printer);
+    1
 }
 
 /// Writes all that is held and what is told for a last line without its line feed, tells why that is
@@ -145,7 +145,7 @@ pub(crate) fn finish<C: Explain, W: Write, E: Write>(
         (cut_note runner.now buffer) }
 {
     runner.tell_cut(buffer.line(), reasons);
-    let cut = put_cut(buffer.line(), runner, printer)?;
+    let cut = put_cut(buffer.line(), runner, printer);
     printer.hand_over()?;
     let lines = runner.lines() + cut;
     if runner.options().strict && cut > 0 {

@@ -2,13 +2,14 @@
 //! A contract sees a reason as itself, and what the writer of reasons holds then.
 ghost use Rattle.std.specs.Prelude.{◌≡◌, IfNone, IfOk, IfSome, OnErr, Some};
 ghost use Rattle.std.specs.Option.{option_map};
-ghost use Rattle.ele_printer.specs.Front.{AppendsFront};
+ghost use Rattle.ele_output.specs.Front.{AppendsFront};
 ghost use Rattle.ele_runs.specs.Explained.{asked_by};
 ghost use Rattle.ele_runs.specs.WhyBad.{HasNone, IsReasonBy, IsToldReason, IsUntold, cut_reason, why_line};
 
 use crate::options::RunOptions;
 use ele_moment::NoMemory;
-use ele_script::{Reason, WordKind, put, question_word, reason, word_reason};
+use ele_output::write_all;
+use ele_script::{Reason, WordKind, question_word, reason, word_reason};
 use std::alloc::Global;
 use std::io::Write;
 
@@ -75,6 +76,6 @@ pub fn tell_why<E: Write>(alloc: Global, number: u64, why: Option<Reason>, reaso
     let Ok(text) = format!(in alloc; "elephant: line {number}, {why}\n") else {
         return;
     };
-    let _ = put(reasons, text.as_bytes());
+    let _ = write_all(reasons, text.as_bytes());
     let _ = reasons.flush();
 }

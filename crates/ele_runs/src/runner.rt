@@ -3,8 +3,8 @@
 ghost use Rattle.std.specs.Prelude.{◌≡◌, ◌+◌, ◌<◌, ◌^◌, false, List, None, ℕ, IfOk};
 ghost use Rattle.std.specs.Option.{option_map};
 ghost use Rattle.ele_history.specs.Past.{fresh};
-ghost use Rattle.ele_printer.specs.Prints.{outlet};
-ghost use Rattle.ele_printer.specs.Front.{AppendsFront};
+ghost use Rattle.ele_output.specs.Prints.{outlet};
+ghost use Rattle.ele_output.specs.Front.{AppendsFront};
 ghost use Rattle.ele_runs.specs.RunState.{begun, noting};
 ghost use Rattle.ele_runs.specs.Note.{IsNoted, cut_note};
 ghost use Rattle.ele_runs.specs.Said.{HearsNext, IsSaidText};
@@ -16,7 +16,7 @@ use crate::said::{Said, hear_kept};
 use ele_history::History;
 use ele_model::{Explain, Limits};
 use ele_moment::NoMemory;
-use ele_script::{Printer, WriteFault};
+use ele_output::Printer;
 use std::alloc::Global;
 use std::io::Write;
 use std::marker::Model;
@@ -118,22 +118,22 @@ impl<C: Explain> Runner<C> {
     }
 
     /// Answers the next line as it is kept: tells why it is no command, where reasons are told, and
-    /// puts what is told for it. At a fault the writer took a front of all.
+    /// puts what is told for it.
     pub(crate) fn put_block<W: Write, E: Write>(
         &mut self,
         line: Option<&[u8]>,
         printer: &mut Printer<'_, W>,
         reasons: &mut E,
-    ) -> Result<(), WriteFault>
+    )
         requires goes_on { self.old.ended ≡ false }
         requires few { self.old.number + 1 < 2 ^ 64 }
         ensures { PutsBlock (noting self.old (E.contents reasons.old))
             (option_map (λ line. line.now) line.entry) (noting self.new (E.contents reasons.new))
-            (outlet W.contents printer.old) (outlet W.contents printer.new) result }
+            (outlet W.contents printer.old) (outlet W.contents printer.new) }
     {
         let said = self.hear(line);
         self.tell_reason(line, &said, reasons);
-        said.put_front(self.options, self.lines, printer)?;
-        said.put(&self.history, printer)
+        said.put_front(self.options, self.lines, printer);
+        said.put(&self.history, printer);
     }
 }

@@ -2,7 +2,7 @@
 //! A contract sees the answer that is meant, beside the history that it left.
 ghost use Rattle.std.specs.Prelude.{◌≡◌, List, ℕ};
 ghost use Rattle.std.specs.Option.{option_map};
-ghost use Rattle.ele_printer.specs.Prints.{Prints};
+ghost use Rattle.ele_output.specs.Prints.{Prints};
 ghost use Rattle.ele_runs.specs.RunOptions.{is_well};
 ghost use Rattle.ele_runs.specs.Said.{HasText, Hears, HearsKept, IsSaidText, Replies, Trims, has_no_reply, said_front};
 
@@ -10,10 +10,10 @@ use crate::explained::{asked, explain};
 use crate::options::RunOptions;
 use ele_history::History;
 use ele_model::{Event, Explain, Fate, KeyList, PassEnd, Refusal, Reply, Stop};
+use ele_output::Printer;
 use ele_printer::{put_history, put_in_front, put_trimmed};
 use ele_script::{
-    Line, LineFault, Printer, WriteFault, put_ahead, put_answer, put_fault, put_pass, put_stop,
-    put_why, read_line,
+    Line, LineFault, put_ahead, put_answer, put_fault, put_pass, put_stop, put_why, read_line,
 };
 use std::alloc::Global;
 use std::io::Write;
@@ -133,29 +133,24 @@ impl Said {
         options: RunOptions,
         number: u64,
         printer: &mut Printer<'_, W>,
-    ) -> Result<(), WriteFault>
-        ensures { Prints W.contents printer.old printer.new (said_front options number self.now)
-            result }
+    )
+        ensures { Prints W.contents printer.old printer.new (said_front options number self.now) }
     {
         match self {
-            Said::Nothing => Ok(()),
+            Said::Nothing => {}
             _ if options.numbers => put_in_front(number, printer),
-            _ => Ok(()),
+            _ => {}
         }
     }
 
     /// Puts its text.
-    pub fn put<C: Explain, W: Write>(
-        &self,
-        history: &History<C>,
-        printer: &mut Printer<'_, W>,
-    ) -> Result<(), WriteFault>
+    pub fn put<C: Explain, W: Write>(&self, history: &History<C>, printer: &mut Printer<'_, W>)
         requires { HasText history.now self.now }
         ensures { (text : List ℕ) × IsSaidText history.now self.now text
-            × Prints W.contents printer.old printer.new text result }
+            × Prints W.contents printer.old printer.new text }
     {
         match self {
-            Said::Nothing => Ok(()),
+            Said::Nothing => {}
             Said::Bad(fault) => put_fault(*fault, printer),
             Said::Stopped(stop) => put_stop(*stop, printer),
             Said::Replied => put_last(history, printer),
@@ -169,13 +164,10 @@ impl Said {
 }
 
 // Puts the reply of the last entry.
-fn put_last<C: Explain, W: Write>(
-    history: &History<C>,
-    printer: &mut Printer<'_, W>,
-) -> Result<(), WriteFault>
+fn put_last<C: Explain, W: Write>(history: &History<C>, printer: &mut Printer<'_, W>)
     requires { HasText history.now Said.Replied }
     ensures { (text : List ℕ) × IsSaidText history.now Said.Replied text
-        × Prints W.contents printer.old printer.new text result }
+        × Prints W.contents printer.old printer.new text }
 {
     match history.last() {
         Some(entry) => put_answer(&entry.reply, printer),

@@ -2,7 +2,7 @@
 //! A contract sees the lines that the reader gives, and their output at the writer.
 ghost use Rattle.std.specs.Prelude.{◌≡◌, ◌≤◌, ◌-◌, [], false, Some, min, IfOk, IsErrOf, length};
 ghost use Rattle.ele_history.specs.Past.{fresh};
-ghost use Rattle.ele_printer.specs.Prints.{outlet};
+ghost use Rattle.ele_output.specs.Prints.{outlet};
 ghost use Rattle.ele_runs.specs.RunState.{begun, noting};
 ghost use Rattle.ele_runs.specs.Telling.{HasTold, Tells, ToldPastABound, ToldToAReadFault, ToldToAWriteFault};
 ghost use Rattle.ele_runs.specs.Written.{RunsAt};
@@ -16,7 +16,7 @@ use crate::options::RunOptions;
 use crate::piece::read_piece;
 use crate::runner::Runner;
 use ele_model::{Explain, Limits};
-use ele_script::Printer;
+use ele_output::Printer;
 use std::alloc::Global;
 use std::io;
 use std::io::{Read, Sink, Write};

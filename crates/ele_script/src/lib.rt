@@ -17,9 +17,10 @@ mod word;
 mod writing;
 
 pub use bad_word::{reason, word_reason};
+pub use ele_output::{Printer, WriteFault};
 pub use ele_printer::{
-    LineFault, Printer, WordKind, WriteFault, put, put_ahead, put_answer, put_fault, put_history,
-    put_pass, put_reply, put_stop, put_trimmed, put_why, write_named, write_placed, write_reply,
+    LineFault, WordKind, put_ahead, put_answer, put_fault, put_history, put_pass, put_reply,
+    put_stop, put_trimmed, put_why, write_named, write_placed, write_reply,
 };
 pub use question::{Question, question_word, read_question};
 pub use reading::{LONGEST_LINE, Line, read_event, read_line};

@@ -1,23 +1,21 @@
 //! Writing events. A contract sees an event as itself, and a writer as the bytes that it is known to
 //! hold.
-ghost use Rattle.std.specs.Prelude.{◌++◌, ◌∷◌, [], OnOk, OnErr};
-ghost use Rattle.std.specs.Io.KnownBytes.{Appends};
+ghost use Rattle.std.specs.Prelude.{◌++◌, ◌∷◌, []};
+ghost use Rattle.ele_output.specs.Front.{WritesText};
 ghost use Rattle.ele_printer.specs.EventText.{event_text};
-ghost use Rattle.ele_printer.specs.Front.{AppendsFront};
 ghost use Rattle.ele_script.specs.Spells.{Spells};
 
 use ele_model::Event;
-use ele_printer::{WriteFault, write_event_text};
+use ele_output::WriteFault;
+use ele_printer::write_event_text;
 use std::io::Write;
 
 /// Writes the line that spells an event, and a line feed. At a fault of the writer it took a front
 /// of these. Read back, a line of at most 8,192 bytes asks for that event.
 #[tactic(auto, using(crate::proofs::EventBack::event_back))]
 pub fn write_event<W: Write>(event: &Event, writer: &mut W) -> Result<(), WriteFault>
-    ensures ok { OnOk result (Appends (W.contents writer.old) (W.contents writer.new)
-        (event_text event.now ++ 10 ∷ [])) }
-    ensures err { OnErr result (AppendsFront (W.contents writer.old) (W.contents writer.new)
-        (event_text event.now ++ 10 ∷ [])) }
+    ensures text { WritesText (event_text event.now ++ 10 ∷ []) (W.contents writer.old)
+        (W.contents writer.new) result }
     ensures spells { Spells (event_text event.now) event.now }
 {
     write_event_text(event, writer)

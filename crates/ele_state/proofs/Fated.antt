@@ -5,11 +5,12 @@ use Rattle.ele_lists.proofs.Taken.{all-at, find-first_at}
 use Rattle.ele_model.proofs.Basics.{zero, suc}
 use Rattle.ele_model.proofs.Words.{IsVersion, Now}
 use Rattle.std.specs.Str.{bytes_eq}
-use Rattle.ele_policy.specs.Cause.{closing_of}
+use Rattle.ele_policy.specs.RipeCase.{closing_of}
 use Rattle.ele_policy.specs.declared.cause.Cause.{Cause}
 use Rattle.ele_policy.specs.declared.cause.Newer.{Newer}
 use Rattle.ele_moment.specs.Last.{last_moment}
-use Rattle.ele_policy.specs.Ripe.{alone, is_due_by, ripe_by}
+use Rattle.ele_policy.specs.Ripe.{is_due_by}
+use Rattle.ele_policy.specs.RipeCase.{alone, ripe_by}
 use Rattle.ele_files.specs.Beside.{IsBeside}
 use Rattle.ele_files.specs.declared.files.newer.Beside.{Beside}
 use Rattle.ele_groups.specs.Rows.{row_of}

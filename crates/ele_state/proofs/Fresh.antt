@@ -1,6 +1,6 @@
 -- At first there is no key and no usage.
 use Rattle.ele_state.proofs.Words.{◌≡◌, List, refl, sym, IsQueued, held_world, IsBooked, Key, Held, Kind, Book, sums_of, nothing, World, []}
-use Rattle.ele_model.specs.FileView.{ripe_numbered}
+use Rattle.ele_model.specs.RipeRows.{ripe_numbered}
 use Rattle.ele_model.specs.Usage.{usage_of}
 
 abbrev pub no_files : Held

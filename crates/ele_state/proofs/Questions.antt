@@ -3,7 +3,7 @@ use Rattle.ele_state.proofs.Words.{[], ◌∷◌, Cover, IsInfoOf, Rule, case_in
 use Rattle.ele_state.proofs.Changes.{passing}
 use Rattle.ele_moment.specs.Last.{last_moment}
 use Rattle.ele_due.specs.InOrder.{in_order}
-use Rattle.ele_due.specs.Key.{if_ripe}
+use Rattle.ele_due.specs.Queue.{if_ripe}
 use Rattle.ele_model.proofs.Newer.{newest_newer}
 use Rattle.ele_model.proofs.RipeAt.{scan_members_at}
 use Rattle.ele_model.specs.Change.{Time, after_change}

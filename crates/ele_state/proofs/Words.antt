@@ -46,7 +46,7 @@ pub use Rattle.ele_model.proofs.Versions.{all_found}
 pub use Rattle.ele_model.proofs.Walks.{file_live, file_of, file_there, last_names, live_target-push as name_stands, target_live}
 pub use Rattle.ele_model.proofs.Words.{cover_of, cover_without, longer, ripe_past, AddMark, AddMember, AddName, Append, AreApart, ArePlaced, Bounded, ChangesOnly, Counted, Directories, Drafts, DropGroup, DropIdle, EndDraft, EndFileName, EndName, Files, Fits, Groups, Handles, IsEvent, IsFile, IsGroup, IsLawful, IsNameRow, IsThere, HasParts, IsWithin, MakeFile, MoveName, Names, OpenHandle, SetFilePolicy, RemoveMark, RemoveMember, Revive, ShutHandle, StartDraft, Take, Versions, World, after_change, after_changes, born_row, bytes_in, content_of, covers_moment, dies, due_key, ended_at, file_at, file_by, file_now, file_usage, file_written, first_due, forgotten, free_moment, fresh_world, had_life, has_draft, has_key, is_draft, is_file, is_file_of, is_held, is_idle, is_kind, is_live, is_live_name, is_live_name_of, is_moment, is_open, is_ripe_by, is_target_file, is_version, is_version_after, is_version_of, kind_of, live_target, lives_at, longest_content, members_of, moment_under, newest_of, next_closing, next_of, next_version, nothing, only_at, parent_now, plus, policy_of, reads_by, returning_name, ripe_at, step, target_at, usages, version_at, version_found, version_meant, file_view, walk_meant, walk_now, with_end, with_version, without_file, without_name, Change, Homes, IsHoused, IsDirectoryThere, is_named, last_dead, SetDirectoryDefault, MakeDirectory, Time, WriteDraft, TruncateDraft, MakeGroup}
 pub use Rattle.ele_model.proofs.Words.{rule_in}
-pub use Rattle.ele_policy.specs.Ripe.{case_of, ripe_case}
+pub use Rattle.ele_policy.specs.RipeCase.{case_of, ripe_case}
 pub use Rattle.ele_policy.specs.declared.rule.Case.{Case}
 pub use Rattle.ele_policy.specs.declared.rule.Rule.{Rule}
 pub use Rattle.ele_model.specs.Neighbours.{case_in, case_moment, newer_held, rule_of, with_newer}

@@ -2,7 +2,7 @@
 use Rattle.std.specs.Prelude.{◌≡◌, ℕ, nat_le, true, false, List, Option, Some, find, option_and_then, slice_get}
 use Rattle.std.specs.Option.{option_map_or}
 use Rattle.ele_policy.specs.Cause.{IsCause}
-use Rattle.ele_policy.specs.Ripe.{ripe_case}
+use Rattle.ele_policy.specs.RipeCase.{ripe_case}
 use Rattle.ele_policy.specs.declared.rule.Case.{Case}
 use Rattle.ele_policy.specs.declared.cause.Cause.{Cause}
 use Rattle.ele_policy.specs.declared.cause.Newer.{Newer}

@@ -1,6 +1,6 @@
 -- Whether as much of a kind was made as may be.
 use Rattle.std.specs.Prelude.{ℕ, nat_le, Bool}
-use Rattle.ele_model.specs.Bounds.{limit_of}
+use Rattle.ele_model.specs.LimitsOf.{limit_of}
 use Rattle.ele_model.specs.declared.refusal.Which.{Which}
 use Rattle.ele_model.specs.declared.refusal.Which.TheVariants.{Files, Directories, Names, Versions, Handles, Groups, Members, Marks}
 use Rattle.ele_model.specs.Step.{versions_made}

@@ -9,12 +9,11 @@ use Rattle.ele_due.specs.declared.key.Key.{Key}
 use Rattle.ele_due.specs.HasKey.{has_key}
 use Rattle.ele_files.specs.Held.{Held}
 use Rattle.ele_policy.specs.declared.policy.Policy.{Policy}
-use Rattle.ele_policy.specs.Ripe.{case_of}
-use Rattle.ele_policy.specs.Rule.{rule_in}
+use Rattle.ele_policy.specs.RipeCase.{case_of, rule_in}
 use Rattle.ele_policy.specs.declared.rule.Rule.{Rule}
 use Rattle.ele_model.specs.declared.cover.Cover.{Cover}
 use Rattle.ele_model.specs.declared.rows.GroupRow.{GroupRow}
-use Rattle.ele_model.specs.Due.{ripe_at}
+use Rattle.ele_model.specs.RipeRows.{ripe_at}
 use Rattle.ele_model.specs.Neighbours.{case_moment, free_moment, is_moment, moment_under, newer_held, with_newer}
 use Rattle.ele_model.specs.Cover.{cover_of, cover_until, longer}
 use Rattle.ele_model.specs.Change.{Change, AddMark, AddMember, DropGroup, RemoveMark, RemoveMember}

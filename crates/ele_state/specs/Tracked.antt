@@ -6,7 +6,7 @@ use Rattle.ele_policy.specs.declared.policy.Kind.{Kind}
 use Rattle.ele_usage.specs.declared.usage.Usage.{Usage}
 use Rattle.ele_usage.specs.Book.{Book, sums_of}
 use Rattle.ele_usage.specs.OnlyAt.{only_at}
-use Rattle.ele_usage.specs.Sums.{nothing, plus}
+use Rattle.ele_usage.specs.Adding.{nothing, plus}
 use Rattle.ele_model.specs.declared.rows.FileRow.{FileRow}
 use Rattle.ele_model.specs.declared.rows.VersionRow.{VersionRow}
 use Rattle.ele_model.specs.Bounds.{largest_bounds}

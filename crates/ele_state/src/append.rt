@@ -13,7 +13,7 @@ ghost use Rattle.ele_model.specs.Neighbours.{case_moment, with_newer};
 ghost use Rattle.ele_model.specs.Told.{info_of};
 ghost use Rattle.ele_model.specs.WellFormed.{ArePlaced};
 ghost use Rattle.ele_model.specs.World.{next_of};
-ghost use Rattle.ele_policy.specs.Ripe.{case_of};
+ghost use Rattle.ele_policy.specs.RipeCase.{case_of};
 ghost use Rattle.ele_state.specs.Inside.{world_of};
 ghost use Rattle.ele_state.specs.Queued.{comes, few_enough, former_key, former_moment, own_key};
 ghost use Rattle.ele_state.specs.Source.{IsReady, IsRoomy, appending, coming, source_cells};

@@ -1,6 +1,6 @@
 //! The versions that are due, and what the files use.
 ghost use Rattle.std.specs.Prelude.{◌≡◌, IfOk};
-ghost use Rattle.ele_due.specs.Key.{is_ripe_by};
+ghost use Rattle.ele_due.specs.Queue.{is_ripe_by};
 ghost use Rattle.ele_model.specs.Due.{is_due};
 ghost use Rattle.ele_model.specs.Scan.{scan, first_due};
 ghost use Rattle.ele_model.specs.Usage.{usages};

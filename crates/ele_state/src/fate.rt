@@ -3,7 +3,7 @@ ghost use Rattle.std.specs.Prelude.{◌≡◌, ◌&&◌, true, false, Some, IfOk
 ghost use Rattle.std.specs.Option.{option_map};
 ghost use Rattle.std.specs.Str.{bytes_eq};
 ghost use Rattle.ele_lists.specs.Lists.{AllLater};
-ghost use Rattle.ele_policy.specs.Cause.{closing_of};
+ghost use Rattle.ele_policy.specs.RipeCase.{closing_of};
 ghost use Rattle.ele_model.specs.Change.{Time, after_change};
 ghost use Rattle.ele_model.specs.Fate.{HasFate, IsMarkedBy, level_reached};
 ghost use Rattle.ele_model.specs.Cover.{cover_of, ripe_past};

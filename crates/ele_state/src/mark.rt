@@ -8,7 +8,7 @@ ghost use Rattle.ele_model.proofs.GroupMoments.{is_touched};
 ghost use Rattle.ele_model.specs.Bounds.{AreBounds};
 ghost use Rattle.ele_model.specs.Change.{after_change};
 ghost use Rattle.ele_model.specs.Cover.{cover_by, cover_of, longer};
-ghost use Rattle.ele_model.specs.Due.{ripe_at};
+ghost use Rattle.ele_model.specs.RipeRows.{ripe_at};
 ghost use Rattle.ele_model.specs.GroupRows.{group_named};
 ghost use Rattle.ele_model.specs.May.{May};
 ghost use Rattle.ele_model.specs.Neighbours.{rule_of};

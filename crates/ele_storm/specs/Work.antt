@@ -4,6 +4,9 @@ use Rattle.ele_shared_history.specs.declared.ledger.Call.{Call}
 use Rattle.ele_shared_history.specs.Knowledge.{Knowledge}
 use Rattle.ele_shared_history.specs.Running.{entries_of, entry, StartsWith}
 use Rattle.ele_model.specs.declared.entry.Entry.{Entry}
+use Rattle.ele_shared_history.specs.Calling.{SeesFull}
+use Rattle.ele_storm.specs.declared.fault.StormFault.{StormFault}
+use Rattle.ele_storm.specs.declared.fault.StormFault.TheVariants as fault
 use Rattle.ele_storm.specs.declared.plan.StormPlan.{StormPlan}
 use Rattle.ele_model.specs.declared.event.Event.{Event}
 use Rattle.ele_model.specs.declared.reply.Reply.{Reply}
@@ -42,3 +45,15 @@ RunsRounds writers task rounds before after =
 abbrev pub Works : StormPlan → ℕ → Knowledge → ℕ → Knowledge → Type 0
 Works plan worker before count after =
     (entries : List Entry) × AddsCalls before entries after × AreRounds plan.writers (task_of plan worker) plan.rounds entries × (count ≡ length entries)
+
+-- after which calls end by this: the history is full, or there was no memory
+abbrev pub StopsWorker : StormFault → Knowledge → Type 0
+StopsWorker fault.NoMemory after = Unit {0}
+StopsWorker fault.HistoryFull after = SeesFull after
+StopsWorker fault.NoThread after = ⊥
+StopsWorker fault.Alone after = ⊥
+
+-- the same of a worker, which makes no call where it arrived alone
+abbrev pub FailsWorker : StormFault → Knowledge → Knowledge → Type 0
+FailsWorker fault.Alone before after = after ≡ before
+FailsWorker fault before after = StopsWorker fault after

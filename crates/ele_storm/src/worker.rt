@@ -1,8 +1,10 @@
 //! One worker of a storm.
-ghost use Rattle.std.specs.Prelude.{◌≡◌, ◌*◌, ◌<◌, IfOk, [], ◌∷◌, OnOk};
+ghost use Rattle.std.specs.Prelude.{◌≡◌, ◌*◌, ◌<◌, IfOk, IfErr, [], ◌∷◌, OnOk};
+ghost use Rattle.ele_shared_history.specs.Calling.{SeesRoom};
 ghost use Rattle.ele_shared_history.specs.Running.{entry};
+ghost use Rattle.ele_storm.specs.declared.fault.StormFault.TheVariants as storm;
 ghost use Rattle.ele_storm.specs.Plan.{looks, round_size, task_of, workers_of, writes};
-ghost use Rattle.ele_storm.specs.Work.{AddsCalls, SeesMore, Makes, MakesOne, RunsRound, RunsRounds, Works};
+ghost use Rattle.ele_storm.specs.Work.{AddsCalls, FailsWorker, SeesMore, Makes, MakesOne, RunsRound, RunsRounds, StopsWorker, Works};
 
 use crate::events::{bytes_of, file_now, file_of, first_version, handle_in};
 use crate::fault::StormFault;
@@ -33,6 +35,7 @@ pub fn work<C: Step, R: Wait, M: Meet>(
     ensures ok { IfOk result (λ count. Works plan.now worker seat.old count seat.new) }
     ensures count { IfOk result (λ count. count ≡ round_size (task_of plan.now worker) * plan.now.rounds) }
     ensures seen { SeesMore seat.old seat.new }
+    ensures fault { IfErr result (λ fault. FailsWorker fault seat.old seat.new) }
 {
     let task = plan.task(worker);
     if meet.arrive(worker) == MeetEnd::Alone {
@@ -67,6 +70,7 @@ fn run_rounds<C: Step, R: Wait>(
     ensures ok { OnOk result
         (RunsRounds plan.now.writers task plan.now.rounds seat.old seat.new) }
     ensures seen { SeesMore seat.old seat.new }
+    ensures fault { IfErr result (λ fault. StopsWorker fault seat.new) }
 {
     for round in 0..u64::from(plan.rounds) {
         run_round(rt, alloc, shared, seat, plan, task, round)?;
@@ -88,6 +92,7 @@ fn run_round<C: Step, R: Wait>(
     requires round { round < plan.now.rounds }
     ensures ok { OnOk result (RunsRound plan.now.writers task round seat.old seat.new) }
     ensures seen { SeesMore seat.old seat.new }
+    ensures fault { IfErr result (λ fault. StopsWorker fault seat.new) }
 {
     match task {
         Task::Writer(writer) => write(rt, alloc, shared, seat, writer, round),
@@ -111,6 +116,7 @@ fn write<C: Step, R: Wait>(
     requires { seat.old.object ≡ shared.now }
     ensures ok { OnOk result (Makes (writes writer round) seat.old seat.new) }
     ensures seen { SeesMore seat.old seat.new }
+    ensures fault { IfErr result (λ fault. StopsWorker fault seat.new) }
 {
     let path = file_of(alloc, u64::from(writer))?;
     let bytes = bytes_of(alloc, round)?;
@@ -133,6 +139,7 @@ fn look<C: Step, R: Wait>(
     requires { seat.old.object ≡ shared.now }
     ensures ok { OnOk result (Makes (looks writer) seat.old seat.new) }
     ensures seen { SeesMore seat.old seat.new }
+    ensures fault { IfErr result (λ fault. StopsWorker fault seat.new) }
 {
     let file = file_now(alloc, writer)?;
     let first = first_version(alloc, writer)?;
@@ -151,6 +158,7 @@ pub(crate) fn make<C: Step, R: Wait>(
     requires { seat.old.object ≡ shared.now }
     ensures ok { OnOk result (MakesOne event seat.old seat.new) }
     ensures seen { SeesMore seat.old seat.new }
+    ensures fault { IfErr result (λ fault. StopsWorker fault seat.new) }
 {
     ask(rt, shared, seat, event)?;
     Ok(())
@@ -166,6 +174,8 @@ fn ask<C: Step, R: Wait>(
     requires { seat.old.object ≡ shared.now }
     ensures ok { IfOk result (λ reply. AddsCalls seat.old (entry event reply ∷ []) seat.new) }
     ensures seen { SeesMore seat.old seat.new }
+    ensures fault { IfErr result (λ fault. StopsWorker fault seat.new) }
+    ensures room { IfErr result (λ fault. fault ≡ storm.NoMemory → SeesRoom seat.new) }
 {
     Ok(shared.call(rt, seat, event)?)
 }

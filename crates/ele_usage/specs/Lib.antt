@@ -1,3 +1,4 @@
+pub mod Adding
 pub mod Book
 pub mod OnlyAt
 pub mod Shown

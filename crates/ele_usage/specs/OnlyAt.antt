@@ -3,7 +3,7 @@ use Rattle.std.specs.Prelude.{if◌then◌else◌}
 use Rattle.ele_policy.specs.declared.policy.Kind.{Kind}
 use Rattle.ele_policy.specs.Policy.{is_kind}
 use Rattle.ele_usage.specs.declared.usage.Usage.{Usage}
-use Rattle.ele_usage.specs.Sums.{nothing}
+use Rattle.ele_usage.specs.Adding.{nothing}
 
 -- the usage at that kind, and nothing at the others
 abbrev pub only_at : Kind → Usage → Kind → Usage

@@ -3,7 +3,8 @@
 ghost use Rattle.std.specs.Prelude.{◌≡◌, ◌≢◌, [], ◌∷◌};
 ghost use Rattle.ele_policy.specs.declared.policy.Kind.{Kind};
 ghost use Rattle.ele_policy.specs.declared.policy.Kind.TheVariants as kind;
-ghost use Rattle.ele_usage.specs.Sums.{plus, nothing, Fits, IsWithin};
+ghost use Rattle.ele_usage.specs.Sums.{Fits};
+ghost use Rattle.ele_usage.specs.Adding.{plus, nothing, IsWithin};
 ghost use Rattle.ele_usage.specs.Book.{sums_of};
 ghost use Rattle.ele_usage.specs.OnlyAt.{only_at};
 

@@ -1,7 +1,8 @@
 //! What some files and their versions use.
 //! A contract sees four numbers.
 ghost use Rattle.std.specs.Prelude.{◌≡◌};
-ghost use Rattle.ele_usage.specs.Sums.{plus, Fits, IsWithin};
+ghost use Rattle.ele_usage.specs.Sums.{Fits};
+ghost use Rattle.ele_usage.specs.Adding.{plus, IsWithin};
 
 /// What some files and their versions use. The default is nothing.
 #[derive(Clone, Copy, Debug, Default, PartialEq, Eq, Hash)]

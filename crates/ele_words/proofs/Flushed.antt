@@ -1,12 +1,13 @@
 -- What was done stands where its writer was flushed behind it, and else it ended with a writer that failed.
 use Rattle.std.proofs.Common.{◌≡◌, ℕ, Bool, true, false, List, [], ◌∷◌, ◌++◌, Option, Some, None, Result, Ok, Err, refl, sym, ap, subst, ◌∙◌, append_assoc, inl, inr}
-use Rattle.std.specs.Prelude.{IfOk, IsErrOf, OnOk, OnErr, codes, decimal, unwrap_or, if◌then◌else◌}
+use Rattle.std.specs.Prelude.{IfOk, IsErrOf, codes, decimal, unwrap_or, if◌then◌else◌}
 use Rattle.std.specs.Result.{result_err}
 use Rattle.std.specs.Io.KnownBytes.{Appends, Consumes, Keeps, IsAtEnd}
 use Rattle.std.proofs.KnownBytes.{Appends-kept, Appends-nil, Keeps-trans}
 use Rattle.std.proofs.lemmas.List.{append-nil}
-use Rattle.ele_printer.specs.Front.{AppendsFront}
-use Rattle.ele_printer.specs.Printed.{line_text}
+use Rattle.ele_output.specs.Front.{AppendsFront, WritesText}
+use Rattle.ele_output.proofs.Known.{front_flushed, front_kept, whole_front}
+use Rattle.ele_output.specs.Line.{line_text}
 use Rattle.ele_runs.specs.Fault.{number_of, name_of}
 use Rattle.std.specs.List.{AllByRecursion}
 use Rattle.ele_runs.specs.RunState.{RunState}
@@ -31,13 +32,6 @@ has_run start input rest old new notes (Err ReadFault) ok read many write memory
 has_run start input rest old new notes (Err TooManyLines) ok read many write memory = many refl
 has_run start input rest old new notes (Err WriteFault) ok read many write memory = write refl
 has_run start input rest old new notes (Err NoMemory) ok read many write memory = memory refl
-
-pub front_kept : (old mid new : Option (List ℕ)) (bytes : List ℕ) → AppendsFront old mid bytes → Keeps mid new → AppendsFront old new bytes
-front_kept old mid new bytes is same =
-    record { front = is.front; back = is.back; parts = is.parts; written = Appends-kept old mid new is.front is.written same }
-
-pub whole_front : (old new : Option (List ℕ)) (bytes : List ℕ) → Appends old new bytes → AppendsFront old new bytes
-whole_front old new bytes is = record { front = bytes; back = []; parts = sym (append-nil bytes); written = is }
 
 -- the writer holds what it held before it was flushed
 kept_told : (start : RunState) (n : ℕ) (ended_by : Option EndLine) (input rest old mid new notes : Option (List ℕ)) → HasTold start input rest old mid notes n ended_by → Keeps mid new
@@ -128,17 +122,12 @@ kept start input rest old mid new notes (Err WriteFault) ran same =
     }
 kept start input rest old mid new notes (Err NoMemory) ran same = (ran.0, Keeps-trans old mid new ran.1 same, ran.2)
 
--- all of a text was written or a front of it, and then a flush
-pub written_flushed : {A E : Type 0} (old mid new : Option (List ℕ)) (text : List ℕ) (r : Result A E) → OnOk r (Appends old mid text) → OnErr r (AppendsFront old mid text) → Keeps mid new → AppendsFront old new text
-written_flushed old mid new text (Ok x) all front same = front_kept old mid new text (whole_front old mid text all) same
-written_flushed old mid new text (Err e) all front same = front_kept old mid new text front same
-
 -- the line of a fault was told, or a front of it
-pub line_flushed : {A E : Type 0} (old mid new : Option (List ℕ)) (fault : ShellFault) (number : ℕ) (name : List ℕ) (r : Result A E) → number ≡ number_of fault → name ≡ name_of fault → OnOk r (Appends old mid (line_text (codes "elephant:" ∷ decimal number ∷ name ∷ [])))
-    → OnErr r (AppendsFront old mid (line_text (codes "elephant:" ∷ decimal number ∷ name ∷ []))) → Keeps mid new → AppendsFront old new (fault_line fault)
-line_flushed old mid new fault number name r n m all front same =
+pub line_flushed : {A E : Type 0} (old mid new : Option (List ℕ)) (fault : ShellFault) (number : ℕ) (name : List ℕ) (r : Result A E) → number ≡ number_of fault → name ≡ name_of fault → WritesText (line_text (codes "elephant:" ∷ decimal number ∷ name ∷ [])) old mid r
+    → Keeps mid new → AppendsFront old new (fault_line fault)
+line_flushed old mid new fault number name r n m told same =
     let line : line_text (codes "elephant:" ∷ decimal number ∷ name ∷ []) ≡ fault_line fault = rw (n, m) refl in
-    subst (AppendsFront old new) line (written_flushed old mid new (line_text (codes "elephant:" ∷ decimal number ∷ name ∷ [])) r all front same)
+    subst (AppendsFront old new) line (front_flushed old mid new (line_text (codes "elephant:" ∷ decimal number ∷ name ∷ [])) r told same)
 
 -- what is known to be left of an input
 abbrev left : Option (List ℕ) → List ℕ

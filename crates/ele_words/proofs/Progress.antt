@@ -2,7 +2,7 @@
 use Rattle.std.proofs.Common.{◌≡◌, ℕ, ◌≤◌, List, [], ◌∷◌, ◌++◌, length, refl, sym, ap, subst, ◌∙◌, append_assoc, append-nil, length-append, arith, Option}
 use Rattle.std.specs.Io.KnownBytes.{Appends}
 use Rattle.std.proofs.KnownBytes.{Appends-nil, Appends-trans}
-use Rattle.ele_printer.specs.Front.{AppendsFront}
+use Rattle.ele_output.specs.Front.{AppendsFront}
 use Rattle.ele_shared_history.specs.Knowledge.{Knowledge, Looked, count_seen}
 use Rattle.ele_words.specs.Progress.{Rise, ShowsProgress, progress_line, progress_text}
 

@@ -1,5 +1,5 @@
 -- What a watched storm came to.
-use Rattle.std.proofs.Common.{◌≡◌, ℕ, ◌+◌, Bool, IsTrue, List, [], ◌++◌, length, ap, subst, ◌∙◌, arith, length-append, Option, Ok}
+use Rattle.std.proofs.Common.{◌≡◌, ℕ, ◌+◌, Bool, IsTrue, List, [], length, ap, subst, ◌∙◌, arith, length-append, Option, Ok}
 use Rattle.ele_history.specs.Legal.{IsLegal}
 use Rattle.ele_history.specs.Past.{Past, count_of, fresh, world_of}
 use Rattle.ele_shared_history.specs.declared.ledger.Call.{Call}
@@ -7,9 +7,8 @@ use Rattle.ele_shared_history.specs.Closing.{Closes}
 use Rattle.ele_shared_history.specs.Knowledge.{Knowledge, count_seen}
 use Rattle.ele_shared_history.specs.Running.{continued, entries_of}
 use Rattle.ele_shared_history.specs.Seats.{Joined}
-use Rattle.ele_shared_history.proofs.Histories.{length-entries_of, own_is_short}
+use Rattle.ele_shared_history.proofs.Histories.{length-entries_of}
 use Rattle.ele_storm.specs.declared.plan.StormPlan.{StormPlan}
-use Rattle.ele_storm.specs.Audited.{IsAudited}
 use Rattle.ele_storm.specs.Plan.{storm_events}
 use Rattle.ele_storm.specs.Storm.{AddsStorm, IsWoven}
 use Rattle.ele_storm.proofs.Weaving.{calls_are_woven, length-woven, own_is_woven, weaves_out}

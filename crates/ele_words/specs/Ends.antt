@@ -1,7 +1,7 @@
 -- How the program ends: what its reader and its two writers hold then, and with which status.
 use Rattle.std.specs.Prelude.{◌≡◌, ℕ, Bool, List, string_bytes, Option, Some, None}
 use Rattle.std.specs.Io.KnownBytes.{Appends, Keeps}
-use Rattle.ele_printer.specs.Front.{AppendsFront}
+use Rattle.ele_output.specs.Front.{AppendsFront}
 use Rattle.ele_history.specs.Past.{fresh}
 use Rattle.ele_runs.specs.RunState.{begun}
 use Rattle.ele_runs.specs.declared.fault.ShellFault.{ShellFault}

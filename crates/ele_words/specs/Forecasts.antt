@@ -1,7 +1,7 @@
 -- How the program ends after a forecast: what its reader and its two writers hold then, and with which status.
 use Rattle.std.specs.Prelude.{◌≡◌, ℕ, List, Option, Result, Ok, Err, codes}
 use Rattle.std.specs.Io.KnownBytes.{Keeps}
-use Rattle.ele_printer.specs.Front.{AppendsFront}
+use Rattle.ele_output.specs.Front.{AppendsFront}
 use Rattle.ele_runs.specs.declared.fault.ShellFault.TheVariants as shell
 use Rattle.ele_outlook.specs.Foretold.{Foretells}
 use Rattle.ele_outlook.specs.Input.{bad_line_text}

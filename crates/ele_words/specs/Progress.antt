@@ -1,7 +1,7 @@
 -- What is told of a storm while it runs, and how the program ends after one of which that was told.
 use Rattle.std.specs.Prelude.{ℕ, ◌≤◌, Bool, true, false, List, [], ◌∷◌, ◌++◌, length, codes, decimal, Option, Result, Ok, Err}
-use Rattle.ele_printer.specs.Front.{AppendsFront}
-use Rattle.ele_printer.specs.Printed.{line_text}
+use Rattle.ele_output.specs.Front.{AppendsFront}
+use Rattle.ele_output.specs.Line.{line_text}
 use Rattle.ele_storm.specs.declared.fault.AuditFault.{AuditFault}
 use Rattle.ele_storm.specs.declared.plan.StormPlan.{StormPlan}
 use Rattle.ele_words.specs.Storms.{HasStormed, StormEnds}

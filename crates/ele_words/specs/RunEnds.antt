@@ -1,7 +1,7 @@
 -- How the program ends after a run: what it tells, and with which status.
 use Rattle.std.specs.Prelude.{◌≡◌, ℕ, List, Option, Result, Ok, Err}
 use Rattle.std.specs.Io.KnownBytes.{Keeps}
-use Rattle.ele_printer.specs.Front.{AppendsFront}
+use Rattle.ele_output.specs.Front.{AppendsFront}
 use Rattle.ele_runs.specs.RunState.{RunState}
 use Rattle.ele_runs.specs.Telling.{HasTold, ToldPastABound, ToldToAReadFault, ToldToAWriteFault}
 use Rattle.ele_runs.specs.declared.end.RunEnd.{RunEnd}

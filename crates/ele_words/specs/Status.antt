@@ -1,8 +1,8 @@
 -- The status that the program ends with, and how it tells a fault.
 use Rattle.std.specs.Prelude.{ℕ, List, [], ◌∷◌, codes, decimal, Option, Some, None}
 use Rattle.std.specs.Io.KnownBytes.{Keeps}
-use Rattle.ele_printer.specs.Front.{AppendsFront}
-use Rattle.ele_printer.specs.Printed.{line_text}
+use Rattle.ele_output.specs.Front.{AppendsFront}
+use Rattle.ele_output.specs.Line.{line_text}
 use Rattle.ele_runs.specs.Fault.{number_of, name_of}
 use Rattle.ele_runs.specs.declared.fault.ShellFault.{ShellFault}
 use Rattle.ele_runs.specs.declared.fault.ShellFault.TheVariants.{ReadFault, WriteFault, TooManyLines, NoMemory}

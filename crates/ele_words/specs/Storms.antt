@@ -1,8 +1,8 @@
 -- How the program ends after a storm: what its two writers hold then, and with which status.
 use Rattle.std.specs.Prelude.{◌≡◌, ℕ, Bool, true, false, if◌then◌else◌, List, [], ◌∷◌, codes, decimal, Option, Some, None, Result, Ok, Err}
 use Rattle.std.specs.Io.KnownBytes.{Appends, Keeps}
-use Rattle.ele_printer.specs.Front.{AppendsFront}
-use Rattle.ele_printer.specs.Printed.{line_text}
+use Rattle.ele_output.specs.Front.{AppendsFront}
+use Rattle.ele_output.specs.Line.{line_text}
 use Rattle.ele_runs.specs.declared.fault.ShellFault.{ShellFault}
 use Rattle.ele_runs.specs.declared.fault.ShellFault.TheVariants as shell
 use Rattle.ele_history.specs.Past.{Past}

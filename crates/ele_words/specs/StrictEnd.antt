@@ -1,8 +1,8 @@
 -- How the program tells which line ended a strict run, and why it is no command.
 use Rattle.std.specs.Prelude.{◌≡◌, ℕ, Bool, true, false, List, [], ◌∷◌, ◌++◌, codes, decimal, Option, Some, None}
 use Rattle.std.specs.Io.KnownBytes.{Keeps}
-use Rattle.ele_printer.specs.Front.{AppendsFront}
-use Rattle.ele_printer.specs.Printed.{line_text}
+use Rattle.ele_output.specs.Front.{AppendsFront}
+use Rattle.ele_output.specs.Line.{line_text}
 use Rattle.ele_runs.specs.WhyBad.{IsBadReason, cut_reason, why_line}
 use Rattle.ele_runs.specs.declared.end.EndLine.{EndLine}
 use Rattle.ele_runs.specs.declared.options.RunOptions.{RunOptions}

@@ -1,14 +1,14 @@
 //! A forecast as the program tells it: a table at a writer, and a fault at another.
 //! A contract sees what was read, what both hold then, and the status.
 ghost use Rattle.std.specs.Prelude.{◌≡◌, codes};
-ghost use Rattle.ele_printer.specs.Front.{AppendsFront};
+ghost use Rattle.ele_output.specs.Front.{AppendsFront};
 ghost use Rattle.ele_outlook.specs.Input.{bad_line_text};
 ghost use Rattle.ele_words.specs.Forecasts.{ForecastEnds, forecast_line, forecast_status};
 
 use crate::failure::{Failure, status};
 use crate::program::tell;
 use ele_outlook::{BadLine, ForecastFault, ForecastOptions, write_bad_line, write_forecast};
-use ele_printer::put;
+use ele_output::write_all;
 use ele_runs::ShellFault;
 use std::alloc::Global;
 use std::io::{Read, Write};
@@ -53,7 +53,7 @@ fn tell_too_many<E: Write>(errors: &mut E) -> u8
     ensures told { AppendsFront (E.contents errors.old) (E.contents errors.new)
         (codes "elephant: more than 2000 versions to draw\n") }
 {
-    let _ = put(errors, b"elephant: more than 2000 versions to draw\n");
+    let _ = write_all(errors, b"elephant: more than 2000 versions to draw\n");
     let _ = errors.flush();
     status(Failure::BadInput)
 }

@@ -18,8 +18,9 @@ use crate::storming::run_storm;
 use crate::strict::report_end;
 use crate::system_reason::{SystemReason, report_error};
 use ele_model::{Audit, Explain, Limits};
+use ele_output::write_all;
 use ele_runs::{RunEnd, RunOptions, ShellFault, run_in};
-use ele_script::{put, write_named};
+use ele_script::write_named;
 use std::alloc::Global;
 use std::io;
 use std::io::{Read, Write};
@@ -99,7 +100,7 @@ pub(crate) fn write_text<W: Write>(text: &str, writer: &mut W) -> Result<(), She
     ensures { HasWritten text.now (W.contents writer.old) (W.contents writer.new)
         (result_err result) }
 {
-    let written = put(writer, text.as_bytes());
+    let written = write_all(writer, text.as_bytes());
     let flushed = writer.flush();
     written?;
     after_flush(Ok(()), &flushed)
@@ -144,7 +145,7 @@ pub fn dispatch_alone<C: Explain, R: Read + LastError, W: Write + LastError, E: 
         Invocation::Forecast(ask) => run_forecast(alloc, ask, reader, writer, errors),
         Invocation::Help(text) => tell(write_text(text.as_str(), writer).err(), errors),
         Invocation::NotUnderstood(text) => {
-            let _ = put(errors, text.as_bytes());
+            let _ = write_all(errors, text.as_bytes());
             let _ = errors.flush();
             status(Failure::NotUnderstood)
         }

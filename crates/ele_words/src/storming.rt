@@ -2,7 +2,7 @@
 //! A contract sees what both hold then, and the status.
 ghost use Rattle.std.specs.Prelude.{◌≡◌};
 ghost use Rattle.std.specs.Result.{result_err};
-ghost use Rattle.ele_printer.specs.Front.{AppendsFront};
+ghost use Rattle.ele_output.specs.Front.{AppendsFront};
 ghost use Rattle.ele_words.specs.Progress.{EndsWatched};
 ghost use Rattle.ele_words.specs.Status.{storm_status};
 ghost use Rattle.ele_words.specs.Storms.{HasStormed, HasPutLine, TellsEnd, TellsStorm, audit_word, storm_fault_line, storm_line};

@@ -1,7 +1,7 @@
 //! Which line ended a strict run, and why it is no command, as the program tells it.
 //! A contract sees what the writer holds then, and the status.
 ghost use Rattle.std.specs.Prelude.{◌≡◌, ◌++◌};
-ghost use Rattle.ele_printer.specs.Front.{AppendsFront};
+ghost use Rattle.ele_output.specs.Front.{AppendsFront};
 ghost use Rattle.ele_runs.specs.WhyBad.{why_line};
 ghost use Rattle.ele_words.specs.StrictEnd.{IsWhyEnded, TellsStrictEnd, end_line, end_status, shown};
 

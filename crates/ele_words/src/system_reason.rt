@@ -2,13 +2,14 @@
 //! A contract sees a reason as itself, and what the writer holds then.
 ghost use Rattle.std.specs.Prelude.{◌≡◌, Some};
 ghost use Rattle.std.specs.IoError.{error_kind};
-ghost use Rattle.ele_printer.specs.Front.{AppendsFront};
+ghost use Rattle.ele_output.specs.Front.{AppendsFront};
 ghost use Rattle.ele_words.specs.Status.{fault_status};
 ghost use Rattle.ele_words.specs.SystemReason.{failed_text, reason_line};
 
 use crate::failure::{Failure, status};
+use ele_output::write_all;
 use ele_runs::ShellFault;
-use ele_script::{put, write_named};
+use ele_script::write_named;
 use std::io;
 use std::io::{ErrorKind, Write};
 
@@ -78,7 +79,7 @@ fn write_failed<E: Write>(fault: ShellFault, why: Option<SystemReason>, errors: 
         return;
     }
     if let Some(why) = why {
-        let _ = put(errors, reason_line(why));
+        let _ = write_all(errors, reason_line(why));
     }
 }
 

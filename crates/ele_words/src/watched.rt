@@ -1,16 +1,16 @@
 //! A storm that tells how far it is while it runs. The thread that was asked for it watches, so that
 //! one thread alone writes.
 //! A contract sees the counts that were told, and what the storm came to.
-ghost use Rattle.std.specs.Prelude.{◌≡◌, OnOk, OnErr};
-ghost use Rattle.std.specs.Io.KnownBytes.{Appends};
+ghost use Rattle.std.specs.Prelude.{◌≡◌};
 ghost use Rattle.std.specs.Thread.{IsSync};
-ghost use Rattle.ele_printer.specs.Front.{AppendsFront};
+ghost use Rattle.ele_output.specs.Front.{WritesText};
 ghost use Rattle.ele_shared_history.specs.Knowledge.{Looked, count_seen};
 ghost use Rattle.ele_words.specs.Progress.{ShowsProgress, progress_line};
 ghost use Rattle.ele_words.specs.Watched.{Stormed, Watched};
 
 use ele_model::{Audit, Limits, Step};
-use ele_script::{WriteFault, write_placed};
+use ele_output::WriteFault;
+use ele_script::write_placed;
 use ele_shared_history::{Seat, Shared};
 use ele_storm::{AuditFault, Flags, StormFault, StormPlan, close_and_audit, share_fresh, storm};
 use std::alloc::Global;
@@ -207,10 +207,8 @@ fn tell_next<C: Step, E: Write>(
 ) -> Result<(), WriteFault>
     requires { seat.old.object ≡ shared.now }
     ensures looked { Looked seat.old seat.new }
-    ensures ok { OnOk result (Appends (E.contents errors.old) (E.contents errors.new)
-        (progress_line (count_seen seat.new))) }
-    ensures err { OnErr result (AppendsFront (E.contents errors.old) (E.contents errors.new)
-        (progress_line (count_seen seat.new))) }
+    ensures told { WritesText (progress_line (count_seen seat.new)) (E.contents errors.old)
+        (E.contents errors.new) result }
 {
     let count = shared.published(seat);
     let told = write_placed(b"storm", count, b"events", b"answered", errors);

@@ -3,7 +3,7 @@ use Rattle.ele_model.proofs.Basics.{◌≡◌, ◌==◌, true, false, not, List,
 use Rattle.ele_model.proofs.Words.{DropIdle, after_change, after_changes, is_idle, without_file, kept_rows, is_file, HasNoIdle, Files, HasParts, World}
 use Rattle.ele_world.proofs.Words.{FileRow}
 use Rattle.ele_world.specs.AnyDueLeave.{AreDue, LeavesOthersDue, without_versions}
-use Rattle.ele_model.specs.Due.{due_rows}
+use Rattle.ele_model.specs.RipeRows.{due_rows}
 use Rattle.ele_world.specs.IdleLeave.{without_idle}
 use Rattle.ele_world.proofs.AnyDueLeave.{any_due_leave, stays_due}
 use Rattle.ele_model.proofs.Formed.{well_formed}

@@ -9,6 +9,12 @@ use Rattle.ele_model.proofs.NameParts.{still_none, free_still}
 use Rattle.ele_model.proofs.PlanOutcomes.{in_all}
 use Rattle.ele_model.proofs.Walks.{parent_is, file_of, last_names, new_leads, target_live, walk-push, IsParent, live_target-push, named_leads}
 use Rattle.ele_model.proofs.Currents.{has_current, last_ends}
+use Rattle.std.proofs.Common.{Result}
+use Rattle.std.specs.Prelude.{nat_le}
+use Rattle.ele_model.specs.Plan.{Plan, Make, Unless, found_outcome, outcome}
+use Rattle.ele_model.specs.declared.refusal.Refusal.{Refusal}
+use Rattle.ele_model.specs.declared.refusal.Refusal.TheVariants.{Exists, Full, IntoItself}
+use Rattle.ele_model.specs.declared.refusal.Which.TheVariants as which
 
 -- ---- the name that dies, and each other
 
@@ -111,5 +117,21 @@ module _ (w : World) (from to : List (List ℕ)) (k : HasParts w) (old : ℕ × 
     versions = refl;
   }
 
+-- what follows once all three paths lead somewhere
+abbrev renaming : World → ℕ × List ℕ → Target → ℕ × List ℕ → List (List ℕ) → Plan
+renaming w old moved at to =
+    Unless (stands_in w.names moved to) IntoItself
+    (Unless (is_some (live_target w.names at.0 at.1)) Exists
+    (Unless (nat_le w.limits.names w.made.names) (Full which.Names)
+    (Make Done (MoveName old.0 old.1 at.0 at.1 moved ∷ []))))
+
 pub rename_leads : (w : World) (from to : List (List ℕ)) → HasParts w → (step w (Rename from to)).0 ≡ Done → LeadsInstead w from to ((step w (Rename from to)).1)
-rename_leads w from to k = grind (arith, nat_tests, leads_instead w from to k)
+rename_leads w from to k = by (parent_now w.names from) refl (walk_now w.names from) refl (parent_now w.names to) refl where
+  by : (place : Result (ℕ × List ℕ) Refusal) → parent_now w.names from ≡ place → (led : Result Target Refusal) → walk_now w.names from ≡ led
+      → (home : Result (ℕ × List ℕ) Refusal) → parent_now w.names to ≡ home
+      → (found_outcome w place (λ old. found_outcome w led (λ moved. found_outcome w home (λ at. outcome w (renaming w old moved at to))))).0 ≡ Done
+      → LeadsInstead w from to ((found_outcome w place (λ old. found_outcome w led (λ moved. found_outcome w home (λ at. outcome w (renaming w old moved at to))))).1)
+  by (Err why) found led leads home goes done = absurd cc
+  by (Ok old) found (Err why) leads home goes done = absurd cc
+  by (Ok old) found (Ok moved) leads (Err why) goes done = absurd cc
+  by (Ok old) found (Ok moved) leads (Ok at) goes done = grind (arith, nat_tests, leads_instead w from to k old found moved leads at goes)

@@ -1,6 +1,7 @@
 -- Whichever due versions go, at once or one by one in any order: the other due ones stay due, and no other becomes due.
 use Rattle.std.specs.Prelude.{◌≡◌, ℕ, Bool, true, not, filter}
-use Rattle.ele_model.specs.Due.{is_due, due_rows, kept_rows}
+use Rattle.ele_model.specs.Due.{is_due, kept_rows}
+use Rattle.ele_model.specs.RipeRows.{due_rows}
 use Rattle.ele_model.specs.WellFormed.{IsWellFormed}
 use Rattle.ele_model.specs.World.{World}
 

@@ -2,7 +2,7 @@
 use Rattle.std.specs.Prelude.{◌≡◌, ℕ, false, Option, Some, option_and_then}
 use Rattle.std.specs.List.{AllByRecursion}
 use Rattle.ele_policy.specs.declared.policy.Policy.{Policy}
-use Rattle.ele_policy.specs.Ripe.{IsRipe, case_beside}
+use Rattle.ele_policy.specs.RipeCase.{IsRipe, case_beside}
 use Rattle.ele_model.specs.Cover.{cover_of, ripe_past}
 use Rattle.ele_model.specs.declared.rows.VersionRow.{VersionRow}
 use Rattle.ele_model.specs.Due.{ripe_of}

@@ -104,7 +104,7 @@ fn take(alloc: Global, vault: &mut Vault, lines: &[u8]) -> Result<(), Fail> {
 fn told_by(alloc: Global, vault: &Vault) -> Result<Vec<u8>, Fail> {
     let mut text = Vec::new(alloc);
     let mut printer = Printer::new(&mut text);
-    put_history(vault.folded(), vault.entries(), &mut printer)?;
+    put_history(vault.folded(), vault.entries(), &mut printer);
     printer.hand_over()?;
     Ok(text)
 }

@@ -9,6 +9,8 @@ from __future__ import annotations
 import errno
 from typing import Optional
 
+from .._errors import ElephantError
+from . import records
 from .records import file_key, now_ns, saved
 from .store import MountStore, NotKept
 from .tree import File, Tree
@@ -147,26 +149,34 @@ class Contents:
             return
         draft = node.draft
         assert draft is not None
-        remark = saved(file_key(node.number), node.attributes.mtime)
+        it = node.attributes
+        # A program may have set the time of the content since.
+        remark = saved(file_key(node.number), it.mtime) if it.mtime == it.ctime else records.whole(file_key(node.number), it)
         try:
             node.handle = self.store.write_draft(node.path, node.handle, bytes(draft), True, (remark,))
         except NotKept as fault:
-            node.handle, node.is_unsaved = fault.handle, False
+            node.handle, node.is_unsaved = fault.number, False
             raise
         node.is_unsaved = False
 
     def settle(self, node: File) -> None:
-        """Makes a file's draft a version. What a file without a name holds is nobody's any more."""
+        """Makes a file's draft a version, and keeps the draft if it can't be one. What a file without a name holds is nobody's any more."""
         if node.draft is None:
             return
         self.save(node)
-        size, handle = len(node.draft), node.handle
+        if node.handle is None:
+            return self._settled(node, node.size, 0)
+        try:
+            self._settled(node, len(node.draft), self.store.close_draft(node.handle))
+        except NotKept as fault:
+            self._settled(node, len(node.draft), fault.number)
+            raise
+
+    def _settled(self, node: File, size: int, version: int) -> None:
         node.handle, node.is_unsaved, node.entry = None, False, None
         self._set_draft(node, None)
         self.forget_read()
-        if handle is not None:
-            node.size = size
-            node.version = self.store.close_draft(handle) or node.version
+        node.size, node.version = size, version or node.version
 
     def closed(self, node: File, writes: bool) -> None:
         """Notes that a descriptor is closed."""
@@ -189,11 +199,16 @@ class Contents:
         if node.opens and node.draft is None:
             self._set_draft(node, bytearray(self.whole(node)))
 
-    def settle_all(self) -> None:
-        """Makes all drafts versions."""
+    def settle_all(self, is_every: bool = True) -> list[tuple[File, Exception]]:
+        """Makes all drafts versions, or those that nobody writes any more. Returns which couldn't be made one, each with what kept it."""
+        faults: list[tuple[File, Exception]] = []
         for node in list(self.drafts):
-            if node.names:
-                self.settle(node)
+            if node.names and (is_every or not node.writers):
+                try:
+                    self.settle(node)
+                except (ElephantError, OSError) as fault:
+                    faults.append((node, fault))
+        return faults
 
 
 class TooBig(OSError):

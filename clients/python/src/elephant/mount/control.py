@@ -11,7 +11,8 @@ import socket
 import stat
 import tempfile
 import threading
-from collections.abc import Callable
+import traceback
+from collections.abc import Callable, Iterator
 from contextlib import suppress
 from typing import Optional, Union
 from zlib import crc32
@@ -25,6 +26,8 @@ from .store import NoSpace
 from .tree import Directory, File, Node
 
 MOST_LINE = 1 << 20
+# The path of a socket has at most 107 bytes.
+MOST_FOLDER = 100
 # Lines after which the tree may be another, and lines that change nothing at all.
 _ASK = frozenset("read stat versions list restorable due usage groups why ahead history trim".split())
 _SHORT = frozenset("policy default group mark unmark clean pass".split())
@@ -47,26 +50,35 @@ class Lines:
         if line in self.more:
             return self.more[line](), []
         with self.operations.lock:
+            changes: Changes = []
             try:
-                if words[0] == "undo":
-                    text = self._undo(words[1:])
-                else:
-                    text = self._line(words)
-            except (ElephantError, NoSpace, OSError) as fault:
+                try:
+                    text = self._undo(words[1:]) if words[0] == "undo" else self._line(words)
+                finally:  # the store may have done what the journal couldn't take
+                    changes = [] if words[0] in _ASK | _SHORT else list(self._refreshed(words))
+            except (ElephantError, NoSpace, OSError, ValueError) as fault:
                 text = self._refusal(fault)
-            changes = [] if words[0] in _ASK | _SHORT else list(self.tree.refresh())
         return text, changes
+
+    def _refreshed(self, words: list[str]) -> Iterator[tuple[Node, Optional[bytes]]]:
+        if words[0] != "undo" or len(words) < 2:
+            return self.tree.refresh()
+        parent, _, name = words[1].rpartition("/")
+        directory = self._node(parent)
+        is_there = isinstance(directory, Directory) and name
+        return self.tree.refresh_file(directory, name_in(_bytes(name))) if is_there else iter(())  # type: ignore[arg-type]
 
     def _refusal(self, fault: Exception) -> str:
         if isinstance(fault, Refused):
             return f"no {str(fault).split(':')[0]}\n"
-        self.operations.errno_of(fault)
+        if not isinstance(fault, ValueError):
+            self.operations.errno_of(fault)
         return f"elephant-mount: {getattr(fault, 'strerror', None) or fault or type(fault).__name__}\n"
 
     def _node(self, spelling: str) -> Optional[Union[File, Directory]]:
         """Returns what a path stands for now, or None."""
         node: Union[File, Directory] = self.tree.root
-        for name in spelling.encode("utf-8", "surrogateescape").split(b"/")[1:]:
+        for name in _bytes(spelling).split(b"/")[1:]:
             child = node.children.get(name_in(name)) if isinstance(node, Directory) and name else None
             if child is None:
                 return None
@@ -77,6 +89,8 @@ class Lines:
         word = words[0]
         if word == "clock" or (word == "tick" and words[1:] != ["0"]):
             return "elephant-mount: the clock of a mount is the time of day\n"
+        if words[:2] == ["open", "write"]:
+            return "elephant-mount: programs write the files of a mount, and lines don't\n"
         if word == "why" and len(words) == 3 and words[2].isdigit():
             words = ["why", f"{words[1]}#{words[2]}"]
         if word in _OF_HANDLES and len(words) > 1 and words[1] in self._own_handles():
@@ -87,6 +101,8 @@ class Lines:
         if word in ("clean", "pass", "due", "why"):
             self.operations.hold_past()
         answer = self.store.line(" ".join(words))
+        if word in ("clean", "pass"):
+            self.store.forget_names()
         if answer.startswith("ok ") and word not in _ASK and word != "close":
             self.store.counts.take_line(" ".join(words).encode("ascii", "replace"))
             self.store.counts.used["versions"] += answer.startswith("ok version ") and word == "undelete"
@@ -103,13 +119,14 @@ class Lines:
             return
         if words[0] in ("unlink", "rename") and len(node.names) == 1:
             self.contents.hold(node)
-        elif words[0] == "revert" and node.draft is not None:
-            self._require_no_draft(node)
+        elif words[0] == "revert":
+            self._require_no_writer(node)
 
     @staticmethod
-    def _require_no_draft(node: File) -> None:
-        if node.draft is not None:
-            raise OSError(16, "a program is writing the file: close it first")
+    def _require_no_writer(node: File) -> None:
+        """Refuses what changes the content of a file that a program may write: that program would go on where it was."""
+        if node.draft is not None or node.writers:
+            raise OSError(16, "a program has the file open to write it: close it first")
 
     # Undo.
 
@@ -118,14 +135,15 @@ class Lines:
         if len(words) not in (1, 2) or not words[0].startswith("/"):
             return "elephant-mount: undo takes a file, and a moment if you like\n"
         self.operations.require_writable()
-        path, node = words[0].encode("utf-8", "surrogateescape"), self._node(words[0])
+        path, node = _bytes(words[0]), self._node(words[0])
         if isinstance(node, Directory):
             raise IsADirectoryError(21, "undo takes a file")
         if node is not None:
-            self._require_no_draft(node)
+            self._require_no_writer(node)
         if len(words) == 1:
             return self._undo_last(path, node)
-        return self._undo_to(path, node, moment_of(words[1].encode()))
+        with self.store.together():
+            return self._undo_to(path, node, moment_of(_bytes(words[1])))
 
     def _undo_last(self, path: bytes, node: Optional[File]) -> str:
         if node is None:
@@ -138,8 +156,6 @@ class Lines:
 
     def _undelete(self, path: bytes) -> str:
         version = self.store.undelete(path)
-        self.store.counts.take(b"undelete")
-        self.store.counts.used["versions"] += version is not None
         return self._told(version) if version else "ok done\n"
 
     def _undo_to(self, path: bytes, node: Optional[File], moment: int) -> str:
@@ -154,7 +170,6 @@ class Lines:
                 self.store.run((b"create", path))
         now = self.store.stat_row(path)
         if now.id == file:
-            self.store.counts.take(b"revert")
             return self._told(self.store.revert(path, version))
         return self._told(self.store.close_draft(self.store.write_draft(path, None, content, True, ())))
 
@@ -191,6 +206,9 @@ class Control:
                     self._serve_one(caller)
                 except OSError:
                     pass  # the caller went away
+                except Exception:
+                    # A fault of this program: this line has no answer, and the next one has.
+                    self._lines.operations.log.say(f"a fault in a line: {traceback.format_exc()}")
 
     def _serve_one(self, caller: socket.socket) -> None:
         received = b""
@@ -202,14 +220,19 @@ class Control:
         line = received.partition(b"\n")[0].decode("utf-8", "surrogateescape")
         answer, changes = self._lines.answer(line)
         self._changed(changes)
-        caller.settimeout(None)
         caller.sendall(answer.encode("utf-8", "surrogateescape"))
+
+
+def _bytes(text: str) -> bytes:
+    return text.encode("utf-8", "surrogateescape")
 
 
 def _private_folder(journal: str) -> str:
     """Returns a folder that nobody else may look into: of each journal the same one, so that a mount that was killed leaves one at most."""
     parent = os.environ.get("XDG_RUNTIME_DIR") or tempfile.gettempdir()
     folder = os.path.join(parent, f"elephant-mount-{os.getuid()}-{crc32(os.fsencode(journal)):08x}")
+    if len(os.fsencode(folder)) > MOST_FOLDER:
+        return tempfile.mkdtemp(prefix="elephant-mount-", dir="/tmp")
     try:
         os.mkdir(folder, 0o700)
     except OSError:

@@ -4,6 +4,7 @@ from __future__ import annotations
 
 import threading
 import time
+import traceback
 from collections.abc import Callable
 
 from .._answers import Due, Removable
@@ -15,16 +16,20 @@ from .operations import Operations
 from .past import text_of
 from .rewriting import Rewriting
 from .store import Departed, NoSpace
+from .tree import File
 
 # The longest that other requests wait for removals, in seconds, and how long these then wait.
 MOST_AT_ONCE, PAUSE = 0.003, 0.03
 MOST_KEYS = 256
-SYNC_EVERY = 5.0
-REWRITE_EVERY = 600.0
+SYNC_EVERY, RETRY_EVERY, REWRITE_EVERY = 5.0, 2.0, 600.0
+Task = tuple[float, Callable[[], object]]
 
 
 class Keeper:
-    """A thread beside the one that answers requests. `clean_every` is in seconds, `every` in minutes; 0 is never."""
+    """Two threads beside the one that answers requests: one has the disk hold what was answered, and the other one's work may take long.
+
+    `clean_every` is in seconds, `every` in minutes; 0 is never.
+    """
 
     def __init__(
         self, operations: Operations, rewriting: Rewriting, log: Log, changed: Callable[[Changes], None], clean_every: float, every: float
@@ -34,18 +39,22 @@ class Keeper:
         self.rewriting = rewriting
         self._clean_every, self._every = clean_every, every * 60
         self._stopping = threading.Event()
-        self._thread = threading.Thread(target=self._run, daemon=True)
+        prompt = [(SYNC_EVERY, self.sync), (RETRY_EVERY, self.retry)]
+        patient = [(self._clean_every, self.clean), (self._every, self.settle), (REWRITE_EVERY, self.rewriting.run_if_worth)]
+        self._threads = [threading.Thread(target=self._run, args=(it,), daemon=True) for it in (prompt, patient)]
 
     def start(self) -> None:
-        self._thread.start()
+        for thread in self._threads:
+            thread.start()
 
     def stop(self) -> None:
         self._stopping.set()
-        self._thread.join(30)
+        self.rewriting.stop()
+        for thread in self._threads:
+            if thread.ident is not None:
+                thread.join(30)
 
-    def _run(self) -> None:
-        tasks = [(self._clean_every, self.clean), (self._every, self.settle), (SYNC_EVERY, self.sync), (2.0, self.retry),
-                 (REWRITE_EVERY, self.rewriting.run_if_worth)]
+    def _run(self, tasks: list[Task]) -> None:
         due = [time.monotonic() + every for every, _ in tasks]
         while not self._stopping.wait(0.25):
             for at, (every, task) in enumerate(tasks):
@@ -53,12 +62,20 @@ class Keeper:
                     self._guarded(task)
                     due[at] = time.monotonic() + every
 
-    def _guarded(self, task: object) -> None:
+    def _guarded(self, task: Callable[[], object]) -> None:
         try:
-            task()  # type: ignore[operator]
+            task()
         except (ElephantError, NoSpace, OSError) as fault:
-            with self.operations.lock:
-                self.operations.errno_of(fault)
+            self._say(fault)
+        except Exception:
+            # A fault of this program: it is tried again the next time.
+            self.log.say(f"a fault: {traceback.format_exc()}")
+
+    def _say(self, fault: Exception) -> None:
+        with self.operations.lock:
+            self.operations.errno_of(fault)
+        if isinstance(fault, OSError):
+            self.log.say_once(f"{fault.strerror or fault}")
 
     # Removing.
 
@@ -76,10 +93,10 @@ class Keeper:
 
     def _clean_some(self) -> int:
         deadline, removed = time.monotonic() + MOST_AT_ONCE, 0
-        if not self.store.first_due(1):
-            return 0
-        self.operations.hold_past()
-        for key in self.store.first_due(MOST_KEYS):
+        keys = self.store.first_due(MOST_KEYS)
+        if keys and self.operations.hold_past():
+            keys = self.store.first_due(MOST_KEYS)
+        for key in keys:
             cause = self._cause(key)
             self.store.reserve(0)
             found = self.store.clean()
@@ -87,6 +104,8 @@ class Keeper:
                 break
             if found != key:
                 cause = self._cause(found)
+            if found.file not in self.operations.tree.files:
+                self.store.forget_names()
             self.log.say(f"removed {cause}")
             removed += 1
             if time.monotonic() > deadline:
@@ -110,8 +129,9 @@ class Keeper:
     def settle(self) -> None:
         """Makes versions of what long sessions have written so far."""
         with self.operations.lock:
-            if not self.store.stopped:
-                self.operations.contents.settle_all()
+            faults = [] if self.store.stopped else self.operations.contents.settle_all()
+        for _, fault in faults:
+            self._say(fault)
 
     def sync(self) -> None:
         """Has the disk hold what was answered some seconds ago, and looks whether the journal is still at its place."""
@@ -121,13 +141,18 @@ class Keeper:
             self.store.sync_journal_aside()
 
     def retry(self) -> None:
-        """Tries whether the journal can be written again."""
+        """Tries whether the journal can be written again, and tells the kernel what was changed in spite of an error."""
+        faults: list[tuple[File, Exception]] = []
         with self.operations.lock:
-            if not self.store.stopped or not self.store.retry():
-                return
-            changes = list(self.operations.tree.refresh())
-            self.log.say("the journal can be written again, and the folder too")
+            if self.store.stopped and self.store.retry():
+                self.operations.follow_store()
+                self.log.say("the journal can be written again, and the folder too")
+                # Files that were closed meanwhile.
+                faults = self.operations.contents.settle_all(is_every=False)
+            changes, self.operations.untold = self.operations.untold, []
         self._changed(changes)
+        for _, fault in faults:
+            self._say(fault)
 
 
 def _why(last: Departed) -> str:

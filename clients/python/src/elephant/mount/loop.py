@@ -8,10 +8,15 @@ from __future__ import annotations
 
 import os
 import select
+import time
 from collections.abc import Coroutine
 from typing import Any, Callable, Optional
 
 import pyfuse3
+
+
+# For so long a loop that is to end answers what the kernel asks, in seconds.
+LONGEST_END = 2.0
 
 
 class _Lock:
@@ -54,7 +59,7 @@ class Loop:
         self._woken, self._waker = os.pipe2(os.O_CLOEXEC | os.O_NONBLOCK)
         self._poll = select.poll()
         self._poll.register(self._woken, select.POLLIN)
-        self._is_registered, self._is_stopped = False, False
+        self._is_registered, self._end = False, 0.0
 
     def install(self) -> None:
         """Has pyfuse3 use this loop. To be called before `pyfuse3.init`."""
@@ -68,16 +73,16 @@ class Loop:
             pass
 
     def stop(self) -> None:
-        """Ends `run` after the present request."""
-        self._is_stopped = True
+        """Ends `run` as soon as the kernel asks nothing any more, at the latest after some seconds."""
+        self._end = self._end or time.monotonic() + LONGEST_END
         os.write(self._waker, b".")
 
     async def wait_readable(self, file: int) -> None:
         if not self._is_registered:
             self._poll.register(file, select.POLLIN)
             self._is_registered = True
-        self._poll.poll()
-        if self._is_stopped:
+        asked = any(ready == file for ready, _ in self._poll.poll())
+        if self._end and (not asked or time.monotonic() > self._end):
             raise self.ClosedResourceError
 
     def notify_closing(self, file: int) -> None:

@@ -3,6 +3,7 @@
 from __future__ import annotations
 
 import argparse
+import errno
 import os
 import re
 import signal
@@ -124,7 +125,7 @@ def run(asked: argparse.Namespace) -> int:
         return _refuse(str(lack))
     for number in (signal.SIGINT, signal.SIGTERM, signal.SIGHUP):
         if signal.getsignal(number) is not signal.SIG_IGN:  # as nohup has it
-            signal.signal(number, lambda *_: mount.loop.stop())
+            signal.signal(number, lambda *_: mount.end())
     return mount.run(asked.allow_other)
 
 
@@ -133,7 +134,8 @@ def _place_fault(folder: str, journal: str) -> str:
     try:
         names = os.listdir(folder)
     except OSError as fault:
-        return f"{folder}: {fault.strerror}"
+        hint = f": a mount of it was killed, and 'fusermount3 -u {folder}' takes its rest away" if fault.errno == errno.ENOTCONN else ""
+        return f"{folder}: {fault.strerror}{hint}"
     if os.path.ismount(folder) and subprocess.run(["findmnt", "-n", "-t", "fuse.elephant", folder], stdout=-3, check=False).returncode == 0:
         return f"{folder} is mounted already"
     if names:

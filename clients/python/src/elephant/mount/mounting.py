@@ -4,6 +4,8 @@ from __future__ import annotations
 
 import gc
 import os
+import threading
+from contextlib import suppress
 
 import pyfuse3
 
@@ -11,8 +13,10 @@ from .._answers import Limits
 from .._errors import ElephantError
 from .contents import Contents
 from .control import Changes, Control, Lines
+from .disk import sync_all
 from .keeper import Keeper
 from .log import Log
+from .names import shown
 from .loop import Loop
 from .naming import Naming
 from .operations import Operations
@@ -40,6 +44,7 @@ class Mount:
         self.rewriting = Rewriting(self.operations, self.log, every > 0)
         self.keeper = Keeper(self.operations, self.rewriting, self.log, self._tell_kernel, clean_every, every)
         self.lines.more = {"rewrite": self.rewriting.run_and_tell, "clean all": self._clean_all}
+        self._is_mounted, self._is_ending = False, False
 
     def _clean_all(self) -> str:
         return f"ok removed {self.keeper.clean()}\n"
@@ -63,6 +68,7 @@ class Mount:
             self.log.say(f"{self.folder} can't be mounted: {fault}")
             self._close()
             return 1
+        self._is_mounted = True
         self.control.start()
         self.keeper.start()
         self.log.say(f"{self.folder} is mounted, with {len(self.tree.files)} files; 'fusermount3 -u {self.folder}' ends it")
@@ -70,21 +76,44 @@ class Mount:
             self.loop.run()
         finally:
             pyfuse3.close(unmount=True)
-            self._close()
-        return 1 if self.store.stopped else 0
+            is_whole = self._close()
+        return 0 if is_whole else 1
 
-    def _close(self) -> None:
+    def end(self) -> None:
+        """Ends `run`. Any thread and any signal handler may call it. The second call doesn't wait for the kernel."""
+        if self._is_ending or not self._is_mounted:
+            self.loop.stop()
+        self._is_ending = True
+        threading.Thread(target=self._end, daemon=True).start()
+
+    def _end(self) -> None:
+        """Asks the kernel for what programs have mapped and changed, which nobody could write after the end. The loop answers meanwhile."""
+        with suppress(OSError):
+            if os.path.ismount(self.folder):
+                sync_all(self.folder)
+        self.loop.stop()
+
+    def _close(self) -> bool:
+        """Makes versions of what is open, and closes the journal. Returns whether that has everything."""
         self.control.stop()
         self.keeper.stop()
-        try:
-            self.contents.settle_all()
-            for opened in self.operations.past_handles.values():
-                if opened.reader is not None:
-                    self.store.close_draft(opened.reader)
-            self.store.release_reserve()
-            self.store.close()
-        except (ElephantError, NoSpace, OSError) as fault:
-            self.log.say(f"the journal may lack the last changes: {fault}")
+        with self.operations.lock:
+            if self.store.stopped:
+                self.store.retry()
+            faults = [f"{shown(node.path)}: {fault}" for node, fault in self.contents.settle_all()]
+            for last in (self._close_readers, self.store.release_reserve, self.store.close):
+                try:
+                    last()
+                except (ElephantError, NoSpace, OSError) as fault:
+                    faults.append(str(fault))
+        for text in faults:
+            self.log.say(f"the journal may lack the last changes: {text}")
+        return not faults and not self.store.stopped
+
+    def _close_readers(self) -> None:
+        for opened in self.operations.past_handles.values():
+            if opened.reader is not None:
+                self.store.close_draft(opened.reader)
 
     def _tell_kernel(self, changes: Changes) -> None:
         """Has the kernel drop what it knows of what a line changed. Not under the lock: the kernel may ask back meanwhile."""

@@ -10,6 +10,7 @@ from __future__ import annotations
 import errno
 import stat
 import time
+from collections.abc import Sequence
 from typing import Optional, Union
 
 from .._errors import ElephantError, Refused
@@ -17,7 +18,7 @@ from . import records
 from .contents import Contents, Limited
 from .names import MOST_NAMES, TooLong, shown
 from .records import Attributes, directory_key, file_key
-from .store import MountStore
+from .store import MountStore, Remarks
 from .tree import Directory, File, Node, Tree
 
 # For so many seconds after a name ended a new file of that name goes on with the past of the one that had it.
@@ -26,6 +27,15 @@ MOST_LEFT = 64
 # A file that was made and written once has the empty version 1 and one more.
 FRESH = 2
 NO_REPLACE, EXCHANGE = 1, 2
+# The names and values of a file's extended attributes have at most so many bytes, about as on ext4.
+MOST_EXTENDED = 4000
+
+
+class TooMuch(OSError):
+    """The extended attributes of a file would take more than they may."""
+
+    def __init__(self, reason: str) -> None:
+        super().__init__(errno.ENOSPC, reason)
 
 
 def key_of(node: Node) -> int:
@@ -79,10 +89,12 @@ class Naming:
         path = parent.path_of_new(name)
         made = self._new(parent, mode, owner, group)
         found = self._past_of(parent, name) if stat.S_ISREG(mode) else None
-        if isinstance(found, File):
-            return self._take_over(parent, name, made, found)
-        if found is not None and self._revive(path, found):
-            return self._go_on(parent, name, made, found)
+        if found is not None:
+            with self.store.together():
+                if isinstance(found, File):
+                    return self._take_over(parent, name, made, found)
+                if self._revive(path, found):
+                    return self._go_on(parent, name, made, found)
         number = self.store.run((b"create", path), remarks=lambda it: [records.made(file_key(it), key_of(parent), made)])
         return self._added(parent, name, number, made)
 
@@ -112,6 +124,8 @@ class Naming:
             return None
         if isinstance(file, File) and (len(file.names) != 1 or file.draft is not None):
             return None
+        if file in self.tree.files:  # an undo has brought it back, by another of its names
+            return None
         drafts = len(self.contents.drafts)
         lacks = self.store.counts.lacking(files=1, names=2, versions=3 + drafts, handles=2 + drafts)
         return None if lacks else file
@@ -123,22 +137,21 @@ class Naming:
         except Refused:
             return False
         self.store.counts.used["versions"] += bool(version)
-        if self.store.stat_row(path).id == number:
+        row = self.store.stat_row(path)
+        if not row.is_directory and row.id == number:
             return True
-        self.store.run((b"unlink", path))
+        self.store.run((b"rmdir" if row.is_directory else b"unlink", path))
         return False
 
     def _take_over(self, parent: Directory, name: bytes, made: Attributes, old: File) -> File:
         """Gives a file its name back, for a new content. The node that was renamed stands for another file with the old content."""
         path, away = parent.path_of(name), old.path
-        (old_parent, _), number = next(iter(old.names)), old.number
+        number = old.number
         content = self.contents.whole(old)
         self.contents.forget_read()
         kept = old.attributes
-        copy = self.store.run(
-            (b"rename", away, path), (b"create", away),
-            remarks=lambda it: [records.made(file_key(it), key_of(old_parent), kept), records.whole(file_key(it), kept)],
-        )
+        # The folder of the renamed file is as it was before.
+        copy = self.store.run((b"rename", away, path), (b"create", away), remarks=lambda it: records.everything(file_key(it), kept))
         self.tree.give_number(old, copy)
         old.version = 1
         if content:
@@ -164,9 +177,9 @@ class Naming:
         path = parent.path_of_new(name)
         self.contents.require_limits(files=1, names=1, versions=2, handles=1)
         made = self._new(parent, stat.S_IFLNK | 0o777, owner, group)
-        number = self.store.run((b"create", path), remarks=lambda it: [records.made(file_key(it), key_of(parent), made)])
-        handle = self.store.write_draft(path, None, target, True, ())
-        version = self.store.close_draft(handle)
+        with self.store.together():
+            number = self.store.run((b"create", path), remarks=lambda it: [records.made(file_key(it), key_of(parent), made)])
+            version = self.store.close_draft(self.store.write_draft(path, None, target, True, ()))
         node = self._added(parent, name, number, made)
         node.size, node.version = len(target), version
         return node
@@ -232,8 +245,10 @@ class Naming:
     def rename(self, parent: Directory, name: bytes, new_parent: Directory, new_name: bytes, flags: int) -> None:
         """Gives what has a name another one. What has that one already is replaced, or goes on with the content of a file."""
         node, found = self.child(parent, name), new_parent.children.get(new_name)
+        if flags == EXCHANGE:
+            return self._exchange(parent, name, new_parent, new_name)
         if flags & ~NO_REPLACE:
-            raise OSError(errno.EINVAL, "names can't be exchanged")
+            raise OSError(errno.EINVAL, "there is no such way to rename")
         if found is not None and flags & NO_REPLACE:
             raise FileExistsError(errno.EEXIST, shown(new_name))
         if found is node:
@@ -251,14 +266,7 @@ class Naming:
     def _require_place(
         self, node: Union[File, Directory], new_parent: Directory, found: Optional[Union[File, Directory]], new_name: bytes
     ) -> None:
-        if isinstance(node, Directory):
-            above: Optional[Directory] = new_parent
-            while above is not None:
-                if above is node:
-                    raise OSError(errno.EINVAL, "a directory can't be in itself")
-                above = above.parent
-            if new_parent.depth + self.tree.height(node) > MOST_NAMES:
-                raise TooLong(f"a path below {shown(new_name)} would have more than {MOST_NAMES} names")
+        self._require_below(node, new_parent, new_name)
         if found is None:
             return
         if isinstance(found, Directory):
@@ -269,24 +277,46 @@ class Naming:
         elif isinstance(node, Directory):
             raise NotADirectoryError(errno.ENOTDIR, shown(new_name))
 
+    def _require_below(self, node: Union[File, Directory], new_parent: Directory, new_name: bytes) -> None:
+        if not isinstance(node, Directory):
+            return
+        above: Optional[Directory] = new_parent
+        while above is not None:
+            if above is node:
+                raise OSError(errno.EINVAL, "a directory can't be in itself")
+            above = above.parent
+        if new_parent.depth + self.tree.height(node) > MOST_NAMES:
+            raise TooLong(f"a path below {shown(new_name)} would have more than {MOST_NAMES} names")
+
     def _move(self, parent: Directory, name: bytes, new_parent: Directory, new_name: bytes, now: int) -> None:
         node = parent.children[name]
-        keys = (key_of(parent), key_of(new_parent), key_of(node))
         self.store.run(
-            (b"rename", parent.path_of(name), new_parent.path_of(new_name)), remarks=lambda _: [records.names_changed(now, *keys)],
+            (b"rename", parent.path_of(name), new_parent.path_of(new_name)), remarks=lambda _: self._moved(now, node, parent, new_parent),
         )
-        mtime = node.attributes.mtime
         self.tree.move(parent, name, new_parent, new_name)
-        self._touch(now, parent, new_parent, node)
-        node.attributes.mtime = mtime
+        self._touch(now, parent, new_parent)
+        self._touch_moved(now, node)
         if isinstance(node, File):
             self._leave(parent, name, node)
 
-    def _can_merge(self, node: File, found: File) -> bool:
+    @staticmethod
+    def _moved(now: int, node: Node, *others: Node) -> list[bytes]:
+        """Returns the remarks of a node that was moved. What is in a directory stays as it is then, and so does that time."""
+        if not isinstance(node, Directory):
+            return [records.names_changed(now, *map(key_of, (*others, node)))]
+        it = node.attributes.copy()
+        it.ctime = now
+        return [*([records.names_changed(now, *map(key_of, others))] if others else []), records.whole(key_of(node), it)]
+
+    @staticmethod
+    def _touch_moved(now: int, node: Node) -> None:
+        node.attributes.ctime, node.entry = now, None
+
+    def _can_merge(self, node: File, found: File, versions: int = 1) -> bool:
         """Whether the content of a file can become the next version of another, which it is renamed over."""
         alone = all(it.is_regular and len(it.names) == 1 and not it.opens and it.draft is None for it in (node, found))
-        drafts = len(self.contents.drafts)
-        return alone and self.store.counts.lacking(versions=1 + drafts, handles=1 + drafts) is None
+        most = versions + len(self.contents.drafts)
+        return alone and self.store.counts.lacking(versions=most, handles=most) is None
 
     def _merge(self, parent: Directory, name: bytes, new_parent: Directory, new_name: bytes, now: int) -> None:
         """Makes a file's content the next version of the one that has the new name. The node of the first stands for the second now."""
@@ -298,7 +328,8 @@ class Naming:
         node.attributes.ctime = now
         source, is_fresh = node.number, node.version <= FRESH
         version = self.store.replace_content(new_path, path, content, is_fresh, (
-            records.names_changed(now, key_of(parent), key_of(new_parent)), records.whole(file_key(number), node.attributes),
+            records.names_changed(now, key_of(parent), key_of(new_parent), key_of(node)),
+            *records.everything(file_key(number), node.attributes),
         ))
         self.tree.remove(new_parent, new_name)
         self.tree.move(parent, name, new_parent, new_name)
@@ -313,28 +344,93 @@ class Naming:
     ) -> None:
         """Ends what has the new name, and gives that to the other: two commands that are one change."""
         node, found = parent.children[name], new_parent.children[new_name]
-        lacking = self.store.counts.lacking(names=1)
-        if lacking:
-            raise Limited(lacking, getattr(self.store.counts.limits, lacking))
+        self._require_names(1)
         if isinstance(found, File) and len(found.names) == 1:
             self.contents.hold(found)
-        keys = (key_of(parent), key_of(new_parent), key_of(node), key_of(found))
         ends = b"rmdir" if isinstance(found, Directory) else b"unlink"
-        mtime = node.attributes.mtime
+        self._run_all((ends, new_path), (b"rename", path, new_path), remarks=lambda _: self._moved(now, node, parent, new_parent, found))
+        self._gone(new_parent, new_name, now)
+        self.tree.move(parent, name, new_parent, new_name)
+        self._touch(now, parent, new_parent)
+        self._touch_moved(now, node)
+        if isinstance(node, File):
+            self._leave(parent, name, node)
+
+    def _run_all(self, *commands: Sequence[bytes], remarks: Remarks) -> None:
+        """Runs commands. If one is refused, the tree is brought to what those before it have done."""
         try:
-            self.store.run((ends, new_path), (b"rename", path, new_path), remarks=lambda _: [records.names_changed(now, *keys)])
+            self.store.run(*commands, remarks=remarks)
         except ElephantError:
             for _ in self.tree.refresh():
                 pass
             raise
-        self._gone(new_parent, new_name, now)
-        self.tree.move(parent, name, new_parent, new_name)
-        self._touch(now, parent, new_parent, node)
-        node.attributes.mtime = mtime
-        if isinstance(node, File):
-            self._leave(parent, name, node)
+
+    def _require_names(self, count: int) -> None:
+        lacking = self.store.counts.lacking(names=count)
+        if lacking:
+            raise Limited(lacking, getattr(self.store.counts.limits, lacking))
+
+    # Exchanging.
+
+    def _exchange(self, parent: Directory, name: bytes, new_parent: Directory, new_name: bytes) -> None:
+        """Gives each of two names what the other one has. Each name's past goes on, if both are the only names of files that are closed."""
+        node, found = self.child(parent, name), self.child(new_parent, new_name)
+        if found is node:
+            return
+        self._require_below(node, new_parent, new_name)
+        self._require_below(found, parent, name)
+        now = records.now_ns()
+        if isinstance(node, File) and isinstance(found, File) and self._can_merge(node, found, 2):
+            with self.store.together():
+                self.store.keep(records.names_changed(now, key_of(parent), key_of(new_parent)))
+                self._exchange_contents(parent.path_of(name), node, new_parent.path_of(new_name), found, now)
+        else:
+            self._exchange_names(parent, name, new_parent, new_name, now)
+        self.tree.exchange(parent, name, new_parent, new_name)
+        self._touch(now, parent, new_parent)
+        for it in (node, found):
+            self._touch_moved(now, it)
+
+    def _exchange_contents(self, path: bytes, node: File, new_path: bytes, found: File, now: int) -> None:
+        """Makes what each of two files holds the next version of the other, and has each node stand for the other file."""
+        contents = self.contents.whole(node), self.contents.whole(found)
+        self.contents.forget_read()
+        node.attributes.ctime = found.attributes.ctime = now
+        number, new_number = node.number, found.number
+        new_version = self._save_as(new_path, contents[0], records.everything(file_key(new_number), node.attributes))
+        version = self._save_as(path, contents[1], records.everything(file_key(number), found.attributes))
+        node.version, found.version = new_version or found.version, version or node.version
+        node.born, found.born = found.born, node.born
+        self.tree.give_number(node, new_number)
+        self.tree.give_number(found, number)
+
+    def _save_as(self, path: bytes, content: bytes, remarks: list[bytes]) -> int:
+        return self.store.close_draft(self.store.write_draft(path, None, content, True, remarks))
+
+    def _exchange_names(self, parent: Directory, name: bytes, new_parent: Directory, new_name: bytes, now: int) -> None:
+        """Renames twice by a third name, which nobody sees, since the three renames are one change."""
+        self._require_names(3)
+        node, found = parent.children[name], new_parent.children[new_name]
+        third = next(it for it in (b".exchange%d" % number for number in range(len(parent.children) + 1)) if it not in parent.children)
+        path, new_path, aside = parent.path_of(name), new_parent.path_of(new_name), parent.path_of_new(third)
+        self._run_all(
+            (b"rename", path, aside), (b"rename", new_path, path), (b"rename", aside, new_path),
+            remarks=lambda _: [*self._moved(now, node, parent, new_parent), *self._moved(now, found)],
+        )
 
     # Attributes.
+
+    def set_extended(self, node: Node, name: bytes, value: Optional[bytes]) -> None:
+        """Sets an extended attribute, or removes it if there is no value."""
+        it, now = node.attributes, records.now_ns()
+        others = {other: kept for other, kept in (it.extended or {}).items() if other != name}
+        taken = sum(map(len, others)) + sum(map(len, others.values())) + len(name) + len(value or b"")
+        if value is not None and taken > MOST_EXTENDED:
+            raise TooMuch(f"{taken} bytes of extended attributes for a file that has at most {MOST_EXTENDED}")
+        if not isinstance(node, File) or node.names:
+            self.store.keep(records.extended(key_of(node), now, name, value))
+        it.extended = others if value is None else {**others, name: value}
+        it.ctime, node.entry = now, None
 
     def set_attributes(self, node: Node, changes: dict[str, int]) -> None:
         """Changes a mode, an owner or times."""

@@ -3,35 +3,28 @@
 from __future__ import annotations
 
 import errno
-import functools
 import os
 import stat
-import threading
-import traceback
 from collections.abc import Sequence
-from typing import Any, Callable, NamedTuple, Optional, Union
+from typing import Any, NamedTuple, Optional, Union
 
 import pyfuse3
 
-from .._errors import ElephantError, Forgotten, Full, JournalError, NoMemory
-from .contents import Contents, Limited, TooBig
+from .._errors import ElephantError, Forgotten
+from .answering import Answering, answered, changing
+from .contents import Contents
 from .log import Log
-from .names import TooLong, shown
 from .naming import Naming
 from .past import NAME, Past, PastNode, Source
-from .store import MountStore, NoSpace
+from .store import MountStore
 from .tree import ROOT, Directory, File, Node, Tree
 
 # For as long as this the kernel may keep what it was told: every change comes through it, or it is told of it.
 LASTING = 86_400.0
 FIRST_PAST_HANDLE = 1 << 60
 NAME_MAX = 64
+USER = b"user."
 _CHANGES = os.O_ACCMODE | os.O_TRUNC
-_ERRNOS = {
-    5: errno.ENOENT, 6: errno.ENOTDIR, 7: errno.EISDIR, 8: errno.EEXIST, 9: errno.ENOTEMPTY, 10: errno.EINVAL, 11: errno.EBUSY,
-    12: errno.ENOENT, 13: errno.ENODATA, 14: errno.ENOENT, 15: errno.EBADF, 17: errno.EFBIG, 18: errno.EBUSY, 19: errno.ENOENT,
-    27: errno.ENOSPC, 28: errno.ENAMETOOLONG, 29: errno.ENAMETOOLONG, 1: errno.ENOMEM,
-}
 
 
 class PastHandle:
@@ -48,81 +41,27 @@ class Listing(NamedTuple):
     """An open directory: the names as they were when it was read from its beginning."""
 
     node: Union[Directory, PastNode]
-    names: list[Any]
+    names: list[bytes]
 
 
-def answered(method: Callable[..., Any]) -> Callable[..., Any]:
-    """Has a method answer a request of the kernel: under the lock, and with an error number for what it raises."""
-
-    @functools.wraps(method)
-    async def call(self: Operations, *words: Any) -> Any:
-        try:
-            with self.lock:
-                return method(self, *words)
-        except (OSError, ElephantError, NoSpace) as fault:
-            raise pyfuse3.FUSEError(self.errno_of(fault)) from None
-        except Exception:
-            # A fault of this program: this request fails, and the others go on.
-            self.log.say(f"a fault in {method.__name__}: {traceback.format_exc()}")
-            raise pyfuse3.FUSEError(errno.EIO) from None
-
-    return call
-
-
-def changing(method: Callable[..., Any]) -> Callable[..., Any]:
-    """The same for a request that changes something, which a mount that is read-only refuses."""
-
-    def checked(self: Operations, *words: Any) -> Any:
-        self.require_writable()
-        return method(self, *words)
-
-    return answered(functools.wraps(method)(checked))
-
-
-class Operations(pyfuse3.Operations):  # type: ignore[misc]
+class Operations(Answering):
     """The requests of the kernel."""
 
     supports_dot_lookup = False
     enable_writeback_cache = False
 
     def __init__(self, store: MountStore, tree: Tree, contents: Contents, naming: Naming, past: Past, log: Log) -> None:
-        super().__init__()
-        self.store, self.tree, self.contents, self.naming, self.past, self.log = store, tree, contents, naming, past, log
-        self.lock = threading.RLock()
+        super().__init__(store, log)
+        self.tree, self.contents, self.naming, self.past = tree, contents, naming, past
         self.by_ino = tree.by_ino
         self.past_handles: dict[int, PastHandle] = {}
         self._listings: dict[int, Listing] = {}
+        self.untold: list[tuple[Node, Optional[bytes]]] = []
+        """What has changed of the tree by no answer to the kernel, which another thread has to tell it: the kernel may ask meanwhile."""
         self._next_handle = FIRST_PAST_HANDLE
 
-    # Errors.
-
-    def errno_of(self, fault: Exception) -> int:
-        """Returns the error number of what a request raised, and logs what its caller can't see from that."""
-        if isinstance(fault, NoSpace):
-            if not self.store.stopped:
-                self.store.stopped = "the disk of the journal is full"
-                self.log.say(f"{self.store.stopped}: the folder is read-only until there is space again")
-            return errno.ENOSPC
-        if isinstance(fault, JournalError):
-            self.log.say(f"the folder is read-only: {fault}")
-            return errno.ENOSPC if "No space left" in str(fault) else errno.EIO
-        if isinstance(fault, Full):
-            limit = fault.what
-            return self.errno_of(Limited(limit, getattr(self.store.counts.limits, limit)))
-        if isinstance(fault, (Limited, TooBig, TooLong)):
-            where = f"{shown(fault.node.path)}: " if isinstance(fault, TooBig) and fault.node.names else ""
-            self.log.say_once(f"refused: {where}{fault.strerror}")
-        elif isinstance(fault, NoMemory):
-            self.log.say("refused: there is no memory")
-        if isinstance(fault, ElephantError):
-            return _ERRNOS.get(fault.number, errno.EIO)
-        assert isinstance(fault, OSError)
-        return fault.errno or errno.EIO
-
-    def require_writable(self) -> None:
-        if self.store.stopped:
-            raise OSError(errno.EROFS, self.store.stopped)
-        self.store.reserve(0)
+    def follow_store(self) -> None:
+        self.untold += self.tree.refresh()
 
     # Nodes.
 
@@ -319,6 +258,41 @@ class Operations(pyfuse3.Operations):  # type: ignore[misc]
             raise OSError(errno.EBUSY, "")
         self.naming.rename(self._directory(ino), name, self._parent(new_ino, new_name), new_name, flags)
 
+    # Extended attributes: those of users alone, `user.NAME`.
+
+    async def getxattr(self, ino: int, name: bytes, context: Any) -> bytes:
+        # The kernel asks for `security.capability` before each write.
+        with self.lock:
+            node = self.by_ino.get(ino)
+            if node is None or not node.attributes.extended or name not in node.attributes.extended:
+                raise pyfuse3.FUSEError(errno.ENODATA if name.startswith((USER, b"security.")) else errno.EOPNOTSUPP)
+            return node.attributes.extended[name]
+
+    async def listxattr(self, ino: int, context: Any) -> Sequence[bytes]:
+        with self.lock:
+            node = self.by_ino.get(ino)
+            return list(node.attributes.extended or ()) if node is not None else []
+
+    @changing
+    def setxattr(self, ino: int, name: bytes, value: bytes, context: Any) -> None:
+        self.naming.set_extended(self._of_user(ino, name), name, value)
+
+    @changing
+    def removexattr(self, ino: int, name: bytes, context: Any) -> None:
+        node = self._of_user(ino, name)
+        if name not in (node.attributes.extended or ()):
+            raise OSError(errno.ENODATA, "")
+        self.naming.set_extended(node, name, None)
+
+    def _of_user(self, ino: int, name: bytes) -> Node:
+        """Returns a node whose extended attribute may be changed."""
+        node = self._node(ino)
+        if isinstance(node, PastNode):
+            raise OSError(errno.EROFS, "")
+        if not name.startswith(USER):
+            raise OSError(errno.EOPNOTSUPP, "")
+        return node
+
     @answered
     def readlink(self, ino: int, context: Any) -> bytes:
         node = self._node(ino)
@@ -349,7 +323,7 @@ class Operations(pyfuse3.Operations):  # type: ignore[misc]
             raise OSError(errno.ESTALE, "")
         if flags & (os.O_ACCMODE | os.O_TRUNC):
             self.require_writable()
-        if flags & os.O_TRUNC and (node.size or node.draft is not None):
+        if flags & os.O_TRUNC:
             node.writers += 1
             try:
                 self.contents.truncate(node, 0)
@@ -366,11 +340,14 @@ class Operations(pyfuse3.Operations):  # type: ignore[misc]
         try:
             source = None if node.key == ("limits",) else self.past.source(node)
             content = self.past.content(node)
-        except ElephantError as fault:
-            raise OSError(errno.ENODATA, "") if node.key[0] == "dead" and not isinstance(fault, Forgotten) else fault
+        except (ElephantError, OSError) as fault:
+            is_lost = node.key[0] == "dead" and not node.key[-1] and not isinstance(fault, Forgotten)
+            raise OSError(errno.ENODATA, "") if is_lost else fault
         self._next_handle += 1
         self.past_handles[self._next_handle] = PastHandle(node, source, content)
-        return self._info(self._next_handle, False)
+        node.opens += 1
+        # The kernel keeps nothing of the only text that changes.
+        return pyfuse3.FileInfo(fh=self._next_handle, keep_cache=True) if source else pyfuse3.FileInfo(fh=self._next_handle, direct_io=True)
 
     @changing
     def create(self, ino: int, name: bytes, mode: int, flags: int, context: Any) -> Any:
@@ -401,6 +378,8 @@ class Operations(pyfuse3.Operations):  # type: ignore[misc]
             self.contents.closed(self.by_ino[handle >> 1], bool(handle & 1))
             return
         opened = self.past_handles.pop(handle)
+        opened.node.opens -= 1
+        self.past.forget(opened.node)
         if opened.reader is not None:
             self.store.close_draft(opened.reader)
 
@@ -410,15 +389,21 @@ class Operations(pyfuse3.Operations):  # type: ignore[misc]
             self.contents.save(self.by_ino[handle >> 1])
             self.store.sync_journal()
 
-    def hold_past(self) -> None:
-        """Has the store keep the versions that open files of the past read. To be called before anything is removed."""
+    def hold_past(self) -> bool:
+        """Has the store keep the versions that open files of the past read, and returns whether it does so for another one.
+
+        To be called before anything is removed.
+        """
+        is_another = False
         for opened in self.past_handles.values():
             source = opened.source
             if opened.reader is None and source is not None:
                 try:
                     opened.reader = self.store.open_reader(self._path_now(source), source.tag, source.number)
+                    is_another = True
                 except (ElephantError, OSError):
                     opened.source = None  # it stays readable, from the copy in memory
+        return is_another
 
     def _path_now(self, source: Source) -> bytes:
         """Returns the path by which a version is found: a number of a version is that of the file that has the name now."""
@@ -444,20 +429,24 @@ class Operations(pyfuse3.Operations):  # type: ignore[misc]
         if start == 0:
             names[:] = [b".", b"..", *node.children] if isinstance(node, Directory) else self.past.names(node)
         for index in range(start, len(names)):
-            name, found = self._named(node, names[index])
+            name, found = names[index], self._named(node, names[index])
             if found is None:
                 continue
             if not pyfuse3.readdir_reply(token, name, self._listed(found), index + 1):
+                if isinstance(found, PastNode):
+                    self.past.forget(found)
                 return
             if name not in (b".", b".."):
                 found.lookups += 1
 
-    @staticmethod
-    def _named(node: Union[Directory, PastNode], name: Any) -> tuple[bytes, Optional[Union[Node, PastNode]]]:
-        """Returns a name of a listing and what it stands for now, if for anything."""
-        if not isinstance(node, Directory):
-            return name  # type: ignore[no-any-return]
-        return name, node if name == b"." else (node.parent or node) if name == b".." else node.children.get(name)
+    def _named(self, node: Union[Directory, PastNode], name: bytes) -> Optional[Union[Node, PastNode]]:
+        """Returns what a name of a listing stands for now, if for anything."""
+        if isinstance(node, Directory):
+            return node if name == b"." else (node.parent or node) if name == b".." else node.children.get(name)
+        try:
+            return self.past.find(node, name)
+        except (ElephantError, OSError):
+            return None
 
     def _listed(self, node: Union[Node, PastNode]) -> Any:
         if not isinstance(node, PastNode):
@@ -479,7 +468,7 @@ class Operations(pyfuse3.Operations):  # type: ignore[misc]
 
     @answered
     def statfs(self, context: Any) -> Any:
-        disk, it, counts = os.statvfs(os.path.dirname(self.store.journal_path)), pyfuse3.StatvfsData(), self.store.counts
+        disk, it, counts = self.store.disk(), pyfuse3.StatvfsData(), self.store.counts
         it.f_bsize = it.f_frsize = 4096
         it.f_blocks = disk.f_blocks * disk.f_frsize // 4096
         # A content takes twice its bytes of the journal.

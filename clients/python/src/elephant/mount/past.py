@@ -14,9 +14,9 @@ from __future__ import annotations
 import errno
 import stat
 from datetime import datetime, timezone
-from typing import NamedTuple, Optional
+from typing import Any, NamedTuple, Optional
 
-from .._errors import ElephantError
+from .._errors import ElephantError, Forgotten
 from .._library import AT, VERSION
 from .._moments import LAST_MOMENT
 from .names import name_in, spelled
@@ -27,16 +27,24 @@ from .tree import Directory, Tree
 NAME = b".elephant"
 FIRST_INO = 1 << 48
 PARTS = (b"at", b"limits", b"restorable", b"socket", b"versions")
+_WORDS: dict[bytes, tuple[object, ...]] = {b"versions": (b"",), b"restorable": (0,)}
+# The kinds of files: as a moment found them, by the number of a version, and those that were deleted.
+FILES = ("then", "version", "dead")
 Key = tuple[object, ...]
 
 
 class PastNode:
-    """What an inode number below `.elephant` stands for: a kind and its words."""
+    """What an inode number below `.elephant` stands for: a kind and its words.
 
-    __slots__ = ("ino", "key", "lookups")
+    The last two words of a file's are the number of the file and of the version: the kernel keeps what it has read of an inode, so that no
+    inode may ever have another content, though a path does. `shown` is what was last told of a node that is open.
+    """
+
+    __slots__ = ("ino", "key", "lookups", "opens", "shown")
 
     def __init__(self, ino: int, key: Key) -> None:
-        self.ino, self.key, self.lookups = ino, key, 0
+        self.ino, self.key, self.lookups, self.opens = ino, key, 0, 0
+        self.shown: Optional[Shown] = None
 
 
 class Shown(NamedTuple):
@@ -88,7 +96,7 @@ class Past:
         self._next = FIRST_INO
         self._dead: dict[int, dict[bytes, Key]] = {}
         self._dead_paths: dict[int, bytes] = {}
-        self._dead_changes = -1
+        self._dead_seen = -1
         self.root = self.node("root")
 
     def node(self, *key: object) -> PastNode:
@@ -99,48 +107,51 @@ class Past:
         return found
 
     def forget(self, node: PastNode) -> None:
-        """Drops a node that the kernel doesn't know any more."""
-        if node is not self.root and not node.lookups:
+        """Drops a node that the kernel doesn't know, or doesn't know any more, and that isn't open."""
+        if node is not self.root and not node.lookups and not node.opens and self.by_ino.get(node.ino) is node:
             del self.by_ino[node.ino], self._by_key[node.key]
 
     # Looking up.
 
     def lookup(self, node: PastNode, name: bytes) -> PastNode:
         """Returns what a name in a directory stands for. Raises FileNotFoundError, or Forgotten."""
-        kind, *words = node.key
-        if kind == "root":
-            found = self._part(name)
-        elif kind == "at":
-            found = self._lookup_at(words, name)
-        elif kind == "versions":
-            found = self._lookup_versions(words[0], name)
-        elif kind == "file":
-            found = self.node("version", words[0], _number(name))
-        elif kind == "restorable":
-            key = self._dead_names(words[0]).get(name)
-            found = self.node(*key) if key else None
-        else:
-            raise NotADirectoryError(errno.ENOTDIR, "")
-        if found is None:
-            raise FileNotFoundError(errno.ENOENT, "")
-        self.show(found)
+        found = self.find(node, name)
+        try:
+            self.show(found)
+        except (ElephantError, OSError):
+            self.forget(found)
+            raise
         return found
 
-    def _part(self, name: bytes) -> Optional[PastNode]:
-        if name not in PARTS:
-            return None
-        words: dict[bytes, Key] = {b"versions": (b"",), b"restorable": (0,)}
-        return self.node(name.decode(), *words.get(name, ()))
+    def find(self, node: PastNode, name: bytes) -> PastNode:
+        """The same, also of a version that was forgotten, of which nothing can be read."""
+        kind, *words = node.key
+        key: Optional[Key] = None
+        if kind == "root" and name in PARTS:
+            key = name.decode(), *_WORDS.get(name, ())
+        elif kind == "at":
+            key = self._find_at(words, name)
+        elif kind == "versions":
+            key = self._find_versions(words[0], name)
+        elif kind == "file":
+            key = self._file_key("version", words[0], _number(name))
+        elif kind == "restorable":
+            key = self._dead_names(words[0]).get(name)
+            if key and key[0] == "dead":
+                key = self._file_key(*key)
+        if key is None:
+            raise FileNotFoundError(errno.ENOENT, "")
+        return self.node(*key)
 
-    def _lookup_at(self, words: list[object], name: bytes) -> PastNode:
+    def _find_at(self, words: list[object], name: bytes) -> Key:
         if not words:
             moment = moment_of(name)
             if moment > self.store.now:
                 raise FileNotFoundError(errno.ENOENT, "the moment is to come")
-            return self.node("at", moment, b"")
-        moment, path = words
+            return "at", moment, b""
+        moment_, path = words
         assert isinstance(path, bytes)
-        return self.node("at", moment, path + b"/" + spelled(name))
+        return self._file_key("then", moment_, path + b"/" + spelled(name))
 
     def _directory(self, path: object) -> Directory:
         directory = self.tree.root
@@ -152,33 +163,53 @@ class Past:
             directory = child
         return directory
 
-    def _lookup_versions(self, path: object, name: bytes) -> Optional[PastNode]:
+    def _find_versions(self, path: object, name: bytes) -> Optional[Key]:
         directory = self._directory(path)
         child = directory.children.get(name)
         if child is None:
             return None
-        return self.node("versions" if isinstance(child, Directory) else "file", directory.path_of(name))
+        return "versions" if isinstance(child, Directory) else "file", directory.path_of(name)
+
+    def _place(self, kind: object, first: Any, second: Any) -> tuple[bytes, int, int]:
+        """Returns how a read finds a file of the past."""
+        if kind == "then":
+            return second, AT, first
+        if kind == "version":
+            return first, VERSION, second
+        return self._dead_path(first) + b"/" + second, AT, max(self.store.ends.get((first, second), 0) - 1, 0)
+
+    def _file_key(self, kind: object, first: object, second: object, wanted: object = None) -> Key:
+        """Returns the key of what a path of the past leads to. Of a file whose version isn't found the version is 0."""
+        path, tag, number = self._place(kind, first, second)
+        try:
+            row = self.store.stat_row(path, tag, number)
+        except ElephantError as fault:
+            if wanted is None and not isinstance(fault, Forgotten):
+                raise
+            return kind, first, second, wanted or 0, 0
+        if row.is_directory and kind == "then":
+            return "at", first, second
+        if wanted not in (None, row.id):
+            # It was made and deleted within one second, or its directory had another name: no moment finds it, and undelete does.
+            return kind, first, second, wanted, 0
+        return kind, first, second, int(row.id), int(row.version)
 
     # Attributes and contents.
 
+    def _row(self, node: PastNode) -> Any:
+        """Returns the store's row of a file. Raises Forgotten, or ESTALE if what is found isn't the version that the node stands for."""
+        if node.key[0] not in FILES:
+            raise IsADirectoryError(errno.EISDIR, "")
+        kind, first, second, file, version = node.key
+        row = self.store.stat_row(*self._place(kind, first, second))
+        if (row.id, row.version) != (file, version):
+            raise OSError(errno.ESTALE, "the name is another file's")
+        return row
+
     def source(self, node: PastNode) -> Source:
         """Returns where the content of a file is. Raises IsADirectoryError, or Forgotten."""
-        kind, *words = node.key
-        if kind == "at" and words and words[1]:
-            path, tag, number = words[1], AT, words[0]
-        elif kind == "version":
-            path, tag, number = words[0], VERSION, words[1]
-        elif kind == "dead":
-            parent, spelling = words
-            assert isinstance(parent, int) and isinstance(spelling, bytes)
-            path, tag, number = self._dead_path(parent) + b"/" + spelling, AT, self.store.ends.get((parent, spelling), 0) - 1
-        else:
-            raise IsADirectoryError(errno.EISDIR, "")
-        assert isinstance(path, bytes) and isinstance(number, int)
-        row = self.store.stat_row(path, tag, max(number, 0))
-        if row.is_directory:
-            raise IsADirectoryError(errno.EISDIR, "")
-        return Source(row.id, path, tag, number)
+        row = self._row(node)
+        return Source(row.id, *self._place(*node.key[:3]))
 
     def content(self, node: PastNode) -> bytes:
         """Returns what a file holds."""
@@ -193,34 +224,36 @@ class Past:
         """Returns the attributes of a node. Raises Forgotten for a version that was removed."""
         kind, *words = node.key
         now, root = int(self.store.now), self.tree.root.attributes
+        if kind in FILES:
+            return self._show_file(node)
         if kind in ("limits", "socket"):
             content = self.content(node)
             return Shown((stat.S_IFREG | 0o444) if kind == "limits" else (stat.S_IFLNK | 0o777), len(content), now, root.owner, root.group)
-        if kind == "dead":
-            return self._show_dead(node)
-        if kind in ("at", "version") and words and (kind == "version" or words[1]):
-            path, number = (words[1], words[0]) if kind == "at" else words
-            row = self.store.stat_row(path, AT if kind == "at" else VERSION, number)  # type: ignore[arg-type]
-            found = self.tree.records.of((directory_key if row.is_directory else file_key)(row.id))
-            moment = words[0] if row.is_directory else row.closed
-            return _shown(found, bool(row.is_directory), row.length, moment, root)
+        if kind == "at" and words and words[1]:
+            row = self.store.stat_row(words[1], AT, words[0])  # type: ignore[arg-type]
+            return _shown(self.tree.records.of(directory_key(row.id)), True, row.length, words[0], root)
         if kind == "file":
             path = words[0]
             assert isinstance(path, bytes)
             return Shown(stat.S_IFDIR | 0o555, 0, self.store.stat_row(path).closed, root.owner, root.group)
         if kind == "versions":
             return _shown(self._directory(words[0]).attributes, True, 0, now, root)
+        if kind == "restorable" and words[0]:
+            return _shown(self.tree.records.of(directory_key(words[0])), True, 0, now, root)  # type: ignore[arg-type]
         return Shown(stat.S_IFDIR | 0o555, 0, int(words[0]) if kind == "at" and words else now, root.owner, root.group)  # type: ignore
 
-    def _show_dead(self, node: PastNode) -> Shown:
+    def _show_file(self, node: PastNode) -> Shown:
         root = self.tree.root.attributes
         try:
-            _, path, tag, number = self.source(node)
-            row = self.store.stat_row(path, tag, number)
-            return _shown(self.tree.records.of(file_key(row.id)), False, row.length, row.closed, root)
+            row = self._row(node)
         except (ElephantError, OSError):
-            # It was made and deleted within one second, or its directory had another name: no moment finds it, and undelete does.
+            if node.opens and node.shown is not None:
+                return node.shown
+            if node.key[0] != "dead" or node.key[-1]:
+                raise
             return Shown(stat.S_IFREG | 0o444, 0, int(self.store.now), root.owner, root.group)
+        node.shown = _shown(self.tree.records.of(file_key(row.id)), False, row.length, row.closed, root)
+        return node.shown
 
     def is_over(self, node: PastNode) -> bool:
         """Whether a node is of a tree whose moment is over: no directory of it will ever be another."""
@@ -228,26 +261,18 @@ class Past:
 
     # Listing.
 
-    def names(self, node: PastNode) -> list[tuple[bytes, PastNode]]:
-        """Returns the names in a directory with what they stand for."""
+    def names(self, node: PastNode) -> list[bytes]:
+        """Returns the names in a directory, which `find` takes."""
         kind, *words = node.key
         if kind == "root":
-            return [(it, found) for it in PARTS for found in [self._part(it)] if found is not None]
+            return list(PARTS)
         if kind == "at" and words:
-            moment, path = words
-            assert isinstance(path, bytes) and isinstance(moment, int)
-            rows = self.store.names_in(path or b"/", AT, moment)
-            return [(name_in(it), self.node("at", moment, path + b"/" + it)) for it, _, _ in rows]
+            return [name_in(it) for it, _, _ in self.store.names_in(words[1] or b"/", AT, words[0])]  # type: ignore[arg-type]
         if kind == "versions":
-            directory = self._directory(words[0])
-            kinds = [(name, "versions" if isinstance(child, Directory) else "file") for name, child in directory.children.items()]
-            return [(name, self.node(it, directory.path_of(name))) for name, it in sorted(kinds)]
+            return sorted(self._directory(words[0]).children)
         if kind == "file":
-            held = self.store.versions(words[0])  # type: ignore[arg-type]
-            return [(b"%d" % it.number, self.node("version", words[0], it.number)) for it in held]
-        if kind == "restorable":
-            return [(name, self.node(*key)) for name, key in sorted(self._dead_names(words[0]).items())]
-        return []
+            return [b"%d" % it.number for it in self.store.versions(words[0])]  # type: ignore[arg-type]
+        return sorted(self._dead_names(words[0])) if kind == "restorable" else []
 
     # Deleted names.
 
@@ -262,8 +287,8 @@ class Past:
         return self._dead.get(number, {})
 
     def _refresh_dead(self) -> None:
-        """Lists the deleted names again if anything has changed: those of files that have no other name, by directory."""
-        if self._dead_changes == self.store.changes:
+        """Lists the deleted names again if any name has changed: those of files that have no other name, by directory."""
+        if self._dead_seen == self.store.name_changes:
             return
         dead: dict[int, dict[bytes, Key]] = {}
         places: dict[int, tuple[int, bytes]] = {0: (0, b"")}
@@ -276,9 +301,9 @@ class Past:
                 places.setdefault(row.number, (row.parent, row.spelled))
         for row in rows:
             if not row.is_directory and row.number not in self.tree.files and row.parent in places:
-                dead.setdefault(row.parent, {})[name_in(row.spelled)] = ("dead", row.parent, row.spelled)
+                dead.setdefault(row.parent, {})[name_in(row.spelled)] = ("dead", row.parent, row.spelled, row.number)
                 _add_above(dead, places, row.parent)
-        self._dead, self._dead_changes = dead, self.store.changes
+        self._dead, self._dead_seen = dead, self.store.name_changes
         self._dead_paths = {it: _path_in(places, it) for it in dead}
 
     # Text.

@@ -1,11 +1,13 @@
-"""What the mount keeps of files and directories beside the store: modes, owners and times. It has no past.
+"""What the mount keeps of files and directories beside the store: modes, owners, times and extended attributes. It has no past.
 
 They are kept in the store's journal, as remarks:
 
     # made f12 d3 100644 0 0 NS           file 12 was made in directory 3: mode (octal), owner, group, and the time
     # names NS d3 d5 f12                  names in directories 3 and 5 changed, and with them file 12
     # saved f12 NS                        the content of file 12 was written
-    # attr f12 100644 0 0 NS NS NS        all of file 12: mode, owner, group, times of access, content and attributes
+    # attr f12 100644 0 0 NS NS NS        file 12: mode, owner, group, times of access, content and attributes
+    # xattr f12 NS 757365722e61 =6f6e65   file 12 has the extended attribute user.a with the value one, both in hexadecimal
+    # xattr f12 NS 757365722e61           file 12 hasn't it any more, and without a name it has none
 
 NS is a time in nanoseconds since 1970. A mode has the kind of the file too: a symbolic link is a file of the store whose content is
 where it leads.
@@ -16,6 +18,8 @@ from __future__ import annotations
 import os
 import stat
 import time
+from binascii import hexlify, unhexlify
+from contextlib import suppress
 from typing import Optional
 
 _COARSE = 5  # CLOCK_REALTIME_COARSE
@@ -23,16 +27,20 @@ FILE_MODE, DIRECTORY_MODE = stat.S_IFREG | 0o644, stat.S_IFDIR | 0o755
 
 
 class Attributes:
-    """The mode, owner, group and times (in nanoseconds) of a file or directory."""
+    """The mode, owner, group, times (in nanoseconds) and extended attributes of a file or directory."""
 
-    __slots__ = ("mode", "owner", "group", "atime", "mtime", "ctime")
+    __slots__ = ("mode", "owner", "group", "atime", "mtime", "ctime", "extended")
 
     def __init__(self, mode: int, owner: int, group: int, atime: int, mtime: int, ctime: int) -> None:
         self.mode, self.owner, self.group = mode, owner, group
         self.atime, self.mtime, self.ctime = atime, mtime, ctime
+        self.extended: Optional[dict[bytes, bytes]] = None
+        """By name, or None if there never was one: few files have any."""
 
     def copy(self) -> Attributes:
-        return Attributes(self.mode, self.owner, self.group, self.atime, self.mtime, self.ctime)
+        it = Attributes(self.mode, self.owner, self.group, self.atime, self.mtime, self.ctime)
+        it.extended = dict(self.extended) if self.extended else None
+        return it
 
     @property
     def is_link(self) -> bool:
@@ -81,6 +89,17 @@ def whole(key: int, it: Attributes) -> bytes:
     return b"# attr %b %o %d %d %d %d %d" % (word_of(key), it.mode, it.owner, it.group, it.atime, it.mtime, it.ctime)
 
 
+def extended(key: int, now: int, name: bytes, value: Optional[bytes]) -> bytes:
+    """Returns the remark of an extended attribute that was set, or removed if there is no value."""
+    return b"# xattr %b %d %b" % (word_of(key), now, hexlify(name)) + (b"" if value is None else b" =" + hexlify(value))
+
+
+def everything(key: int, it: Attributes) -> list[bytes]:
+    """Returns the remarks that make all attributes of a key these, whatever it had before."""
+    none = b"# xattr %b %d" % (word_of(key), it.ctime)
+    return [whole(key, it), none, *(extended(key, it.ctime, name, value) for name, value in (it.extended or {}).items())]
+
+
 class Records:
     """The attributes of all files and directories that ever were, by key."""
 
@@ -89,6 +108,10 @@ class Records:
 
     def apply(self, remark: bytes) -> None:
         """Takes in a remark of the journal. One of another program is passed over."""
+        with suppress(ValueError, IndexError):
+            self._apply(remark)
+
+    def _apply(self, remark: bytes) -> None:
         word, *rest = remark.split(b" ")
         if word == b"made":
             self._made(rest)
@@ -97,12 +120,28 @@ class Records:
         elif word == b"saved":
             self.touch(key_of(rest[0]), int(rest[1]), content=True)
         elif word == b"attr":
-            self.by_key[key_of(rest[0])] = Attributes(int(rest[1], 8), *map(int, rest[2:]))
+            key, it = key_of(rest[0]), Attributes(int(rest[1], 8), *map(int, rest[2:]))
+            it.extended = self.by_key[key].extended if key in self.by_key else None
+            self.by_key[key] = it
+        elif word == b"xattr":
+            self._extended(key_of(rest[0]), int(rest[1]), rest[2:])
 
     def _made(self, rest: list[bytes]) -> None:
         now = int(rest[5])
         self.by_key[key_of(rest[0])] = Attributes(int(rest[2], 8), int(rest[3]), int(rest[4]), now, now, now)
         self.touch(key_of(rest[1]), now, content=True)
+
+    def _extended(self, key: int, now: int, words: list[bytes]) -> None:
+        self.touch(key, now, content=False)
+        it = self.by_key.get(key)
+        if it is None:
+            return
+        if not words:
+            it.extended = None
+        elif len(words) == 2:
+            it.extended = {**(it.extended or {}), unhexlify(words[0]): unhexlify(words[1][1:])}
+        elif it.extended:
+            it.extended.pop(unhexlify(words[0]), None)
 
     def _names(self, now: int, words: list[bytes]) -> None:
         for key in map(key_of, words):

@@ -5,10 +5,14 @@ from __future__ import annotations
 import os
 import subprocess
 import sys
+import threading
+from contextlib import suppress
 from pathlib import Path
+from typing import Optional
 
 from .._errors import ElephantError
 from .._journal import HEADER, Journal
+from .disk import make_private
 from .log import Log
 from .operations import Operations
 from .shorter import changes_in
@@ -31,6 +35,9 @@ class Rewriting:
         self._may_settle = may_settle
         """Whether what is being written may become a version for this."""
         self._tried = 0
+        self._turn = threading.Lock()
+        self._process: Optional[subprocess.Popen[str]] = None
+        self._is_stopped = False
         _clear(self.store.journal_path + SUFFIX)
 
     def _is_worth(self) -> bool:
@@ -51,8 +58,24 @@ class Rewriting:
         fault = self.run()
         return f"elephant-mount: {fault}\n" if fault else f"ok journal {before} {self.store.journal_size}\n"
 
+    def stop(self) -> None:
+        """Has the journal stay as it is from now on."""
+        self._is_stopped = True
+        process = self._process
+        if process is not None:
+            process.terminate()
+
     def run(self) -> str:
         """Makes the journal anew. Returns why that wasn't done, or an empty text."""
+        # Two at once would write one file.
+        if not self._turn.acquire(blocking=False):
+            return "it is being made anew already"
+        try:
+            return self._run()
+        finally:
+            self._turn.release()
+
+    def _run(self) -> str:
         with self.operations.lock:
             if self._may_settle:
                 self.operations.contents.settle_all()
@@ -69,39 +92,56 @@ class Rewriting:
         except (ElephantError, OSError) as lack:
             fault = str(lack)
         _clear(new)
-        if fault and fault != NOT_SHORTER:
+        if fault and fault != NOT_SHORTER and not self._is_stopped:
             self.log.say(f"the journal isn't made anew: {fault}")
         return fault
 
-    @staticmethod
-    def _make(path: str, size: int, new: str) -> str:
+    def _make(self, path: str, size: int, new: str) -> str:
         """Has another process make the new journal, while this one goes on. Returns what it lacks."""
+        make_private(new)
         words = [sys.executable, "-m", "elephant.mount.shorter", path, str(size), new]
         environment = {**os.environ, "PYTHONPATH": os.pathsep.join(filter(None, [SOURCE, os.environ.get("PYTHONPATH", "")]))}
-        ran = subprocess.run(words, env=environment, stdin=subprocess.DEVNULL, capture_output=True, text=True, check=False)
-        return "" if ran.returncode == 0 and ran.stdout == "ok\n" else ran.stderr.strip() or f"it ended with {ran.returncode}"
+        null, pipe = subprocess.DEVNULL, subprocess.PIPE
+        with subprocess.Popen(words, env=environment, stdin=null, stdout=pipe, stderr=pipe, text=True) as process:
+            self._process = process
+            if self._is_stopped:
+                process.terminate()
+            said, lack = process.communicate()
+            self._process = None
+        return "" if process.returncode == 0 and said == "ok\n" else lack.strip() or f"it ended with {process.returncode}"
 
     def _take(self, path: str, size: int, new: str) -> str:
         """Adds what came meanwhile to the new journal, and puts it in place of the old one. Returns why it doesn't."""
-        journal = Journal(new, False, 5.0)
+        journal, is_taken = Journal(new, False, 5.0), False
         try:
             for _ in journal.changes():
                 pass
             with self.operations.lock:
+                if self._is_stopped or self.store.is_closed or not self.store.has_place:
+                    return "the folder is unmounted, or its journal isn't at its place"
                 before = self.store.journal_size
                 if journal._size + before - size > 0.9 * before:
                     return NOT_SHORTER
                 for change in changes_in(path, size, before, self.store.checksum_at(size)):
                     journal.append(change)
                 journal.sync()
+                _give_rights(path, journal._file)
                 os.rename(new, path)
+                is_taken = True
                 self.store.change_journal(journal)
-                journal = None  # type: ignore[assignment]
             self.log.say(f"the journal was made anew: {before} bytes before, {self.store.journal_size} now")
             return ""
         finally:
-            if journal is not None:
+            if not is_taken:
                 journal.close()
+
+
+def _give_rights(path: str, file: int) -> None:
+    """Gives an open file the owner and the mode of another one."""
+    found = os.stat(path)
+    with suppress(PermissionError):
+        os.fchown(file, found.st_uid, found.st_gid)
+    os.fchmod(file, found.st_mode & 0o7777)
 
 
 def _clear(path: str) -> None:

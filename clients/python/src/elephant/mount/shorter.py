@@ -23,7 +23,7 @@ from .._journal import FIRST, HEADER, LAST, ONE, PREFIX, Journal
 from .._library import KeyRow
 from .._moments import LAST_MOMENT
 from .._replay import Replay, write_lines
-from .records import Records, file_key, whole
+from .records import Records, everything, file_key
 from .store import changed_parts
 
 Version = tuple[int, int]
@@ -103,6 +103,10 @@ class Census(Replay):
             self.removed.add((key.file, key.number))
             self.held.discard((key.file, key.number))
         return 0
+
+    def end(self) -> None:
+        """Frees the store: what was found of it stays."""
+        self._core.free()
 
     def needed(self) -> set[Version]:
         """Returns the versions whose contents the new journal needs: those that are held, and those that they are copies of."""
@@ -201,6 +205,7 @@ def shorten(old: str, size: int, new: str) -> None:
     census = Census(Core(Limits(), False))
     for change in changes_in(old, len(HEADER), size, first):
         census.run(change)
+    census.end()
     core = Core(Limits(), False)
     shortening = Shortening(core, Core(Limits(), False), census)
     journal = Journal(new, False, 0.0)
@@ -225,7 +230,7 @@ def _write(old: str, size: int, shortening: Shortening, journal: Journal, census
         if lines:
             journal.append(lines)
     files = {file_key(file) for file, _ in census.held}
-    remarks = [whole(key, it) for key, it in census.records.by_key.items() if key & 1 or key in files]
+    remarks = [line for key, it in census.records.by_key.items() if key & 1 or key in files for line in everything(key, it)]
     for start in range(0, len(remarks), REMARKS_AT_ONCE):
         journal.append(remarks[start:start + REMARKS_AT_ONCE])
     journal.sync()

@@ -2,19 +2,21 @@
 
 from __future__ import annotations
 
-import ctypes
 import os
-from collections.abc import Callable, Iterable, Sequence
+from collections.abc import Callable, Iterable, Iterator, Sequence
+from contextlib import contextmanager, suppress
 from typing import Any, NamedTuple, Optional
 
 from .._answers import Limits, Removable
 from .._core import Core
 from .._errors import ElephantError, JournalError, NoEntry
 from .._journal import Journal
-from .._library import NOW
+from .._library import NOW, library
 from .._moments import Moment
 from .._replay import Replay, write_lines
 from .._store import Store
+from .disk import FULL, make_private
+from .disk import allocate as _allocate
 from .records import Records
 
 BLOCK = 4096
@@ -22,14 +24,15 @@ BLOCK = 4096
 MOST_CHANGE = 16_384
 RESERVE_STEP = 1 << 20
 # No line of a journal is longer.
-MOST_LINE = 8300
-_KEEP_SIZE = 1
+MOST_LINE = 9000
 # Which counts a command takes one of.
 _TAKES = {
     b"create": ("files", "names", "versions"), b"mkdir": ("directories", "names"), b"link": ("names",), b"rename": ("names",),
     b"undelete": ("names",), b"open": ("handles",), b"revert": ("versions",), b"group make": ("groups",), b"group add": ("members",),
     b"mark": ("marks",),
 }
+# Lines that end no name and bring none back. A removal may, of the last version of a file without a name: `forget_names` is for that.
+_OF_CONTENTS = (b"# ", b"clock ", b"write ", b"truncate ", b"open ", b"close ", b"clean", b"pass ")
 Remarks = Callable[[int], Sequence[bytes]]
 
 
@@ -38,11 +41,11 @@ class NoSpace(Exception):
 
 
 class NotKept(JournalError):
-    """The journal can't be written. The store has what was asked of it, and the handle is open."""
+    """The journal can't be written. The store has what was asked of it, and answered `number`: a handle or a version."""
 
-    def __init__(self, subject: str, handle: int) -> None:
+    def __init__(self, subject: str, number: int) -> None:
         super().__init__(subject)
-        self.handle = handle
+        self.number = number
 
 
 class Departed(NamedTuple):
@@ -101,13 +104,17 @@ class _MountReplay(Replay):
         if word in (b"unlink", b"rename", b"rmdir"):
             self._store.note_end(self._core, paths[0])
         self._store.counts.take_line(line)
-        return super()._other(line)
+        if word != b"undelete":
+            return super()._other(line)
+        code: int = self._library.elephant_undelete(self._e, paths[0], len(paths[0]), self._core.number_at)
+        self._store.counts.used["versions"] += not code and self._core.number > 0
+        return code
 
 
 class MountStore(Store):
     """A store in a journal, with the records of a mount.
 
-    Many commands may be one change of the journal. `is_stopped` says why the journal can't be written, if it can't: what was answered
+    Many commands may be one change of the journal. `stopped` says why the journal can't be written, if it can't: what was answered
     before stays in memory, and is written as soon as that works again.
     """
 
@@ -119,10 +126,16 @@ class MountStore(Store):
         self.departed: dict[int, Departed] = {}
         self.stopped = ""
         """Why the journal can't be written, if it can't."""
-        self.changes = 0
+        self.name_changes = 0
+        """Goes up whenever a name may have ended, come back, or stopped being one that can come back."""
         self.unsynced = False
+        self._is_sync_lost = False
         self._unkept: list[Sequence[bytes]] = []
+        self._gathered: Optional[list[bytes]] = None
         self._reserved, self.pending = 0, 0
+        library()
+        with suppress(FileExistsError):
+            make_private(journal)
         super().__init__(journal, limits=limits, clock="system", fsync="sync")
         self.counts.used["versions"] += sum(it.version is not None for it in self.recovered.closed)
 
@@ -140,7 +153,10 @@ class MountStore(Store):
         if not self._is_clock_kept:
             lines = (b"clock %d" % self._now, *lines)
             self._is_clock_kept = True
-        self.changes += 1
+        if self._gathered is not None:
+            self._gathered += lines
+            return
+        self.name_changes += any(not line.startswith(_OF_CONTENTS) for line in lines)
         self.unsynced = True
         if self._unkept:
             self._unkept.append(lines)
@@ -152,6 +168,22 @@ class MountStore(Store):
             self._unkept.append(lines)
             self.stopped = str(fault)
             raise
+
+    def forget_names(self) -> None:
+        """Notes that a file without a name may have no version left."""
+        self.name_changes += 1
+
+    @contextmanager
+    def together(self) -> Iterator[None]:
+        """Has all that is changed within be one change of the journal: a kill leaves the whole of it, or nothing."""
+        with self._lock:
+            outer, self._gathered = self._gathered, []
+            try:
+                yield
+            finally:
+                lines, self._gathered = self._gathered, outer
+                if lines:
+                    self._keep(*lines)
 
     def _keep_close(self, handle: int, makes_version: bool) -> None:
         self.counts.used["versions"] += makes_version
@@ -166,15 +198,21 @@ class MountStore(Store):
     def retry(self) -> bool:
         """Writes what the journal lacks, if that works again. Returns whether it lacks nothing."""
         with self._lock:
+            if self._is_sync_lost:
+                return False
             try:
                 assert self._journal is not None
+                if os.fstat(self._journal._file).st_size != self._journal._size:
+                    # A write that failed has left some of its bytes, which would be damage in the middle of the journal.
+                    os.ftruncate(self._journal._file, self._journal._size)
+                    self._reserved = 0
                 while self._unkept:
                     self._journal.append(self._unkept[0])
                     for line in self._unkept.pop(0):
                         if line.startswith(b"# "):
                             self.records.apply(line[2:])
                 self.reserve(0)
-            except (JournalError, NoSpace):
+            except (JournalError, NoSpace, OSError):
                 return False
             self.stopped = ""
             return True
@@ -188,7 +226,7 @@ class MountStore(Store):
         file = self._journal._file
         for end in (wanted + RESERVE_STEP, wanted):
             fault = _allocate(file, self._journal._size, end - self._journal._size)
-            if fault != ENOSPC:  # some file systems can't reserve: then the first append that fails stops the changes
+            if fault not in FULL:  # some file systems can't reserve: then the first append that fails stops the changes
                 self._reserved = end
                 return
         raise NoSpace
@@ -196,10 +234,23 @@ class MountStore(Store):
     def sync_journal(self) -> None:
         """Has all that was answered on the disk."""
         with self._lock:
-            journal = self._journal
+            if self._is_sync_lost:
+                raise JournalError(self.stopped)
+            assert self._journal is not None
             self.unsynced = False
-        if journal is not None:
-            journal.sync()
+            self._sync(self._journal._file)
+
+    def _sync(self, file: int) -> None:
+        """Syncs the journal. If the disk fails, it may have dropped what it was given, and it says so once: no later sync mends that."""
+        try:
+            os.fdatasync(file)
+        except OSError as fault:
+            self._lose_sync(fault)
+
+    def _lose_sync(self, fault: OSError) -> None:
+        self._is_sync_lost = True
+        self.stopped = f"{self.journal_path} can't be synced, so the last changes may not be on its disk: {fault.strerror}"
+        raise JournalError(self.stopped) from fault
 
     def sync_journal_aside(self) -> None:
         """The same, without the lock: other calls go on meanwhile."""
@@ -208,7 +259,7 @@ class MountStore(Store):
             file = os.dup(self._journal._file)
             self.unsynced = False
         try:
-            os.fdatasync(file)
+            self._sync(file)
         finally:
             os.close(file)
 
@@ -245,8 +296,16 @@ class MountStore(Store):
             assert old is not None
             journal.path = path
             self._journal, self._reserved = journal, 0
-            journal._sync_folder()
             old.close()
+            try:
+                journal._sync_folder()
+            except OSError as fault:
+                self._lose_sync(fault)
+
+    def disk(self) -> os.statvfs_result:
+        """Returns how full the journal's disk is."""
+        assert self._journal is not None
+        return os.statvfs(self._journal._file)
 
     def release_reserve(self) -> None:
         """Gives back what was reserved and isn't used."""
@@ -375,8 +434,24 @@ class MountStore(Store):
         with self._lock, self._change as core:
             version = core.ask(core.library.elephant_close_handle, "", handle)
             self.counts.used["versions"] += bool(version)
-            self._keep(b"close %d" % handle, *remarks)
+            try:
+                self._keep(b"close %d" % handle, *remarks)
+            except JournalError as fault:
+                raise NotKept(str(fault), version) from fault
             return version
+
+    def undelete(self, path: bytes) -> Optional[int]:  # type: ignore[override]
+        """Brings a deleted name back. Returns the number of the version that a file gets which had no name, else None."""
+        version = super().undelete(path)
+        self.counts.take(b"undelete")
+        self.counts.used["versions"] += version is not None
+        return version
+
+    def revert(self, path: bytes, version: int) -> int:  # type: ignore[override]
+        """Makes an older content the newest version, and returns its number."""
+        made = super().revert(path, version)
+        self.counts.take(b"revert")
+        return made
 
     def open_reader(self, path: bytes, tag: int, number: int) -> int:
         """Opens a handle that keeps a version from being removed."""
@@ -416,13 +491,3 @@ def changed_parts(old: bytes, new: bytes, is_changed: bool) -> list[tuple[int, i
     if not parts and is_changed and new:
         return [(0, 1)]
     return parts
-
-
-ENOSPC = 28
-_libc = ctypes.CDLL(None, use_errno=True)
-_libc.fallocate.argtypes = [ctypes.c_int, ctypes.c_int, ctypes.c_int64, ctypes.c_int64]
-
-
-def _allocate(file: int, offset: int, length: int) -> int:
-    """Has the disk keep space for a file beyond its end. Returns 0, or why it doesn't."""
-    return 0 if _libc.fallocate(file, _KEEP_SIZE, offset, length) == 0 else ctypes.get_errno()

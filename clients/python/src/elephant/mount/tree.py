@@ -11,6 +11,7 @@ import stat
 from collections.abc import Iterator
 from typing import Any, Optional, Union
 
+from .._errors import NoEntry
 from .names import MOST_NAMES, TooLong, name_in, shown, spelled
 from .records import DIRECTORY_MODE, FILE_MODE, Attributes, directory_key, file_key, saved
 from .store import MountStore
@@ -139,7 +140,9 @@ class Tree:
     # Names.
 
     def add(self, parent: Directory, name: bytes, node: Union[File, Directory], spelling: Optional[bytes] = None) -> None:
-        """Gives a node a name."""
+        """Gives a node a name, also one that was let go when it lost another."""
+        self.by_ino[node.ino] = node
+        parent.left.pop(name, None)
         parent.children[name] = node
         parent.entry = node.entry = None
         if spelling is not None and spelled(name) != spelling:
@@ -190,6 +193,22 @@ class Tree:
         parent.entry = None
         self.add(new_parent, new_name, node)
 
+    def exchange(self, parent: Directory, name: bytes, new_parent: Directory, new_name: bytes) -> None:
+        """Gives each of two names what the other one has."""
+        places = (parent, name), (new_parent, new_name)
+        nodes = parent.children[name], new_parent.children[new_name]
+        for (folder, word), (new_folder, new_word), node in zip(places, reversed(places), nodes):
+            new_folder.children[new_word] = node
+            folder.entry = node.entry = None
+            if isinstance(node, File):
+                del node.names[folder, word]
+                node.names[new_folder, new_word] = None
+                continue
+            folder.subdirectories -= 1
+            new_folder.subdirectories += 1
+            node.parent, node.name = new_folder, new_word
+            self._set_path(node)
+
     def let_go(self, node: Node) -> None:
         """Drops a node that has no name, no opening, and that the kernel doesn't know."""
         has_name = bool(node.names) or node.opens > 0 if isinstance(node, File) else not getattr(node, "ended", False)
@@ -200,6 +219,9 @@ class Tree:
         """Has a node stand for another of the store's files. Its own attributes go with it."""
         if self.files.get(node.number) is node:
             del self.files[node.number]
+        old = file_key(node.number)
+        if self.records.of(old) is node.attributes:
+            self.records.by_key[old] = node.attributes.copy()  # that file may come back
         node.number = number
         self.files[number] = node
         self.records.by_key[file_key(number)] = node.attributes
@@ -225,10 +247,25 @@ class Tree:
                 yield child
                 yield from self.directories(child)
 
+    def refresh_file(self, directory: Directory, name: bytes) -> Iterator[tuple[Node, Optional[bytes]]]:
+        """The same for one name of a directory, if nothing else can differ: it takes no longer in a large tree."""
+        try:
+            row = self.store.stat_row(directory.path_of(name))
+            rows = {name: (directory.path_of(name).rpartition(b"/")[2], bool(row.is_directory), int(row.id))}
+        except NoEntry:
+            rows = {}
+        yield from self._refresh_names(directory, [name] if name in directory.children else [], rows, {})
+
     def _refresh(self, directory: Directory, known: dict[int, Directory]) -> Iterator[tuple[Node, Optional[bytes]]]:
         rows = {name_in(it[0]): it for it in self.store.names_in(directory.path or b"/")}
-        for name, node in list(directory.children.items()):
-            row = rows.get(name)
+        yield from self._refresh_names(directory, list(directory.children), rows, known)
+
+    def _refresh_names(
+        self, directory: Directory, names: list[bytes], rows: dict[bytes, tuple[bytes, bool, int]], known: dict[int, Directory]
+    ) -> Iterator[tuple[Node, Optional[bytes]]]:
+        """Looks at names that a directory has, and gives it those of the store's rows."""
+        for name in names:
+            node, row = directory.children[name], rows.get(name)
             if row is None or (isinstance(node, Directory), node.number) != row[1:]:
                 self.remove(directory, name)
                 yield directory, name
@@ -263,5 +300,6 @@ class Tree:
             return False
         node.size, node.version, node.entry = row.length, row.version, None
         node.attributes.mtime = node.attributes.ctime = now = row.closed * 10**9
-        self.store.keep(saved(file_key(node.number), now))
+        if not self.store.stopped:
+            self.store.keep(saved(file_key(node.number), now))
         return True

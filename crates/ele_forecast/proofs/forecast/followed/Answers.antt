@@ -1,5 +1,5 @@
 use Rattle.std.proofs.Common.{ℕ, Bool, Option, Some, None, sym, subst, ◌∙◌}
-use Rattle.ele_policy.specs.Ripe.{IsRipe, case_of}
+use Rattle.ele_policy.specs.RipeCase.{IsRipe, case_of}
 use Rattle.ele_forecast.specs.declared.forecast.Why.TheVariants.{Goes, Never}
 use Rattle.ele_forecast.proofs.Followed.{goes_for, has_ended, tells_of, told_alone}
 use Rattle.ele_forecast.proofs.forecast.followed.Goals as goal

@@ -6,6 +6,6 @@ pub returns-then-is_empty : goal.returns-then-is_empty
 returns-then-is_empty g c =
     rw (sym c.words.ensures, one_word _ _ (sym c.is_empty.ensures ∙ c.if-is_empty.true)) (rw c.as_bytes.ensures.value at c.put.ensures)
 
-pub returns : goal.returns
-returns g c =
-    rw (sym c.words.ensures, two_words _ _ (sym c.is_empty.ensures ∙ c.if-is_empty.false)) (rw (c.as_bytes-2.ensures.value, c.as_bytes-3.ensures.value) at c.put_words.ensures)
+pub returns-else-is_empty : goal.returns-else-is_empty
+returns-else-is_empty g c =
+    rw (sym c.words.ensures, two_words _ _ (sym c.is_empty.ensures ∙ c.if-is_empty.false)) (rw (c.as_bytes-else-is_empty.ensures.value, c.as_bytes-else-is_empty-2.ensures.value) at c.put_words.ensures)

@@ -1,16 +1,12 @@
 use Rattle.ele_printer.proofs.Basics.{[], ◌∷◌}
-use Rattle.ele_printer.proofs.Known.{puts_then, puts_err}
 use Rattle.ele_printer.proofs.Words.{parts_more}
 use Rattle.ele_printer.specs.Value.{Bytes, Handle, Number}
 use Rattle.ele_printer.specs.declared.command.Command.TheVariants.{Write}
+use Rattle.ele_output.proofs.Known.{puts_as, puts_then}
+use Rattle.std.proofs.Common.{sym}
 use Rattle.ele_printer.proofs.event.put_write.Goals as goal
-
-pub returns-in_err-put_two : goal.returns-in_err-put_two
-returns-in_err-put_two g c =
-    let put = c.in_err-put_two.ensures in
-    record { text = puts_err _ c.from_residual.result (parts_more Write (Handle c.args.handle.now ∷ Number c.args.offset.now ∷ []) (Bytes c.args.bytes.now)) c.from_residual.ensures.0 put.text; values = (put.values.0, (put.values.1.0, (c.lemma_bytes.ensures, tt))) }
 
 pub returns : goal.returns
 returns g c =
-    let put = c.in_ok-put_two.ensures in
-    record { text = puts_then _ _ c.put_byte_word.result (parts_more Write (Handle c.args.handle.now ∷ Number c.args.offset.now ∷ []) (Bytes c.args.bytes.now)) put.text c.put_byte_word.ensures; values = (put.values.0, (put.values.1.0, (c.lemma_bytes.ensures, tt))) }
+    let put = c.put_two.ensures in
+    record { text = puts_as (sym (parts_more Write (Handle c.args.handle.now ∷ Number c.args.offset.now ∷ []) (Bytes c.args.bytes.now))) (puts_then put.text c.put_byte_word.ensures); values = (put.values.0, (put.values.1.0, (c.lemma_bytes.ensures, tt))) }

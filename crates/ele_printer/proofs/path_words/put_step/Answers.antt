@@ -1,9 +1,5 @@
-use Rattle.ele_printer.proofs.Basics.{refl}
-use Rattle.ele_printer.proofs.Known.{puts_then, puts_err}
+use Rattle.ele_output.proofs.Known.{puts_then}
 use Rattle.ele_printer.proofs.path_words.put_step.Goals as goal
 
-pub returns-in_err-put : goal.returns-in_err-put
-returns-in_err-put g c = puts_err _ c.from_residual.result refl c.from_residual.ensures.0 c.in_err-put.ensures
-
 pub returns : goal.returns
-returns g c = puts_then _ _ c.put-2.result refl c.in_ok-put.ensures c.put-2.ensures
+returns g c = puts_then c.put.ensures c.put-2.ensures

@@ -12,16 +12,16 @@ pub returns-in-Now : goal.returns-in-Now
 returns-in-Now g c = rw c.in-Now.is (_, (_, c.text.ensures.spells, refl), rw c.seconds.ensures.value at c.put_now.ensures)
 
 pub returns-in-Directory : goal.returns-in-Directory
-returns-in-Directory g c = rw c.in-Directory.is (_, refl, rw c.directory.view_is at c.put_number.ensures)
+returns-in-Directory g c = rw c.in-Directory.is (_, refl, rw c.directory.view_is at c.put_number_line.ensures)
 
 pub returns-in-File : goal.returns-in-File
-returns-in-File g c = rw c.in-File.is (_, refl, rw c.file.view_is at c.put_number-in-File.ensures)
+returns-in-File g c = rw c.in-File.is (_, refl, rw c.file.view_is at c.put_number_line-in-File.ensures)
 
 pub returns-in-Handle : goal.returns-in-Handle
-returns-in-Handle g c = rw c.in-Handle.is (_, refl, rw c.handle.view_is at c.put_number-in-Handle.ensures)
+returns-in-Handle g c = rw c.in-Handle.is (_, refl, rw c.handle.view_is at c.put_number_line-in-Handle.ensures)
 
 pub returns-in-Version : goal.returns-in-Version
-returns-in-Version g c = rw c.in-Version.is (_, refl, rw c.number.view_is at c.put_number-in-Version.ensures)
+returns-in-Version g c = rw c.in-Version.is (_, refl, rw c.number.view_is at c.put_number_line-in-Version.ensures)
 
 pub returns-in-Closed : goal.returns-in-Closed
 returns-in-Closed g c = rw c.in-Closed.is (_, refl, c.put_closed.ensures)

@@ -1,9 +1,5 @@
-use Rattle.ele_printer.proofs.Basics.{refl}
-use Rattle.ele_printer.proofs.Known.{puts_then, puts_err}
+use Rattle.ele_output.proofs.Known.{puts_then}
 use Rattle.ele_printer.proofs.rows.put_ladder.Goals as goal
 
-pub returns-in_err-put : goal.returns-in_err-put
-returns-in_err-put g c = puts_err _ c.from_residual.result refl c.from_residual.ensures.0 c.in_err-put.ensures
-
 pub returns : goal.returns
-returns g c = puts_then _ _ c.put_pairs.result refl c.in_ok-put.ensures (rw c.pairs.ensures.value at c.put_pairs.ensures)
+returns g c = puts_then c.put.ensures (rw c.pairs.ensures.value at c.put_pairs.ensures)

@@ -1,6 +1,13 @@
-use Rattle.ele_printer.proofs.Basics.{rules}
-use Rattle.ele_printer.proofs.Known.{answer_over}
+use Rattle.std.proofs.Common.{rules}
+use Rattle.ele_output.specs.Prints.{outlet}
+use Rattle.ele_output.proofs.Known.{handed_over}
 use Rattle.ele_printer.proofs.text.write_reply.Goals as goal
 
-pub returns-clause-err : goal.returns-clause-err
-returns-clause-err g c = let p = c.in_ok-put_reply.ensures in answer_over _ _ _ _ _ _ _ c.hand_over.result c.new-printer.ensures.held p.1 p.2 c.hand_over.ensures c.new-printer.ensures.known (search rules)
+pub returns : goal.returns
+returns g c =
+    let put = c.put_reply.ensures in
+    record {
+      text = put.0;
+      is = put.1;
+      written = handed_over (outlet g.W.Write.contents c.new-printer.result) _ (outlet g.W.Write.contents c.hand_over.new.self) c.hand_over.result c.new-printer.ensures.held put.2 c.hand_over.ensures c.new-printer.ensures.known (search rules);
+    }

@@ -12,7 +12,7 @@ pieces-init g c = ran_none _ _ _ _ c.new-buffer.ensures c.requires.none c.requir
 pub returns-in_err-hand_over : goal.returns-in_err-hand_over
 returns-in_err-hand_over g c =
     let p = err_from_is_err_and c.from_residual.result c.from_residual.ensures.1 in
-    rw (p.1, p.2) (c.in_err-hand_over.ensures.0 ∙ c.pieces.invariant.put.same, ends_over c.pieces.invariant (outlet g.W.Write.contents c.hand_over.new.self) c.in_err-hand_over.ensures.1)
+    rw (p.1, p.2) (c.in_err-hand_over.ensures.same ∙ c.pieces.invariant.put.same, ends_over c.pieces.invariant (outlet g.W.Write.contents c.hand_over.new.self) c.in_err-hand_over.ensures)
 
 pub returns-in_err-count : goal.returns-in_err-count
 returns-in_err-count g c =
@@ -25,14 +25,14 @@ returns-in_err-finish g c =
     let p = err_from_is_err_and c.from_residual-in_err-finish.result c.from_residual-in_err-finish.ensures.1 in
     let ran = ran_over c.pieces.invariant c.in_ok-hand_over.ensures in
     let none = nothing_read _ _ _ _ _ c.in_ok-count.ensures c.if-count-eq0.true in
-    rw (p.1, p.2) (c.in_err-finish.ensures.last.0 ∙ ran.put.same, ends_in_cut ran _ _ (outlet g.W.Write.contents c.finish.new.printer) c.in_ok-hand_over.ensures.1 none.0 none.1 c.in_err-finish.ensures.last.1 c.in_err-finish.ensures.noted)
+    rw (p.1, p.2) (c.in_err-finish.ensures.last.1.same ∙ ran.put.same, ends_in_cut ran _ _ (outlet g.W.Write.contents c.finish.new.printer) none.0 none.1 c.in_err-finish.ensures.last.1 c.in_err-finish.ensures.noted)
 
 pub returns-then-count-eq0 : goal.returns-then-count-eq0
 returns-then-count-eq0 g c =
     let ran = ran_over c.pieces.invariant c.in_ok-hand_over.ensures in
     let none = nothing_read _ _ _ _ _ c.in_ok-count.ensures c.if-count-eq0.true in
     let done = c.in_ok-finish.ensures.last in
-    (done.0 ∙ ran.put.same, ends_by ran _ _ (outlet g.W.Write.contents c.finish.new.printer) _ _ c.in_ok-hand_over.ensures.1 none.0 none.1 done.1 done.2 done.3 c.in_ok-finish.ensures.noted)
+    (done.1.0.same ∙ ran.put.same, ends_by ran _ _ (outlet g.W.Write.contents c.finish.new.printer) _ _ none.0 none.1 done.0.0 done.0.1 done.1 c.in_ok-finish.ensures.noted)
 
 pub returns-then-left-eq0 : goal.returns-then-left-eq0
 returns-then-left-eq0 g c =
@@ -52,7 +52,7 @@ returns-in_err-hand_over-2 g c =
     let ran = ran_over c.pieces.invariant c.in_ok-hand_over.ensures in
     let did = last_of _ (sym c.has_ended.ensures ∙ c.if-has_ended.true) (c.in_ok-answer_piece.ensures ran.part ran.are.cut ran.keeps) in
     let over = c.in_err-hand_over-2.ensures in
-    rw (p.1, p.2) (over.0 ∙ did.put.same ∙ ran.put.same, ends_in_last ran _ _ _ (outlet g.W.Write.contents c.hand_over-then-has_ended.new.self) _ _ c.in_ok-count.ensures.1 did over)
+    rw (p.1, p.2) (over.same ∙ did.put.same ∙ ran.put.same, ends_in_last ran _ _ _ (outlet g.W.Write.contents c.hand_over-then-has_ended.new.self) _ _ c.in_ok-count.ensures.1 did over)
 
 pub returns-then-has_ended : goal.returns-then-has_ended
 returns-then-has_ended g c =
@@ -60,7 +60,7 @@ returns-then-has_ended g c =
     let did = last_of _ (sym c.has_ended.ensures ∙ c.if-has_ended.true) (c.in_ok-answer_piece.ensures ran.part ran.are.cut ran.keeps) in
     let over = c.in_ok-hand_over-2.ensures in
     rw (c.ended_by.ensures.lines, c.ended_by.ensures.line)
-    (over.0 ∙ did.put.same ∙ ran.put.same, ends_last ran _ _ _ (outlet g.W.Write.contents c.hand_over-then-has_ended.new.self) _ _ c.in_ok-count.ensures.1 did over)
+    (over.0.same ∙ did.put.same ∙ ran.put.same, ends_last ran _ _ _ (outlet g.W.Write.contents c.hand_over-then-has_ended.new.self) _ _ c.in_ok-count.ensures.1 did over)
 
 pub pieces-preserved : goal.pieces-preserved
 pieces-preserved g c =

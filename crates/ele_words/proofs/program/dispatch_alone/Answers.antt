@@ -1,5 +1,5 @@
 use Rattle.std.proofs.KnownBytes.{Keeps-refl}
-use Rattle.ele_words.proofs.Flushed.{written_flushed}
+use Rattle.ele_output.proofs.Known.{front_flushed}
 use Rattle.ele_words.proofs.program.dispatch_alone.Goals as goal
 
 pub returns-in-Run : goal.returns-in-Run
@@ -32,7 +32,7 @@ returns-in-NotUnderstood g c =
     rw c.in-NotUnderstood.is (
       Keeps-refl _,
       Keeps-refl _,
-      rw c.as_bytes.ensures.value at (written_flushed _ _ _ _ c.put.result c.put.ensures.ok c.put.ensures.err c.flush.ensures.bytes),
+      rw c.as_bytes.ensures.value at (front_flushed _ _ _ _ c.write_all.result c.write_all.ensures c.flush.ensures.bytes),
       c.status.ensures,
     )
 

@@ -4,4 +4,4 @@ use Rattle.ele_words.proofs.program.write_text.Goals as goal
 
 pub returns : goal.returns
 returns g c =
-    rw c.as_bytes.ensures.value at (text_flushed _ _ _ _ _ (is_ok c.flush-flushed.result) c.after_flush.result c.in_ok-written.ensures.ok c.flush-flushed.ensures.bytes c.after_flush.ensures)
+    rw c.as_bytes.ensures.value at (text_flushed _ _ _ _ _ (is_ok c.flush-flushed.result) c.after_flush.result c.in_ok-written.ensures c.flush-flushed.ensures.bytes c.after_flush.ensures)

@@ -5,8 +5,8 @@ use Rattle.ele_words.proofs.strict.tell_line.Goals as goal
 
 pub returns-then-is_err : goal.returns-then-is_err
 returns-then-is_err g c =
-    end_cut _ _ c.args.number c.args.line.now c.shown-text.result.now (why_line c.args.number c.args.why) c.write_placed.result c.shown-text.ensures c.write_placed.ensures.err (sym c.is_err.ensures.value ∙ c.if-is_err.true)
+    end_cut _ _ c.args.number c.args.line.now c.shown-text.result.now (why_line c.args.number c.args.why) c.write_placed.result c.shown-text.ensures c.write_placed.ensures
 
 pub returns : goal.returns
 returns g c =
-    end_then _ _ _ c.args.number c.args.line.now c.shown-text.result.now (why_line c.args.number c.args.why) c.write_placed.result c.shown-text.ensures c.write_placed.ensures.ok (sym c.is_err.ensures.value ∙ c.if-is_err.false) c.tell_why.ensures
+    end_then _ _ _ c.args.number c.args.line.now c.shown-text.result.now (why_line c.args.number c.args.why) c.write_placed.result c.shown-text.ensures c.write_placed.ensures (sym c.is_err.ensures.value ∙ c.if-is_err.false) c.tell_why.ensures

@@ -9,9 +9,9 @@ loop-preserved g c = (
   tt,
   tt,
   looked_further _ _ _ c.loop.invariant.2 c.in-Ok.ensures.looked,
-  tells_next _ _ _ _ _ c.loop.invariant.3 (seen_more _ _ c.in-Ok.ensures.looked) c.in-Ok.ensures.ok,
+  tells_next _ _ _ _ _ c.loop.invariant.3 (seen_more _ _ c.in-Ok.ensures.looked) c.in-Ok.ensures.told,
 )
 
 pub returns-in_default-clause-progress : goal.returns-in_default-clause-progress
 returns-in_default-clause-progress g c =
-    shows_front _ _ _ _ _ c.loop.invariant.3 (seen_more _ _ c.in_default.ensures.looked) c.in_default.ensures.err
+    shows_front _ _ _ _ _ c.loop.invariant.3 (seen_more _ _ c.in_default.ensures.looked) c.in_default.ensures.told

@@ -1,0 +1,98 @@
+"""How a request of the kernel is answered: under one lock, and with an error number for what it raises."""
+
+from __future__ import annotations
+
+import errno
+import functools
+import os
+import threading
+import traceback
+from typing import Any, Callable
+
+import pyfuse3
+
+from .._errors import ElephantError, Full, JournalError, NoMemory
+from .contents import Limited, TooBig
+from .disk import FULL
+from .log import Log
+from .names import TooLong, shown
+from .naming import TooMuch
+from .store import MountStore, NoSpace
+
+_ERRNOS = {
+    5: errno.ENOENT, 6: errno.ENOTDIR, 7: errno.EISDIR, 8: errno.EEXIST, 9: errno.ENOTEMPTY, 10: errno.EINVAL, 11: errno.EBUSY,
+    12: errno.ENOENT, 13: errno.ENODATA, 14: errno.ENOENT, 15: errno.EBADF, 17: errno.EFBIG, 18: errno.EBUSY, 19: errno.ENOENT,
+    27: errno.ENOSPC, 28: errno.ENAMETOOLONG, 29: errno.ENAMETOOLONG, 1: errno.ENOMEM,
+}
+
+
+class Answering(pyfuse3.Operations):  # type: ignore[misc]
+    """What requests are answered with: the store, the log and the lock."""
+
+    def __init__(self, store: MountStore, log: Log) -> None:
+        super().__init__()
+        self.store, self.log = store, log
+        self.lock = threading.RLock()
+
+    def errno_of(self, fault: Exception) -> int:
+        """Returns the error number of what a request raised, and logs what its caller can't see from that."""
+        if isinstance(fault, NoSpace):
+            if not self.store.stopped:
+                self.store.stopped = "the disk of the journal is full"
+                self.log.say(f"{self.store.stopped}: the folder is read-only until there is space again")
+            return errno.ENOSPC
+        if isinstance(fault, JournalError):
+            self.log.say_once(f"the folder is read-only: {fault}")
+            return next((number for number in FULL if os.strerror(number) in str(fault)), errno.EIO)
+        if isinstance(fault, Full):
+            limit = fault.what
+            return self.errno_of(Limited(limit, getattr(self.store.counts.limits, limit)))
+        if isinstance(fault, (Limited, TooBig, TooLong, TooMuch)):
+            where = f"{shown(fault.node.path)}: " if isinstance(fault, TooBig) and fault.node.names else ""
+            self.log.say_once(f"refused: {where}{fault.strerror}")
+        elif isinstance(fault, NoMemory):
+            self.log.say("refused: there is no memory")
+        if isinstance(fault, ElephantError):
+            return _ERRNOS.get(fault.number, errno.EIO)
+        assert isinstance(fault, OSError)
+        return fault.errno or errno.EIO
+
+    def follow_store(self) -> None:
+        """Brings the names to those of the store, which has done what the journal couldn't take: all files can be read meanwhile."""
+
+    def require_writable(self) -> None:
+        if self.store.stopped:
+            raise OSError(errno.EROFS, self.store.stopped)
+        self.store.reserve(0)
+
+
+def answered(method: Callable[..., Any]) -> Callable[..., Any]:
+    """Has a method answer a request of the kernel: under the lock, and with an error number for what it raises."""
+
+    @functools.wraps(method)
+    async def call(self: Answering, *words: Any) -> Any:
+        try:
+            with self.lock:
+                return method(self, *words)
+        except (OSError, ElephantError, NoSpace) as fault:
+            raise pyfuse3.FUSEError(self.errno_of(fault)) from None
+        except Exception:
+            # A fault of this program: this request fails, and the others go on.
+            self.log.say(f"a fault in {method.__name__}: {traceback.format_exc()}")
+            raise pyfuse3.FUSEError(errno.EIO) from None
+
+    return call
+
+
+def changing(method: Callable[..., Any]) -> Callable[..., Any]:
+    """The same for a request that changes something, which a mount that is read-only refuses."""
+
+    def checked(self: Answering, *words: Any) -> Any:
+        self.require_writable()
+        try:
+            return method(self, *words)
+        except JournalError:
+            self.follow_store()
+            raise
+
+    return answered(functools.wraps(method)(checked))

@@ -1,0 +1,4 @@
+-- what the words of a line come to
+pub mod Known
+-- dates, one after another
+mod Dates

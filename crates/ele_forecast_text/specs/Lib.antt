@@ -1,0 +1,3 @@
+pub mod Stamp
+pub mod Table
+pub mod Why

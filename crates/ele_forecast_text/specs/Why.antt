@@ -1,0 +1,86 @@
+-- Why a version may be forgotten or stays, in words.
+use Rattle.std.specs.Prelude.{ℕ, ◌+◌, ◌/◌, ◌%◌, ◌==◌, nat_le, Bool, false, List, [], ◌∷◌, codes, decimal, Option, if◌then◌else◌}
+use Rattle.std.specs.List.{flat_map}
+use Rattle.std.specs.Option.{option_map_or}
+use Rattle.ele_moment.specs.Last.{last_moment}
+use Rattle.ele_policy.specs.Ladder.{Rung, rung_at}
+use Rattle.ele_policy.specs.declared.cause.Cause.{Cause}
+use Rattle.ele_policy.specs.declared.cause.Cause.TheVariants.{AtOnce, Age, Displaced}
+use Rattle.ele_policy.specs.declared.policy.Policy.{Policy}
+use Rattle.ele_policy.specs.declared.policy.Policy.TheVariants as policy
+use Rattle.ele_forecast.specs.declared.forecast.Why.{Why}
+use Rattle.ele_forecast.specs.declared.forecast.Why.TheVariants.{Current, Never, Goes}
+use Rattle.ele_forecast_text.specs.declared.unit.TimeUnit.{TimeUnit}
+use Rattle.ele_forecast_text.specs.declared.unit.TimeUnit.TheVariants.{Day, Hour, Minute, Second}
+
+abbrev pub unit_seconds : TimeUnit → ℕ
+unit_seconds Day = 86400
+unit_seconds Hour = 3600
+unit_seconds Minute = 60
+unit_seconds Second = 1
+
+abbrev pub one_word : TimeUnit → List ℕ
+one_word Day = codes "day"
+one_word Hour = codes "hour"
+one_word Minute = codes "minute"
+one_word Second = codes "second"
+
+abbrev pub many_word : TimeUnit → List ℕ
+many_word Day = codes "days"
+many_word Hour = codes "hours"
+many_word Minute = codes "minutes"
+many_word Second = codes "seconds"
+
+-- the largest unit of which the seconds are a multiple
+abbrev pub unit_of : ℕ → TimeUnit
+unit_of seconds =
+    if seconds % 86400 == 0 then Day else (if seconds % 3600 == 0 then Hour else (if seconds % 60 == 0 then Minute else Second))
+
+-- how many of these
+abbrev pub count_of : ℕ → ℕ
+count_of seconds = seconds / unit_seconds (unit_of seconds)
+
+-- a length of time, as `1 day` and `90 minutes`
+abbrev pub length_words : ℕ → List (List ℕ)
+length_words seconds =
+    let unit = unit_of seconds in
+    decimal (count_of seconds) ∷ (if count_of seconds == 1 then one_word unit else many_word unit) ∷ []
+
+-- a span, as in the same `day` and in the same `7 days`
+abbrev pub span_words : ℕ → List (List ℕ)
+span_words seconds = if count_of seconds == 1 then one_word (unit_of seconds) ∷ [] else length_words seconds
+
+-- the width of the spans at that level of a ladder
+abbrev pub width_of : List Rung → ℕ → ℕ
+width_of rungs level = option_map_or (λ rung. rung.1) (rung_at rungs level) 0
+
+abbrev pub width_at : Policy → ℕ → ℕ
+width_at (policy.Landmarks rungs) level = width_of rungs level
+width_at other level = 0
+
+-- so many seconds after the end, if there is one, are no later than the last moment
+abbrev pub is_in_time : Option ℕ → ℕ → Bool
+is_in_time ended seconds = option_map_or (λ e. nat_le (e + seconds) last_moment) ended false
+
+-- why a version that ended then is never let go
+abbrev pub never_word : Policy → Option ℕ → List ℕ
+never_word policy.All ended = codes "all are kept"
+never_word (policy.Landmarks rungs) ended = codes "kept as a landmark"
+never_word (policy.Safe seconds floor) ended = if is_in_time ended seconds then codes "kept by the floor" else codes "not before the year 10000"
+never_word policy.One ended = codes "not before the year 10000"
+
+-- why a policy lets a version go
+abbrev pub cause_words : Policy → Cause → List (List ℕ)
+cause_words policy AtOnce = codes "only the current one is kept" ∷ []
+cause_words policy (Age seconds) = codes "ended for" ∷ length_words seconds
+cause_words policy (Displaced level by) =
+    codes "version" ∷ decimal by ∷ codes "closed in the same" ∷ span_words (width_at policy level)
+
+abbrev pub why_words : Policy → Option ℕ → Why → List (List ℕ)
+why_words policy ended Current = codes "current" ∷ []
+why_words policy ended Never = never_word policy ended ∷ []
+why_words policy ended (Goes cause) = cause_words policy cause
+
+-- each word with a space (32) in front
+abbrev pub spaced : List (List ℕ) → List ℕ
+spaced words = flat_map (λ word. 32 ∷ word) words

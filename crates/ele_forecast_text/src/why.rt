@@ -1,0 +1,125 @@
+//! Why a version may be forgotten or stays, in words. A contract sees these, and a printer as its
+//! outlet.
+ghost use Rattle.std.specs.Prelude.{◌≡◌, ◌∷◌, codes, decimal};
+ghost use Rattle.std.specs.List.{join_with_byte};
+ghost use Rattle.ele_output.specs.Prints.{Prints};
+ghost use Rattle.ele_forecast_text.specs.Why.{cause_words, is_in_time, length_words, never_word, spaced, span_words, width_at, width_of, why_words};
+
+use crate::unit::{count_of, unit_of};
+use ele_forecast::Why;
+use ele_moment::Moment;
+use ele_output::{Printer, put_word, put_words};
+use ele_policy::{Cause, Policy};
+use itoa::Buffer;
+use std::io::Write;
+
+/// Puts a space and each of the words.
+pub(crate) fn put_why<W: Write>(
+    policy: &Policy,
+    ended: Option<Moment>,
+    why: Why,
+    printer: &mut Printer<'_, W>,
+)
+    ensures { Prints W.contents printer.old printer.new (spaced (why_words policy.now ended why)) }
+{
+    match why {
+        Why::Current => put_word(b"current", printer),
+        Why::Never => put_word(never_word(policy, ended), printer),
+        Why::Goes(cause) => put_cause(policy, cause, printer),
+    }
+}
+
+// Puts why a policy lets a version go.
+fn put_cause<W: Write>(policy: &Policy, cause: Cause, printer: &mut Printer<'_, W>)
+    ensures { Prints W.contents printer.old printer.new (spaced (cause_words policy.now cause)) }
+{
+    match cause {
+        Cause::AtOnce => put_word(b"only the current one is kept", printer),
+        Cause::Age(interval) => put_length(b" ended for", interval.seconds(), printer),
+        Cause::Displaced { level, by } => put_displaced(by.0, width_at(policy, level), printer),
+    }
+}
+
+// Why a policy never lets a version go that ended then.
+fn never_word(policy: &Policy, ended: Option<Moment>) -> &'static [u8]
+    ensures { result.now ≡ never_word policy.now ended }
+{
+    match policy {
+        Policy::All => b"all are kept",
+        Policy::Landmarks(_) => b"kept as a landmark",
+        Policy::Safe(interval, _) if is_in_time(ended, interval.seconds()) => b"kept by the floor",
+        Policy::One | Policy::Safe(_, _) => b"not before the year 10000",
+    }
+}
+
+// Whether so many seconds after an end are no later than the last moment.
+fn is_in_time(ended: Option<Moment>, seconds: u64) -> bool
+    ensures { result ≡ is_in_time ended seconds }
+{
+    match ended {
+        Some(ended) => ended.plus(seconds).is_some(),
+        None => false,
+    }
+}
+
+/// Puts what stands in front, and a length of time.
+pub fn put_length<W: Write>(front: &[u8], seconds: u64, printer: &mut Printer<'_, W>)
+    ensures { Prints W.contents printer.old printer.new
+        (join_with_byte 32 (front.now ∷ length_words seconds)) }
+{
+    let mut digits = Buffer::new();
+    let unit = unit_of(seconds);
+    let count = count_of(seconds);
+    let name = if count == 1 { unit.one() } else { unit.many() };
+    put_words(
+        front,
+        &[digits.format(count).as_bytes(), name.as_bytes()],
+        printer,
+    );
+}
+
+// Puts that the version of that number closed in the same span of that width.
+fn put_displaced<W: Write>(by: u64, width: u64, printer: &mut Printer<'_, W>)
+    ensures { Prints W.contents printer.old printer.new
+        (spaced (codes "version" ∷ decimal by ∷ codes "closed in the same" ∷ span_words width)) }
+{
+    let mut by_digits = Buffer::new();
+    let mut digits = Buffer::new();
+    let by = by_digits.format(by).as_bytes();
+    let unit = unit_of(width);
+    let count = count_of(width);
+    if count == 1 {
+        let name = unit.one().as_bytes();
+        return put_words(b" version", &[by, b"closed in the same", name], printer);
+    }
+    let count = digits.format(count).as_bytes();
+    let name = unit.many().as_bytes();
+    put_words(
+        b" version",
+        &[by, b"closed in the same", count, name],
+        printer,
+    );
+}
+
+// The width of the spans at that level of the pairs of a ladder.
+fn width_of(pairs: &[(u64, u64)], level: usize) -> u64
+    ensures { result ≡ width_of pairs.now level }
+{
+    let Some(place) = level.checked_sub(1) else {
+        return 0;
+    };
+    match pairs.get(place) {
+        Some(rung) => rung.1,
+        None => 0,
+    }
+}
+
+// The width of the spans at that level of a policy.
+fn width_at(policy: &Policy, level: usize) -> u64
+    ensures { result ≡ width_at policy.now level }
+{
+    match policy {
+        Policy::Landmarks(ladder) => width_of(ladder.pairs(), level),
+        Policy::One | Policy::All | Policy::Safe(_, _) => 0,
+    }
+}

@@ -1,9 +1,0 @@
-use Rattle.ele_printer.proofs.Known.{puts_err, puts_then}
-use Rattle.ele_printer.proofs.Basics.{refl}
-use Rattle.ele_printer.proofs.printer.put_line.Goals as goal
-
-pub returns-in_err-put_words : goal.returns-in_err-put_words
-returns-in_err-put_words g c = puts_err _ c.from_residual.result refl c.from_residual.ensures.0 c.in_err-put_words.ensures
-
-pub returns : goal.returns
-returns g c = puts_then _ _ c.put_byte.result refl c.in_ok-put_words.ensures c.put_byte.ensures

@@ -1,9 +1,0 @@
-use Rattle.ele_printer.proofs.Known.{puts_err, puts_then}
-use Rattle.ele_printer.proofs.Basics.{refl}
-use Rattle.ele_printer.proofs.rows.put_listed.Goals as goal
-
-pub returns-in_err-put : goal.returns-in_err-put
-returns-in_err-put g c = puts_err _ c.from_residual.result refl c.from_residual.ensures.0 c.in_err-put.ensures
-
-pub returns : goal.returns
-returns g c = puts_then _ _ c.put_number_word.result refl c.in_ok-put.ensures c.put_number_word.ensures
