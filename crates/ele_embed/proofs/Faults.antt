@@ -7,6 +7,6 @@ use Rattle.ele_printer.specs.declared.fault.LineFault.TheVariants.{NoMemory}
 use Rattle.ele_script.specs.FirstFault.{IsFirstFault}
 
 -- it is the first one, unless it is want of memory
-pub first_fault : (line : List ℕ) (fault : LineFault) → (fault ≡ NoMemory) ⊎ IsFirstFault line fault → fault ≢ NoMemory → IsPlainFault line fault
+pub first_fault : (line : List ℕ) (fault : LineFault) → (fault ≡ NoMemory) ⊎ IsFirstFault true line fault → fault ≢ NoMemory → IsPlainFault line fault
 first_fault line fault (inl memory) other = absurd (other memory)
 first_fault line fault (inr first) other = inl first

@@ -1,16 +1,15 @@
 -- What a store is asked to do, and what it says and leaves.
-use Rattle.std.specs.Prelude.{◌≡◌, ℕ, ◌≤◌, Bool, true, false, length, List, Option, Some, None, Result, Ok, Err}
+use Rattle.std.specs.Prelude.{◌≡◌, ℕ, Bool, true, false, List, Option, Some, None, Result, Ok, Err}
 use Rattle.ele_core.specs.Copies.{Copies}
 use Rattle.ele_core.specs.Stopped.{is_stopped}
 use Rattle.ele_embed.specs.Embedding.{Embedding, State, Plain, Recorded, past_in, world_in}
 use Rattle.ele_files.specs.declared.files.reading.Copied.{Copied}
 use Rattle.ele_history.specs.Pass.{MayPass}
-use Rattle.ele_history.specs.Past.{Past, HasRoom, recorded, trimmed}
-use Rattle.ele_history.specs.Reply.{MayStop}
+use Rattle.ele_history.specs.Past.{Past}
 use Rattle.ele_model.specs.Pass.{EndsPass}
 use Rattle.ele_model.specs.Ready.{takes_no_memory}
 use Rattle.ele_model.specs.Step.{step}
-use Rattle.ele_model.specs.Why.{IsAhead, IsWhy}
+use Rattle.ele_model.specs.Why.{IsWhy}
 use Rattle.ele_model.specs.World.{World}
 use Rattle.ele_model.specs.declared.event.Event.{Event}
 use Rattle.ele_model.specs.declared.event.Source.{Source}
@@ -20,8 +19,9 @@ use Rattle.ele_model.specs.declared.refusal.Stop.TheVariants.{NoMemory}
 use Rattle.ele_model.specs.declared.reply.Reply.{Reply}
 use Rattle.ele_path.specs.declared.tagged.TaggedPath.{TaggedPath}
 use Rattle.ele_printer.specs.declared.fault.LineFault.{LineFault}
+use Rattle.ele_runs.specs.Said.{Records, SaysAhead, Trims}
 use Rattle.ele_runs.specs.declared.said.Said.{Said}
-use Rattle.ele_runs.specs.declared.said.Said.TheVariants.{Bad, Stopped, Replied, Trimmed, Why, Ahead}
+use Rattle.ele_runs.specs.declared.said.Said.TheVariants.{Bad, Stopped, Replied, Why}
 
 -- without a history an event is answered as the step answers it, or stopped for memory, which leaves the world
 abbrev pub Steps : World → Event → Said → World → Option Reply → Type 0
@@ -29,13 +29,7 @@ Steps before event Replied after last = (reply : Reply) × (last ≡ Some reply)
 Steps before event (Stopped stop) after last = (stop ≡ NoMemory) × (after ≡ before) × (takes_no_memory event ≡ false)
 Steps before event said after last = ⊥
 
--- with one it also becomes the last entry, unless it is stopped, which leaves the history
-abbrev pub Records : Past → Event → Said → Past → Type 0
-Records before event Replied after = HasRoom before × (after ≡ recorded before event)
-Records before event (Stopped stop) after = MayStop before stop after
-Records before event said after = ⊥
-
--- an event was taken
+-- an event was taken; with a history it also becomes the last entry
 abbrev pub Takes : State → Event → Said → State → Type 0
 Takes (Plain w last) event said after = (w' : World) × (last' : Option Reply) × (after ≡ Plain w' last') × Steps w event said w' last'
 Takes (Recorded past) event said after = (past' : Past) × (after ≡ Recorded past') × Records past event said past'
@@ -51,12 +45,6 @@ Passes (Plain w last) budget end after =
     (w' : World) × (last' : Option Reply) × (after ≡ Plain w' last') × EndsPass w budget end w' × (is_stopped end ≡ false)
 Passes (Recorded past) budget end after = (past' : Past) × (after ≡ Recorded past') × MayPass past budget end past'
 
--- the history was folded, or there was no memory for that, which leaves it
-abbrev pub Folds : Past → Said → Past → Type 0
-Folds before (Trimmed count) after = (count ≡ length before.entries) × (after ≡ trimmed before)
-Folds before (Stopped stop) after = (stop ≡ NoMemory) × (after ≡ before)
-Folds before said after = ⊥
-
 -- the bytes that a read of the source is replied were copied from the offset on, or it is refused, and nothing was written
 abbrev pub CopiesRead : State → Source → ℕ → List ℕ → List ℕ → Result Copied Refusal → Type 0
 CopiesRead state source offset old new told = Copies (world_in state) source offset old new told
@@ -67,12 +55,7 @@ TellsWhy w (Ok tagged) (Why told) = IsWhy w tagged told
 TellsWhy w (Ok tagged) said = ⊥
 TellsWhy w (Err fault) said = said ≡ Bad fault
 
--- what will be due was asked, for which there was no memory if the moment hasn't passed, or the question has a fault
-abbrev pub SaysAhead : World → ℕ → Said → Type 0
-SaysAhead w moment (Ahead told) = IsAhead w moment told
-SaysAhead w moment (Stopped stop) = (stop ≡ NoMemory) × (w.now ≤ moment)
-SaysAhead w moment said = ⊥
-
+-- what will be due was asked, or the question has a fault
 abbrev pub TellsAhead : World → Result ℕ LineFault → Said → Type 0
 TellsAhead w (Ok moment) said = SaysAhead w moment said
 TellsAhead w (Err fault) said = said ≡ Bad fault
@@ -80,5 +63,5 @@ TellsAhead w (Err fault) said = said ≡ Bad fault
 -- the history was folded, or there is none and nothing changed
 abbrev pub FoldsOrNot : Embedding → Bool → Embedding → Type 0
 FoldsOrNot before true after =
-    (past past' : Past) × (before.state ≡ Recorded past) × (after.state ≡ Recorded past') × Folds past after.said past' × (after.answer ≡ before.answer)
+    (past past' : Past) × (before.state ≡ Recorded past) × (after.state ≡ Recorded past') × Trims past after.said past' × (after.answer ≡ before.answer)
 FoldsOrNot before false after = (past_in before.state ≡ None) × (after ≡ before)

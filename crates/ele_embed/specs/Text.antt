@@ -1,16 +1,15 @@
 -- The text of what was said.
-use Rattle.std.specs.Prelude.{◌≡◌, ℕ, List, [], Option, Some, None}
+use Rattle.std.specs.Prelude.{◌≡◌, ℕ, true, List, [], Option, Some, None}
 use Rattle.ele_embed.specs.Embedding.{State, Recorded, past_in, last_in}
 use Rattle.ele_history.specs.Past.{Past}
 use Rattle.ele_model.specs.declared.reply.Reply.{Reply}
 use Rattle.ele_printer.specs.HistoryText.{history_text, trimmed_text}
 use Rattle.ele_printer.specs.Printed.{IsReplyText, bad_text, pass_text, stop_text}
 use Rattle.ele_printer.specs.Why.{ahead_text, why_text}
-use Rattle.ele_runs.specs.Explained.{IsBlockOf, asked_by}
+use Rattle.ele_runs.specs.Block.{IsBlock}
 use Rattle.ele_runs.specs.LineLength.{line_unless_long}
 use Rattle.ele_runs.specs.declared.said.Said.{Said}
 use Rattle.ele_runs.specs.declared.said.Said.TheVariants.{Nothing, Bad, Stopped, Replied, Passed, History, Trimmed, Why, Ahead}
-use Rattle.ele_embed.specs.Hears.{explaining}
 
 -- the text of the reply, if there is one
 abbrev pub IsLastText : Option Reply → List ℕ → Type 0
@@ -36,5 +35,5 @@ IsTold state (Ahead told) text = text ≡ ahead_text told
 
 -- with a history the text is the block that a run writes for the line
 abbrev pub IsRunBlock : State → List ℕ → State → List ℕ → Type 0
-IsRunBlock (Recorded before) line (Recorded after) text = IsBlockOf (asked_by explaining (line_unless_long line)) before (line_unless_long line) text after
+IsRunBlock (Recorded before) line (Recorded after) text = IsBlock true before (line_unless_long line) text after
 IsRunBlock before line after text = Unit {0}

@@ -4,15 +4,16 @@ ghost use Rattle.std.specs.Option.{option_copied, option_map};
 ghost use Rattle.ele_embed.specs.Embedding.{Recorded, last_in, past_in, world_in};
 ghost use Rattle.ele_embed.specs.Hears.{Hears, explaining};
 ghost use Rattle.ele_embed.specs.Kept.{state_of};
-ghost use Rattle.ele_embed.specs.Takes.{Folds, Passes, Records, Runs, SaysAhead, Takes, TellsWhy};
+ghost use Rattle.ele_embed.specs.Takes.{Passes, Runs, Takes, TellsWhy};
+ghost use Rattle.ele_runs.specs.Said.{Trims};
 ghost use Rattle.ele_history.specs.Past.{Past};
 ghost use Rattle.ele_runs.specs.LineLength.{line_unless_long};
 
 use crate::plain::Plain;
 use ele_core::Core;
 use ele_history::History;
-use ele_model::{Event, Moment, PassEnd, Refusal, Reply, Stop, TaggedPath};
-use ele_runs::{RunOptions, Said, hear_kept};
+use ele_model::{Event, PassEnd, Reply, TaggedPath};
+use ele_runs::{RunOptions, Said, hear_event, hear_kept, hear_trim};
 use ele_script::{LONGEST_LINE, LineFault};
 use std::alloc::Global;
 
@@ -40,7 +41,7 @@ impl Keeper {
     {
         match self {
             Keeper::Plain(plain) => plain.record(event),
-            Keeper::Recorded(history) => record_in(event, history),
+            Keeper::Recorded(history) => hear_event(event, history),
         }
     }
 
@@ -58,13 +59,13 @@ impl Keeper {
     pub(crate) fn trim(&mut self) -> Option<Said>
         ensures some { IfSome result (λ said. (past past' : Past)
             × (state_of self.old ≡ Recorded past) × (state_of self.new ≡ Recorded past')
-            × Folds past said past') }
+            × Trims past said past') }
         ensures none { IfNone result (past_in (state_of self.old) ≡ None) }
         ensures same { IfNone result (self.new ≡ self.old) }
     {
         match self {
             Keeper::Plain(_) => None,
-            Keeper::Recorded(history) => Some(trim_in(history)),
+            Keeper::Recorded(history) => Some(hear_trim(history)),
         }
     }
 
@@ -121,26 +122,6 @@ impl Keeper {
     }
 }
 
-// Takes the event, whose reply is that of the last entry then.
-fn record_in(event: Event, history: &mut History<Core>) -> Said
-    ensures { Records history.old event result history.new }
-{
-    match history.record(event) {
-        Ok(()) => Said::Replied,
-        Err(stop) => Said::Stopped(stop),
-    }
-}
-
-// Folds the history.
-fn trim_in(history: &mut History<Core>) -> Said
-    ensures { Folds history.old result history.new }
-{
-    match history.trim() {
-        Ok(count) => Said::Trimmed(count),
-        Err(_) => Said::Stopped(Stop::NoMemory),
-    }
-}
-
 // The reply of the last entry.
 fn last_reply(history: &History<Core>) -> Option<&Reply>
     ensures { option_copied result ≡ last_in (Recorded history.now) }
@@ -171,17 +152,4 @@ pub(crate) fn unless_long(line: &[u8]) -> Option<&[u8]>
         return None;
     }
     Some(line)
-}
-
-/// What will be due at the moment.
-pub(crate) fn ahead(moment: Moment, core: &Core) -> Said
-    ensures { SaysAhead core.now.world moment result }
-{
-    if moment < core.now() {
-        return Said::Ahead(Err(Refusal::NotAhead));
-    }
-    match core.due_by(moment) {
-        Ok(keys) => Said::Ahead(Ok(keys)),
-        Err(_) => Said::Stopped(Stop::NoMemory),
-    }
 }

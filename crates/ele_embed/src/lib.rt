@@ -15,7 +15,7 @@ mod keeper;
 mod plain;
 mod text;
 
-use crate::keeper::{Keeper, ahead};
+use crate::keeper::Keeper;
 use crate::plain::Plain;
 use crate::text::put_said;
 pub use ele_core::Copied;
@@ -24,6 +24,7 @@ use ele_history::History;
 use ele_model::{Event, Limits, Moment, NoMemory, PassEnd, Refusal, Reply, Source, TaggedPath};
 use ele_output::{Printer, WriteFault};
 pub use ele_runs::Said;
+use ele_runs::hear_ahead;
 use ele_script::LineFault;
 use std::alloc::Global;
 use std::marker::Model;
@@ -125,7 +126,7 @@ impl Store {
         ensures answer { self.new.answer ≡ self.old.answer }
     {
         match asked {
-            Ok(moment) => self.said = ahead(moment, self.keeper.core()),
+            Ok(moment) => self.said = hear_ahead(moment, self.keeper.core()),
             Err(fault) => self.said = Said::Bad(fault),
         }
     }

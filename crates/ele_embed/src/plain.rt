@@ -2,21 +2,17 @@
 ghost use Rattle.std.specs.Prelude.{◌≡◌, None, false, IfOk, Ok};
 ghost use Rattle.std.specs.Option.{option_copied};
 ghost use Rattle.ele_core.specs.Stopped.{is_stopped};
-ghost use Rattle.ele_embed.specs.Hears.{Answers, AnswersAsked, HearsPlain};
+ghost use Rattle.ele_embed.specs.Hears.{Answers, HearsPlain};
 ghost use Rattle.ele_embed.specs.Takes.{Steps};
 ghost use Rattle.ele_model.specs.Pass.{EndsPass};
 ghost use Rattle.ele_model.specs.World.{fresh_world};
 ghost use Rattle.ele_runs.specs.LineLength.{line_unless_long};
-ghost use Rattle.ele_runs.specs.Said.{Explains};
-ghost use Rattle.ele_script.specs.Question.{ReadsQuestion, asked_in};
-ghost use Rattle.ele_printer.specs.declared.kind.WordKind.{WordKind};
-ghost use Rattle.std.specs.Prelude.{List, ℕ};
 
-use crate::keeper::{ahead, unless_long};
+use crate::keeper::unless_long;
 use ele_core::Core;
 use ele_model::{Event, Limits, NoMemory, PassEnd, Reply, Stop};
-use ele_runs::Said;
-use ele_script::{Line, LineFault, Question, read_line, read_question};
+use ele_runs::{Said, explain};
+use ele_script::{Line, LineFault, read_line_in};
 use std::alloc::Global;
 
 /// A core, and the reply to the last event that it answered.
@@ -74,47 +70,14 @@ impl Plain {
 
     // Answers a line that is neither empty nor too long.
     fn hear_some(&mut self, alloc: Global, line: &[u8]) -> Said
-        ensures { AnswersAsked (asked_in line.now) self.old.core.world line.now result
-            self.new.core.world self.new.last }
-    {
-        match read_question(alloc, line) {
-            Some(read) => self.explain(&read),
-            None => self.hear_line(alloc, line),
-        }
-    }
-
-    // Explains what was asked, from the world as it is.
-    fn explain(&self, read: &Result<Question, LineFault>) -> Said
-        ensures { (kind : WordKind) (word : List ℕ) → ReadsQuestion read.now kind word
-            → Explains self.now.core.world result kind word }
-    {
-        match read {
-            Ok(question) => self.tell(question),
-            Err(LineFault::NoMemory) => Said::Stopped(Stop::NoMemory),
-            Err(fault) => Said::Bad(*fault),
-        }
-    }
-
-    // The explanation.
-    fn tell(&self, question: &Question) -> Said
-        ensures { (kind : WordKind) (word : List ℕ) → ReadsQuestion (Ok question.now) kind word
-            → Explains self.now.core.world result kind word }
-    {
-        match question {
-            Question::Why(tagged) => Said::Why(self.core.fate_at(tagged)),
-            Question::Ahead(moment) => ahead(*moment, &self.core),
-        }
-    }
-
-    // Answers a line that asks for no explanation.
-    fn hear_line(&mut self, alloc: Global, line: &[u8]) -> Said
         ensures { Answers self.old.core.world line.now result self.new.core.world self.new.last }
     {
-        match read_line(alloc, line) {
+        match read_line_in(alloc, true, line) {
             Ok(Line::Event(event)) => self.record(event),
             Ok(Line::Pass(budget)) => Said::Passed(self.pass(budget)),
             Ok(Line::History) => Said::Bad(LineFault::Syntax),
             Ok(Line::Trim) => Said::Bad(LineFault::Syntax),
+            Ok(Line::Question(question)) => explain(&question, &self.core),
             Err(fault) => match fault {
                 LineFault::NoMemory => Said::Stopped(Stop::NoMemory),
                 _ => Said::Bad(fault),

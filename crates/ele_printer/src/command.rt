@@ -1,8 +1,9 @@
 //! The commands of the script: the words that name each, and the kinds of the words behind these. A
 //! contract sees a command as itself.
 ghost use Rattle.std.specs.Prelude.{◌≡◌};
-ghost use Rattle.ele_printer.specs.Command.{command_words, kinds_of, name_of};
+ghost use Rattle.ele_printer.specs.Command.{command_words, is_allowed, kinds_of, name_of};
 
+use crate::command::When::{Always, Explaining};
 use crate::kind::WordKind::{
     self, Bytes, End, Handle, Moment, Name, Number, Path, Policy, Source, Tagged, Timed, Version,
 };
@@ -10,6 +11,7 @@ use crate::kind::WordKind::{
 /// What a line tells a world to do; its first word, or its first two, name it.
 #[derive(Clone, Copy, Debug, PartialEq, Eq)]
 pub enum Command {
+    Ahead,
     Clock,
     Close,
     Clean,
@@ -45,50 +47,80 @@ pub enum Command {
     Usage,
     Versions,
     Write,
+    Why,
 }
 
-/// A command, the words that name it, of which the second may be empty, and the kinds of the words
-/// behind these.
-pub type Row = (Command, &'static str, &'static str, &'static [WordKind]);
+/// In which runs a command is one.
+#[derive(Clone, Copy, Debug, PartialEq, Eq)]
+pub enum When {
+    /// In all.
+    Always,
+    /// In those that explain.
+    Explaining,
+}
+
+/// A command, the words that name it, of which the second may be empty, the kinds of the words behind
+/// these, and in which runs it is one.
+pub type Row = (
+    Command,
+    &'static str,
+    &'static str,
+    &'static [WordKind],
+    When,
+);
 
 /// A row for each command, in the order of `Command`: those with one first letter stand together, and
 /// of these the ones that come often first.
-pub static ROWS: [Row; 35] = [
-    (Command::Clock, "clock", "", &[Moment]),
-    (Command::Close, "close", "", &[Handle]),
-    (Command::Clean, "clean", "", &[]),
-    (Command::Create, "create", "", &[Path]),
-    (Command::Due, "due", "", &[]),
-    (Command::Default, "default", "", &[Path, Policy]),
-    (Command::GroupMake, "group", "make", &[Name]),
-    (Command::GroupDrop, "group", "drop", &[Name]),
-    (Command::GroupAdd, "group", "add", &[Name, Path]),
-    (Command::GroupRemove, "group", "remove", &[Name, Path]),
-    (Command::Groups, "groups", "", &[]),
-    (Command::History, "history", "", &[]),
-    (Command::Link, "link", "", &[Path, Path]),
-    (Command::ListNames, "list", "", &[Timed]),
-    (Command::Mark, "mark", "", &[Name, Moment, End]),
-    (Command::MakeDir, "mkdir", "", &[Path]),
-    (Command::OpenWrite, "open", "write", &[Path]),
-    (Command::OpenRead, "open", "read", &[Tagged]),
-    (Command::Pass, "pass", "", &[Number]),
-    (Command::SetPolicy, "policy", "", &[Path, Policy]),
-    (Command::Read, "read", "", &[Source]),
-    (Command::Rename, "rename", "", &[Path, Path]),
-    (Command::Revert, "revert", "", &[Path, Version]),
-    (Command::RemoveDir, "rmdir", "", &[Path]),
-    (Command::Restorable, "restorable", "", &[]),
-    (Command::Stat, "stat", "", &[Tagged]),
-    (Command::Tick, "tick", "", &[Number]),
-    (Command::Truncate, "truncate", "", &[Handle, Number]),
-    (Command::Trim, "trim", "", &[]),
-    (Command::Unlink, "unlink", "", &[Path]),
-    (Command::Undelete, "undelete", "", &[Path]),
-    (Command::Unmark, "unmark", "", &[Name, Moment]),
-    (Command::Usage, "usage", "", &[]),
-    (Command::Versions, "versions", "", &[Timed]),
-    (Command::Write, "write", "", &[Handle, Number, Bytes]),
+pub static ROWS: [Row; 37] = [
+    (Command::Ahead, "ahead", "", &[Moment], Explaining),
+    (Command::Clock, "clock", "", &[Moment], Always),
+    (Command::Close, "close", "", &[Handle], Always),
+    (Command::Clean, "clean", "", &[], Always),
+    (Command::Create, "create", "", &[Path], Always),
+    (Command::Due, "due", "", &[], Always),
+    (Command::Default, "default", "", &[Path, Policy], Always),
+    (Command::GroupMake, "group", "make", &[Name], Always),
+    (Command::GroupDrop, "group", "drop", &[Name], Always),
+    (Command::GroupAdd, "group", "add", &[Name, Path], Always),
+    (
+        Command::GroupRemove,
+        "group",
+        "remove",
+        &[Name, Path],
+        Always,
+    ),
+    (Command::Groups, "groups", "", &[], Always),
+    (Command::History, "history", "", &[], Always),
+    (Command::Link, "link", "", &[Path, Path], Always),
+    (Command::ListNames, "list", "", &[Timed], Always),
+    (Command::Mark, "mark", "", &[Name, Moment, End], Always),
+    (Command::MakeDir, "mkdir", "", &[Path], Always),
+    (Command::OpenWrite, "open", "write", &[Path], Always),
+    (Command::OpenRead, "open", "read", &[Tagged], Always),
+    (Command::Pass, "pass", "", &[Number], Always),
+    (Command::SetPolicy, "policy", "", &[Path, Policy], Always),
+    (Command::Read, "read", "", &[Source], Always),
+    (Command::Rename, "rename", "", &[Path, Path], Always),
+    (Command::Revert, "revert", "", &[Path, Version], Always),
+    (Command::RemoveDir, "rmdir", "", &[Path], Always),
+    (Command::Restorable, "restorable", "", &[], Always),
+    (Command::Stat, "stat", "", &[Tagged], Always),
+    (Command::Tick, "tick", "", &[Number], Always),
+    (Command::Truncate, "truncate", "", &[Handle, Number], Always),
+    (Command::Trim, "trim", "", &[], Always),
+    (Command::Unlink, "unlink", "", &[Path], Always),
+    (Command::Undelete, "undelete", "", &[Path], Always),
+    (Command::Unmark, "unmark", "", &[Name, Moment], Always),
+    (Command::Usage, "usage", "", &[], Always),
+    (Command::Versions, "versions", "", &[Timed], Always),
+    (
+        Command::Write,
+        "write",
+        "",
+        &[Handle, Number, Bytes],
+        Always,
+    ),
+    (Command::Why, "why", "", &[Tagged], Explaining),
 ];
 
 impl Command {
@@ -96,7 +128,7 @@ impl Command {
     pub fn words(self) -> (&'static str, &'static str)
         ensures { name_of result.0.now result.1.now ≡ command_words self }
     {
-        let (_, first, second, _) = ROWS[self as usize];
+        let (_, first, second, _, _) = ROWS[self as usize];
         (first, second)
     }
 
@@ -104,7 +136,15 @@ impl Command {
     pub fn kinds(self) -> &'static [WordKind]
         ensures { result.now ≡ kinds_of self }
     {
-        let (_, _, _, kinds) = ROWS[self as usize];
+        let (_, _, _, kinds, _) = ROWS[self as usize];
         kinds
+    }
+
+    /// Whether it is a command of a run that explains, or of one that doesn't.
+    pub fn is_allowed(self, explains: bool) -> bool
+        ensures { result ≡ is_allowed explains self }
+    {
+        let (_, _, _, _, when) = ROWS[self as usize];
+        explains || when == Always
     }
 }

@@ -18,7 +18,7 @@ mod text;
 mod why;
 mod word;
 
-pub use command::{Command, ROWS, Row};
+pub use command::{Command, ROWS, Row, When};
 pub use event::put_event;
 pub use fault::LineFault;
 pub use history::{put_history, put_trimmed};

@@ -1,6 +1,6 @@
 -- What a line asks for, and the answer to that.
-use Rattle.ele_runs.proofs.Basics.{◌≡◌, ℕ, List, length, Ok, Err, ◌⊎◌, inl, inr, refl}
-use Rattle.ele_runs.proofs.Words.{HistoryFull, MayAnswer, MayPass, MayReply, Past, trimmed}
+use Rattle.ele_runs.proofs.Basics.{false, ◌≡◌, ℕ, List, length, Ok, Err, ◌⊎◌, inl, inr, refl}
+use Rattle.ele_runs.proofs.Words.{HistoryFull, MayMean, MayPass, MayReply, Past, trimmed}
 use Rattle.ele_printer.specs.declared.fault.LineFault.{LineFault}
 use Rattle.ele_script.specs.FirstFault.{IsFirstFault}
 use Rattle.ele_script.specs.Spells.{Asks}
@@ -22,19 +22,19 @@ MayMeet before asked said after = ⊥
 -- an answer to what the line asks for
 pub record Met (before : Past) (line : List ℕ) (said : Answer) (after : Past) : Type 0 where
   pub asked : Line
-  pub asks : Asks line asked
+  pub asks : Asks false line asked
   pub met : MayMeet before asked said after
 
 -- or the fault of a line that asks for nothing
 pub record Faulty (before : Past) (line : List ℕ) (said : Answer) (after : Past) : Type 0 where
   pub fault : LineFault
-  pub first : IsFirstFault line fault
+  pub first : IsFirstFault false line fault
   pub said_is : said ≡ answer.Bad fault
   pub stays : after ≡ before
 
 -- an answer that is no stop for memory is one of these
 pub met_or_faulty : (before : Past) (line : List ℕ) (said : Answer) (after : Past)
-    → MayAnswer before line said after → ¬ IsForMemory said → Met before line said after ⊎ Faulty before line said after
+    → MayMean false before line said after → ¬ IsForMemory said → Met before line said after ⊎ Faulty before line said after
 met_or_faulty before line (answer.Bad fault) after may p = inr (record { fault = fault; first = may.0; said_is = refl; stays = may.1 })
 met_or_faulty before line (answer.Reply (Ok reply)) after may p = inl (record { asked = asks.Event may.0; asks = may.1; met = may.2 })
 met_or_faulty before line (answer.Reply (Err HistoryFull)) after may p = inl (record { asked = asks.Event may.0; asks = may.1; met = may.2 })
@@ -43,3 +43,6 @@ met_or_faulty before line (answer.Pass end) after may p = inl (record { asked = 
 met_or_faulty before line (answer.History folded entries) after may p =
     inl (record { asked = asks.History; asks = may.0; met = (may.1, may.2, may.3) })
 met_or_faulty before line (answer.Trimmed count) after may p = inl (record { asked = asks.Trim; asks = may.0; met = (may.1, may.2) })
+met_or_faulty before line (answer.Why told) after may p = absurd (let never = may.1.allowed in cc)
+met_or_faulty before line (answer.Ahead told) after may p = absurd (let never = may.1.allowed in cc)
+met_or_faulty before line answer.Nothing after may p = absurd may

@@ -1,12 +1,14 @@
 -- Replies that tell the time tell of a moment, and so each has a text.
+use Rattle.std.specs.Prelude.{Bool}
 use Rattle.ele_runs.proofs.Basics.{nat_tests, ℕ, ◌≤◌, List, [], ◌∷◌, refl, arith}
 use Rattle.ele_runs.proofs.VersionInfo.{some_stamp}
 use Rattle.ele_runs.proofs.Words.{Reply}
 use Rattle.std.proofs.Common.{rules}
 use Rattle.ele_moment.specs.Last.{last_moment}
 use Rattle.ele_printer.specs.Printed.{IsReplyText}
-use Rattle.ele_script.specs.Spells.{AsksEvent, SpellsValues}
+use Rattle.ele_script.specs.Spells.{Asks, SpellsValues}
 use Rattle.ele_script.specs.Value.{Moment}
+use Rattle.ele_script.specs.declared.reading.Line.TheVariants as asks
 use Rattle.ele_model.specs.Step.{plan, step}
 use Rattle.ele_model.specs.World.{World}
 use Rattle.ele_model.specs.declared.event.Event.{Event}
@@ -36,7 +38,7 @@ first_in_time : (words : List (List ℕ)) (to : ℕ) → SpellsValues words (Mom
 first_in_time [] to is = absurd is
 first_in_time (word ∷ words) to is = is.0.in_range
 
-pub asked_in_time : (line : List ℕ) (event : Event) → AsksEvent line event → AsksInTime event
+pub asked_in_time : {explains : Bool} (line : List ℕ) (event : Event) → Asks explains line (asks.Event event) → AsksInTime event
 asked_in_time line (Clock to) is = first_in_time is.spells.words.arguments to is.spells.words.values
 asked_in_time line event is = tt
 

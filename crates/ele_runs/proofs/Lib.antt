@@ -1,7 +1,6 @@
 mod Words
 mod Basics
 pub mod Asked
-pub mod Asks
 pub mod Blocks
 pub mod Courses
 pub mod Ends

@@ -1,15 +1,12 @@
 -- What is told beside a block.
 use Rattle.ele_runs.proofs.Basics.{◌≡◌, ℕ, List, [], ◌∷◌, ◌++◌, Option, Some, None, true, false, refl, subst, ◌∙◌, Keeps, Appends, append-nil}
 use Rattle.std.specs.Prelude.{Bool, IfSome, not, ◌&&◌, ◌+◌, if◌then◌else◌}
-use Rattle.ele_runs.proofs.Words.{AppendsFront, RunState, IsNoted, Past, cut_note, tells_reasons}
+use Rattle.ele_runs.proofs.Words.{AppendsFront, RunState, IsNoted, cut_note, tells_reasons}
 use Rattle.ele_printer.specs.declared.fault.LineFault.{LineFault}
-use Rattle.ele_runs.specs.Answer.{Answer}
-use Rattle.ele_runs.specs.Block.{IsText}
+use Rattle.ele_printer.specs.Printed.{bad_text}
 use Rattle.ele_runs.specs.Note as note
-use Rattle.ele_runs.specs.Said.{IsSaidText}
 use Rattle.ele_runs.specs.WhyBad.{IsToldReason, cut_reason, why_line}
 use Rattle.ele_runs.specs.declared.options.RunOptions.{RunOptions}
-use Rattle.ele_runs.specs.declared.said.Said.TheVariants.{Bad}
 use Rattle.ele_script.specs.declared.reasons.Reason.{Reason}
 
 -- the only front of nothing is nothing
@@ -26,10 +23,10 @@ pub front_of_none : (old new : Option (List ℕ)) → AppendsFront old new [] �
 front_of_none old new is = appended_none old new (subst (Appends old new) (first_none is.front is.back is.parts) is.written)
 
 -- the reason of a bad line was told
-pub noted_bad : (options : RunOptions) (past : Past) (number : ℕ) (line : Option (List ℕ)) (fault : LineFault) (why : Option Reason) (old new : Option (List ℕ)) → tells_reasons options ≡ true
-    → IfSome why (IsToldReason options line) → AppendsFront old new (why_line number why) → (text : List ℕ) → IsSaidText past (Bad fault) text → IsNoted options number line text old new
-noted_bad options past number line fault None old new tells is told text said = note.nothing (front_of_none old new told)
-noted_bad options past number line fault (Some why) old new tells is told text said = note.reason tells fault (subst (λ (a : Answer). IsText a text) said.1 said.2) why is told
+pub noted_bad : (options : RunOptions) (number : ℕ) (line : Option (List ℕ)) (fault : LineFault) (why : Option Reason) (old new : Option (List ℕ)) → tells_reasons options ≡ true
+    → IfSome why (IsToldReason options line) → AppendsFront old new (why_line number why) → (text : List ℕ) → text ≡ bad_text fault → IsNoted options number line text old new
+noted_bad options number line fault None old new tells is told text said = note.nothing (front_of_none old new told)
+noted_bad options number line fault (Some why) old new tells is told text said = note.reason tells fault said why is told
 
 -- in a strict run nothing is told of a last line
 quiet : (numbers strict : Bool) (text : List ℕ) → strict ≡ true → (if numbers && not strict then text else []) ≡ []

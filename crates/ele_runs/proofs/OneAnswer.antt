@@ -1,6 +1,6 @@
 -- From one state a line has one answer, unless want of memory stops it.
 use Rattle.ele_runs.proofs.Asked.{MayMeet, Met, Faulty, met_or_faulty}
-use Rattle.ele_runs.proofs.Basics.{◌≡◌, ◌⊎◌, ℕ, List, Result, Ok, Err, inl, inr, refl, sym, ap, subst, ◌∙◌, arith}
+use Rattle.ele_runs.proofs.Basics.{◌≡◌, ◌⊎◌, ℕ, false, List, [], ◌∷◌, Some, None, Result, Ok, Err, inl, inr, refl, sym, ap, subst, ◌∙◌, arith}
 use Rattle.ele_runs.proofs.OnePass.{one_pass}
 use Rattle.ele_runs.proofs.Words.{HistoryFull, MayReply, Past, Reply, Stop}
 use Rattle.ele_history.specs.PassIsOfWorld.{PassIsOfWorld}
@@ -43,21 +43,23 @@ module _ (law : OneLineMeaning) (passes : PassIsOfWorld) where
 
   both_met : (before : Past) (line : List ℕ) (a b : Answer) (x y : Past) → Met before line a x → Met before line b y → ¬ IsForMemory a → ¬ IsForMemory b → (a ≡ b) × (x ≡ y)
   both_met before line a b x y m n p q =
-      let same = law.one_line line m.asked n.asked m.asks n.asks in
+      let same = law.one_line false line m.asked n.asked m.asks n.asks in
       one_met before n.asked a b x y (subst (λ (asked : Line). MayMeet before asked a x) same m.met) n.met p q
 
   both_faulty : (before : Past) (line : List ℕ) (a b : Answer) (x y : Past) → Faulty before line a x → Faulty before line b y → (a ≡ b) × (x ≡ y)
   both_faulty before line a b x y m n =
-      let same = law.one_fault line m.fault n.fault m.first n.first in
+      let same = law.one_fault false line m.fault n.fault m.first n.first in
       (m.said_is ∙ ap answer.Bad same ∙ sym n.said_is, m.stays ∙ sym n.stays)
 
   one_of : (before : Past) (line : List ℕ) (a b : Answer) (x y : Past) → Met before line a x ⊎ Faulty before line a x → Met before line b y ⊎ Faulty before line b y
       → ¬ IsForMemory a → ¬ IsForMemory b → (a ≡ b) × (x ≡ y)
   one_of before line a b x y (inl m) (inl n) p q = both_met before line a b x y m n p q
-  one_of before line a b x y (inl m) (inr n) p q = absurd (law.faultless line m.asked n.fault m.asks n.first)
-  one_of before line a b x y (inr m) (inl n) p q = absurd (law.faultless line n.asked m.fault n.asks m.first)
+  one_of before line a b x y (inl m) (inr n) p q = absurd (law.faultless false line m.asked n.fault m.asks n.first)
+  one_of before line a b x y (inr m) (inl n) p q = absurd (law.faultless false line n.asked m.fault n.asks m.first)
   one_of before line a b x y (inr m) (inr n) p q = both_faulty before line a b x y m n
 
   pub one_answer : OneAnswer
-  one_answer before line a b x y may also p q =
-      one_of before line a b x y (met_or_faulty before line a x may p) (met_or_faulty before line b y also q) p q
+  one_answer before None a b x y may also p q = (may.0 ∙ sym also.0, may.1 ∙ sym also.1)
+  one_answer before (Some []) a b x y may also p q = (may.0 ∙ sym also.0, may.1 ∙ sym also.1)
+  one_answer before (Some (byte ∷ bytes)) a b x y may also p q =
+      one_of before (byte ∷ bytes) a b x y (met_or_faulty before (byte ∷ bytes) a x may p) (met_or_faulty before (byte ∷ bytes) b y also q) p q

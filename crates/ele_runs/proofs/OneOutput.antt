@@ -1,5 +1,5 @@
 -- Lines have one output, unless want of memory stops one of them.
-use Rattle.ele_runs.proofs.Basics.{◌≡◌, ◌≢◌, ℕ, List, [], ◌∷◌, ◌++◌, Option, Some, None, Ok, Err, refl, sym, ap, subst, ◌∙◌, append_assoc}
+use Rattle.ele_runs.proofs.Basics.{◌≡◌, ◌≢◌, ℕ, false, List, [], ◌∷◌, ◌++◌, Option, Ok, Err, refl, sym, ap, subst, ◌∙◌, append_assoc}
 use Rattle.ele_runs.proofs.Words.{Reply, IsBlock, MayAnswer, line_unless_long, AreBlocks, Past, cut_block}
 use Rattle.ele_moment.proofs.Moments.{one_text}
 use Rattle.ele_printer.specs.Printed.{IsReplyText, pass_text, stop_text}
@@ -61,25 +61,17 @@ not_stopped (answer.Pass (Stopped NoMemory removed)) text front back is are none
     own_nowhere (pass_text (Stopped NoMemory removed)) text front back are (none.pass removed) is
 not_stopped said text front back is are none for_memory = for_memory
 
-block_told : (before : Past) (line : Option (List ℕ)) (text block back : List ℕ) (after : Past) (is : IsBlock before line block after)
-    → text ≡ block ++ back → TellsNoStop text → IsUnstoppedBlock before line block after is
-block_told before None text block back after is are none = tt
-block_told before (Some []) text block back after is are none = tt
-block_told before (Some (byte ∷ bytes)) text block back after is are none = not_stopped is.0 text block back is.2 are none
-
 blocks_told : (before : Past) (lines : List (List ℕ)) (text : List ℕ) (after : Past) (are : AreBlocks before lines text after) → TellsNoStop text → AreUnstopped before lines text after are
 blocks_told before [] text after are none = tt
 blocks_told before (line ∷ lines) text after (block, rest, between, is, more, parts) none =
-    (block_told before (line_unless_long line) text block rest between is parts none, blocks_told between lines rest after more (rest_tells text block rest parts none))
+    (not_stopped is.0 text block rest is.2 parts none, blocks_told between lines rest after more (rest_tells text block rest parts none))
 
 module _ (law : OneAnswer) where
-  one_block : (before other : Past) (line : Option (List ℕ)) (s t : List ℕ) (x y : Past) → before ≡ other → (a : IsBlock before line s x) (b : IsBlock other line t y)
+  one_block : (before other : Past) (line : Option (List ℕ)) (s t : List ℕ) (x y : Past) → before ≡ other → (a : IsBlock false before line s x) (b : IsBlock false other line t y)
       → IsUnstoppedBlock before line s x a → IsUnstoppedBlock other line t y b → (s ≡ t) × (x ≡ y)
-  one_block before other None s t x y here a b p q = (a.0 ∙ sym b.0, a.1 ∙ here ∙ sym b.1)
-  one_block before other (Some []) s t x y here a b p q = (a.0 ∙ sym b.0, a.1 ∙ here ∙ sym b.1)
-  one_block before other (Some (byte ∷ bytes)) s t x y here a b p q =
-      let may : MayAnswer before (byte ∷ bytes) b.0 y = subst (λ (m : Past). MayAnswer m (byte ∷ bytes) b.0 y) (sym here) b.1 in
-      let same = law before (byte ∷ bytes) a.0 b.0 x y a.1 may p q in
+  one_block before other line s t x y here a b p q =
+      let may : MayAnswer false before line b.0 y = subst (λ (m : Past). MayAnswer false m line b.0 y) (sym here) b.1 in
+      let same = law before line a.0 b.0 x y a.1 may p q in
       (one_said b.0 s t (subst (λ said. IsText said s) same.0 a.2) b.2, same.1)
 
   -- blocks of the same lines from one state are one text

@@ -1,5 +1,5 @@
 -- Each line has an answer, and each answer a text.
-use Rattle.ele_runs.proofs.Basics.{ℕ, List, length, Ok, Err, inl, inr, refl}
+use Rattle.ele_runs.proofs.Basics.{ℕ, false, List, [], ◌∷◌, Some, None, length, Ok, Err, inl, inr, refl}
 use Rattle.ele_runs.proofs.InTime.{asked_in_time, some_text, told_in_time}
 use Rattle.ele_runs.proofs.SomePass.{some_pass}
 use Rattle.ele_runs.proofs.Within.{is_full, recorded_within, trimmed_within}
@@ -7,18 +7,20 @@ use Rattle.ele_runs.proofs.Words.{HistoryFull, Past, count_of, recorded, reply_t
 use Rattle.std.proofs.Math.Decide.{dec_lt}
 use Rattle.ele_printer.specs.HistoryText.{history_text, trimmed_text}
 use Rattle.ele_printer.specs.Printed.{bad_text, pass_text, stop_text}
+use Rattle.ele_printer.specs.declared.fault.LineFault.TheVariants.{LineTooLong}
 use Rattle.ele_script.specs.EveryLine.{EveryLineMeaning}
-use Rattle.ele_script.specs.Spells.{Asks, AsksEvent}
+use Rattle.ele_script.specs.Spells.{Asks}
 use Rattle.ele_script.specs.declared.reading.Line.{Line}
 use Rattle.ele_script.specs.declared.reading.Line.TheVariants as asks
+use Rattle.ele_script.specs.declared.reading.Question.TheVariants as question
 use Rattle.ele_model.specs.declared.event.Event.{Event}
 use Rattle.ele_runs.specs.Answer as answer
 use Rattle.ele_runs.specs.SomeAnswer.{HasAnswer, IsWithin, SomeAnswer}
 
-some_reply : (before : Past) (line : List ℕ) (event : Event) → AsksEvent line event → IsWithin before → HasAnswer before line
-some_reply before line event is within = elim (dec_lt (count_of before) before.base.limits.events) [
+some_reply : (before : Past) (byte : ℕ) (bytes : List ℕ) (event : Event) → Asks false (byte ∷ bytes) (asks.Event event) → IsWithin before → HasAnswer before (Some (byte ∷ bytes))
+some_reply before byte bytes event is within = elim (dec_lt (count_of before) before.base.limits.events) [
   | yes room ↦
-      let text = some_text (reply_to before event) (told_in_time (world_of before) event (asked_in_time line event is)) in
+      let text = some_text (reply_to before event) (told_in_time (world_of before) event (asked_in_time (byte ∷ bytes) event is)) in
       record {
         said = answer.Reply (Ok (reply_to before event));
         after = recorded before event;
@@ -39,12 +41,12 @@ some_reply before line event is within = elim (dec_lt (count_of before) before.b
   }
 ]
 
-asked_for : (before : Past) (line : List ℕ) (asked : Line) → Asks line asked → IsWithin before → HasAnswer before line
-asked_for before line (asks.Event event) is within = some_reply before line event is within
-asked_for before line (asks.Pass budget) is within =
+asked_for : (before : Past) (byte : ℕ) (bytes : List ℕ) (asked : Line) → Asks false (byte ∷ bytes) asked → IsWithin before → HasAnswer before (Some (byte ∷ bytes))
+asked_for before byte bytes (asks.Event event) is within = some_reply before byte bytes event is within
+asked_for before byte bytes (asks.Pass budget) is within =
     let pass = some_pass before budget within in
     record { said = answer.Pass pass.end; after = pass.after; may = (budget, is, pass.may); unstopped = pass.unstopped; text = pass_text pass.end; is = refl; within = pass.within }
-asked_for before line asks.History is within = record {
+asked_for before byte bytes asks.History is within = record {
   said = answer.History before.folded before.entries;
   after = before;
   may = (is, refl, refl, refl);
@@ -53,7 +55,7 @@ asked_for before line asks.History is within = record {
   is = refl;
   within = within;
 }
-asked_for before line asks.Trim is within = record {
+asked_for before byte bytes asks.Trim is within = record {
   said = answer.Trimmed (length before.entries);
   after = trimmed before;
   may = (is, refl, refl);
@@ -62,9 +64,15 @@ asked_for before line asks.Trim is within = record {
   is = refl;
   within = trimmed_within before within;
 }
+asked_for before byte bytes (asks.Question (question.Why tagged)) is within = absurd (let never = is.allowed in cc)
+asked_for before byte bytes (asks.Question (question.Ahead moment)) is within = absurd (let never = is.allowed in cc)
 
 pub some_answer : EveryLineMeaning → SomeAnswer
-some_answer law before line within = elim (law line) [
-  | inl asked ↦ asked_for before line asked.0 asked.1 within
+some_answer law before None within =
+    record { said = answer.Bad LineTooLong; after = before; may = (refl, refl); unstopped = λ h. h; text = bad_text LineTooLong; is = refl; within = within }
+some_answer law before (Some []) within =
+    record { said = answer.Nothing; after = before; may = (refl, refl); unstopped = λ h. h; text = []; is = refl; within = within }
+some_answer law before (Some (byte ∷ bytes)) within = elim (law false (byte ∷ bytes)) [
+  | inl asked ↦ asked_for before byte bytes asked.0 asked.1 within
   | inr bad ↦ record { said = answer.Bad bad.0; after = before; may = (bad.1, refl); unstopped = λ h. h; text = bad_text bad.0; is = refl; within = within }
 ]

@@ -1,21 +1,12 @@
 -- Lines have an output, and an input has lines.
-use Rattle.ele_runs.proofs.Basics.{◌≢◌, ℕ, List, [], ◌∷◌, ◌++◌, Option, Some, None, refl, sym, ap, ◌∙◌, flat_map-cons}
+use Rattle.ele_runs.proofs.Basics.{◌≢◌, ℕ, List, [], ◌∷◌, ◌++◌, refl, sym, ap, ◌∙◌, flat_map-cons}
 use Rattle.ele_runs.proofs.SomeAnswer.{some_answer}
-use Rattle.ele_runs.proofs.Words.{AreBlocks, AreLines, IsBlock, Past, cut_block, line_unless_long, whole_line}
+use Rattle.ele_runs.proofs.Words.{AreBlocks, AreLines, Past, cut_block, line_unless_long, whole_line}
 use Rattle.std.proofs.Math.Decide.{ℕ_discrete}
-use Rattle.ele_printer.specs.Printed.{bad_text}
-use Rattle.ele_printer.specs.declared.fault.LineFault.TheVariants.{LineTooLong}
 use Rattle.ele_script.specs.EveryLine.{EveryLineMeaning}
 use Rattle.ele_runs.specs.SomeAnswer.{IsWithin}
 use Rattle.ele_runs.specs.SomeOutput.{SomeOutput}
-use Rattle.ele_runs.specs.Unstopped.{AreUnstopped, IsUnstoppedBlock}
-
-record HasBlock (before : Past) (line : Option (List ℕ)) : Type 0 where
-  block : List ℕ
-  after : Past
-  is : IsBlock before line block after
-  unstopped : IsUnstoppedBlock before line block after is
-  within : IsWithin after
+use Rattle.ele_runs.specs.Unstopped.{AreUnstopped}
 
 pub record HasBlocks (before : Past) (lines : List (List ℕ)) : Type 0 where
   pub text : List ℕ
@@ -24,19 +15,12 @@ pub record HasBlocks (before : Past) (lines : List (List ℕ)) : Type 0 where
   pub unstopped : AreUnstopped before lines text after are
 
 module _ (law : EveryLineMeaning) where
-  some_block : (before : Past) (line : Option (List ℕ)) → IsWithin before → HasBlock before line
-  some_block before None within = record { block = bad_text LineTooLong; after = before; is = (refl, refl); unstopped = tt; within = within }
-  some_block before (Some []) within = record { block = []; after = before; is = (refl, refl); unstopped = tt; within = within }
-  some_block before (Some (byte ∷ bytes)) within =
-      let answer = some_answer law before (byte ∷ bytes) within in
-      record { block = answer.text; after = answer.after; is = (answer.said, answer.may, answer.is); unstopped = answer.unstopped; within = answer.within }
-
   pub some_blocks : (before : Past) (lines : List (List ℕ)) → IsWithin before → HasBlocks before lines
   some_blocks before [] within = record { text = []; after = before; are = (refl, refl); unstopped = tt }
   some_blocks before (line ∷ lines) within =
-      let own = some_block before (line_unless_long line) within in
+      let own = some_answer law before (line_unless_long line) within in
       let rest = some_blocks own.after lines own.within in
-      record { text = own.block ++ rest.text; after = rest.after; are = (own.block, rest.text, own.after, own.is, rest.are, refl); unstopped = (own.unstopped, rest.unstopped) }
+      record { text = own.text ++ rest.text; after = rest.after; are = (own.text, rest.text, own.after, (own.said, own.may, own.is), rest.are, refl); unstopped = (own.unstopped, rest.unstopped) }
 
   pub some_output : SomeOutput
   some_output start lines last within =

@@ -1,57 +1,76 @@
 -- The block of one line: what is written for it.
-use Rattle.std.specs.Prelude.{◌≡◌, ℕ, List, [], ◌∷◌, length, Option, Some, None, Ok, Err}
+use Rattle.std.specs.Prelude.{◌≡◌, ℕ, ◌≤◌, Bool, List, [], ◌∷◌, length, Option, Some, None, Ok, Err}
+use Rattle.ele_model.specs.Why.{IsAhead, IsWhy}
 use Rattle.ele_model.specs.declared.event.Event.{Event}
 use Rattle.ele_model.specs.declared.refusal.Stop.TheVariants.{NoMemory, HistoryFull}
+use Rattle.ele_path.specs.declared.tagged.TaggedPath.{TaggedPath}
 use Rattle.ele_printer.specs.declared.fault.LineFault.TheVariants.{Syntax, LineTooLong}
 use Rattle.ele_script.specs.FirstFault.{IsFirstFault}
 use Rattle.ele_script.specs.Memory.{TakesMemory}
 use Rattle.ele_printer.specs.HistoryText.{history_text, trimmed_text}
 use Rattle.ele_printer.specs.Printed.{IsAnswerText, bad_text, pass_text}
-use Rattle.ele_script.specs.Spells.{Asks, AsksEvent}
+use Rattle.ele_printer.specs.Why.{ahead_text, why_text}
+use Rattle.ele_script.specs.Spells.{Asks}
 use Rattle.ele_script.specs.Words.{words_of}
 use Rattle.ele_script.specs.declared.reading.Line.TheVariants as asks
+use Rattle.ele_script.specs.declared.reading.Question.TheVariants as question
 use Rattle.ele_runs.specs.Answer.{Answer}
 use Rattle.ele_runs.specs.Answer as answer
 use Rattle.ele_history.specs.Pass.{MayPass}
-use Rattle.ele_history.specs.Past.{Past, HasRoom, trimmed}
+use Rattle.ele_history.specs.Past.{Past, HasRoom, trimmed, world_of}
 use Rattle.ele_history.specs.Reply.{MayReply}
 
--- a line may want memory: its command takes a path or bytes, its event makes an entry, or it asks for a trim
-pub data LineTakesMemory (before : Past) (line : List ℕ) : Type 0 where
-  as_read : TakesMemory (words_of line) → LineTakesMemory before line
-  as_entry : (event : Event) → AsksEvent line event → HasRoom before → LineTakesMemory before line
-  as_trim : Asks line asks.Trim → LineTakesMemory before line
+-- a line may want memory: its command takes a path or bytes, its event makes an entry, or it asks for a trim, or for what will
+-- be due at a moment that hasn't passed
+pub data LineTakesMemory (explains : Bool) (before : Past) (line : List ℕ) : Type 0 where
+  as_read : TakesMemory explains (words_of line) → LineTakesMemory explains before line
+  as_entry : (event : Event) → Asks explains line (asks.Event event) → HasRoom before → LineTakesMemory explains before line
+  as_trim : Asks explains line asks.Trim → LineTakesMemory explains before line
+  as_told : (moment : ℕ) → Asks explains line (asks.Question (question.Ahead moment)) → (world_of before).now ≤ moment → LineTakesMemory explains before line
 
--- a line is answered its first fault, what the event is answered that it asks for, how the pass ends, the history or how
--- many entries the trim folds; want of memory may stop it if it takes memory
-abbrev pub MayAnswer : Past → List ℕ → Answer → Past → Type 0
-MayAnswer before line (answer.Bad fault) after = IsFirstFault line fault × (after ≡ before)
-MayAnswer before line (answer.Reply (Ok reply)) after =
-    (event : Event) × AsksEvent line event × MayReply before event (Ok reply) after
-MayAnswer before line (answer.Reply (Err HistoryFull)) after =
-    (event : Event) × AsksEvent line event × MayReply before event (Err HistoryFull) after
-MayAnswer before line (answer.Reply (Err NoMemory)) after = LineTakesMemory before line × (after ≡ before)
-MayAnswer before line (answer.Pass end) after =
-    (budget : ℕ) × Asks line (asks.Pass budget) × MayPass before budget end after
-MayAnswer before line (answer.History folded entries) after =
-    Asks line asks.History × (folded ≡ before.folded) × (entries ≡ before.entries) × (after ≡ before)
-MayAnswer before line (answer.Trimmed count) after =
-    Asks line asks.Trim × (count ≡ length before.entries) × (after ≡ trimmed before)
+-- a line that has bytes is answered its first fault, what the event is answered that it asks for, how the pass ends, the history or
+-- how many entries the trim folds; in a run that explains an explanation too, from the world as it is, which stands in no
+-- history and changes nothing; want of memory may stop it if it takes memory
+abbrev pub MayMean : Bool → Past → List ℕ → Answer → Past → Type 0
+MayMean explains before line answer.Nothing after = ⊥
+MayMean explains before line (answer.Bad fault) after = IsFirstFault explains line fault × (after ≡ before)
+MayMean explains before line (answer.Reply (Ok reply)) after =
+    (event : Event) × Asks explains line (asks.Event event) × MayReply before event (Ok reply) after
+MayMean explains before line (answer.Reply (Err HistoryFull)) after =
+    (event : Event) × Asks explains line (asks.Event event) × MayReply before event (Err HistoryFull) after
+MayMean explains before line (answer.Reply (Err NoMemory)) after = LineTakesMemory explains before line × (after ≡ before)
+MayMean explains before line (answer.Pass end) after =
+    (budget : ℕ) × Asks explains line (asks.Pass budget) × MayPass before budget end after
+MayMean explains before line (answer.History folded entries) after =
+    Asks explains line asks.History × (folded ≡ before.folded) × (entries ≡ before.entries) × (after ≡ before)
+MayMean explains before line (answer.Trimmed count) after =
+    Asks explains line asks.Trim × (count ≡ length before.entries) × (after ≡ trimmed before)
+MayMean explains before line (answer.Why told) after =
+    (tagged : TaggedPath) × Asks explains line (asks.Question (question.Why tagged)) × IsWhy (world_of before) tagged told × (after ≡ before)
+MayMean explains before line (answer.Ahead told) after =
+    (moment : ℕ) × Asks explains line (asks.Question (question.Ahead moment)) × IsAhead (world_of before) moment told × (after ≡ before)
 
--- the text is that of the bad line, of the reply or the stop, of the end of the pass, of the history or of the trim
+-- and so is a line as it is kept: an empty one gets no answer, and one that is too long only that it is
+abbrev pub MayAnswer : Bool → Past → Option (List ℕ) → Answer → Past → Type 0
+MayAnswer explains before None said after = (said ≡ answer.Bad LineTooLong) × (after ≡ before)
+MayAnswer explains before (Some []) said after = (said ≡ answer.Nothing) × (after ≡ before)
+MayAnswer explains before (Some (byte ∷ bytes)) said after = MayMean explains before (byte ∷ bytes) said after
+
+-- the text is that of the bad line, of the reply or the stop, of the end of the pass, of the history, of the trim or of the
+-- explanation
 abbrev pub IsText : Answer → List ℕ → Type 0
+IsText answer.Nothing text = text ≡ []
 IsText (answer.Bad fault) text = text ≡ bad_text fault
 IsText (answer.Reply reply) text = IsAnswerText reply text
 IsText (answer.Pass end) text = text ≡ pass_text end
 IsText (answer.History folded entries) text = text ≡ history_text folded entries
 IsText (answer.Trimmed count) text = text ≡ trimmed_text count
+IsText (answer.Why told) text = text ≡ why_text told
+IsText (answer.Ahead told) text = text ≡ ahead_text told
 
--- the block of a line as it is kept: an empty line has none, and one that is too long only says so
-abbrev pub IsBlock : Past → Option (List ℕ) → List ℕ → Past → Type 0
-IsBlock before None block after = (block ≡ bad_text LineTooLong) × (after ≡ before)
-IsBlock before (Some []) block after = (block ≡ []) × (after ≡ before)
-IsBlock before (Some (byte ∷ bytes)) block after =
-    (said : Answer) × MayAnswer before (byte ∷ bytes) said after × IsText said block
+-- the block of a line as it is kept, in a run that explains, or in one that doesn't
+abbrev pub IsBlock : Bool → Past → Option (List ℕ) → List ℕ → Past → Type 0
+IsBlock explains before line block after = (said : Answer) × MayAnswer explains before line said after × IsText said block
 
 -- the block of a last line without its line feed, which is never run
 abbrev pub cut_block : Option (List ℕ) → List ℕ

@@ -2,7 +2,6 @@ pub mod Answer
 pub mod Block
 pub mod Bounds
 pub mod RunState
-pub mod Explained
 pub mod Fault
 pub mod FrontOfOutput
 pub mod LineLength

@@ -1,5 +1,5 @@
 -- What is written for a script.
-use Rattle.std.specs.Prelude.{◌≡◌, ℕ, List, [], ◌∷◌, ◌++◌}
+use Rattle.std.specs.Prelude.{◌≡◌, ℕ, false, List, [], ◌∷◌, ◌++◌}
 use Rattle.ele_runs.specs.Block.{IsBlock, cut_block}
 use Rattle.ele_runs.specs.LineLength.{line_unless_long}
 use Rattle.ele_history.specs.Past.{Past}
@@ -9,7 +9,7 @@ abbrev pub AreBlocks : Past → List (List ℕ) → List ℕ → Past → Type 0
 AreBlocks before [] text after = (text ≡ []) × (after ≡ before)
 AreBlocks before (line ∷ lines) text after =
     (block rest : List ℕ) × (between : Past)
-    × IsBlock before (line_unless_long line) block between × AreBlocks between lines rest after × (text ≡ block ++ rest)
+    × IsBlock false before (line_unless_long line) block between × AreBlocks between lines rest after × (text ≡ block ++ rest)
 
 -- an output of whole lines and of a last one, which may be empty
 pub record IsOutput (start : Past) (lines : List (List ℕ)) (last text : List ℕ) : Type 0 where

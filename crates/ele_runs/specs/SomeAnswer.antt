@@ -1,5 +1,5 @@
 -- Each line has an answer.
-use Rattle.std.specs.Prelude.{ℕ, ◌≤◌, List}
+use Rattle.std.specs.Prelude.{ℕ, ◌≤◌, false, List, Option}
 use Rattle.ele_runs.specs.Answer.{Answer, IsForMemory}
 use Rattle.ele_runs.specs.Block.{MayAnswer, IsText}
 use Rattle.ele_history.specs.Past.{Past, count_of}
@@ -9,14 +9,14 @@ abbrev pub IsWithin : Past → Type 0
 IsWithin past = count_of past ≤ past.base.limits.events
 
 -- the line has an answer that is no stop for memory; the answer has a text, and leaves no more entries than may be
-pub record HasAnswer (before : Past) (line : List ℕ) : Type 0 where
+pub record HasAnswer (before : Past) (line : Option (List ℕ)) : Type 0 where
   pub said : Answer
   pub after : Past
-  pub may : MayAnswer before line said after
+  pub may : MayAnswer false before line said after
   pub unstopped : ¬ IsForMemory said
   pub text : List ℕ
   pub is : IsText said text
   pub within : IsWithin after
 
 abbrev pub SomeAnswer : Type 0
-SomeAnswer = (before : Past) (line : List ℕ) → IsWithin before → HasAnswer before line
+SomeAnswer = (before : Past) (line : Option (List ℕ)) → IsWithin before → HasAnswer before line

@@ -1,9 +1,8 @@
 -- What is written for a script, in the manner of the run.
 use Rattle.std.specs.Prelude.{◌≡◌, ℕ, ◌+◌, false, List, [], ◌∷◌, ◌++◌, Option}
 use Rattle.ele_history.specs.Past.{Past}
-use Rattle.ele_runs.specs.Block.{cut_block}
+use Rattle.ele_runs.specs.Block.{IsBlock, cut_block}
 use Rattle.ele_runs.specs.RunState.{RunState, advance}
-use Rattle.ele_runs.specs.Explained.{IsBlockOf, asked_by}
 use Rattle.ele_runs.specs.LineLength.{line_unless_long}
 use Rattle.ele_runs.specs.RunOptions.{front_of, heard}
 use Rattle.ele_runs.specs.Note.{IsNoted}
@@ -15,7 +14,7 @@ pub record IsTold (before : RunState) (line : Option (List ℕ)) (told : List �
   pub past : Past
   pub notes : Option (List ℕ)
   pub goes_on : before.ended ≡ false
-  pub is : IsBlockOf (asked_by before.options (heard before.options line)) before.past (heard before.options line) block past
+  pub is : IsBlock before.options.explain before.past (heard before.options line) block past
   pub told_is : told ≡ front_of before.options (before.number + 1) (heard before.options line) ++ block
   pub noted : IsNoted before.options (before.number + 1) line block before.notes notes
   pub after_is : after ≡ advance before past block notes

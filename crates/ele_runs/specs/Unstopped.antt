@@ -1,15 +1,14 @@
 -- Outputs of lines none of which want of memory stopped.
-use Rattle.std.specs.Prelude.{ℕ, List, [], ◌∷◌, Option, Some}
+use Rattle.std.specs.Prelude.{ℕ, false, List, [], ◌∷◌, Option}
 use Rattle.ele_runs.specs.Answer.{IsForMemory}
 use Rattle.ele_runs.specs.Block.{IsBlock}
 use Rattle.ele_runs.specs.LineLength.{line_unless_long}
 use Rattle.ele_runs.specs.Output.{AreBlocks, IsOutput}
 use Rattle.ele_history.specs.Past.{Past}
 
--- the line was answered, and not stopped for memory; of an empty one and one that is too long nothing is asked
-abbrev pub IsUnstoppedBlock : (before : Past) (line : Option (List ℕ)) (block : List ℕ) (after : Past) → IsBlock before line block after → Type 0
-IsUnstoppedBlock before (Some (byte ∷ bytes)) block after is = ¬ IsForMemory is.0
-IsUnstoppedBlock before line block after is = Unit {0}
+-- the answer to the line is no stop for memory
+abbrev pub IsUnstoppedBlock : (before : Past) (line : Option (List ℕ)) (block : List ℕ) (after : Past) → IsBlock false before line block after → Type 0
+IsUnstoppedBlock before line block after is = ¬ IsForMemory is.0
 
 -- so was each of the lines
 abbrev pub AreUnstopped : (before : Past) (lines : List (List ℕ)) (text : List ℕ) (after : Past) → AreBlocks before lines text after → Type 0

@@ -1,36 +1,24 @@
 -- Why a line is no command, in the manner of the run, and how that is told.
 use Rattle.std.specs.Prelude.{◌≡◌, ℕ, List, [], ◌∷◌, ◌++◌, codes, decimal, Option, Some, None, true, ◌⊎◌}
 use Rattle.ele_printer.specs.declared.fault.LineFault.{LineFault}
-use Rattle.ele_runs.specs.Explained.{asked_by}
 use Rattle.ele_runs.specs.declared.options.RunOptions.{RunOptions}
-use Rattle.ele_script.specs.FirstFault.{IsFirstFault, IsOfKind}
-use Rattle.ele_script.specs.Memory.{WordTakesMemory, word_takes}
-use Rattle.ele_script.specs.Reason.{IsReason, IsWordReason}
+use Rattle.ele_script.specs.FirstFault.{IsFirstFault}
+use Rattle.ele_script.specs.Memory.{WordTakesMemory}
+use Rattle.ele_script.specs.Reason.{IsReason}
 use Rattle.ele_script.specs.ReasonText.{reason_text}
-use Rattle.ele_printer.specs.declared.kind.WordKind.{WordKind}
 use Rattle.ele_script.specs.Words.{words_of}
 use Rattle.ele_script.specs.declared.reasons.Reason.{Reason}
 use Rattle.ele_script.specs.declared.reasons.Reason.TheVariants.{Cut, TooLong}
 
--- the reason of a line: of its second word, if it asks for an explanation, or else of its first fault
-abbrev pub IsReasonBy : Option (WordKind × List ℕ) → List ℕ → Reason → Type 0
-IsReasonBy (Some asked) line why = IsWordReason 2 asked.0 asked.1 why
-IsReasonBy None line why = IsReason line why
-
--- and of one as it is kept, in the manner of the run
+-- the reason of a line as it is kept, in the manner of the run
 abbrev pub IsToldReason : RunOptions → Option (List ℕ) → Reason → Type 0
 IsToldReason options None why = why ≡ TooLong
-IsToldReason options (Some line) why = IsReasonBy (asked_by options (Some line)) line why
+IsToldReason options (Some line) why = IsReason options.explain line why
 
--- no reason is told where the word is as it should be, or the line is a command, and where there may have been no memory to
--- read these
-abbrev pub HasNone : Option (WordKind × List ℕ) → List ℕ → Type 0
-HasNone (Some asked) line = IsOfKind asked.0 asked.1 ⊎ (word_takes asked.0 asked.1 ≡ true)
-HasNone None line = ((fault : LineFault) → ¬ IsFirstFault line fault) ⊎ WordTakesMemory (words_of line)
-
+-- no reason is told where the line is a command, and where there may have been no memory to read it
 abbrev pub IsUntold : RunOptions → Option (List ℕ) → Type 0
 IsUntold options None = ⊥
-IsUntold options (Some line) = HasNone (asked_by options (Some line)) line
+IsUntold options (Some line) = ((fault : LineFault) → ¬ IsFirstFault options.explain line fault) ⊎ WordTakesMemory options.explain (words_of line)
 
 -- so is what is told of why
 abbrev pub IsBadReason : RunOptions → Option (List ℕ) → Option Reason → Type 0

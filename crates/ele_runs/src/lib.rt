@@ -4,7 +4,6 @@
 #![tactic(auto)]
 
 mod end;
-mod explained;
 mod fault;
 pub mod laws;
 mod line_buffer;
@@ -21,5 +20,5 @@ pub use fault::ShellFault;
 pub use line_buffer::LineBuffer;
 pub use note::{tell_why, why_bad, why_cut};
 pub use options::RunOptions;
-pub use said::{Said, hear_kept};
+pub use said::{Said, explain, hear_ahead, hear_event, hear_kept, hear_trim};
 pub use script::{run_in, run_over};

@@ -1,15 +1,13 @@
 //! Why a line is no command, as a run tells it beside the line's block.
 //! A contract sees a reason as itself, and what the writer of reasons holds then.
-ghost use Rattle.std.specs.Prelude.{◌≡◌, IfNone, IfOk, IfSome, OnErr, Some};
+ghost use Rattle.std.specs.Prelude.{◌≡◌, IfNone, IfSome};
 ghost use Rattle.std.specs.Option.{option_map};
 ghost use Rattle.ele_output.specs.Front.{AppendsFront};
-ghost use Rattle.ele_runs.specs.Explained.{asked_by};
-ghost use Rattle.ele_runs.specs.WhyBad.{HasNone, IsReasonBy, IsToldReason, IsUntold, cut_reason, why_line};
+ghost use Rattle.ele_runs.specs.WhyBad.{IsToldReason, IsUntold, cut_reason, why_line};
 
 use crate::options::RunOptions;
-use ele_moment::NoMemory;
 use ele_output::write_all;
-use ele_script::{Reason, WordKind, question_word, reason, word_reason};
+use ele_script::{Reason, reason};
 use std::alloc::Global;
 use std::io::Write;
 
@@ -23,35 +21,10 @@ pub fn why_bad(alloc: Global, options: RunOptions, line: Option<&[u8]>) -> Optio
     let Some(line) = line else {
         return Some(Reason::TooLong);
     };
-    match line_reason(alloc, options, line) {
+    match reason(alloc, options.explain, line) {
         Ok(found) => found,
         Err(_) => None,
     }
-}
-
-// Why a line is no command: by its second word, if it asks for an explanation.
-fn line_reason(alloc: Global, options: RunOptions, line: &[u8]) -> Result<Option<Reason>, NoMemory>
-    ensures some { IfOk result (λ found. IfSome found
-        (IsReasonBy (asked_by options (Some line.now)) line.now)) }
-    ensures none { IfOk result (λ found. IfNone found
-        (HasNone (asked_by options (Some line.now)) line.now)) }
-    ensures memory { OnErr result (HasNone (asked_by options (Some line.now)) line.now) }
-{
-    match asked_word(options, line) {
-        Some((kind, word)) => word_reason(alloc, 2, kind, word),
-        None => reason(alloc, line),
-    }
-}
-
-// The word of a line that asks for an explanation, if the manner explains.
-fn asked_word(options: RunOptions, line: &[u8]) -> Option<(WordKind, &[u8])>
-    ensures { option_map (λ asked. (asked.0, asked.1.now)) result
-        ≡ asked_by options (Some line.now) }
-{
-    if !options.explain {
-        return None;
-    }
-    question_word(line)
 }
 
 /// Why a last line without its line feed is never run, unless it is empty.

@@ -7,7 +7,8 @@ ghost use Rattle.ele_output.specs.Prints.{outlet};
 ghost use Rattle.ele_output.specs.Front.{AppendsFront};
 ghost use Rattle.ele_runs.specs.RunState.{begun, noting};
 ghost use Rattle.ele_runs.specs.Note.{IsNoted, cut_note};
-ghost use Rattle.ele_runs.specs.Said.{HearsNext, IsSaidText};
+ghost use Rattle.ele_runs.specs.Block.{IsText};
+ghost use Rattle.ele_runs.specs.Said.{HearsNext, answer_of};
 ghost use Rattle.ele_runs.specs.Written.{PutsBlock};
 
 use crate::note::{tell_why, why_bad, why_cut};
@@ -94,7 +95,7 @@ impl<C: Explain> Runner<C> {
 
     // Tells why the line that was heard is no command, where reasons are told.
     fn tell_reason<E: Write>(&self, line: Option<&[u8]>, said: &Said, reasons: &mut E)
-        ensures { (text : List ℕ) → IsSaidText self.now.past said.now text
+        ensures { (text : List ℕ) → IsText (answer_of self.now.past said.now) text
             → IsNoted self.now.options self.now.number (option_map (λ line. line.now) line.entry)
             text (E.contents reasons.old) (E.contents reasons.new) }
     {

@@ -4,16 +4,17 @@ ghost use Rattle.std.specs.Prelude.{◌≡◌, List, ℕ};
 ghost use Rattle.std.specs.Option.{option_map};
 ghost use Rattle.ele_output.specs.Prints.{Prints};
 ghost use Rattle.ele_runs.specs.RunOptions.{is_well};
-ghost use Rattle.ele_runs.specs.Said.{HasText, Hears, HearsKept, IsSaidText, Replies, Trims, has_no_reply, said_front};
+ghost use Rattle.ele_runs.specs.Block.{IsText};
+ghost use Rattle.ele_runs.specs.Said.{Explains, Hears, HearsKept, Records, SaysAhead, Trims, answer_of, has_no_reply, said_front};
 
-use crate::explained::{asked, explain};
 use crate::options::RunOptions;
 use ele_history::History;
-use ele_model::{Event, Explain, Fate, KeyList, PassEnd, Refusal, Reply, Stop};
+use ele_model::{Event, Explain, Fate, KeyList, Moment, PassEnd, Refusal, Reply, Stop};
 use ele_output::Printer;
 use ele_printer::{put_history, put_in_front, put_trimmed};
 use ele_script::{
-    Line, LineFault, put_ahead, put_answer, put_fault, put_pass, put_stop, put_why, read_line,
+    Line, LineFault, Question, put_ahead, put_answer, put_fault, put_pass, put_stop, put_why,
+    read_line_in,
 };
 use std::alloc::Global;
 use std::io::Write;
@@ -57,10 +58,7 @@ pub fn hear_kept<C: Explain>(
     if has_no_reply(options, line) {
         return Said::Nothing;
     }
-    match asked(alloc, options, line) {
-        Some(read) => explain(&read, history),
-        None => hear(alloc, line, history),
-    }
+    hear(alloc, options.explain, line, history)
 }
 
 // Whether a line gets no answer: an empty one, or a remark that is passed over.
@@ -73,16 +71,16 @@ fn has_no_reply(options: RunOptions, line: &[u8]) -> bool
     }
 }
 
-// Answers a line that is neither empty nor too long. Whatever a line may ask for in every manner is
-// done here.
-fn hear<C: Explain>(alloc: Global, line: &[u8], history: &mut History<C>) -> Said
-    ensures { Hears history.old line.now result history.new }
+// Answers a line that is neither empty nor too long, in a run that explains, or in one that doesn't.
+fn hear<C: Explain>(alloc: Global, explains: bool, line: &[u8], history: &mut History<C>) -> Said
+    ensures { Hears explains history.old line.now result history.new }
 {
-    match read_line(alloc, line) {
+    match read_line_in(alloc, explains, line) {
         Ok(Line::Event(event)) => hear_event(event, history),
         Ok(Line::Pass(budget)) => Said::Passed(history.pass(budget)),
         Ok(Line::History) => Said::History,
         Ok(Line::Trim) => hear_trim(history),
+        Ok(Line::Question(question)) => explain(&question, history.core()),
         Err(fault) => match fault {
             LineFault::NoMemory => Said::Stopped(Stop::NoMemory),
             _ => Said::Bad(fault),
@@ -90,10 +88,10 @@ fn hear<C: Explain>(alloc: Global, line: &[u8], history: &mut History<C>) -> Sai
     }
 }
 
-// Answers an event, whose reply stands in the history then, or the stop in its place, which leaves
-// the history.
-fn hear_event<C: Explain>(event: Event, history: &mut History<C>) -> Said
-    ensures { Replies history.old event result history.new }
+/// Answers an event, whose reply stands in the history then, or the stop in its place, which leaves
+/// the history.
+pub fn hear_event<C: Explain>(event: Event, history: &mut History<C>) -> Said
+    ensures { Records history.old event result history.new }
 {
     match history.record(event) {
         Ok(()) => Said::Replied,
@@ -101,8 +99,8 @@ fn hear_event<C: Explain>(event: Event, history: &mut History<C>) -> Said
     }
 }
 
-// Folds the history.
-fn hear_trim<C: Explain>(history: &mut History<C>) -> Said
+/// Folds the history.
+pub fn hear_trim<C: Explain>(history: &mut History<C>) -> Said
     ensures { Trims history.old result history.new }
 {
     match history.trim() {
@@ -111,10 +109,33 @@ fn hear_trim<C: Explain>(history: &mut History<C>) -> Said
     }
 }
 
+/// Answers a question, from the world as it is.
+pub fn explain<C: Explain>(question: &Question, core: &C) -> Said
+    ensures { Explains (C.world core.now) question.now result }
+{
+    match question {
+        Question::Why(tagged) => Said::Why(core.fate_at(tagged)),
+        Question::Ahead(moment) => hear_ahead(*moment, core),
+    }
+}
+
+/// What will be due at the moment.
+pub fn hear_ahead<C: Explain>(moment: Moment, core: &C) -> Said
+    ensures { SaysAhead (C.world core.now) moment result }
+{
+    if moment < core.now() {
+        return Said::Ahead(Err(Refusal::NotAhead));
+    }
+    match core.due_by(moment) {
+        Ok(keys) => Said::Ahead(Ok(keys)),
+        Err(_) => Said::Stopped(Stop::NoMemory),
+    }
+}
+
 impl Said {
     /// Whether it is told by `ok`, or not at all.
     pub(crate) fn is_well<C: Explain>(&self, history: &History<C>) -> bool
-        ensures { (text : List ℕ) → IsSaidText history.now self.now text → result ≡ is_well text }
+        ensures { (text : List ℕ) → IsText (answer_of history.now self.now) text → result ≡ is_well text }
     {
         match self {
             Said::Bad(_) | Said::Stopped(_) | Said::Passed(PassEnd::Stopped(_, _)) => false,
@@ -145,8 +166,7 @@ impl Said {
 
     /// Puts its text.
     pub fn put<C: Explain, W: Write>(&self, history: &History<C>, printer: &mut Printer<'_, W>)
-        requires { HasText history.now self.now }
-        ensures { (text : List ℕ) × IsSaidText history.now self.now text
+        ensures { (text : List ℕ) × IsText (answer_of history.now self.now) text
             × Prints W.contents printer.old printer.new text }
     {
         match self {
@@ -163,14 +183,13 @@ impl Said {
     }
 }
 
-// Puts the reply of the last entry.
+// Puts the reply of the last entry, if there is one.
 fn put_last<C: Explain, W: Write>(history: &History<C>, printer: &mut Printer<'_, W>)
-    requires { HasText history.now Said.Replied }
-    ensures { (text : List ℕ) × IsSaidText history.now Said.Replied text
+    ensures { (text : List ℕ) × IsText (answer_of history.now Said.Replied) text
         × Prints W.contents printer.old printer.new text }
 {
     match history.last() {
         Some(entry) => put_answer(&entry.reply, printer),
-        None => unreachable!(),
+        None => {}
     }
 }

@@ -1,16 +1,18 @@
 -- Each line asks for something or has a first fault.
-use Rattle.ele_script.proofs.Basics.{◌≡◌, ℕ, ◌==◌, ◌≤◌, Bool, true, false, List, [], ◌∷◌, length, refl, ◌⊎◌, inl, inr, Option, Some, None, ℕ_discrete, dec_le}
+use Rattle.ele_script.proofs.Basics.{◌≡◌, ℕ, ◌==◌, ◌≤◌, Bool, true, false, List, [], ◌∷◌, length, refl, ap, ◌∙◌, ◌⊎◌, inl, inr, Option, Some, None, ℕ_discrete, dec_le}
 use Rattle.ele_script.proofs.Prelude.{Line, Command, LineFault, Syntax, Value, Moment, Name, Path, Timed, Bytes, kinds_behind, kinds_if, kinds_of, longest_line, words_of, is_worded, SpellsWords, Asks, IsFaultOfWords, of_word, IsFirstFault, too_long, not_worded, of_words, miscounted}
 use Rattle.std.proofs.Math.Nat.{lt_of_not-le}
 use Rattle.ele_printer.specs.declared.command.Command.TheVariants as command
 use Rattle.ele_printer.specs.declared.fault.LineFault.TheVariants.{LineTooLong}
 use Rattle.ele_model.specs.declared.event.Event.TheVariants as event
 use Rattle.ele_script.specs.declared.reading.Line.TheVariants as asks
-use Rattle.ele_script.specs.CommandOf.{command_of}
+use Rattle.ele_script.specs.declared.reading.Question.TheVariants as question
+use Rattle.ele_script.specs.CommandOf.{command_in}
 use Rattle.ele_script.specs.EveryLine.{EveryLineMeaning}
+use Rattle.ele_printer.specs.Command.{is_allowed}
 use Rattle.ele_script.specs.Spells.{line_parts}
 use Rattle.ele_script.specs.Value.{Number, Handle, Version, End, Tagged, Source, Policy}
-use Rattle.ele_script.proofs.Commands.{fault_of_words, unfit_words, words_found}
+use Rattle.ele_script.proofs.Commands.{allowed_found, fault_of_words, unfit_words, words_found}
 use Rattle.ele_script.proofs.Laws.{value_kinds}
 use Rattle.ele_script.proofs.WordMeanings.{words_meaning}
 
@@ -52,35 +54,43 @@ asked_by command.Groups ended [] kinds = (asks.Event event.GroupsAll, refl, refl
 asked_by command.Pass ended (Number budget ∷ []) kinds = (asks.Pass budget, refl, refl)
 asked_by command.History ended [] kinds = (asks.History, refl, refl)
 asked_by command.Trim ended [] kinds = (asks.Trim, refl, refl)
+asked_by command.Why ended (Tagged tagged ∷ []) kinds = (asks.Question (question.Why tagged), refl, refl)
+asked_by command.Ahead ended (Moment moment ∷ []) kinds = (asks.Question (question.Ahead moment), refl, refl)
 asked_by name ended values kinds = absurd cc
 
-words_ask : (words : List (List ℕ)) (command : Command) (arguments : List (List ℕ)) → command_of words ≡ Some (command, arguments) → ((asked : Line) × SpellsWords words asked) ⊎ ((fault : LineFault) × IsFaultOfWords words fault)
-words_ask words command arguments found =
-    let are = words_found words command arguments found in
+-- words ask for something in a run that explains, or in one that doesn't, or have a first fault there
+abbrev Means : Bool → List (List ℕ) → Type 0
+Means explains words =
+    ((asked : Line) × SpellsWords words asked × (is_allowed explains (line_parts asked).0 ≡ true)) ⊎ ((fault : LineFault) × IsFaultOfWords explains words fault)
+
+words_ask : (explains : Bool) (words : List (List ℕ)) (command : Command) (arguments : List (List ℕ)) → command_in explains words ≡ Some (command, arguments) → Means explains words
+words_ask explains words command arguments found =
+    let are = words_found explains words command arguments found in
+    let allowed = allowed_found explains words command arguments found in
     elim (ℕ_discrete (length arguments) (length (kinds_behind command arguments))) [
-      | no other ↦ inr (Syntax, fault_of_words words command arguments Syntax found are (miscounted other refl))
+      | no other ↦ inr (Syntax, fault_of_words words command arguments Syntax found (miscounted other refl))
       | yes count ↦ elim (words_meaning (kinds_behind command arguments) arguments count) [
-        | inr bad ↦ inr (bad.0, of_word command arguments (record { are = are; count = count }) bad.1)
+        | inr bad ↦ inr (bad.0, of_word command arguments (record { allowed = allowed; are = are; count = count }) bad.1)
         | inl values ↦
             let line = asked_by command (length arguments == length (kinds_of command)) values.0 values.1 in
-            inl (line.0, record { arguments = arguments; are = rw line.1 are; values = rw line.2 values.2 })
+            inl (line.0, record { arguments = arguments; are = rw line.1 are; values = rw line.2 values.2 }, ap (is_allowed explains) line.1 ∙ allowed)
       ]
     ]
 
-words_meant : (words : List (List ℕ)) → ((asked : Line) × SpellsWords words asked) ⊎ ((fault : LineFault) × IsFaultOfWords words fault)
-words_meant words = go (command_of words) refl where
-  go : (found : Option (Command × List (List ℕ))) → command_of words ≡ found → ((asked : Line) × SpellsWords words asked) ⊎ ((fault : LineFault) × IsFaultOfWords words fault)
+words_meant : (explains : Bool) (words : List (List ℕ)) → Means explains words
+words_meant explains words = go (command_in explains words) refl where
+  go : (found : Option (Command × List (List ℕ))) → command_in explains words ≡ found → Means explains words
   go None none = inr (Syntax, unfit_words words none)
-  go (Some (command, arguments)) found = words_ask words command arguments found
+  go (Some (command, arguments)) found = words_ask explains words command arguments found
 
 pub every_line_meaning : EveryLineMeaning
-every_line_meaning line = elim (dec_le (length line) longest_line) [
+every_line_meaning explains line = elim (dec_le (length line) longest_line) [
   | no long ↦ inr (LineTooLong, too_long (lt_of_not-le long) refl)
   | yes short ↦ worded short (is_worded line) refl
 ] where
-  worded : length line ≤ longest_line → (test : Bool) → is_worded line ≡ test → ((asked : Line) × Asks line asked) ⊎ ((fault : LineFault) × IsFirstFault line fault)
+  worded : length line ≤ longest_line → (test : Bool) → is_worded line ≡ test → ((asked : Line) × Asks explains line asked) ⊎ ((fault : LineFault) × IsFirstFault explains line fault)
   worded short false is = inr (Syntax, not_worded short is refl)
-  worded short true is = elim (words_meant (words_of line)) [
-    | inl asked ↦ inl (asked.0, record { short = short; spells = record { worded = is; words = asked.1 } })
+  worded short true is = elim (words_meant explains (words_of line)) [
+    | inl asked ↦ inl (asked.0, record { short = short; spells = record { worded = is; words = asked.1 }; allowed = asked.2 })
     | inr bad ↦ inr (bad.0, of_words short is bad.1)
   ]

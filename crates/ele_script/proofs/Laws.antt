@@ -1,10 +1,13 @@
 -- What is true of lines: each asks for one thing, or has a first fault, and not both.
-use Rattle.ele_script.proofs.Basics.{nat_tests, ◌≡◌, ◌≢◌, ◌==◌, None, Some, ℕ, ◌≤◌, true, true≢false, List, [], ◌∷◌, length, refl, sym, ap, ◌∙◌, arith, ◌⊎◌, inl, inr, Result, Ok, Err, IfOk, IfErr, same_Some}
+use Rattle.ele_printer.specs.Command.{is_allowed}
+use Rattle.ele_script.proofs.Basics.{Bool, false, nat_tests, ◌≡◌, ◌≢◌, ◌==◌, None, Some, ℕ, ◌≤◌, true, true≢false, List, [], ◌∷◌, length, refl, sym, ap, ◌∙◌, arith, ◌⊎◌, inl, inr, Result, Ok, Err, IfOk, IfErr, same_Some}
 use Rattle.ele_script.proofs.Prelude.{OneMeaning, Line, Command, LineFault, NoMemory, WordKind, Value, word_kind, kinds_behind, kinds_if, kinds_of, longest_line, words_of, is_worded, SpellsValues, SpellsWords, SpellsLine, Asks, AsksEvent}
 use Rattle.ele_script.proofs.Prelude.{IsFirstWordFault, IsFaultOfWords, no_command, of_word, IsFirstFault, too_long, not_worded, of_words, IsEventFault, of_line, no_event}
 use Rattle.ele_printer.specs.Parts.{parts_of}
 use Rattle.ele_model.specs.declared.event.Event.{Event}
 use Rattle.ele_model.specs.declared.event.Event.TheVariants as event
+use Rattle.ele_script.specs.declared.reading.Question.{Question}
+use Rattle.ele_script.specs.declared.reading.Question.TheVariants as question
 use Rattle.ele_script.specs.Spells.{line_parts}
 use Rattle.ele_script.specs.declared.reading.Line.TheVariants as asks
 use Rattle.ele_script.specs.EventOf.{event_of}
@@ -38,6 +41,8 @@ asked_kinds (asks.Event e) = of_event e where
 asked_kinds (asks.Pass budget) = refl
 asked_kinds asks.History = refl
 asked_kinds asks.Trim = refl
+asked_kinds (asks.Question (question.Why tagged)) = refl
+asked_kinds (asks.Question (question.Ahead moment)) = refl
 
 spelled_kinds : (words : List (List ℕ)) (asked : Line) → SpellsValues words (line_parts asked).1 → value_kinds (line_parts asked).1 ≡ kinds_behind (line_parts asked).0 words
 spelled_kinds words asked spells = asked_kinds asked ∙ ap (λ n. kinds_if (line_parts asked).0 (n == length (kinds_of (line_parts asked).0))) (sym (as_many words (line_parts asked).1 spells ∙ length_kinds (line_parts asked).1)) where
@@ -64,20 +69,20 @@ module _ (law : OneMeaning) where
   no_first (word ∷ words) (v ∷ vs) fault h (inr bad) = no_first words vs fault h.1 bad.1
   no_first words values fault h bad = grind arith
 
-  no_words : (words : List (List ℕ)) (asked : Line) (fault : LineFault) → SpellsWords words asked → IsFaultOfWords words fault → ⊥
-  no_words words asked fault h x4 = grind (arith, nat_tests, as_many, one_fit, moved, no_first, spelled_kinds)
+  no_words : {explains : Bool} (words : List (List ℕ)) (asked : Line) (fault : LineFault) → is_allowed explains (line_parts asked).0 ≡ true → SpellsWords words asked → IsFaultOfWords explains words fault → ⊥
+  no_words words asked fault allowed h x4 = grind (arith, nat_tests, as_many, one_fit, moved, no_first, spelled_kinds)
 
   -- a line that asks for something has no fault
-  pub spelled_faultless : (line : List ℕ) (asked : Line) (fault : LineFault) → Asks line asked → IsFirstFault line fault → ⊥
+  pub spelled_faultless : {explains : Bool} (line : List ℕ) (asked : Line) (fault : LineFault) → Asks explains line asked → IsFirstFault explains line fault → ⊥
   spelled_faultless line asked fault h (too_long long is) = omega (arith, long, h.short)
   spelled_faultless line asked fault h (not_worded short broken is) = true≢false (sym h.spells.worded ∙ broken)
-  spelled_faultless line asked fault h (of_words short worded bad) = no_words (words_of line) asked fault h.spells.words bad
+  spelled_faultless line asked fault h (of_words short worded bad) = no_words (words_of line) asked fault h.allowed h.spells.words bad
 
   one_first : (kinds : List WordKind) (words : List (List ℕ)) (a b : LineFault) → IsFirstWordFault kinds words a → IsFirstWordFault kinds words b → a ≡ b
   one_first (kind ∷ kinds) (word ∷ words) a b x y = grind (arith, one_word_fault law kind word a b, faultless_word law kind word a, faultless_word law kind word b, one_first kinds words a b)
   one_first kinds words a b x y = grind arith
 
-  one_of_words : (words : List (List ℕ)) (a b : LineFault) → IsFaultOfWords words a → IsFaultOfWords words b → a ≡ b
+  one_of_words : {explains : Bool} (words : List (List ℕ)) (a b : LineFault) → IsFaultOfWords explains words a → IsFaultOfWords explains words b → a ≡ b
   one_of_words words a b (no_command unfit x) (no_command also y) = x ∙ sym y
   one_of_words words a b (no_command unfit x) (of_word c xs fits bad) = absurd (unfit c xs fits)
   one_of_words words a b (of_word c xs fits bad) (no_command unfit y) = absurd (unfit c xs fits)
@@ -85,7 +90,7 @@ module _ (law : OneMeaning) where
       let fit = one_fit words c d xs ys fits.are other.are in one_first (kinds_behind d ys) ys a b (moved a fit.0 fit.1 x) y
 
   -- a line has one first fault
-  pub one_fault : (line : List ℕ) (a b : LineFault) → IsFirstFault line a → IsFirstFault line b → a ≡ b
+  pub one_fault : {explains : Bool} (line : List ℕ) (a b : LineFault) → IsFirstFault explains line a → IsFirstFault explains line b → a ≡ b
   one_fault line a b (too_long long x) (too_long other y) = x ∙ sym y
   one_fault line a b (too_long long x) (not_worded short broken y) = absurd (omega (arith, long, short))
   one_fault line a b (too_long long x) (of_words short whole y) = absurd (omega (arith, long, short))
@@ -97,22 +102,22 @@ module _ (law : OneMeaning) where
   one_fault line a b (of_words short whole x) (of_words also other y) = one_of_words (words_of line) a b x y
 
   -- what was read of a line is all that it asks for
-  pub only_read : (line : List ℕ) (r : Result Line LineFault) → IfOk r (Asks line) → IfErr r (λ fault. (fault ≡ NoMemory) ⊎ IsFirstFault line fault) → (asked : Line) → Asks line asked → (r ≡ Ok asked) ⊎ (r ≡ Err NoMemory)
+  pub only_read : {explains : Bool} (line : List ℕ) (r : Result Line LineFault) → IfOk r (Asks explains line) → IfErr r (λ fault. (fault ≡ NoMemory) ⊎ IsFirstFault explains line fault) → (asked : Line) → Asks explains line asked → (r ≡ Ok asked) ⊎ (r ≡ Err NoMemory)
   only_read line (Ok other) found fault asked h = inl (ap Ok (one_spelling line other asked found.spells h.spells))
   only_read line (Err other) found (inl memory) asked h = inr (ap Err memory)
   only_read line (Err other) found (inr bad) asked h = absurd (spelled_faultless line asked other h bad)
 
   -- and what it was refused with is its fault, where it has one
-  pub only_refused : (line : List ℕ) (r : Result Line LineFault) → IfOk r (Asks line) → IfErr r (λ fault. (fault ≡ NoMemory) ⊎ IsFirstFault line fault) → (fault : LineFault) → IsFirstFault line fault → (r ≡ Err fault) ⊎ (r ≡ Err NoMemory)
+  pub only_refused : {explains : Bool} (line : List ℕ) (r : Result Line LineFault) → IfOk r (Asks explains line) → IfErr r (λ fault. (fault ≡ NoMemory) ⊎ IsFirstFault explains line fault) → (fault : LineFault) → IsFirstFault explains line fault → (r ≡ Err fault) ⊎ (r ≡ Err NoMemory)
   only_refused line (Ok asked) found is fault bad = absurd (spelled_faultless line asked fault found bad)
   only_refused line (Err other) found (inl memory) fault bad = inr (ap Err memory)
   only_refused line (Err other) found (inr is) fault bad = inl (ap Err (one_fault line other fault is bad))
 
 -- the faults of the words of a line are the line's
-pub fault_of_line : (line : List ℕ) (words : List (List ℕ)) (r : Result Line LineFault) → length line ≤ longest_line → is_worded line ≡ true → words ≡ words_of line → IfErr r (λ fault. (fault ≡ NoMemory) ⊎ IsFaultOfWords words fault) → IfErr r (λ fault. (fault ≡ NoMemory) ⊎ IsFirstFault line fault)
-fault_of_line line words (Ok asked) short worded are h = tt
-fault_of_line line words (Err fault) short worded are (inl memory) = inl memory
-fault_of_line line words (Err fault) short worded are (inr bad) = inr (of_words short worded (rw are at bad))
+pub fault_of_line : (explains : Bool) (line : List ℕ) (words : List (List ℕ)) (r : Result Line LineFault) → length line ≤ longest_line → is_worded line ≡ true → words ≡ words_of line → IfErr r (λ fault. (fault ≡ NoMemory) ⊎ IsFaultOfWords explains words fault) → IfErr r (λ fault. (fault ≡ NoMemory) ⊎ IsFirstFault explains line fault)
+fault_of_line explains line words (Ok asked) short worded are h = tt
+fault_of_line explains line words (Err fault) short worded are (inl memory) = inl memory
+fault_of_line explains line words (Err fault) short worded are (inr bad) = inr (of_words short worded (rw are at bad))
 
 no_pass : (budget : ℕ) (event : Event) → asks.Pass budget ≢ asks.Event event
 no_pass budget event h = cc
@@ -123,16 +128,20 @@ no_history event h = cc
 no_trim : (event : Event) → asks.Trim ≢ asks.Event event
 no_trim event h = cc
 
+no_question : (question : Question) (event : Event) → asks.Question question ≢ asks.Event event
+no_question question event h = cc
+
 -- the event in what was read is the line's
-pub event_found : (line : List ℕ) (r : Result Line LineFault) → IfOk r (Asks line) → IfOk (event_of r) (AsksEvent line)
+pub event_found : (line : List ℕ) (r : Result Line LineFault) → IfOk r (Asks false line) → IfOk (event_of r) (AsksEvent line)
 event_found line x1 found = grind (arith, nat_tests)
 
 -- and why there is none is its fault
-pub event_refused : (line : List ℕ) (r : Result Line LineFault) → IfOk r (Asks line) → IfErr r (λ fault. (fault ≡ NoMemory) ⊎ IsFirstFault line fault) → IfErr (event_of r) (λ fault. (fault ≡ NoMemory) ⊎ IsEventFault line fault)
+pub event_refused : (line : List ℕ) (r : Result Line LineFault) → IfOk r (Asks false line) → IfErr r (λ fault. (fault ≡ NoMemory) ⊎ IsFirstFault false line fault) → IfErr (event_of r) (λ fault. (fault ≡ NoMemory) ⊎ IsEventFault line fault)
 event_refused line (Ok (asks.Event event)) found fault = tt
 event_refused line (Ok (asks.Pass budget)) found fault = inr (no_event (asks.Pass budget) found (no_pass budget) refl)
 event_refused line (Ok asks.History) found fault = inr (no_event asks.History found no_history refl)
 event_refused line (Ok asks.Trim) found fault = inr (no_event asks.Trim found no_trim refl)
+event_refused line (Ok (asks.Question question)) found fault = inr (no_event (asks.Question question) found (no_question question) refl)
 event_refused line (Err other) found (inl memory) = inl memory
 event_refused line (Err other) found (inr bad) = inr (of_line bad)
 
@@ -146,9 +155,10 @@ event_so r s (inl is) = inl (ap event_of is)
 event_so r s (inr none) = inr (ap event_of none)
 
 -- and what is no event is refused with its fault
-pub event_fault : (line : List ℕ) (r : Result Line LineFault) → ((asked : Line) → Asks line asked → (r ≡ Ok asked) ⊎ (r ≡ Err NoMemory)) → ((fault : LineFault) → IsFirstFault line fault → (r ≡ Err fault) ⊎ (r ≡ Err NoMemory)) → (fault : LineFault) → IsEventFault line fault → (event_of r ≡ Err fault) ⊎ (event_of r ≡ Err NoMemory)
+pub event_fault : (line : List ℕ) (r : Result Line LineFault) → ((asked : Line) → Asks false line asked → (r ≡ Ok asked) ⊎ (r ≡ Err NoMemory)) → ((fault : LineFault) → IsFirstFault false line fault → (r ≡ Err fault) ⊎ (r ≡ Err NoMemory)) → (fault : LineFault) → IsEventFault line fault → (event_of r ≡ Err fault) ⊎ (event_of r ≡ Err NoMemory)
 event_fault line r only refused fault (of_line bad) = event_so r (Err fault) (refused fault bad)
 event_fault line r only refused fault (no_event (asks.Event event) is other syntax) = absurd (other event refl)
 event_fault line r only refused fault (no_event (asks.Pass budget) is other syntax) = rw syntax (event_so r (Ok (asks.Pass budget)) (only (asks.Pass budget) is))
 event_fault line r only refused fault (no_event asks.History is other syntax) = rw syntax (event_so r (Ok asks.History) (only asks.History is))
 event_fault line r only refused fault (no_event asks.Trim is other syntax) = rw syntax (event_so r (Ok asks.Trim) (only asks.Trim is))
+event_fault line r only refused fault (no_event (asks.Question question) is other syntax) = rw syntax (event_so r (Ok (asks.Question question)) (only (asks.Question question) is))

@@ -2,31 +2,44 @@
 use Rattle.ele_script.proofs.Basics.{Bor, arith, ◌≡◌, ℕ, Bool, true, false, List, [], ◌∷◌, refl, sym, ap, ◌∙◌, inl, inr, true≢false, bytes_decides}
 use Rattle.ele_script.proofs.Prelude.{Command, WordKind, command_words, commands}
 use Rattle.std.specs.List.{list_any}
+use Rattle.std.specs.Prelude.{◌&&◌}
 use Rattle.std.specs.Str.{bytes_eq}
+use Rattle.ele_printer.specs.Command.{is_allowed}
+use Rattle.ele_printer.specs.declared.command.When.{When}
 use Rattle.ele_script.specs.Reason.{BeginsCommand, IsUnknown}
 use Rattle.ele_script.specs.ReasonFound.{begin_row}
 
 abbrev Row : Type 0
-Row = Command × Bor (List ℕ) × Bor (List ℕ) × Bor (List WordKind)
+Row = Command × Bor (List ℕ) × Bor (List ℕ) × Bor (List WordKind) × When
 
 -- the word is the first of a name
 abbrev begins : List ℕ → List (List ℕ) → Bool
 begins word [] = false
 begins word (first ∷ names) = bytes_eq word first
 
-abbrev pub begin_some : List ℕ → Bool
-begin_some word = list_any (λ command. begins word (command_words command)) commands
+-- of a name of such a run
+abbrev begins_so : Bool → List ℕ → Command → Bool
+begins_so explains word command = begins word (command_words command) && is_allowed explains command
+
+abbrev pub begin_some : Bool → List ℕ → Bool
+begin_some explains word = list_any (begins_so explains word) commands
+
+both : (a b : Bool) → (a && b) ≡ true → (a ≡ true) × (b ≡ true)
+both true b e = (refl, e)
+both false b e = absurd cc
 
 begun_by : (word : List ℕ) (names : List (List ℕ)) → begins word names ≡ true → (rest : List (List ℕ)) × (names ≡ word ∷ rest)
 begun_by word [] is = absurd cc
 begun_by word (first ∷ rest) is = (rest, ap (λ (first : List ℕ). first ∷ rest) (sym ((bytes_decides word first).0 is)))
 
 -- a word that begins one of the names begins a name
-begun_in : (word : List ℕ) (cs : List Command) → list_any (λ command. begins word (command_words command)) cs ≡ true → BeginsCommand word
-begun_in word [] is = absurd cc
-begun_in word (c ∷ cs) is = by_test (begins word (command_words c)) refl (begun_in word cs) where
-  by_test : (test : Bool) → begins word (command_words c) ≡ test → (list_any (λ command. begins word (command_words command)) cs ≡ true → BeginsCommand word) → BeginsCommand word
-  by_test true begun others = let names = begun_by word (command_words c) begun in record { command = c; rest = names.0; are = names.1 }
+begun_in : (explains : Bool) (word : List ℕ) (cs : List Command) → list_any (begins_so explains word) cs ≡ true → BeginsCommand explains word
+begun_in explains word [] is = absurd cc
+begun_in explains word (c ∷ cs) is = by_test (begins_so explains word c) refl (begun_in explains word cs) where
+  by_test : (test : Bool) → begins_so explains word c ≡ test → (list_any (begins_so explains word) cs ≡ true → BeginsCommand explains word) → BeginsCommand explains word
+  by_test true so others =
+      let parts = both (begins word (command_words c)) (is_allowed explains c) so in
+      let names = begun_by word (command_words c) parts.0 in record { command = c; allowed = parts.1; rest = names.0; are = names.1 }
   by_test false other others = others (rw other at is)
 
 first_of : List (List ℕ) → List ℕ
@@ -34,20 +47,21 @@ first_of [] = []
 first_of (word ∷ words) = word
 
 -- each name is among them
-listed : (command : Command) → begin_some (first_of (command_words command)) ≡ true
+listed : (explains : Bool) (command : Command) → is_allowed explains command ≡ true → begin_some explains (first_of (command_words command)) ≡ true
 unfolding first_of
-listed command = grind arith
+listed true command allowed = grind arith
+listed false command allowed = grind arith
 
-begun : (word : List ℕ) → BeginsCommand word → begin_some word ≡ true
+begun : (explains : Bool) (word : List ℕ) → BeginsCommand explains word → begin_some explains word ≡ true
 unfolding first_of
-begun word is = sym (ap (λ (names : List (List ℕ)). begin_some (first_of names)) is.are) ∙ listed is.command
+begun explains word is = sym (ap (λ (names : List (List ℕ)). begin_some explains (first_of names)) is.are) ∙ listed explains is.command is.allowed
 
 -- where the first word begins a name it is the second that is unknown
-pub second_unknown : (words : List (List ℕ)) (rows : List Row) → ((word : List ℕ) → begin_row (word ∷ []) rows ≡ begin_some word) → begin_row words rows ≡ true → IsUnknown words 2
-second_unknown [] rows all is = absurd cc
-second_unknown (word ∷ words) rows all is = inl (begun_in word commands (sym (all word) ∙ is), refl)
+pub second_unknown : (explains : Bool) (words : List (List ℕ)) (rows : List Row) → ((word : List ℕ) → begin_row explains (word ∷ []) rows ≡ begin_some explains word) → begin_row explains words rows ≡ true → IsUnknown explains words 2
+second_unknown explains [] rows all is = absurd cc
+second_unknown explains (word ∷ words) rows all is = inl (begun_in explains word commands (sym (all word) ∙ is), refl)
 
 -- and else the first
-pub first_unknown : (words : List (List ℕ)) (rows : List Row) → ((word : List ℕ) → begin_row (word ∷ []) rows ≡ begin_some word) → begin_row words rows ≡ false → IsUnknown words 1
-first_unknown [] rows all is = refl
-first_unknown (word ∷ words) rows all is = inr ((λ names. true≢false (sym (all word ∙ begun word names) ∙ is)), refl)
+pub first_unknown : (explains : Bool) (words : List (List ℕ)) (rows : List Row) → ((word : List ℕ) → begin_row explains (word ∷ []) rows ≡ begin_some explains word) → begin_row explains words rows ≡ false → IsUnknown explains words 1
+first_unknown explains [] rows all is = refl
+first_unknown explains (word ∷ words) rows all is = inr ((λ names. true≢false (sym (all word ∙ begun explains word names) ∙ is)), refl)

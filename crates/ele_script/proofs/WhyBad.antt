@@ -2,7 +2,7 @@
 use Rattle.ele_script.proofs.Basics.{◌≡◌, ◌≢◌, ℕ, ◌+◌, ◌<◌, ◌≤◌, ◌==◌, Bool, true, List, [], ◌∷◌, ◌++◌, zero, suc, length, take, drop, refl, true≢false, sym, ap, ◌∙◌, arith, inl, inr, append_assoc, length-append, take-append-drop, subst, map, length-map, Option, Some, None, Result, Ok, Err, IfOk}
 use Rattle.ele_script.proofs.Prelude.{OneMeaning, Command, LineFault, WordKind, command_words, kinds_behind, kinds_if, kinds_of, longest_line, words_of, is_worded}
 use Rattle.ele_script.proofs.Prelude.{IsFirstWordFault, FitsCommand, IsFaultOfWords, IsFirstFault, too_long, not_worded, of_words, no_command, of_word}
-use Rattle.ele_script.specs.CommandOf.{command_of}
+use Rattle.ele_script.specs.CommandOf.{command_in}
 use Rattle.ele_script.specs.Memory.{any_takes}
 use Rattle.ele_script.specs.Reason.{IsFirstBadWord, IsReasonOfWords, IsUnknown, fault_of}
 use Rattle.ele_script.specs.Reason as why
@@ -10,7 +10,7 @@ use Rattle.ele_script.specs.ReasonFound.{AreOfKinds, IsCommand, TakesBehind}
 use Rattle.ele_script.specs.declared.reasons.Reason.{Reason}
 use Rattle.ele_script.specs.declared.reasons.Reason.TheVariants.{NoCommand, Words}
 use Rattle.ele_script.proofs.Laws.{moved}
-use Rattle.ele_script.proofs.Commands.{command_of-words, one_fit, words_found}
+use Rattle.ele_script.proofs.Commands.{allowed_found, command_in-words, one_fit, words_found}
 use Rattle.std.specs.Prelude.{◌-◌, IfNone, IfSome, OnErr}
 use Rattle.std.proofs.lemmas.List.{append-nil}
 use Rattle.ele_script.proofs.Values.{faultless_word}
@@ -22,9 +22,9 @@ first_fault before (kind ∷ kinds) (word ∷ words) reason (inr bad) = inr (bad
 first_fault before kinds words reason bad = absurd bad
 
 -- the reason of words is that of their fault
-pub words_fault : (words : List (List ℕ)) (reason : Reason) → IsReasonOfWords words reason → IsFaultOfWords words (fault_of reason)
-words_fault words reason (why.no_command number none unknown is) = no_command (λ c xs fits. none c xs fits.are) (rw is refl)
-words_fault words reason (why.miscounted command arguments are count is) =
+pub words_fault : {explains : Bool} (words : List (List ℕ)) (reason : Reason) → IsReasonOfWords explains words reason → IsFaultOfWords explains words (fault_of reason)
+words_fault words reason (why.no_command number none unknown is) = no_command (λ c xs fits. none c xs fits.allowed fits.are) (rw is refl)
+words_fault words reason (why.miscounted command arguments allowed are count is) =
     no_command (λ c xs fits. let same = one_fit words c command xs arguments fits.are are in count (rw (sym same.0, sym same.1) fits.count)) (rw is refl)
 words_fault words reason (why.of_word command arguments fits bad) =
     of_word command arguments fits (first_fault (length (command_words command)) (kinds_behind command arguments) arguments reason bad)
@@ -42,16 +42,16 @@ take_short (suc n) [] lt = refl
 take_short (suc n) (x ∷ xs) lt = ap (λ ys. x ∷ ys) (take_short n xs (omega (arith, lt)))
 
 -- where the first of the words fit a command they are all
-pub all_fit : (words : List (List ℕ)) (command : Command) (arguments : List (List ℕ)) → FitsCommand (take 5 words) command arguments → take 5 words ≡ words
+pub all_fit : {explains : Bool} (words : List (List ℕ)) (command : Command) (arguments : List (List ℕ)) → FitsCommand explains (take 5 words) command arguments → take 5 words ≡ words
 all_fit words command arguments fits =
     take_short 5 words (omega (arith, ap length fits.are, length-append (command_words command) arguments, fits.count, few_words command (length arguments == length (kinds_of command))))
 
 take_front : (command : Command) (arguments : List (List ℕ)) → (rest : List (List ℕ)) × (take 5 (command_words command ++ arguments) ≡ command_words command ++ rest)
 take_front command arguments = (take (5 - length (command_words command)) arguments, grind arith)
 
-unknown_first : (words : List (List ℕ)) (number : ℕ) → IsUnknown (take 5 words) number → IsUnknown words number
-unknown_first [] number is = is
-unknown_first (word ∷ words) number is = is
+unknown_first : (explains : Bool) (words : List (List ℕ)) (number : ℕ) → IsUnknown explains (take 5 words) number → IsUnknown explains words number
+unknown_first explains [] number is = is
+unknown_first explains (word ∷ words) number is = is
 
 few_name : (command : Command) → length (command_words command) ≤ 2
 few_name command = grind arith
@@ -72,15 +72,15 @@ miscounted_all words command arguments are count same = by_rest (drop 5 words) r
       omega (arith, same, many, ap length are, length-append (command_words command) arguments, length-append arguments (drop 5 words), ap length more, few_name command, few_kinds command (length (arguments ++ drop 5 words) == length (kinds_of command)))
 
 -- the reason of the first words is that of all
-pub all_reason : (words : List (List ℕ)) (reason : Reason) → IsReasonOfWords (take 5 words) reason → IsReasonOfWords words reason
-all_reason words reason (why.no_command number none unknown is) =
-    why.no_command number (λ c xs are. let front = take_front c xs in none c front.0 (ap (λ (ws : List (List ℕ)). take 5 ws) are ∙ front.1)) (unknown_first words number unknown) is
-all_reason words reason (why.miscounted command arguments are count is) =
+pub all_reason : {explains : Bool} (words : List (List ℕ)) (reason : Reason) → IsReasonOfWords explains (take 5 words) reason → IsReasonOfWords explains words reason
+all_reason {explains} words reason (why.no_command number none unknown is) =
+    why.no_command number (λ c xs allowed are. let front = take_front c xs in none c front.0 allowed (ap (λ (ws : List (List ℕ)). take 5 ws) are ∙ front.1)) (unknown_first explains words number unknown) is
+all_reason words reason (why.miscounted command arguments allowed are count is) =
     let parts : words ≡ command_words command ++ (arguments ++ drop 5 words) =
     sym (take-append-drop 5 words) ∙ ap (λ (ws : List (List ℕ)). ws ++ drop 5 words) are ∙ append_assoc (command_words command) arguments (drop 5 words) in
-    why.miscounted command (arguments ++ drop 5 words) parts (miscounted_all words command arguments are count) is
-all_reason words reason (why.of_word command arguments fits bad) =
-    let same = all_fit words command arguments fits in subst (λ ws. IsReasonOfWords ws reason) same (why.of_word command arguments fits bad)
+    why.miscounted command (arguments ++ drop 5 words) allowed parts (miscounted_all words command arguments are count) is
+all_reason {explains} words reason (why.of_word command arguments fits bad) =
+    let same = all_fit words command arguments fits in subst (λ ws. IsReasonOfWords explains ws reason) same (why.of_word command arguments fits bad)
 
 -- words of their kinds have no first bad one
 no_first : (law : OneMeaning) (kinds : List WordKind) (words : List (List ℕ)) (fault : LineFault) → AreOfKinds kinds words → IsFirstWordFault kinds words fault → ⊥
@@ -89,69 +89,69 @@ no_first law (kind ∷ kinds) (word ∷ words) fault are (inr bad) = no_first la
 no_first law kinds words fault are bad = absurd bad
 
 -- a command and what it takes has no fault
-command_faultless : (law : OneMeaning) (words : List (List ℕ)) (fault : LineFault) → IsCommand words → IsFaultOfWords words fault → ⊥
+command_faultless : {explains : Bool} (law : OneMeaning) (words : List (List ℕ)) (fault : LineFault) → IsCommand explains words → IsFaultOfWords explains words fault → ⊥
 command_faultless law words fault is (no_command none syntax) = none is.command is.arguments is.fits
 command_faultless law words fault is (of_word command arguments fits bad) =
     let same = one_fit words command is.command arguments is.arguments fits.are is.fits.are in
     no_first law (kinds_behind is.command is.arguments) is.arguments fault is.are (moved fault same.0 same.1 bad)
 
 -- nor a line that is one
-pub faultless_line : (law : OneMeaning) (line : List ℕ) (first : List (List ℕ)) → length line ≤ longest_line → is_worded line ≡ true → first ≡ take 5 (words_of line) → IsCommand first → (fault : LineFault) → ¬ IsFirstFault line fault
+pub faultless_line : {explains : Bool} (law : OneMeaning) (line : List ℕ) (first : List (List ℕ)) → length line ≤ longest_line → is_worded line ≡ true → first ≡ take 5 (words_of line) → IsCommand explains first → (fault : LineFault) → ¬ IsFirstFault explains line fault
 faultless_line law line first short worded is command fault (too_long long other) = omega (arith, long, short)
 faultless_line law line first short worded is command fault (not_worded also broken other) = true≢false (sym worded ∙ broken)
-faultless_line law line first short worded is command fault (of_words also whole bad) =
-    let found = subst IsCommand is command in
-    command_faultless law (words_of line) fault (subst IsCommand (all_fit (words_of line) found.command found.arguments found.fits) found) bad
+faultless_line {explains} law line first short worded is command fault (of_words also whole bad) =
+    let found = subst (IsCommand explains) is command in
+    command_faultless law (words_of line) fault (subst (IsCommand explains) (all_fit (words_of line) found.command found.arguments found.fits) found) bad
 
 -- words in front of which no command is found are none
-pub unknown_reason : (words : List (List ℕ)) (number : ℕ) → command_of words ≡ None → IsUnknown words number → IsReasonOfWords words (NoCommand number)
-unknown_reason words number none unknown = why.no_command number (λ c xs are. absurd (let found = ap command_of are ∙ command_of-words c xs in grind (arith, none, found))) unknown refl
+pub unknown_reason : {explains : Bool} (words : List (List ℕ)) (number : ℕ) → command_in explains words ≡ None → IsUnknown explains words number → IsReasonOfWords explains words (NoCommand number)
+unknown_reason {explains} words number none unknown = why.no_command number (λ c xs allowed are. absurd (let found = ap (command_in explains) are ∙ command_in-words explains c xs allowed in grind (arith, none, found))) unknown refl
 
 -- the kinds behind a command, by how many words stand there
 pub kinds_are : {A : Type 0} (command : Command) (bytes : A → List ℕ) (behind : List A) (kinds : List WordKind) → kinds ≡ kinds_if command (length behind == length (kinds_of command)) → kinds ≡ kinds_behind command (map bytes behind)
 kinds_are command bytes behind kinds is = rw (length-map behind bytes) is
 
 -- other words than it takes stand behind a command
-pub words_miscounted : (words : List (List ℕ)) (command : Command) (arguments : List (List ℕ)) → command_of words ≡ Some (command, arguments) → length arguments ≢ length (kinds_behind command arguments) → IsReasonOfWords words (Words command)
-words_miscounted words command arguments found count = why.miscounted command arguments (words_found words command arguments found) count refl
+pub words_miscounted : {explains : Bool} (words : List (List ℕ)) (command : Command) (arguments : List (List ℕ)) → command_in explains words ≡ Some (command, arguments) → length arguments ≢ length (kinds_behind command arguments) → IsReasonOfWords explains words (Words command)
+words_miscounted {explains} words command arguments found count = why.miscounted command arguments (allowed_found explains words command arguments found) (words_found explains words command arguments found) count refl
 
 -- and those that it takes
-pub words_fit : (words : List (List ℕ)) (command : Command) (arguments : List (List ℕ)) → command_of words ≡ Some (command, arguments) → length arguments ≡ length (kinds_behind command arguments) → FitsCommand words command arguments
-words_fit words command arguments found count = record { are = words_found words command arguments found; count = count }
+pub words_fit : {explains : Bool} (words : List (List ℕ)) (command : Command) (arguments : List (List ℕ)) → command_in explains words ≡ Some (command, arguments) → length arguments ≡ length (kinds_behind command arguments) → FitsCommand explains words command arguments
+words_fit {explains} words command arguments found count = record { allowed = allowed_found explains words command arguments found; are = words_found explains words command arguments found; count = count }
 
 -- what was found of the words behind a command is so of all
-pub reason_some : {E : Type 0} (words : List (List ℕ)) (command : Command) (arguments : List (List ℕ)) (before : ℕ) (r : Result (Option Reason) E) → FitsCommand words command arguments → before ≡ length (command_words command)
-    → IfOk r (λ found. IfSome found (IsFirstBadWord before (kinds_behind command arguments) arguments)) → IfOk r (λ found. IfSome found (IsReasonOfWords words))
+pub reason_some : {explains : Bool} {E : Type 0} (words : List (List ℕ)) (command : Command) (arguments : List (List ℕ)) (before : ℕ) (r : Result (Option Reason) E) → FitsCommand explains words command arguments → before ≡ length (command_words command)
+    → IfOk r (λ found. IfSome found (IsFirstBadWord before (kinds_behind command arguments) arguments)) → IfOk r (λ found. IfSome found (IsReasonOfWords explains words))
 reason_some words command arguments before (Ok None) fits is some = tt
 reason_some words command arguments before (Ok (Some reason)) fits is some = why.of_word command arguments fits (rw is at some)
 reason_some words command arguments before (Err e) fits is some = tt
 
-pub reason_none : {E : Type 0} (words : List (List ℕ)) (command : Command) (arguments : List (List ℕ)) (r : Result (Option Reason) E) → FitsCommand words command arguments
-    → IfOk r (λ found. IfNone found (AreOfKinds (kinds_behind command arguments) arguments)) → IfOk r (λ found. IfNone found (IsCommand words))
+pub reason_none : {explains : Bool} {E : Type 0} (words : List (List ℕ)) (command : Command) (arguments : List (List ℕ)) (r : Result (Option Reason) E) → FitsCommand explains words command arguments
+    → IfOk r (λ found. IfNone found (AreOfKinds (kinds_behind command arguments) arguments)) → IfOk r (λ found. IfNone found (IsCommand explains words))
 reason_none words command arguments (Ok None) fits none = record { command = command; arguments = arguments; fits = fits; are = none }
 reason_none words command arguments (Ok (Some reason)) fits none = tt
 reason_none words command arguments (Err e) fits none = tt
 
-pub reason_memory : {A E : Type 0} (words : List (List ℕ)) (command : Command) (arguments : List (List ℕ)) (r : Result A E) → FitsCommand words command arguments
-    → OnErr r (any_takes (kinds_behind command arguments) arguments ≡ true) → OnErr r (TakesBehind words)
+pub reason_memory : {explains : Bool} {A E : Type 0} (words : List (List ℕ)) (command : Command) (arguments : List (List ℕ)) (r : Result A E) → FitsCommand explains words command arguments
+    → OnErr r (any_takes (kinds_behind command arguments) arguments ≡ true) → OnErr r (TakesBehind explains words)
 reason_memory words command arguments (Ok x) fits takes = tt
 reason_memory words command arguments (Err e) fits takes = record { command = command; arguments = arguments; fits = fits; takes = takes }
 
 -- what was found of the first words of a line is so of the line
-pub line_some : {E : Type 0} (line : List ℕ) (first : List (List ℕ)) (r : Result (Option Reason) E) → length line ≤ longest_line → is_worded line ≡ true → first ≡ take 5 (words_of line) → IfOk r (λ found. IfSome found (IsReasonOfWords first))
-    → IfOk r (λ found. IfSome found (why.IsReason line))
-line_some line first (Ok None) short worded is some = tt
-line_some line first (Ok (Some reason)) short worded is some = why.of_words short worded (all_reason (words_of line) reason (rw is at some))
-line_some line first (Err e) short worded is some = tt
+pub line_some : {E : Type 0} (explains : Bool) (line : List ℕ) (first : List (List ℕ)) (r : Result (Option Reason) E) → length line ≤ longest_line → is_worded line ≡ true → first ≡ take 5 (words_of line) → IfOk r (λ found. IfSome found (IsReasonOfWords explains first))
+    → IfOk r (λ found. IfSome found (why.IsReason explains line))
+line_some explains line first (Ok None) short worded is some = tt
+line_some explains line first (Ok (Some reason)) short worded is some = why.of_words short worded (all_reason (words_of line) reason (rw is at some))
+line_some explains line first (Err e) short worded is some = tt
 
-pub line_fault : {E : Type 0} (line : List ℕ) (first : List (List ℕ)) (r : Result (Option Reason) E) → length line ≤ longest_line → is_worded line ≡ true → first ≡ take 5 (words_of line) → IfOk r (λ found. IfSome found (IsReasonOfWords first))
-    → IfOk r (λ found. IfSome found (λ reason. IsFirstFault line (fault_of reason)))
-line_fault line first (Ok None) short worded is some = tt
-line_fault line first (Ok (Some reason)) short worded is some = of_words short worded (words_fault (words_of line) reason (all_reason (words_of line) reason (rw is at some)))
-line_fault line first (Err e) short worded is some = tt
+pub line_fault : {E : Type 0} (explains : Bool) (line : List ℕ) (first : List (List ℕ)) (r : Result (Option Reason) E) → length line ≤ longest_line → is_worded line ≡ true → first ≡ take 5 (words_of line) → IfOk r (λ found. IfSome found (IsReasonOfWords explains first))
+    → IfOk r (λ found. IfSome found (λ reason. IsFirstFault explains line (fault_of reason)))
+line_fault explains line first (Ok None) short worded is some = tt
+line_fault explains line first (Ok (Some reason)) short worded is some = of_words short worded (words_fault (words_of line) reason (all_reason (words_of line) reason (rw is at some)))
+line_fault explains line first (Err e) short worded is some = tt
 
-pub line_none : {E : Type 0} (law : OneMeaning) (line : List ℕ) (first : List (List ℕ)) (r : Result (Option Reason) E) → length line ≤ longest_line → is_worded line ≡ true → first ≡ take 5 (words_of line) → IfOk r (λ found. IfNone found (IsCommand first))
-    → IfOk r (λ found. IfNone found ((fault : LineFault) → ¬ IsFirstFault line fault))
-line_none law line first (Ok None) short worded is none = faultless_line law line first short worded is none
-line_none law line first (Ok (Some reason)) short worded is none = tt
-line_none law line first (Err e) short worded is none = tt
+pub line_none : {E : Type 0} (explains : Bool) (law : OneMeaning) (line : List ℕ) (first : List (List ℕ)) (r : Result (Option Reason) E) → length line ≤ longest_line → is_worded line ≡ true → first ≡ take 5 (words_of line) → IfOk r (λ found. IfNone found (IsCommand explains first))
+    → IfOk r (λ found. IfNone found ((fault : LineFault) → ¬ IsFirstFault explains line fault))
+line_none explains law line first (Ok None) short worded is none = faultless_line law line first short worded is none
+line_none explains law line first (Ok (Some reason)) short worded is none = tt
+line_none explains law line first (Err e) short worded is none = tt

@@ -121,5 +121,5 @@ pub unworded : (line : List ℕ) → list_all is_plain line ≡ false → is_wor
 unworded line broken = ap (λ b. b && list_all (λ word. nat_lt 0 (length word)) (words_of line)) broken
 
 -- a line that isn't worded, or has more than four words, is at fault
-pub unfit_line : (line : List ℕ) → length line ≤ longest_line → (is_worded line ≡ false) ⊎ (4 < length (words_of line)) → IsFirstFault line Syntax
+pub unfit_line : {explains : Bool} (line : List ℕ) → length line ≤ longest_line → (is_worded line ≡ false) ⊎ (4 < length (words_of line)) → IsFirstFault explains line Syntax
 unfit_line line short x2 = grind (arith, nat_tests, length-append)

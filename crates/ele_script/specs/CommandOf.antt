@@ -1,11 +1,13 @@
 -- The command that words begin with, looked for in a table. No public clause cites this module.
-use Rattle.std.specs.Prelude.{◌≡◌, ℕ, List, [], ◌∷◌, Option, Some, None, map, if◌then◌else◌}
+use Rattle.std.specs.Prelude.{◌≡◌, Bool, ℕ, List, [], ◌∷◌, Option, Some, None, map, if◌then◌else◌}
 use Rattle.std.specs.Borrow.{Bor}
 use Rattle.std.specs.Str.{bytes_eq}
+use Rattle.std.specs.Option.{option_and_then}
 use Rattle.ele_printer.specs.declared.command.Command.{Command}
+use Rattle.ele_printer.specs.declared.command.When.{When}
 use Rattle.ele_printer.specs.declared.command.TheConstants.{ROWS}
 use Rattle.ele_printer.specs.declared.kind.WordKind.{WordKind}
-use Rattle.ele_printer.specs.Command.{command_words, name_of}
+use Rattle.ele_printer.specs.Command.{command_words, is_allowed, name_of}
 
 -- what stands behind a name
 abbrev pub behind : List (List ℕ) → List (List ℕ) → Option (List (List ℕ))
@@ -34,8 +36,15 @@ named command = (command_words command, command)
 unfoldable pub command_of : List (List ℕ) → Option (Command × List (List ℕ))
 command_of words = find_command (map named commands) words
 
+-- if it is a command of a run that explains, or of one that doesn't
+abbrev pub if_allowed : Bool → Command × List (List ℕ) → Option (Command × List (List ℕ))
+if_allowed explains found = if is_allowed explains found.0 then Some found else None
+
+abbrev pub command_in : Bool → List (List ℕ) → Option (Command × List (List ℕ))
+command_in explains words = option_and_then (if_allowed explains) (command_of words)
+
 -- a row's command with its name
-abbrev pub entry : Command × Bor (List ℕ) × Bor (List ℕ) × Bor (List WordKind) → List (List ℕ) × Command
+abbrev pub entry : Command × Bor (List ℕ) × Bor (List ℕ) × Bor (List WordKind) × When → List (List ℕ) × Command
 entry row = (name_of row.1.now row.2.now, row.0)
 
 -- the first letter of the words, if the first of them has one

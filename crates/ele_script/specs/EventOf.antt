@@ -12,4 +12,5 @@ event_of (Ok (asks.Event event)) = Ok event
 event_of (Ok (asks.Pass budget)) = Err Syntax
 event_of (Ok asks.History) = Err Syntax
 event_of (Ok asks.Trim) = Err Syntax
+event_of (Ok (asks.Question question)) = Err Syntax
 event_of (Err fault) = Err fault

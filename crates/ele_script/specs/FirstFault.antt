@@ -1,5 +1,5 @@
 -- The first fault of a line that asks for nothing.
-use Rattle.std.specs.Prelude.{◌≡◌, ◌≢◌, ℕ, ◌<◌, ◌≤◌, List, ◌∷◌, ◌++◌, length, Some, Err, true, false, ◌⊎◌}
+use Rattle.std.specs.Prelude.{◌≡◌, ◌≢◌, ℕ, Bool, ◌<◌, ◌≤◌, List, ◌∷◌, ◌++◌, length, Some, Err, true, false, ◌⊎◌}
 use Rattle.std.specs.Option.{option_map}
 use Rattle.ele_path.specs.FirstFault.{path_fault}
 use Rattle.ele_printer.specs.declared.command.Command.{Command}
@@ -9,7 +9,7 @@ use Rattle.ele_printer.specs.LineFault.{fault_of_path}
 use Rattle.ele_script.specs.Value.{WordKind, NumberWord, HandleWord, VersionWord, MomentWord, EndWord, NameWord, PathWord, TaggedWord, TimedWord, SourceWord, BytesWord, PolicyWord, Value, word_kind, SpellsValue}
 use Rattle.ele_script.specs.PolicyWord.{ReadsPolicy}
 use Rattle.ele_script.specs.PathWord.{IsTaggedWordFault, IsTimedWordFault, IsSourceFault}
-use Rattle.ele_printer.specs.Command.{command_words}
+use Rattle.ele_printer.specs.Command.{command_words, is_allowed}
 use Rattle.ele_script.specs.Command.{kinds_behind}
 use Rattle.ele_script.specs.Words.{longest_line, words_of, is_worded}
 use Rattle.ele_script.specs.Spells.{Asks}
@@ -42,23 +42,24 @@ IsFirstWordFault (kind ∷ kinds) (word ∷ words) fault =
     IsWordFault kind word fault ⊎ (IsOfKind kind word × IsFirstWordFault kinds words fault)
 IsFirstWordFault kinds words fault = ⊥
 
--- the words are the command, and as many words behind it as it wants
-pub record FitsCommand (words : List (List ℕ)) (command : Command) (arguments : List (List ℕ)) : Type 0 where
+-- the words are a command of a run that explains, or of one that doesn't, and as many words behind it as it wants
+pub record FitsCommand (explains : Bool) (words : List (List ℕ)) (command : Command) (arguments : List (List ℕ)) : Type 0 where
+  pub allowed : is_allowed explains command ≡ true
   pub are : words ≡ command_words command ++ arguments
   pub count : length arguments ≡ length (kinds_behind command arguments)
 
 -- the fault of plain words: they fit no command, or the first bad one
-pub data IsFaultOfWords (words : List (List ℕ)) (fault : LineFault) : Type 0 where
-  no_command : ((command : Command) (arguments : List (List ℕ)) → ¬ FitsCommand words command arguments) → fault ≡ Syntax → IsFaultOfWords words fault
-  of_word : (command : Command) (arguments : List (List ℕ)) → FitsCommand words command arguments → IsFirstWordFault (kinds_behind command arguments) arguments fault → IsFaultOfWords words fault
+pub data IsFaultOfWords (explains : Bool) (words : List (List ℕ)) (fault : LineFault) : Type 0 where
+  no_command : ((command : Command) (arguments : List (List ℕ)) → ¬ FitsCommand explains words command arguments) → fault ≡ Syntax → IsFaultOfWords explains words fault
+  of_word : (command : Command) (arguments : List (List ℕ)) → FitsCommand explains words command arguments → IsFirstWordFault (kinds_behind command arguments) arguments fault → IsFaultOfWords explains words fault
 
--- the first fault of a line: its length, its bytes and spaces, its command and number of words, its first bad word
-pub data IsFirstFault (line : List ℕ) (fault : LineFault) : Type 0 where
-  too_long : longest_line < length line → fault ≡ LineTooLong → IsFirstFault line fault
-  not_worded : length line ≤ longest_line → is_worded line ≡ false → fault ≡ Syntax → IsFirstFault line fault
-  of_words : length line ≤ longest_line → is_worded line ≡ true → IsFaultOfWords (words_of line) fault → IsFirstFault line fault
+-- the first fault of a line in such a run: its length, its bytes and spaces, its command and number of words, its first bad word
+pub data IsFirstFault (explains : Bool) (line : List ℕ) (fault : LineFault) : Type 0 where
+  too_long : longest_line < length line → fault ≡ LineTooLong → IsFirstFault explains line fault
+  not_worded : length line ≤ longest_line → is_worded line ≡ false → fault ≡ Syntax → IsFirstFault explains line fault
+  of_words : length line ≤ longest_line → is_worded line ≡ true → IsFaultOfWords explains (words_of line) fault → IsFirstFault explains line fault
 
 -- why a line is no event: its first fault, or it asks for something else
 pub data IsEventFault (line : List ℕ) (fault : LineFault) : Type 0 where
-  of_line : IsFirstFault line fault → IsEventFault line fault
-  no_event : (asked : Line) → Asks line asked → ((event : Event) → asked ≢ asks.Event event) → fault ≡ Syntax → IsEventFault line fault
+  of_line : IsFirstFault false line fault → IsEventFault line fault
+  no_event : (asked : Line) → Asks false line asked → ((event : Event) → asked ≢ asks.Event event) → fault ≡ Syntax → IsEventFault line fault

@@ -15,7 +15,6 @@ pub mod FirstFault
 pub mod OnePolicy
 pub mod PolicyBack
 pub mod Reads
-pub mod Question
 pub mod Reason
 pub mod ReasonText
 pub mod ReasonFound

@@ -1,5 +1,5 @@
--- No line has two meanings: what it asks for, or its first fault.
-use Rattle.std.specs.Prelude.{◌≡◌, ℕ, List}
+-- No line has two meanings in a run that explains, nor in one that doesn't: what it asks for, or its first fault.
+use Rattle.std.specs.Prelude.{◌≡◌, ℕ, Bool, List}
 use Rattle.ele_script.specs.FirstFault.{IsFirstFault}
 use Rattle.ele_script.specs.Spells.{Asks, SpellsLine}
 use Rattle.ele_printer.specs.declared.fault.LineFault.{LineFault}
@@ -8,7 +8,7 @@ use Rattle.ele_script.specs.declared.reading.Line.{Line}
 -- what a line spells, however long, is one thing; what it asks for is one, its first fault is one, and no line has both
 pub record OneLineMeaning : Type 0 where
   pub one_spelling : (line : List ℕ) (a b : Line) → SpellsLine line a → SpellsLine line b → a ≡ b
-  pub one_line : (line : List ℕ) (a b : Line) → Asks line a → Asks line b → a ≡ b
-  pub one_fault : (line : List ℕ) (a b : LineFault) → IsFirstFault line a → IsFirstFault line b → a ≡ b
-  pub faultless : (line : List ℕ) (asked : Line) (fault : LineFault)
-      → Asks line asked → ¬ IsFirstFault line fault
+  pub one_line : (explains : Bool) (line : List ℕ) (a b : Line) → Asks explains line a → Asks explains line b → a ≡ b
+  pub one_fault : (explains : Bool) (line : List ℕ) (a b : LineFault) → IsFirstFault explains line a → IsFirstFault explains line b → a ≡ b
+  pub faultless : (explains : Bool) (line : List ℕ) (asked : Line) (fault : LineFault)
+      → Asks explains line asked → ¬ IsFirstFault explains line fault

@@ -1,11 +1,10 @@
 -- Which lines are read with memory.
-use Rattle.std.specs.Prelude.{◌≡◌, ℕ, List, ◌∷◌, ◌++◌, ◌||◌, Bool, true, false}
+use Rattle.std.specs.Prelude.{◌≡◌, ℕ, List, [], ◌∷◌, ◌++◌, ◌||◌, Bool, true, false}
 use Rattle.std.specs.List.{list_any}
 use Rattle.ele_printer.specs.declared.command.Command.{Command}
-use Rattle.ele_printer.specs.declared.command.Command.TheVariants.{Read}
 use Rattle.ele_script.specs.Value.{WordKind, NumberWord, HandleWord, VersionWord, MomentWord, EndWord, NameWord, PathWord, TaggedWord, TimedWord, SourceWord, BytesWord, PolicyWord}
 use Rattle.ele_script.specs.PathWord.{begins_path}
-use Rattle.ele_printer.specs.Command.{command_words}
+use Rattle.ele_printer.specs.Command.{command_words, is_allowed}
 use Rattle.ele_script.specs.Command.{kinds_behind}
 
 -- paths and bytes take memory, and a group's name, which lies apart in an event; nothing else does, for a policy stands behind a
@@ -24,20 +23,27 @@ takes_memory SourceWord = true
 takes_memory BytesWord = true
 takes_memory PolicyWord = false
 
--- a word of the kind takes memory where it is read alone
+-- a word of the kind takes memory where it is read alone; what may be a path with a tag is one only with a slash in front
 abbrev pub word_takes : WordKind → List ℕ → Bool
 word_takes SourceWord word = begins_path word
+word_takes TaggedWord word = begins_path word
 word_takes NameWord word = false
 word_takes kind word = takes_memory kind
 
--- a path, bytes or a name stand behind the command; behind `read` the word is looked at
-abbrev pub behind_takes : Command → List (List ℕ) → Bool
-behind_takes Read arguments = list_any begins_path arguments
-behind_takes command arguments = list_any takes_memory (kinds_behind command arguments)
+-- words of these kinds take memory: a path, bytes or a name stand there; one that may be a path with a tag is looked at
+abbrev pub words_take : List WordKind → List (List ℕ) → Bool
+words_take (SourceWord ∷ []) words = list_any begins_path words
+words_take (TaggedWord ∷ []) words = list_any begins_path words
+words_take kinds words = list_any takes_memory kinds
 
--- the words begin with a command behind which a path, bytes or a name stand
-pub record TakesMemory (words : List (List ℕ)) : Type 0 where
+-- the words behind the command do
+abbrev pub behind_takes : Command → List (List ℕ) → Bool
+behind_takes command arguments = words_take (kinds_behind command arguments) arguments
+
+-- the words begin with a command of a run that explains, or of one that doesn't, behind which a path, bytes or a name stand
+pub record TakesMemory (explains : Bool) (words : List (List ℕ)) : Type 0 where
   pub command : Command
+  pub allowed : is_allowed explains command ≡ true
   pub arguments : List (List ℕ)
   pub are : words ≡ command_words command ++ arguments
   pub takes : behind_takes command arguments ≡ true
@@ -47,9 +53,10 @@ abbrev pub any_takes : List WordKind → List (List ℕ) → Bool
 any_takes (kind ∷ kinds) (word ∷ words) = word_takes kind word || any_takes kinds words
 any_takes kinds words = false
 
--- the words begin with a command behind which one of the words takes memory where it is read alone
-pub record WordTakesMemory (words : List (List ℕ)) : Type 0 where
+-- the words begin with a command of such a run behind which one of the words takes memory where it is read alone
+pub record WordTakesMemory (explains : Bool) (words : List (List ℕ)) : Type 0 where
   pub command : Command
+  pub allowed : is_allowed explains command ≡ true
   pub arguments : List (List ℕ)
   pub are : words ≡ command_words command ++ arguments
   pub takes : any_takes (kinds_behind command arguments) arguments ≡ true

@@ -1,14 +1,12 @@
 -- What is read of the words behind a command. No public clause cites this module.
 use Rattle.std.specs.Prelude.{◌≡◌, ◌≢◌, ℕ, List, [], ◌∷◌, length, Bool, true, ◌⊎◌, Result, Ok, Err}
-use Rattle.std.specs.List.{list_any}
 use Rattle.ele_printer.specs.declared.command.Command.{Command}
 use Rattle.ele_printer.specs.declared.fault.LineFault.{LineFault}
 use Rattle.ele_printer.specs.declared.fault.LineFault.TheVariants.{NoMemory, Syntax}
 use Rattle.ele_script.specs.declared.reading.Line.{Line}
-use Rattle.ele_script.specs.Value.{WordKind, SourceWord, Value}
-use Rattle.ele_script.specs.PathWord.{begins_path}
+use Rattle.ele_script.specs.Value.{WordKind, Value}
 use Rattle.ele_script.specs.Command.{kinds_behind}
-use Rattle.ele_script.specs.Memory.{takes_memory, behind_takes}
+use Rattle.ele_script.specs.Memory.{behind_takes, words_take}
 use Rattle.ele_script.specs.Spells.{line_parts, SpellsValues}
 use Rattle.ele_script.specs.FirstFault.{IsFirstWordFault}
 
@@ -21,11 +19,6 @@ pub data IsFaultOfKinds (kinds : List WordKind) (words : List (List ℕ)) (fault
 pub record IsRefused (takes : Bool) (kinds : List WordKind) (words : List (List ℕ)) (fault : LineFault) : Type 0 where
   pub memory : fault ≡ NoMemory → takes ≡ true
   pub is : (fault ≡ NoMemory) ⊎ IsFaultOfKinds kinds words fault
-
--- words of these kinds take memory
-abbrev pub words_take : List WordKind → List (List ℕ) → Bool
-words_take (SourceWord ∷ []) words = list_any begins_path words
-words_take kinds words = list_any takes_memory kinds
 
 -- the words stand for the values of what was read, or are refused
 abbrev pub Reads : {A : Type 0} → List WordKind → (A → List Value) → List (List ℕ) → Result A LineFault → Type 0

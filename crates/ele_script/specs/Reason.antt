@@ -1,7 +1,7 @@
 -- Why a line is no command, and which word of it is at fault.
 use Rattle.std.specs.Prelude.{◌≡◌, ◌≢◌, ℕ, ◌+◌, ◌<◌, ◌≤◌, ◌==◌, ◌&&◌, nat_le, not, Bool, false, List, [], ◌∷◌, ◌++◌, length, true, Some, ◌⊎◌, if◌then◌else◌}
 use Rattle.std.specs.List.{find, list_all}
-use Rattle.ele_printer.specs.Command.{command_words}
+use Rattle.ele_printer.specs.Command.{command_words, is_allowed}
 use Rattle.ele_printer.specs.declared.command.Command.{Command}
 use Rattle.ele_printer.specs.declared.fault.LineFault.{LineFault}
 use Rattle.ele_printer.specs.declared.fault.LineFault.TheVariants.{Syntax, LineTooLong}
@@ -73,16 +73,17 @@ pub record HasUnfit (words : List (List ℕ)) (reason : Reason) : Type 0 where
   pub fit : list_all is_fit front ≡ true
   pub unfit : IsUnfit (length front) word reason
 
--- the word begins the name of a command
-pub record BeginsCommand (word : List ℕ) : Type 0 where
+-- the word begins the name of a command of a run that explains, or of one that doesn't
+pub record BeginsCommand (explains : Bool) (word : List ℕ) : Type 0 where
   pub command : Command
+  pub allowed : is_allowed explains command ≡ true
   pub rest : List (List ℕ)
   pub are : command_words command ≡ word ∷ rest
 
 -- the number of the word that makes the words no command: the second where the first begins the name of one
-abbrev pub IsUnknown : List (List ℕ) → ℕ → Type 0
-IsUnknown [] number = number ≡ 1
-IsUnknown (word ∷ words) number = (BeginsCommand word × (number ≡ 2)) ⊎ ((¬ BeginsCommand word) × (number ≡ 1))
+abbrev pub IsUnknown : Bool → List (List ℕ) → ℕ → Type 0
+IsUnknown explains [] number = number ≡ 1
+IsUnknown explains (word ∷ words) number = (BeginsCommand explains word × (number ≡ 2)) ⊎ ((¬ BeginsCommand explains word) × (number ≡ 1))
 
 -- the reason of a word that isn't of its kind, with its number
 abbrev pub IsWordReason : ℕ → WordKind → List ℕ → Reason → Type 0
@@ -96,15 +97,15 @@ IsFirstBadWord before (kind ∷ kinds) (word ∷ words) reason =
 IsFirstBadWord before kinds words reason = ⊥
 
 -- the reason of plain words: they begin with no command, other words than it takes stand behind it, or the first bad word
-pub data IsReasonOfWords (words : List (List ℕ)) (reason : Reason) : Type 0 where
-  no_command : (number : ℕ) → ((command : Command) (arguments : List (List ℕ)) → words ≢ command_words command ++ arguments) → IsUnknown words number → reason ≡ NoCommand number → IsReasonOfWords words reason
-  miscounted : (command : Command) (arguments : List (List ℕ)) → words ≡ command_words command ++ arguments → length arguments ≢ length (kinds_behind command arguments) → reason ≡ Words command
-      → IsReasonOfWords words reason
-  of_word : (command : Command) (arguments : List (List ℕ)) → FitsCommand words command arguments → IsFirstBadWord (length (command_words command)) (kinds_behind command arguments) arguments reason
-      → IsReasonOfWords words reason
+pub data IsReasonOfWords (explains : Bool) (words : List (List ℕ)) (reason : Reason) : Type 0 where
+  no_command : (number : ℕ) → ((command : Command) (arguments : List (List ℕ)) → is_allowed explains command ≡ true → words ≢ command_words command ++ arguments) → IsUnknown explains words number → reason ≡ NoCommand number → IsReasonOfWords explains words reason
+  miscounted : (command : Command) (arguments : List (List ℕ)) → is_allowed explains command ≡ true → words ≡ command_words command ++ arguments → length arguments ≢ length (kinds_behind command arguments) → reason ≡ Words command
+      → IsReasonOfWords explains words reason
+  of_word : (command : Command) (arguments : List (List ℕ)) → FitsCommand explains words command arguments → IsFirstBadWord (length (command_words command)) (kinds_behind command arguments) arguments reason
+      → IsReasonOfWords explains words reason
 
 -- the reason of a line, in the order of its first fault
-pub data IsReason (line : List ℕ) (reason : Reason) : Type 0 where
-  too_long : longest_line < length line → reason ≡ TooLong → IsReason line reason
-  unfit : length line ≤ longest_line → HasUnfit (words_of line) reason → IsReason line reason
-  of_words : length line ≤ longest_line → is_worded line ≡ true → IsReasonOfWords (words_of line) reason → IsReason line reason
+pub data IsReason (explains : Bool) (line : List ℕ) (reason : Reason) : Type 0 where
+  too_long : longest_line < length line → reason ≡ TooLong → IsReason explains line reason
+  unfit : length line ≤ longest_line → HasUnfit (words_of line) reason → IsReason explains line reason
+  of_words : length line ≤ longest_line → is_worded line ≡ true → IsReasonOfWords explains (words_of line) reason → IsReason explains line reason

@@ -1,9 +1,11 @@
 -- Words that have no reason, and which of the first ones are read with memory. No public clause cites this module.
-use Rattle.std.specs.Prelude.{◌≡◌, ℕ, Bool, true, false, List, [], ◌∷◌}
+use Rattle.std.specs.Prelude.{◌&&◌, ◌≡◌, ℕ, Bool, true, false, List, [], ◌∷◌}
 use Rattle.std.specs.Borrow.{Bor}
 use Rattle.std.specs.List.{list_any}
 use Rattle.std.specs.Str.{bytes_eq}
 use Rattle.ele_printer.specs.declared.command.Command.{Command}
+use Rattle.ele_printer.specs.declared.command.When.{When}
+use Rattle.ele_printer.specs.Command.{allows}
 use Rattle.ele_script.specs.Command.{kinds_behind}
 use Rattle.ele_script.specs.FirstFault.{FitsCommand, IsOfKind}
 use Rattle.ele_script.specs.Memory.{any_takes}
@@ -15,20 +17,24 @@ AreOfKinds (kind ∷ kinds) (word ∷ words) = IsOfKind kind word × AreOfKinds 
 AreOfKinds kinds words = Unit {0}
 
 -- the words are a command and what it takes
-pub record IsCommand (words : List (List ℕ)) : Type 0 where
+pub record IsCommand (explains : Bool) (words : List (List ℕ)) : Type 0 where
   pub command : Command
   pub arguments : List (List ℕ)
-  pub fits : FitsCommand words command arguments
+  pub fits : FitsCommand explains words command arguments
   pub are : AreOfKinds (kinds_behind command arguments) arguments
 
 -- the words fit a command, and one behind it takes memory
-pub record TakesBehind (words : List (List ℕ)) : Type 0 where
+pub record TakesBehind (explains : Bool) (words : List (List ℕ)) : Type 0 where
   pub command : Command
   pub arguments : List (List ℕ)
-  pub fits : FitsCommand words command arguments
+  pub fits : FitsCommand explains words command arguments
   pub takes : any_takes (kinds_behind command arguments) arguments ≡ true
 
--- the first of the words begins the name in a row
-abbrev pub begin_row : List (List ℕ) → List (Command × Bor (List ℕ) × Bor (List ℕ) × Bor (List WordKind)) → Bool
-begin_row [] rows = false
-begin_row (word ∷ words) rows = list_any (λ row. bytes_eq word row.1.now) rows
+-- the word is the first of the name in a row of such a run
+abbrev pub begins_in : Bool → List ℕ → Command × Bor (List ℕ) × Bor (List ℕ) × Bor (List WordKind) × When → Bool
+begins_in explains word row = bytes_eq word row.1.now && allows explains row.4
+
+-- the first of the words is that of one of the rows
+abbrev pub begin_row : Bool → List (List ℕ) → List (Command × Bor (List ℕ) × Bor (List ℕ) × Bor (List WordKind) × When) → Bool
+begin_row explains [] rows = false
+begin_row explains (word ∷ words) rows = list_any (begins_in explains word) rows

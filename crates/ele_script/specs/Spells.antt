@@ -1,14 +1,21 @@
 -- What lines are in text, and which ask for something.
-use Rattle.std.specs.Prelude.{◌≡◌, ℕ, ◌≤◌, List, [], ◌∷◌, ◌++◌, length, true}
+use Rattle.std.specs.Prelude.{◌≡◌, ℕ, Bool, false, ◌≤◌, List, [], ◌∷◌, ◌++◌, length, true}
 use Rattle.ele_model.specs.declared.event.Event.{Event}
 use Rattle.ele_printer.specs.declared.command.Command.{Command}
-use Rattle.ele_printer.specs.declared.command.Command.TheVariants.{Pass, History, Trim}
+use Rattle.ele_printer.specs.declared.command.Command.TheVariants.{Ahead, Pass, History, Trim, Why}
 use Rattle.ele_script.specs.declared.reading.Line.{Line}
 use Rattle.ele_script.specs.declared.reading.Line.TheVariants as asks
+use Rattle.ele_script.specs.declared.reading.Question.{Question}
+use Rattle.ele_script.specs.declared.reading.Question.TheVariants as question
 use Rattle.ele_printer.specs.Parts.{parts_of}
-use Rattle.ele_script.specs.Value.{Value, Number, SpellsValue}
-use Rattle.ele_printer.specs.Command.{command_words}
+use Rattle.ele_script.specs.Value.{Value, Moment, Number, SpellsValue, Tagged}
+use Rattle.ele_printer.specs.Command.{command_words, is_allowed}
 use Rattle.ele_script.specs.Words.{longest_line, words_of, is_worded}
+
+-- the command of a question, and the value of the word behind it
+abbrev pub question_parts : Question → Command × List Value
+question_parts (question.Why tagged) = (Why, Tagged tagged ∷ [])
+question_parts (question.Ahead moment) = (Ahead, Moment moment ∷ [])
 
 -- the command of what a line asks for, and the values of the words behind it
 abbrev pub line_parts : Line → Command × List Value
@@ -16,6 +23,7 @@ line_parts (asks.Event event) = parts_of event
 line_parts (asks.Pass budget) = (Pass, Number budget ∷ [])
 line_parts asks.History = (History, [])
 line_parts asks.Trim = (Trim, [])
+line_parts (asks.Question question) = question_parts question
 
 -- each word stands for its value
 abbrev pub SpellsValues : List (List ℕ) → List Value → Type 0
@@ -38,11 +46,13 @@ pub record SpellsLine (line : List ℕ) (asked : Line) : Type 0 where
 abbrev pub Spells : List ℕ → Event → Type 0
 Spells line event = SpellsLine line (asks.Event event)
 
--- the line asks for this: it is no longer than a line may be, and is this in text
-pub record Asks (line : List ℕ) (asked : Line) : Type 0 where
+-- the line asks for this in a run that explains, or in one that doesn't: it is no longer than a line may be, it is this in text, and
+-- that is a command of such a run
+pub record Asks (explains : Bool) (line : List ℕ) (asked : Line) : Type 0 where
   pub short : length line ≤ longest_line
   pub spells : SpellsLine line asked
+  pub allowed : is_allowed explains (line_parts asked).0 ≡ true
 
--- the line asks for the event
+-- the line asks for the event, as it does in every run
 abbrev pub AsksEvent : List ℕ → Event → Type 0
-AsksEvent line event = Asks line (asks.Event event)
+AsksEvent line event = Asks false line (asks.Event event)

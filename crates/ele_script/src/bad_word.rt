@@ -1,12 +1,11 @@
 //! Why words are no command, and a line. A contract sees a line as its bytes, and a reason as itself.
 ghost use Rattle.std.specs.Prelude.{◌≡◌, ◌⊎◌, ◌+◌, ◌<◌, ◌≤◌, ◌^◌, true, map, length, Err, IfOk, IfErr, IfSome, IfNone, OnOk, OnErr};
 ghost use Rattle.std.specs.List.{list_all, list_any};
-ghost use Rattle.std.specs.Str.{bytes_eq};
 ghost use Rattle.ele_script.specs.FirstFault.{IsFirstFault, IsOfKind, IsWordFault};
 ghost use Rattle.ele_script.specs.Memory.{WordTakesMemory, any_takes, word_takes};
 ghost use Rattle.ele_printer.specs.Command.{command_words};
 ghost use Rattle.ele_script.specs.Reason.{IsFirstBadWord, IsReason, IsReasonOfWords, IsUnknown, IsWordReason, digits_detail, detail_of, fault_of, is_digit, path_detail};
-ghost use Rattle.ele_script.specs.ReasonFound.{AreOfKinds, IsCommand, TakesBehind, begin_row};
+ghost use Rattle.ele_script.specs.ReasonFound.{AreOfKinds, IsCommand, TakesBehind, begin_row, begins_in};
 ghost use Rattle.ele_script.specs.Words.{words_of};
 
 use crate::command::{kinds_for, read_command};
@@ -16,19 +15,20 @@ use crate::reasons::{Detail, Reason};
 use crate::word::{self, begins_path};
 use ele_moment::NoMemory;
 use ele_path::one_meaning;
-use ele_printer::{Command, LineFault, ROWS, Row, WordKind};
+use ele_printer::{Command, LineFault, ROWS, Row, When, WordKind};
 use std::alloc::Global;
 
-/// Why a line is no command, without its line feed, and which of its words is at fault; none where it
-/// is one. It is the first fault by which `read_line` refuses it. `NoMemory` comes only where the
+/// Why a line is no command, without its line feed, in a run that explains, or in one that doesn't,
+/// and which of its words is at fault; none where it is one. It is the first fault by which
+/// `read_line_in` refuses it. `NoMemory` comes only where the
 /// line's command takes a path or bytes.
-pub fn reason(alloc: Global, line: &[u8]) -> Result<Option<Reason>, NoMemory>
-    ensures some { IfOk result (λ found. IfSome found (IsReason line.now)) }
+pub fn reason(alloc: Global, explains: bool, line: &[u8]) -> Result<Option<Reason>, NoMemory>
+    ensures some { IfOk result (λ found. IfSome found (IsReason explains line.now)) }
     ensures fault { IfOk result
-        (λ found. IfSome found (λ reason. IsFirstFault line.now (fault_of reason))) }
+        (λ found. IfSome found (λ reason. IsFirstFault explains line.now (fault_of reason))) }
     ensures none { IfOk result
-        (λ found. IfNone found ((fault : LineFault) → ¬ IsFirstFault line.now fault)) }
-    ensures memory { OnErr result (WordTakesMemory (words_of line.now)) }
+        (λ found. IfNone found ((fault : LineFault) → ¬ IsFirstFault explains line.now fault)) }
+    ensures memory { OnErr result (WordTakesMemory explains (words_of line.now)) }
 {
     // Told for the proof: as a path, a word means one thing.
     one_meaning();
@@ -36,21 +36,21 @@ pub fn reason(alloc: Global, line: &[u8]) -> Result<Option<Reason>, NoMemory>
         return Ok(Some(Reason::TooLong));
     }
     match first_words(line) {
-        Ok(words) => words_reason(alloc, words.as_slice()),
+        Ok(words) => words_reason(alloc, explains, words.as_slice()),
         Err(reason) => Ok(Some(reason)),
     }
 }
 
 // Why words are no command.
-fn words_reason(alloc: Global, words: &[&[u8]]) -> Result<Option<Reason>, NoMemory>
+fn words_reason(alloc: Global, explains: bool, words: &[&[u8]]) -> Result<Option<Reason>, NoMemory>
     ensures some { IfOk result
-        (λ found. IfSome found (IsReasonOfWords (map (λ word. word.now) words.now))) }
+        (λ found. IfSome found (IsReasonOfWords explains (map (λ word. word.now) words.now))) }
     ensures none { IfOk result
-        (λ found. IfNone found (IsCommand (map (λ word. word.now) words.now))) }
-    ensures memory { OnErr result (TakesBehind (map (λ word. word.now) words.now)) }
+        (λ found. IfNone found (IsCommand explains (map (λ word. word.now) words.now))) }
+    ensures memory { OnErr result (TakesBehind explains (map (λ word. word.now) words.now)) }
 {
-    let Some((command, behind)) = read_command(words) else {
-        return Ok(Some(Reason::NoCommand(unknown_number(words))));
+    let Some((command, behind)) = read_command(explains, words) else {
+        return Ok(Some(Reason::NoCommand(unknown_number(explains, words))));
     };
     let kinds = kinds_for(command, behind.len());
     if behind.len() != kinds.len() {
@@ -68,27 +68,32 @@ fn name_length(command: Command) -> u64
 }
 
 // The number of the word that makes the words no command.
-fn unknown_number(words: &[&[u8]]) -> u64
-    ensures { IsUnknown (map (λ word. word.now) words.now) result }
+fn unknown_number(explains: bool, words: &[&[u8]]) -> u64
+    ensures { IsUnknown explains (map (λ word. word.now) words.now) result }
 {
-    if begins_command(words, &ROWS) { 2 } else { 1 }
+    if begins_command(explains, words, &ROWS) {
+        2
+    } else {
+        1
+    }
 }
 
 // Whether the first of the words begins the name in a row, if there is one.
-fn begins_command(words: &[&[u8]], rows: &[Row]) -> bool
-    ensures { result ≡ begin_row (map (λ word. word.now) words.now) rows.now }
+fn begins_command(explains: bool, words: &[&[u8]], rows: &[Row]) -> bool
+    ensures { result ≡ begin_row explains (map (λ word. word.now) words.now) rows.now }
 {
     let Some((word, _)) = words.split_first() else {
         return false;
     };
-    begins_name(word, rows)
+    begins_name(explains, word, rows)
 }
 
 // Whether the word begins the name in a row.
-fn begins_name(word: &[u8], rows: &[Row]) -> bool
-    ensures { result ≡ list_any (λ row. bytes_eq word.now row.1.now) rows.now }
+fn begins_name(explains: bool, word: &[u8], rows: &[Row]) -> bool
+    ensures { result ≡ list_any (begins_in explains word.now) rows.now }
 {
-    rows.iter().any(|(_, first, _, _)| word == first.as_bytes())
+    rows.iter().any(|(_, first, _, _, when)| word == first.as_bytes()
+        && (explains || *when == When::Always))
 }
 
 // The first of the words that isn't of its kind, where so many stand before them.
@@ -119,9 +124,9 @@ fn bad_word(
     bad_word(alloc, number, kinds, words)
 }
 
-/// Why a word isn't of its kind, with its number in the line; none where it is. `NoMemory` comes
-/// only where a word of the kind takes memory.
-pub fn word_reason(
+// Why a word isn't of its kind, with its number in the line; none where it is. `NoMemory` comes
+// only where a word of the kind takes memory.
+fn word_reason(
     alloc: Global,
     number: u64,
     kind: WordKind,

@@ -3,7 +3,7 @@ ghost use Rattle.std.specs.Prelude.{◌≡◌, ◌==◌, ◌∷◌, [], length, 
 ghost use Rattle.std.specs.Option.{option_map};
 ghost use Rattle.ele_printer.specs.Command.{kinds_of, name_of};
 ghost use Rattle.ele_script.specs.Command.{kinds_if};
-ghost use Rattle.ele_script.specs.CommandOf.{behind, command_of, entry, FindsAll, find_command, first_letter};
+ghost use Rattle.ele_script.specs.CommandOf.{behind, command_in, command_of, entry, FindsAll, find_command, first_letter};
 
 use ele_printer::{Command, ROWS, Row, WordKind};
 
@@ -12,6 +12,7 @@ fn rows_from(letter: u8) -> &'static [Row]
     ensures { FindsAll letter (map entry result.now) }
 {
     match letter {
+        b'a' => &ROWS[Command::Ahead as usize..],
         b'c' => &ROWS[Command::Clock as usize..],
         b'd' => &ROWS[Command::Due as usize..],
         b'g' => &ROWS[Command::GroupMake as usize..],
@@ -39,11 +40,28 @@ fn first_letter(words: &[&[u8]]) -> Option<u8>
     Some(*letter)
 }
 
-/// The command in front of the words, and the words behind it. It is inlined, so that what it finds
-/// stays in registers.
+/// The command in front of the words of a run that explains, or of one that doesn't, and the words
+/// behind it. It is inlined, so that what it finds stays in registers.
+#[inline(always)]
+pub(crate) fn read_command<'w, 'l>(
+    explains: bool,
+    words: &'w [&'l [u8]],
+) -> Option<(Command, &'w [&'l [u8]])>
+    ensures { option_map (λ x. (x.0, map (λ word. word.now) x.1.now)) result
+        ≡ command_in explains (map (λ word. word.now) words.now) }
+{
+    let (command, behind) = any_command(words)?;
+    if command.is_allowed(explains) {
+        Some((command, behind))
+    } else {
+        None
+    }
+}
+
+// The command in front of the words, in whichever run, and the words behind it.
 #[inline(always)]
 #[tactic(auto, using(crate::proofs::Letters::no_letter, crate::proofs::Letters::by_letter))]
-pub(crate) fn read_command<'w, 'l>(words: &'w [&'l [u8]]) -> Option<(Command, &'w [&'l [u8]])>
+fn any_command<'w, 'l>(words: &'w [&'l [u8]]) -> Option<(Command, &'w [&'l [u8]])>
     ensures { option_map (λ x. (x.0, map (λ word. word.now) x.1.now)) result
         ≡ command_of (map (λ word. word.now) words.now) }
 {
@@ -57,7 +75,7 @@ fn find_command<'w, 'l>(rows: &[Row], words: &'w [&'l [u8]]) -> Option<(Command,
         ≡ find_command (map entry rows.now) (map (λ word. word.now) words.now) }
 {
     for row in rows {
-        let (command, first, second, _) = *row;
+        let (command, first, second, _, _) = *row;
         if let Some(rest) = behind(words, first, second) {
             return Some((command, rest));
         }

@@ -10,20 +10,18 @@ mod cut;
 pub mod line_laws;
 mod pairs;
 pub mod policy_laws;
-mod question;
 mod reading;
 mod reasons;
 mod word;
 mod writing;
 
-pub use bad_word::{reason, word_reason};
+pub use bad_word::reason;
 pub use ele_output::{Printer, WriteFault};
 pub use ele_printer::{
     LineFault, WordKind, put_ahead, put_answer, put_fault, put_history, put_pass, put_reply,
     put_stop, put_trimmed, put_why, write_named, write_placed, write_reply,
 };
-pub use question::{Question, question_word, read_question};
-pub use reading::{LONGEST_LINE, Line, read_event, read_line};
+pub use reading::{LONGEST_LINE, Line, Question, read_event, read_line, read_line_in};
 pub use reasons::{Detail, Reason};
 pub use word::policy as read_policy;
 pub use writing::write_event;

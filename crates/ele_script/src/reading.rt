@@ -1,9 +1,10 @@
 //! Reading lines. A contract sees a line as its bytes, and an event as itself.
-ghost use Rattle.std.specs.Prelude.{◌≡◌, ◌<◌, ◌⊎◌, [], map, length, true, false, IfOk, IfErr, IfSome, IsSome, None, Ok, Err};
+ghost use Rattle.std.specs.Prelude.{◌≡◌, ◌<◌, ◌⊎◌, [], map, length, true, false, IfOk, IfErr, Ok, Err};
 ghost use Rattle.std.specs.List.{position};
 ghost use Rattle.ele_script.specs.Memory.{TakesMemory};
 ghost use Rattle.ele_script.specs.Words.{words_of, is_worded, ends_word};
-ghost use Rattle.ele_script.specs.Spells.{Asks, AsksEvent, SpellsWords};
+ghost use Rattle.ele_printer.specs.Command.{is_allowed};
+ghost use Rattle.ele_script.specs.Spells.{Asks, AsksEvent, SpellsWords, line_parts};
 ghost use Rattle.ele_script.specs.EventOf.{event_of};
 ghost use Rattle.ele_script.specs.Reads.{ReadsLine};
 ghost use Rattle.ele_script.specs.FirstFault.{IsFirstFault, IsEventFault, IsFaultOfWords};
@@ -16,7 +17,8 @@ use crate::arguments::{
 use crate::command::read_command;
 use arrayvec::ArrayVec;
 use ele_model::{Event, Handle, VersionNo};
-use ele_path::one_meaning;
+use ele_moment::Moment;
+use ele_path::{TaggedPath, one_meaning};
 use ele_printer::{Command, LineFault};
 use std::alloc::Global;
 
@@ -31,6 +33,17 @@ pub enum Line {
     History,
     /// To fold the stored events into the base.
     Trim,
+    /// To explain something, where a run explains.
+    Question(Question),
+}
+
+/// What a line asks to be explained.
+#[derive(Debug, Drop, PartialEq, Eq)]
+pub enum Question {
+    /// Why the version that the path and its tag mean is held, or may go.
+    Why(TaggedPath),
+    /// Which versions will be due at the moment.
+    Ahead(Moment),
 }
 
 /// The most bytes of a line, without its line feed.
@@ -39,21 +52,36 @@ pub const LONGEST_LINE: usize = 8192;
 /// The most words of a line that asks for something.
 const MOST_WORDS: usize = 4;
 
-/// What a line asks for, without its line feed.
+/// What a line asks for, without its line feed, in a run that doesn't explain. It is refused as
+/// `read_line_in` refuses it.
+pub fn read_line(alloc: Global, line: &[u8]) -> Result<Line, LineFault>
+    ensures found { IfOk result (Asks false line.now) }
+    ensures only { (asked : Line) → Asks false line.now asked
+        → (result ≡ Ok asked) ⊎ (result ≡ Err LineFault.NoMemory) }
+    ensures fault { IfErr result
+        (λ fault. (fault ≡ LineFault.NoMemory) ⊎ IsFirstFault false line.now fault) }
+    ensures refused { (fault : LineFault) → IsFirstFault false line.now fault
+        → (result ≡ Err fault) ⊎ (result ≡ Err LineFault.NoMemory) }
+    ensures memory { result ≡ Err LineFault.NoMemory → TakesMemory false (words_of line.now) }
+{
+    read_line_in(alloc, false, line)
+}
+
+/// What a line asks for, without its line feed, in a run that explains, or in one that doesn't.
 ///
 /// A line that asks for nothing is answered with its first fault: its length, its bytes and spaces,
 /// its command and number of words, and then the first bad word from the left. `NoMemory` may come
 /// in place of any other answer where the command takes a path, bytes or the name of a group.
 #[tactic(auto, using(crate::proofs::Laws::one_fault, crate::proofs::Words::unfit_line))]
-pub fn read_line(alloc: Global, line: &[u8]) -> Result<Line, LineFault>
-    ensures found { IfOk result (Asks line.now) }
-    ensures only { (asked : Line) → Asks line.now asked
+pub fn read_line_in(alloc: Global, explains: bool, line: &[u8]) -> Result<Line, LineFault>
+    ensures found { IfOk result (Asks explains line.now) }
+    ensures only { (asked : Line) → Asks explains line.now asked
         → (result ≡ Ok asked) ⊎ (result ≡ Err LineFault.NoMemory) }
     ensures fault { IfErr result
-        (λ fault. (fault ≡ LineFault.NoMemory) ⊎ IsFirstFault line.now fault) }
-    ensures refused { (fault : LineFault) → IsFirstFault line.now fault
+        (λ fault. (fault ≡ LineFault.NoMemory) ⊎ IsFirstFault explains line.now fault) }
+    ensures refused { (fault : LineFault) → IsFirstFault explains line.now fault
         → (result ≡ Err fault) ⊎ (result ≡ Err LineFault.NoMemory) }
-    ensures memory { result ≡ Err LineFault.NoMemory → TakesMemory (words_of line.now) }
+    ensures memory { result ≡ Err LineFault.NoMemory → TakesMemory explains (words_of line.now) }
 {
     // Told for the proof: as a path, a word means one thing.
     one_meaning();
@@ -64,7 +92,7 @@ pub fn read_line(alloc: Global, line: &[u8]) -> Result<Line, LineFault>
     if !cut_words(line, &mut words) {
         return Err(LineFault::Syntax);
     }
-    line_of(alloc, words.as_slice())
+    line_of(alloc, explains, words.as_slice())
 }
 
 /// The event that a line asks for, without its line feed. It is refused as `read_line` refuses it; a
@@ -78,7 +106,7 @@ pub fn read_event(alloc: Global, line: &[u8]) -> Result<Event, LineFault>
         (λ fault. (fault ≡ LineFault.NoMemory) ⊎ IsEventFault line.now fault) }
     ensures refused { (fault : LineFault) → IsEventFault line.now fault
         → (result ≡ Err fault) ⊎ (result ≡ Err LineFault.NoMemory) }
-    ensures memory { result ≡ Err LineFault.NoMemory → TakesMemory (words_of line.now) }
+    ensures memory { result ≡ Err LineFault.NoMemory → TakesMemory false (words_of line.now) }
 {
     let asked = read_line(alloc, line);
     event_in(asked)
@@ -90,25 +118,10 @@ fn event_in(asked: Result<Line, LineFault>) -> Result<Event, LineFault>
 {
     match asked {
         Ok(Line::Event(event)) => Ok(event),
-        Ok(Line::Pass(_) | Line::History | Line::Trim) => Err(LineFault::Syntax),
+        Ok(Line::Pass(_) | Line::History | Line::Trim | Line::Question(_)) => {
+            Err(LineFault::Syntax)
+        }
         Err(fault) => Err(fault),
-    }
-}
-
-/// The words of a line, if it is plain words with one space between each two, and no more than a
-/// command may have.
-pub(crate) fn words_in(line: &[u8]) -> Option<ArrayVec<&[u8], MOST_WORDS>>
-    ensures found { IfSome result
-        (λ words. map (λ word. word.now) words.items ≡ words_of line.now) }
-    ensures worded { IsSome result → is_worded line.now ≡ true }
-    ensures none { result ≡ None
-        → (is_worded line.now ≡ false) ⊎ (MOST_WORDS < length (words_of line.now)) }
-{
-    let mut words = ArrayVec::new();
-    if cut_words(line, &mut words) {
-        Some(words)
-    } else {
-        None
     }
 }
 
@@ -156,17 +169,19 @@ pub(crate) fn word_end(text: &[u8]) -> Option<usize>
         .position(|byte| !(*byte > b' ' && *byte <= b'~'))
 }
 
-// What words ask for.
-#[tactic(auto, using(crate::proofs::Commands::spelled_words, crate::proofs::Commands::memory_of_words))]
-fn line_of(alloc: Global, words: &[&[u8]]) -> Result<Line, LineFault>
+// What words ask for, in a run that explains, or in one that doesn't.
+#[tactic(auto, using(crate::proofs::Commands::spelled_words, crate::proofs::Commands::allowed_words, crate::proofs::Commands::memory_of_words))]
+fn line_of(alloc: Global, explains: bool, words: &[&[u8]]) -> Result<Line, LineFault>
     ensures found { IfOk result (SpellsWords (map (λ word. word.now) words.now)) }
+    ensures allowed { IfOk result
+        (λ asked. is_allowed explains (line_parts asked).0 ≡ true) }
     ensures fault { IfErr result
         (λ fault. (fault ≡ LineFault.NoMemory)
-        ⊎ IsFaultOfWords (map (λ word. word.now) words.now) fault) }
+        ⊎ IsFaultOfWords explains (map (λ word. word.now) words.now) fault) }
     ensures memory { result ≡ Err LineFault.NoMemory
-        → TakesMemory (map (λ word. word.now) words.now) }
+        → TakesMemory explains (map (λ word. word.now) words.now) }
 {
-    let Some((command, behind)) = read_command(words) else {
+    let Some((command, behind)) = read_command(explains, words) else {
         return Err(LineFault::Syntax);
     };
     line_behind(alloc, command, behind)
@@ -252,6 +267,8 @@ fn line_behind_any(alloc: Global, command: Command, words: &[&[u8]]) -> Result<L
         Command::Pass => number(words).map(Line::Pass),
         Command::History => nothing(words).map(|()| Line::History),
         Command::Trim => nothing(words).map(|()| Line::Trim),
+        Command::Why => tagged(alloc, words).map(|tagged| Line::Question(Question::Why(tagged))),
+        Command::Ahead => moment(words).map(|moment| Line::Question(Question::Ahead(moment))),
     }
 }
 

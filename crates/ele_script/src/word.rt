@@ -87,12 +87,16 @@ pub(crate) fn path(alloc: Global, word: &[u8]) -> Result<Path, LineFault>
     Ok(Path::read(alloc, word)?)
 }
 
-/// A path with a tag.
+/// A path with a tag. A word without a slash in front takes no memory.
 pub(crate) fn tagged(alloc: Global, word: &[u8]) -> Result<TaggedPath, LineFault>
     ensures found { IfOk result (SpellsTaggedPath word.now) }
     ensures fault { IfErr result
         (λ fault. (fault ≡ LineFault.NoMemory) ⊎ IsWordFault TaggedWord word.now fault) }
+    ensures memory { result ≡ Err LineFault.NoMemory → begins_path word.now ≡ true }
 {
+    if !begins_path(word) {
+        return Err(LineFault::BadPath);
+    }
     Ok(TaggedPath::read(alloc, word)?)
 }
 

@@ -1,4 +1,4 @@
-use Rattle.ele_runs.proofs.Blocks.{hears_event, hears_fault, hears_trim}
+use Rattle.ele_runs.proofs.Blocks.{hears_event, hears_fault, hears_question, hears_trim}
 use Rattle.ele_runs.proofs.said.hear.Goals as goal
 
 pub returns-in-Ok-Event : goal.returns-in-Ok-Event
@@ -9,3 +9,6 @@ returns-in-Ok-Trim g c = hears_trim _ _ _ _ (rw (← c.in-Ok-Trim.field-0-is) c.
 
 pub returns-in_default : goal.returns-in_default
 returns-in_default g c = hears_fault _ _ _ c.in-Err.ensures.fault c.in_default.not-NoMemory
+
+pub returns-in-Ok-Question : goal.returns-in-Ok-Question
+returns-in-Ok-Question g c = hears_question c.args.history.now c.args.line.now c.in-Ok-Question.question c.explain.result (rw (← c.in-Ok-Question.field-0-is) c.in-Ok-Question.ensures.found) (rw c.core.ensures at c.explain.ensures)

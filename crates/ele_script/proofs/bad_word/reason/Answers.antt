@@ -7,12 +7,12 @@ words all = map (λ (word : Bor (List ℕ)). word.now) all
 
 pub returns-in-Ok-clause-some : goal.returns-in-Ok-clause-some
 returns-in-Ok-clause-some c =
-    line_some c.args.line.now (words c.as_slice.result.now) c.words_reason.result c.if-line-gt-LONGEST_LINE.false (c.in-Ok.ensures.worded) (ap words c.as_slice.ensures.value ∙ c.in-Ok.ensures.found) c.words_reason.ensures.some
+    line_some _ c.args.line.now (words c.as_slice.result.now) c.words_reason.result c.if-line-gt-LONGEST_LINE.false (c.in-Ok.ensures.worded) (ap words c.as_slice.ensures.value ∙ c.in-Ok.ensures.found) c.words_reason.ensures.some
 
 pub returns-in-Ok-clause-fault : goal.returns-in-Ok-clause-fault
 returns-in-Ok-clause-fault c =
-    line_fault c.args.line.now (words c.as_slice.result.now) c.words_reason.result c.if-line-gt-LONGEST_LINE.false (c.in-Ok.ensures.worded) (ap words c.as_slice.ensures.value ∙ c.in-Ok.ensures.found) c.words_reason.ensures.some
+    line_fault _ c.args.line.now (words c.as_slice.result.now) c.words_reason.result c.if-line-gt-LONGEST_LINE.false (c.in-Ok.ensures.worded) (ap words c.as_slice.ensures.value ∙ c.in-Ok.ensures.found) c.words_reason.ensures.some
 
 pub returns-in-Ok-clause-none : goal.returns-in-Ok-clause-none
 returns-in-Ok-clause-none c =
-    line_none c.one_meaning.ensures c.args.line.now (words c.as_slice.result.now) c.words_reason.result c.if-line-gt-LONGEST_LINE.false (c.in-Ok.ensures.worded) (ap words c.as_slice.ensures.value ∙ c.in-Ok.ensures.found) c.words_reason.ensures.none
+    line_none _ c.one_meaning.ensures c.args.line.now (words c.as_slice.result.now) c.words_reason.result c.if-line-gt-LONGEST_LINE.false (c.in-Ok.ensures.worded) (ap words c.as_slice.ensures.value ∙ c.in-Ok.ensures.found) c.words_reason.ensures.none

@@ -3,6 +3,10 @@ use Rattle.ele_script.proofs.Letters.{none_begin}
 use Rattle.ele_script.specs.CommandOf.{command_of}
 use Rattle.ele_script.proofs.command.rows_from.Goals as goal
 
+pub returns-in-97 : goal.returns-in-97
+unfolding command_of
+returns-in-97 c = λ word words. rw c.in-97.is refl
+
 pub returns-in-99 : goal.returns-in-99
 unfolding command_of
 returns-in-99 c = λ word words. rw c.in-99.is refl
@@ -61,4 +65,4 @@ returns-in-119 c = λ word words. rw c.in-119.is refl
 
 pub returns-in_default : goal.returns-in_default
 returns-in_default c =
-    none_begin c.args.letter (omega arith) (omega arith) (omega arith) (omega arith) (omega arith) (omega arith) (omega arith) (omega arith) (omega arith) (omega arith) (omega arith) (omega arith) (omega arith) (omega arith)
+    none_begin c.args.letter (omega arith) (omega arith) (omega arith) (omega arith) (omega arith) (omega arith) (omega arith) (omega arith) (omega arith) (omega arith) (omega arith) (omega arith) (omega arith) (omega arith) (omega arith)

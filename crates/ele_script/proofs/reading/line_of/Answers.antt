@@ -6,4 +6,4 @@ pub returns-in_default-clause-fault : goal.returns-in_default-clause-fault
 returns-in_default-clause-fault c = inr (unfit_words _ (sym c.in_default.ensures))
 
 pub returns-clause-fault : goal.returns-clause-fault
-returns-clause-fault c = faults_of_words _ _ _ c.line_behind.result (sym c.in-Some.ensures) c.line_behind.ensures
+returns-clause-fault c = faults_of_words _ _ _ _ c.line_behind.result (sym c.in-Some.ensures) c.line_behind.ensures
