@@ -1,9 +1,9 @@
--- What a run has written that its writer ended is a front of an output of its input.
-use Rattle.ele_runs.proofs.Basics.{ℕ, zero, suc, List, [], ◌∷◌, ◌++◌, Option, Some, None, Result, Ok, Err, inl, inr, refl, sym, ap, subst, ◌∙◌, append_assoc}
+-- What a run without options has written that its writer ended is a front of an output of its input.
+use Rattle.ele_runs.proofs.Basics.{ℕ, zero, suc, List, [], ◌∷◌, ◌++◌, Option, Some, None, Result, Ok, Err, inl, inr, refl, sym, ap, subst, ◌∙◌, append-nil, append_assoc}
 use Rattle.ele_runs.proofs.Joins.{blocks_append, lines_before}
 use Rattle.ele_runs.proofs.SomeOutput.{some_blocks, some_lines}
 use Rattle.ele_runs.proofs.Within.{recorded_within, trimmed_within}
-use Rattle.ele_runs.proofs.Words.{AppendsFront, AreBlocks, HistoryFull, IsBlock, MayAnswer, MayPass, MayReply, Removes, Reply, Past, Stop, cut_block, line_unless_long, whole_lines}
+use Rattle.ele_runs.proofs.Words.{AreBlocks, HistoryFull, IsBlock, MayAnswer, MayPass, MayReply, Removes, Reply, Past, Stop, begun, cut_block, line_unless_long, plain, whole_lines}
 use Rattle.ele_script.specs.EveryLine.{EveryLineMeaning}
 use Rattle.ele_model.specs.declared.event.Event.{Event}
 use Rattle.ele_model.specs.declared.event.Event.TheVariants.{CleanOne}
@@ -13,7 +13,10 @@ use Rattle.ele_model.specs.declared.refusal.Stop.TheVariants.{NoMemory}
 use Rattle.ele_model.specs.declared.reply.Reply.TheVariants.{Nothing, Removed}
 use Rattle.ele_runs.specs.Answer.{Answer}
 use Rattle.ele_runs.specs.Answer as answer
-use Rattle.ele_runs.specs.FrontOfOutput.{FrontOfOutput}
+use Rattle.ele_output.proofs.Known.{front_of_more}
+use Rattle.ele_runs.proofs.PlainOutput.{plain_output}
+use Rattle.ele_runs.specs.FrontOfOutput.{FrontOfOutput, IsOutputOf}
+use Rattle.ele_runs.specs.Telling.{ToldToAWriteFault}
 use Rattle.ele_runs.specs.SomeAnswer.{IsWithin}
 
 -- no more entries are made than may be
@@ -51,34 +54,49 @@ blocks_within before after [] text within are = subst IsWithin (sym are.1) withi
 blocks_within before after (line ∷ lines) text within (block, rest, between, is, more, parts) =
     blocks_within between after lines rest (block_within before between (line_unless_long line) block within is) more
 
-front_more : (old new : Option (List ℕ)) (text more : List ℕ) → AppendsFront old new text → AppendsFront old new (text ++ more)
-front_more old new text more wrote =
-    record { front = wrote.front; back = wrote.back ++ more; parts = ap (λ (w : List ℕ). w ++ more) wrote.parts ∙ append_assoc wrote.front wrote.back more; written = wrote.written }
-
 module _ (law : EveryLineMeaning) where
+  -- any text that such a run tells begins an output
+  begins_output : (start : Past) (input before after : Option (List ℕ)) (text : List ℕ) → IsWithin start → ToldToAWriteFault (begun plain start before) input after text
+      → (more : List ℕ) × IsOutputOf start input (text ++ more)
+  begins_output start input before after text within run =
+      let told = plain_output.told start before run.lines run.blocks run.state run.told in elim run.reaches [
+        | inl is ↦
+            let rest = some_lines run.rest in
+            let more = some_blocks law run.state.past rest.lines (blocks_within start run.state.past run.lines run.blocks within told.blocks) in (
+              more.text ++ cut_block (line_unless_long rest.last),
+              record {
+                given = whole_lines run.lines ++ run.rest;
+                lines = run.lines ++ rest.lines;
+                last = rest.last;
+                input_is = run.input_is;
+                are = lines_before (whole_lines run.lines ++ run.rest) run.rest run.lines rest.lines rest.last refl run.whole rest.are;
+                output = record {
+                  blocks = run.blocks ++ more.text;
+                  state = more.after;
+                  are = blocks_append start run.state.past more.after run.lines rest.lines run.blocks more.text told.blocks more.are;
+                  text_is = ap (λ (w : List ℕ). w ++ (more.text ++ cut_block (line_unless_long rest.last))) is.0 ∙ sym (append_assoc run.blocks more.text (cut_block (line_unless_long rest.last)));
+                };
+              },
+            )
+        | inr cut ↦ (
+          [],
+          record {
+            given = whole_lines run.lines ++ run.rest;
+            lines = run.lines;
+            last = run.rest;
+            input_is = run.input_is;
+            are = record { parts = refl; whole = run.whole; cut = cut.0 };
+            output = record {
+              blocks = run.blocks;
+              state = run.state.past;
+              are = told.blocks;
+              text_is = append-nil text ∙ cut.1 ∙ ap (λ (w : List ℕ). run.blocks ++ w) (told.cut (line_unless_long run.rest));
+            };
+          },
+        )
+      ]
+
   pub front_of_output : FrontOfOutput
-  front_of_output start input old new within run = elim run.written [
-    | inl front ↦
-        let rest = some_lines run.rest in
-        let more = some_blocks law run.state rest.lines (blocks_within start run.state run.lines run.text within run.blocks) in
-        record {
-          given = whole_lines run.lines ++ run.rest;
-          lines = run.lines ++ rest.lines;
-          last = rest.last;
-          text = run.text ++ more.text ++ cut_block (line_unless_long rest.last);
-          input_is = run.input_is;
-          are = lines_before (whole_lines run.lines ++ run.rest) run.rest run.lines rest.lines rest.last refl run.whole rest.are;
-          output = record { blocks = run.text ++ more.text; state = more.after; are = blocks_append start run.state more.after run.lines rest.lines run.text more.text run.blocks more.are; text_is = refl };
-          written = front_more old new (run.text ++ more.text) (cut_block (line_unless_long rest.last)) (front_more old new run.text more.text front);
-        }
-    | inr cut ↦ record {
-      given = whole_lines run.lines ++ run.rest;
-      lines = run.lines;
-      last = run.rest;
-      text = run.text ++ cut_block (line_unless_long run.rest);
-      input_is = run.input_is;
-      are = record { parts = refl; whole = run.whole; cut = cut.0 };
-      output = record { blocks = run.text; state = run.state; are = run.blocks; text_is = refl };
-      written = cut.1;
-    }
-  ]
+  front_of_output start input old new before after within run =
+      let output = begins_output start input before after run.text within run.told in
+      record { text = run.text ++ output.0; told = output.1; written = front_of_more old new run.text output.0 run.written }

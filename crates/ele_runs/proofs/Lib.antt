@@ -14,7 +14,7 @@ pub mod OneAnswer
 pub mod OneOutput
 pub mod OnePass
 pub mod Pieces
-pub mod Plain
+pub mod PlainOutput
 pub mod Ran
 pub mod SomeAnswer
 pub mod SomeOutput

@@ -102,82 +102,70 @@ module _ {before between : RunState} {part piece left : List ℕ} {buffer : Opti
   kept_at at line e =
       ap (λ (l : List ℕ). option_and_then (λ (b : List ℕ). line_unless_long (b ++ l)) buffer) e ∙ ap (option_and_then (λ (b : List ℕ). line_unless_long (b ++ take at left))) done.keeps ∙ kept_more done.begun (take at left)
 
-  block_at : (at : ℕ) (line : List ℕ) (after : RunState) (new : Outlet) → line ≡ take at left
-      → (wrote : PutsBlock between (option_and_then (λ l. line_unless_long (l ++ line)) buffer) after mid new) → IsTold between (line_unless_long (done.begun ++ take at left)) wrote.block after
-  block_at at line after new e wrote =
-      subst (λ (l : Option (List ℕ)). IsTold between l wrote.block after) (kept_at at line e) wrote.is
-
   -- one line more is answered
-  pub answered_more : {after : RunState} {new : Outlet} {buffer' : Option (List ℕ)} (at : ℕ) (line left' : List ℕ) → IsFirstByte (is_byte 10) left (Some at)
-      → line ≡ take at left → left' ≡ drop (at + 1) left
-      → (wrote : PutsBlock between (option_and_then (λ l. line_unless_long (l ++ line)) buffer) after mid new) → after.ended ≡ false → buffer' ≡ Some []
-      → HasAnswered before after part piece left' buffer' old new
-  answered_more {after} {new} {buffer'} at line left' h e f wrote goes_on begun =
-      let is = block_at at line after new e wrote in
-      record {
-        lines = done.lines ++ (done.begun ++ take at left) ∷ [];
-        begun = [];
-        text = done.text ++ wrote.block;
-        parts = parts_at at h ∙ ap (λ (w : List ℕ). whole_lines (done.lines ++ (done.begun ++ take at left) ∷ []) ++ w) (sym f);
-        whole = whole_at at h;
-        unbroken = tt;
-        counted = omega (arith, done.counted, number_told is, length-append done.lines ((done.begun ++ take at left) ∷ []));
-        goes_on = goes_on;
-        few = omega (arith, done.few, length-append done.lines ((done.begun ++ take at left) ∷ []), ap length f, length-drop (at + 1) left, h.0.high);
-        first = inl refl;
-        keeps = begun;
-        told = told_push before between after done.lines (done.begun ++ take at left) done.text wrote.block done.told is;
-        put = puts_then done.put wrote.put;
-      }
+  module _ {after : RunState} {new : Outlet} (at : ℕ) (line : List ℕ) (h : IsFirstByte (is_byte 10) left (Some at)) (e : line ≡ take at left)
+      (wrote : PutsBlock between (option_and_then (λ l. line_unless_long (l ++ line)) buffer) after mid new) where
+    block_at : IsTold between (line_unless_long (done.begun ++ take at left)) wrote.block after
+    block_at = subst (λ (l : Option (List ℕ)). IsTold between l wrote.block after) (kept_at at line e) wrote.is
 
-  -- one more was answered, and ended the run
-  answered_last : {after : RunState} {new : Outlet} {buffer' : Option (List ℕ)} (at : ℕ) (line : List ℕ) → IsFirstByte (is_byte 10) left (Some at)
-      → line ≡ take at left → (wrote : PutsBlock between (option_and_then (λ l. line_unless_long (l ++ line)) buffer) after mid new) → after.ended ≡ true
-      → buffer' ≡ option_and_then (λ l. line_unless_long (l ++ line)) buffer → AnswersLast before after part piece buffer' old new
-  answered_last {after} {new} {buffer'} at line h e wrote ended kept =
-      let is = block_at at line after new e wrote in
-      record {
-        lines = done.lines;
-        line = done.begun ++ take at left;
-        rest = drop (at + 1) left;
-        text = done.text ++ wrote.block;
-        parts = parts_at at h;
-        whole = done.whole;
-        unbroken = all-append (λ b. b ≢ 10) done.begun (take at left) done.unbroken (unbroken_before left at (λ k lt is. h.0.before k (omega arith) lt is));
-        counted = omega (arith, done.counted, number_told is);
-        keeps = kept ∙ kept_at at line e;
-        ended = ended;
-        told = told_push before between after done.lines (done.begun ++ take at left) done.text wrote.block done.told is;
-        put = puts_then done.put wrote.put;
-      }
+    told_at : AreTold before (done.lines ++ (done.begun ++ take at left) ∷ []) (done.text ++ wrote.block) after
+    told_at = told_push before between after done.lines (done.begun ++ take at left) done.text wrote.block done.told block_at
 
-  -- so the lines of the piece are answered
-  pub answers_last : {after : RunState} {new : Outlet} {buffer' : Option (List ℕ)} (at : ℕ) (line : List ℕ) → IsFirstByte (is_byte 10) left (Some at)
-      → line ≡ take at left → (wrote : PutsBlock between (option_and_then (λ l. line_unless_long (l ++ line)) buffer) after mid new) → after.ended ≡ true
-      → buffer' ≡ option_and_then (λ l. line_unless_long (l ++ line)) buffer → AnswersBy after.ended before after part piece buffer' old new
-  answers_last {after} {new} {buffer'} at line h e wrote ended kept =
-      subst (λ (over : Bool). AnswersBy over before after part piece buffer' old new) (sym ended) (answered_last at line h e wrote ended kept)
+    -- and did not end the run
+    pub answered_more : {buffer' : Option (List ℕ)} (left' : List ℕ) → left' ≡ drop (at + 1) left → after.ended ≡ false → buffer' ≡ Some []
+        → HasAnswered before after part piece left' buffer' old new
+    answered_more left' f goes_on begun =
+        record {
+          lines = done.lines ++ (done.begun ++ take at left) ∷ [];
+          begun = [];
+          text = done.text ++ wrote.block;
+          parts = parts_at at h ∙ ap (λ (w : List ℕ). whole_lines (done.lines ++ (done.begun ++ take at left) ∷ []) ++ w) (sym f);
+          whole = whole_at at h;
+          unbroken = tt;
+          counted = omega (arith, done.counted, number_told block_at, length-append done.lines ((done.begun ++ take at left) ∷ []));
+          goes_on = goes_on;
+          few = omega (arith, done.few, length-append done.lines ((done.begun ++ take at left) ∷ []), ap length f, length-drop (at + 1) left, h.0.high);
+          first = inl refl;
+          keeps = begun;
+          told = told_at;
+          put = puts_then done.put wrote.put;
+        }
 
-  -- the writer failed in the block of one line more
-  pub answered_some : {after : RunState} {new : Outlet} (at : ℕ) (line : List ℕ) → IsFirstByte (is_byte 10) left (Some at)
-      → line ≡ take at left → (wrote : PutsBlock between (option_and_then (λ l. line_unless_long (l ++ line)) buffer) after mid new) → AnswersSome before after part piece old new
-  answered_some {after} {new} at line h e wrote =
-      let is = block_at at line after new e wrote in
-      record {
-        lines = done.lines ++ (done.begun ++ take at left) ∷ [];
-        rest = drop (at + 1) left;
-        text = done.text ++ wrote.block;
-        parts = parts_at at h;
-        whole = whole_at at h;
-        told = told_push before between after done.lines (done.begun ++ take at left) done.text wrote.block done.told is;
-        put = puts_then done.put wrote.put;
-      }
+    -- and ended it
+    pub answers_last : {buffer' : Option (List ℕ)} → after.ended ≡ true → buffer' ≡ option_and_then (λ l. line_unless_long (l ++ line)) buffer
+        → AnswersBy after.ended before after part piece buffer' old new
+    answers_last {buffer'} ended kept =
+        subst (λ (over : Bool). AnswersBy over before after part piece buffer' old new) (sym ended) (record {
+          lines = done.lines;
+          line = done.begun ++ take at left;
+          rest = drop (at + 1) left;
+          text = done.text ++ wrote.block;
+          parts = parts_at at h;
+          whole = whole_at at h;
+          counted = omega (arith, done.counted, number_told block_at);
+          keeps = kept ∙ kept_at at line e;
+          ended = ended;
+          told = told_at;
+          put = puts_then done.put wrote.put;
+        })
+
+    -- and the writer failed in its block
+    pub answered_some : AnswersSome before after part piece old new
+    answered_some = record {
+      lines = done.lines ++ (done.begun ++ take at left) ∷ [];
+      rest = drop (at + 1) left;
+      text = done.text ++ wrote.block;
+      parts = parts_at at h;
+      whole = whole_at at h;
+      told = told_at;
+      put = puts_then done.put wrote.put;
+    }
 
   -- no line feed is left
-  answered_all : {buffer' : Option (List ℕ)} → IsFirstByte (is_byte 10) left None → buffer' ≡ option_and_then (λ l. line_unless_long (l ++ left)) buffer
-      → AnswersAll before between part piece buffer' old mid
-  answered_all {buffer'} h pushed =
-      record {
+  pub answers_all : {buffer' : Option (List ℕ)} → IsFirstByte (is_byte 10) left None → buffer' ≡ option_and_then (λ l. line_unless_long (l ++ left)) buffer
+      → AnswersBy between.ended before between part piece buffer' old mid
+  answers_all {buffer'} h pushed =
+      subst (λ (over : Bool). AnswersBy over before between part piece buffer' old mid) (sym done.goes_on) (record {
         lines = done.lines;
         last = done.begun ++ left;
         text = done.text;
@@ -188,7 +176,7 @@ module _ {before between : RunState} {part piece left : List ℕ} {buffer : Opti
         goes_on = done.goes_on;
         told = done.told;
         put = done.put;
-      }
+      })
     where
       kept_at_end : option_and_then (λ (b : List ℕ). line_unless_long (b ++ left)) buffer ≡ line_unless_long (done.begun ++ left)
       kept_at_end = ap (option_and_then (λ (b : List ℕ). line_unless_long (b ++ left))) done.keeps ∙ kept_more done.begun left
@@ -196,10 +184,6 @@ module _ {before between : RunState} {part piece left : List ℕ} {buffer : Opti
       few_of : (begun : List ℕ) → (begun ≡ []) ⊎ (done.lines ≡ []) → (length done.lines + length (begun ++ left) ≤ length piece) ⊎ (done.lines ≡ [])
       few_of begun (inl e) = inl (rw e done.few)
       few_of begun (inr e) = inr e
-
-  pub answers_all : {buffer' : Option (List ℕ)} → IsFirstByte (is_byte 10) left None → buffer' ≡ option_and_then (λ l. line_unless_long (l ++ left)) buffer
-      → AnswersBy between.ended before between part piece buffer' old mid
-  answers_all {buffer'} h pushed = subst (λ (over : Bool). AnswersBy over before between part piece buffer' old mid) (sym done.goes_on) (answered_all h pushed)
 
 -- an error is the writer's
 pub answers_err : {A : Type 0} (before after : RunState) (part piece : List ℕ) (buffer : Option (List ℕ)) (old new : Outlet) (r : Result A WriteFault)

@@ -13,7 +13,7 @@ pub mod OneAnswer
 pub mod OneOutput
 pub mod Output
 pub mod Piece
-pub mod Running
+pub mod PlainOutput
 pub mod Said
 pub mod SomeAnswer
 pub mod SomeOutput

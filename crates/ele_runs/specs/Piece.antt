@@ -28,8 +28,7 @@ pub record AnswersLast (before after : RunState) (part piece : List ℕ) (buffer
   pub rest : List ℕ
   pub text : List ℕ
   pub parts : part ++ piece ≡ whole_lines (lines ++ line ∷ []) ++ rest
-  pub whole : AllByRecursion IsUnbroken lines
-  pub unbroken : IsUnbroken line
+  pub whole : AllByRecursion IsUnbroken (lines ++ line ∷ [])
   pub counted : before.number + (length lines + 1) ≡ after.number
   pub keeps : buffer ≡ line_unless_long line
   pub ended : after.ended ≡ true

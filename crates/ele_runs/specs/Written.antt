@@ -8,6 +8,7 @@ use Rattle.ele_runs.specs.Told.{IsTold, cut_told}
 use Rattle.ele_runs.specs.declared.end.EndLine.{EndLine}
 use Rattle.ele_runs.specs.declared.end.RunEnd.{RunEnd}
 use Rattle.ele_runs.specs.declared.fault.ShellFault.{ShellFault}
+use Rattle.ele_runs.specs.declared.fault.ShellFault.TheVariants.{NoMemory}
 
 -- what is told for the line was put
 pub record PutsBlock (before : RunState) (line : Option (List ℕ)) (after : RunState) (old new : Outlet) : Type 0 where
@@ -29,6 +30,11 @@ CountsLast run_state buffer (Err fault) = Unit {0}
 abbrev pub WritesLast : {E : Type 0} → RunState → Option (List ℕ) → Outlet → Outlet → Result RunEnd E → Type 0
 WritesLast run_state buffer old new result = CountsLast run_state buffer result × HandsOver old new (cut_told run_state buffer) result
 
+-- there was memory
+abbrev pub HadMemory : {A : Type 0} → Result A ShellFault → Type 0
+HadMemory (Err NoMemory) = ⊥
+HadMemory result = Unit {0}
+
 -- what a run has done at its writers, by how it ends
 abbrev pub RunsAt : RunState → Option (List ℕ) → Option (List ℕ) → Outlet → Outlet → Option (List ℕ) → Result RunEnd ShellFault → Type 0
-RunsAt start input rest old new notes result = (new.writer ≡ old.writer) × Tells start input rest old.known new.known notes result
+RunsAt start input rest old new notes result = (new.writer ≡ old.writer) × Tells start input rest old.known new.known notes result × HadMemory result

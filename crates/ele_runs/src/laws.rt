@@ -2,6 +2,7 @@
 ghost use Rattle.ele_runs.specs.FrontOfOutput.{FrontOfOutput};
 ghost use Rattle.ele_runs.specs.OneAnswer.{OneAnswer};
 ghost use Rattle.ele_runs.specs.OneOutput.{OneOutput};
+ghost use Rattle.ele_runs.specs.PlainOutput.{PlainOutput};
 ghost use Rattle.ele_runs.specs.SomeAnswer.{SomeAnswer};
 ghost use Rattle.ele_runs.specs.SomeOutput.{SomeOutput};
 
@@ -41,7 +42,12 @@ pub fn some_output()
     every_line_meaning();
 }
 
-/// What a run has written that its writer ended is a front of an output of its input.
+/// What is told without any option is an output, and outputs are told so.
+pub fn plain_output()
+    ensures { PlainOutput }
+{}
+
+/// What a run without options has written that its writer ended is a front of an output of its input.
 pub fn front_of_output()
     ensures { FrontOfOutput }
 {

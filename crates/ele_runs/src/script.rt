@@ -1,12 +1,12 @@
 //! The run of a script, piece by piece.
 //! A contract sees the lines that the reader gives, and their output at the writer.
-ghost use Rattle.std.specs.Prelude.{◌≡◌, ◌≤◌, ◌-◌, [], false, Some, min, IfOk, IsErrOf, length};
+ghost use Rattle.std.specs.Prelude.{◌≡◌, ◌≤◌, ◌-◌, [], false, None, Some, min, IfErr, IfOk, IsErrOf, length};
 ghost use Rattle.ele_history.specs.Past.{fresh};
 ghost use Rattle.ele_output.specs.Prints.{outlet};
+ghost use Rattle.ele_runs.specs.RunOptions.{plain};
 ghost use Rattle.ele_runs.specs.RunState.{begun, noting};
-ghost use Rattle.ele_runs.specs.Telling.{HasTold, Tells, ToldPastABound, ToldToAReadFault, ToldToAWriteFault};
-ghost use Rattle.ele_runs.specs.Written.{RunsAt};
-ghost use Rattle.ele_runs.specs.Running.{RanToTheEnd, RanToAReadFault, RanPastABound, RanToAWriteFault};
+ghost use Rattle.ele_runs.specs.Telling.{HasFailed, Tells, ToldToTheEnd, Writes};
+ghost use Rattle.ele_runs.specs.Written.{HadMemory, RunsAt};
 
 use crate::end::{EndLine, RunEnd};
 use crate::fault::ShellFault;
@@ -124,7 +124,8 @@ fn run_printed<C: Explain, R: Read, W: Write, E: Write>(
     requires goes_on { runner.old.ended ≡ false }
     ensures { Tells (noting runner.old (E.contents reasons.old))
         (R.remaining reader.old) (R.remaining reader.new)
-        (W.contents writer.old) (W.contents writer.new) (E.contents reasons.new) result }
+        (W.contents writer.old) (W.contents writer.new) (E.contents reasons.new) result
+        × HadMemory result }
 {
     let mut printer = Printer::new(writer);
     run_pieces(runner, reader, &mut printer, reasons, piece)
@@ -148,23 +149,9 @@ pub fn run_in<C: Explain, R: Read, W: Write, E: Write>(
     reasons: &mut E,
     limits: Limits,
 ) -> Result<RunEnd, ShellFault>
-    ensures ok { IfOk result (λ ran. HasTold
-        (begun options (fresh limits) (E.contents reasons.old))
+    ensures told { Tells (begun options (fresh limits) (E.contents reasons.old))
         (R.remaining reader.old) (R.remaining reader.new)
-        (W.contents writer.old) (W.contents writer.new) (E.contents reasons.new)
-        ran.lines ran.ended_by) }
-    ensures read_fault { IsErrOf result ShellFault.ReadFault
-        → ToldToAReadFault (begun options (fresh limits) (E.contents reasons.old))
-        (R.remaining reader.old) (R.remaining reader.new)
-        (W.contents writer.old) (W.contents writer.new) (E.contents reasons.new) }
-    ensures too_many_lines { IsErrOf result ShellFault.TooManyLines
-        → ToldPastABound (begun options (fresh limits) (E.contents reasons.old))
-        (R.remaining reader.old) (R.remaining reader.new)
-        (W.contents writer.old) (W.contents writer.new) (E.contents reasons.new) }
-    ensures write_fault { IsErrOf result ShellFault.WriteFault
-        → ToldToAWriteFault (begun options (fresh limits) (E.contents reasons.old))
-        (R.remaining reader.old)
-        (W.contents writer.old) (W.contents writer.new) (E.contents reasons.new) }
+        (W.contents writer.old) (W.contents writer.new) (E.contents reasons.new) result }
     ensures no_memory { IsErrOf result ShellFault.NoMemory
         → (reader.new ≡ reader.old) × (writer.new ≡ writer.old) × (reasons.new ≡ reasons.old) }
 {
@@ -196,17 +183,12 @@ pub fn run_over<C: Explain, R: Read, W: Write>(
     writer: &mut W,
     limits: Limits,
 ) -> Result<u64, ShellFault>
-    ensures ok { IfOk result (λ lines. RanToTheEnd (fresh limits) lines
-        (R.remaining reader.old) (R.remaining reader.new)
+    ensures ok { IfOk result (λ lines. Writes (ToldToTheEnd (begun plain (fresh limits) None) lines
+        (R.remaining reader.old) (R.remaining reader.new) None)
         (W.contents writer.old) (W.contents writer.new)) }
-    ensures read_fault { IsErrOf result ShellFault.ReadFault → RanToAReadFault (fresh limits)
+    ensures err { IfErr result (HasFailed (begun plain (fresh limits) None)
         (R.remaining reader.old) (R.remaining reader.new)
-        (W.contents writer.old) (W.contents writer.new) }
-    ensures too_many_lines { IsErrOf result ShellFault.TooManyLines → RanPastABound (fresh limits)
-        (R.remaining reader.old) (R.remaining reader.new)
-        (W.contents writer.old) (W.contents writer.new) }
-    ensures write_fault { IsErrOf result ShellFault.WriteFault → RanToAWriteFault (fresh limits)
-        (R.remaining reader.old) (W.contents writer.old) (W.contents writer.new) }
+        (W.contents writer.old) (W.contents writer.new) None) }
     ensures no_memory { IsErrOf result ShellFault.NoMemory
         → (reader.new ≡ reader.old) × (writer.new ≡ writer.old) }
 {

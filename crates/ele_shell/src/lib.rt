@@ -4,9 +4,11 @@
 //! known.
 #![tactic(auto)]
 
-ghost use Rattle.std.specs.Prelude.{◌≡◌, IfOk, IsErrOf};
+ghost use Rattle.std.specs.Prelude.{◌≡◌, None, IfErr, IfOk, IsErrOf};
 ghost use Rattle.ele_history.specs.Past.{fresh};
-ghost use Rattle.ele_runs.specs.Running.{RanToTheEnd, RanToAReadFault, RanPastABound, RanToAWriteFault};
+ghost use Rattle.ele_runs.specs.RunOptions.{plain};
+ghost use Rattle.ele_runs.specs.RunState.{begun};
+ghost use Rattle.ele_runs.specs.Telling.{HasFailed, ToldToTheEnd, Writes};
 
 mod audits;
 
@@ -41,17 +43,12 @@ pub fn run<R: Read, W: Write>(
     writer: &mut W,
     limits: Limits,
 ) -> Result<u64, ShellFault>
-    ensures ok { IfOk result (λ lines. RanToTheEnd (fresh limits) lines
-        (R.remaining reader.old) (R.remaining reader.new)
+    ensures ok { IfOk result (λ lines. Writes (ToldToTheEnd (begun plain (fresh limits) None) lines
+        (R.remaining reader.old) (R.remaining reader.new) None)
         (W.contents writer.old) (W.contents writer.new)) }
-    ensures read_fault { IsErrOf result ShellFault.ReadFault → RanToAReadFault (fresh limits)
+    ensures err { IfErr result (HasFailed (begun plain (fresh limits) None)
         (R.remaining reader.old) (R.remaining reader.new)
-        (W.contents writer.old) (W.contents writer.new) }
-    ensures too_many_lines { IsErrOf result ShellFault.TooManyLines → RanPastABound (fresh limits)
-        (R.remaining reader.old) (R.remaining reader.new)
-        (W.contents writer.old) (W.contents writer.new) }
-    ensures write_fault { IsErrOf result ShellFault.WriteFault → RanToAWriteFault (fresh limits)
-        (R.remaining reader.old) (W.contents writer.old) (W.contents writer.new) }
+        (W.contents writer.old) (W.contents writer.new) None) }
     ensures no_memory { IsErrOf result ShellFault.NoMemory
         → (reader.new ≡ reader.old) × (writer.new ≡ writer.old) }
 {

@@ -9,7 +9,7 @@ use Rattle.ele_runs.specs.declared.fault.ShellFault.TheVariants.{ReadFault, Writ
 pub use Rattle.ele_words.specs.Status.{fault_line, TellsFault}
 use Rattle.ele_words.specs.Status.{status_of}
 use Rattle.ele_words.specs.Forecasts.{ForecastEnds}
-pub use Rattle.ele_words.specs.RunEnds.{HasRun, RunEnds}
+pub use Rattle.ele_words.specs.RunEnds.{RunEnds}
 use Rattle.ele_words.specs.Progress.{EndsWatched}
 use Rattle.ele_words.specs.declared.invocation.Invocation.{Invocation}
 use Rattle.ele_words.specs.declared.invocation.Invocation.TheVariants as invocation

@@ -1,26 +1,15 @@
 -- How the program ends after a run: what it tells, and with which status.
 use Rattle.std.specs.Prelude.{◌≡◌, ℕ, List, Option, Result, Ok, Err}
-use Rattle.std.specs.Io.KnownBytes.{Keeps}
 use Rattle.ele_output.specs.Front.{AppendsFront}
 use Rattle.ele_runs.specs.RunState.{RunState}
-use Rattle.ele_runs.specs.Telling.{HasTold, ToldPastABound, ToldToAReadFault, ToldToAWriteFault}
+use Rattle.ele_runs.specs.Telling.{Tells}
 use Rattle.ele_runs.specs.declared.end.RunEnd.{RunEnd}
 use Rattle.ele_runs.specs.declared.fault.ShellFault.{ShellFault}
-use Rattle.ele_runs.specs.declared.fault.ShellFault.TheVariants.{ReadFault, WriteFault, TooManyLines, NoMemory}
 use Rattle.ele_runs.specs.declared.options.RunOptions.{RunOptions}
 use Rattle.ele_words.specs.Status.{fault_status}
 use Rattle.ele_words.specs.StrictEnd.{TellsStrictEnd, end_status}
 use Rattle.ele_words.specs.SystemReason.{IsReasonOf, failed_text}
 use Rattle.ele_words.specs.declared.system_reason.SystemReason.{SystemReason}
-
--- what a run has done, by how it ended, and `notes`, what stood at the other writer then; without memory nothing was read or
--- written
-abbrev pub HasRun : RunState → Option (List ℕ) → Option (List ℕ) → Option (List ℕ) → Option (List ℕ) → Option (List ℕ) → Result RunEnd ShellFault → Type 0
-HasRun start input rest old new notes (Ok end) = HasTold start input rest old new notes end.lines end.ended_by
-HasRun start input rest old new notes (Err ReadFault) = ToldToAReadFault start input rest old new notes
-HasRun start input rest old new notes (Err TooManyLines) = ToldPastABound start input rest old new notes
-HasRun start input rest old new notes (Err WriteFault) = ToldToAWriteFault start input old new notes
-HasRun start input rest old new notes (Err NoMemory) = Keeps input rest × Keeps old new × Keeps start.notes notes
 
 abbrev pub run_status : Result RunEnd ShellFault → ℕ
 run_status (Ok end) = end_status end.ended_by
@@ -32,10 +21,10 @@ TellsRun options (Ok end) before after = TellsStrictEnd options end.lines end.en
 TellsRun options (Err fault) before after =
     (why : Option SystemReason) × IsReasonOf fault why × AppendsFront before after (failed_text fault why)
 
--- a run was done up to an end, which was told behind the reasons of bad lines
+-- a run was done up to an end, which was told behind `notes`, the reasons of bad lines
 pub record RunEnds (start : RunState) (input rest old new after : Option (List ℕ)) (status : ℕ) : Type 0 where
   pub ended : Result RunEnd ShellFault
   pub notes : Option (List ℕ)
-  pub done : HasRun start input rest old new notes ended
+  pub done : Tells start input rest old new notes ended
   pub status_is : status ≡ run_status ended
   pub told : TellsRun start.options ended notes after

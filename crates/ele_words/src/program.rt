@@ -4,8 +4,9 @@ ghost use Rattle.std.specs.Prelude.{◌≡◌, false, Err, IfErr, is_ok, if◌th
 ghost use Rattle.std.specs.Result.{result_err};
 ghost use Rattle.ele_history.specs.Past.{fresh};
 ghost use Rattle.ele_runs.specs.RunState.{begun};
+ghost use Rattle.ele_runs.specs.Telling.{Tells};
 ghost use Rattle.ele_words.specs.Status.{status_of};
-ghost use Rattle.ele_words.specs.Ends.{EndsAlone, EndsWith, HasRun, HasWritten, TellsFault};
+ghost use Rattle.ele_words.specs.Ends.{EndsAlone, EndsWith, HasWritten, TellsFault};
 ghost use Rattle.ele_words.specs.Invocation.{is_storm};
 ghost use Rattle.ele_words.specs.RunEnds.{TellsRun, run_status};
 ghost use Rattle.ele_words.specs.SystemReason.{IsReasonOf};
@@ -52,7 +53,7 @@ fn run_script<C: Explain, R: Read, W: Write, E: Write>(
     writer: &mut W,
     errors: &mut E,
 ) -> Result<RunEnd, ShellFault>
-    ensures { HasRun (begun options (fresh limits) (E.contents errors.old))
+    ensures { Tells (begun options (fresh limits) (E.contents errors.old))
         (R.remaining reader.old) (R.remaining reader.new)
         (W.contents writer.old) (W.contents writer.new) (E.contents errors.new) result }
 {

@@ -19,7 +19,7 @@ lines-preserved g c =
     let goes_on = sym c.has_ended.ensures ∙ c.if-has_ended.false in (
       omega (arith, c.lines.invariant.0, c.split_at.ensures.back_len, number_told c.put_whole.ensures.block.is),
       goes_on,
-      λ part whole keeps. answered_more (c.lines.invariant.2 part whole keeps) _ _ _ c.in-Some.ensures refl c.split_at.ensures.back c.put_whole.ensures.block goes_on (c.put_whole.ensures.begun goes_on),
+      λ part whole keeps. answered_more (c.lines.invariant.2 part whole keeps) _ _ c.in-Some.ensures refl c.put_whole.ensures.block _ c.split_at.ensures.back goes_on (c.put_whole.ensures.begun goes_on),
     )
 
 pub returns : goal.returns

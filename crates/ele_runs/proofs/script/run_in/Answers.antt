@@ -1,17 +1,14 @@
-use Rattle.ele_runs.proofs.Ends.{has_told}
+use Rattle.std.proofs.KnownBytes.{Keeps-refl}
+use Rattle.std.proofs.lemmas.Result.{err_from_is_err_and}
 use Rattle.ele_runs.proofs.script.run_in.Goals as goal
 
-pub returns-clause-ok : goal.returns-clause-ok
-returns-clause-ok g c = has_told _ _ _ _ _ _ c.run_printed.result (rw c.in_ok-runner.ensures at c.run_printed.ensures)
+pub returns-in_err-runner-clause-told : goal.returns-in_err-runner-clause-told
+returns-in_err-runner-clause-told g c =
+    let p = err_from_is_err_and c.from_residual.result c.from_residual.ensures.1 in
+    rw (p.1, p.2) (Keeps-refl _, Keeps-refl _, Keeps-refl _)
 
-pub returns-clause-read_fault : goal.returns-clause-read_fault
-returns-clause-read_fault g c = λ is. rw is at (rw c.in_ok-runner.ensures at c.run_printed.ensures)
-
-pub returns-clause-too_many_lines : goal.returns-clause-too_many_lines
-returns-clause-too_many_lines g c = λ is. rw is at (rw c.in_ok-runner.ensures at c.run_printed.ensures)
-
-pub returns-clause-write_fault : goal.returns-clause-write_fault
-returns-clause-write_fault g c = λ is. rw is at (rw c.in_ok-runner.ensures at c.run_printed.ensures)
+pub returns-clause-told : goal.returns-clause-told
+returns-clause-told g c = (rw c.in_ok-runner.ensures at c.run_printed.ensures).0
 
 pub returns-clause-no_memory : goal.returns-clause-no_memory
-returns-clause-no_memory g c = λ is. absurd (rw is at c.run_printed.ensures)
+returns-clause-no_memory g c = λ is. absurd (rw is at c.run_printed.ensures).1

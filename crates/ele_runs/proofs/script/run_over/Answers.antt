@@ -1,15 +1,21 @@
-use Rattle.ele_runs.specs.declared.fault.ShellFault.TheVariants.{ReadFault, TooManyLines, WriteFault}
-use Rattle.ele_runs.proofs.Plain.{as_run, ran_past_a_bound, ran_to_a_read_fault, ran_to_a_write_fault, ran_to_the_end}
+use Rattle.ele_runs.proofs.Basics.{ℕ, List, Option, Some, None}
+use Rattle.ele_runs.proofs.Words.{Past, begun, plain}
+use Rattle.ele_runs.specs.Telling.{HasTold, ToldToTheEnd, Writes}
+use Rattle.ele_runs.specs.declared.end.EndLine.{EndLine}
 use Rattle.ele_runs.proofs.script.run_over.Goals as goal
 
+-- no line ends a run without options
+unended : (start : Past) (before input rest after : Option (List ℕ)) (n : ℕ) (ended_by : Option EndLine) (text : List ℕ) → HasTold (begun plain start before) input rest after n ended_by text
+    → ToldToTheEnd (begun plain start before) n input rest after text
+unended start before input rest after n None text ran = ran
+unended start before input rest after n (Some end) text ran = absurd (let never = ran.strict in cc)
+
+all_told : (start : Past) (before input rest old new after : Option (List ℕ)) (n : ℕ) (ended_by : Option EndLine) → Writes (HasTold (begun plain start before) input rest after n ended_by) old new
+    → Writes (ToldToTheEnd (begun plain start before) n input rest after) old new
+all_told start before input rest old new after n ended_by is = record { text = is.text; told = unended start before input rest after n ended_by is.text is.told; written = is.written }
+
 pub returns-in-Ok-clause-ok : goal.returns-in-Ok-clause-ok
-returns-in-Ok-clause-ok g c = ran_to_the_end _ _ _ c.in-Ok.ran.ended_by _ _ _ _ _ (rw c.plain.ensures at c.in-Ok.ensures.ok)
+returns-in-Ok-clause-ok g c = all_told _ _ _ _ _ _ _ _ c.in-Ok.ran.ended_by (rw c.plain.ensures at c.in-Ok.ensures.told)
 
-pub returns-in-Err-clause-read_fault : goal.returns-in-Err-clause-read_fault
-returns-in-Err-clause-read_fault g c = λ is. ran_to_a_read_fault _ _ _ _ _ _ _ (rw c.plain.ensures at (c.in-Err.ensures.read_fault (as_run c.in-Err.fault ReadFault is)))
-
-pub returns-in-Err-clause-too_many_lines : goal.returns-in-Err-clause-too_many_lines
-returns-in-Err-clause-too_many_lines g c = λ is. ran_past_a_bound _ _ _ _ _ _ _ (rw c.plain.ensures at (c.in-Err.ensures.too_many_lines (as_run c.in-Err.fault TooManyLines is)))
-
-pub returns-in-Err-clause-write_fault : goal.returns-in-Err-clause-write_fault
-returns-in-Err-clause-write_fault g c = λ is. ran_to_a_write_fault _ _ _ _ _ _ (rw c.plain.ensures at (c.in-Err.ensures.write_fault (as_run c.in-Err.fault WriteFault is)))
+pub returns-in-Err-clause-err : goal.returns-in-Err-clause-err
+returns-in-Err-clause-err g c = rw c.plain.ensures at c.in-Err.ensures.told

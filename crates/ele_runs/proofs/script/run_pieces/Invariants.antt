@@ -1,10 +1,10 @@
 use Rattle.ele_runs.proofs.Words.{noting, outlet}
-use Rattle.ele_runs.proofs.Ran.{RanSoFar}
+use Rattle.ele_runs.proofs.Ran.{PutSoFar}
 use Rattle.ele_runs.proofs.script.run_pieces.Given as goal
 
 abbrev pub invariant-pieces : goal.invariant-pieces
 invariant-pieces g l =
-    RanSoFar (noting l.fn.runner (g.E.Write.contents l.fn.reasons)) (noting l.runner (g.E.Write.contents l.reasons)) l.room l.buffer (g.R.Read.remaining l.fn.reader) (g.R.Read.remaining l.reader) (outlet g.W.Write.contents l.fn.printer) (outlet g.W.Write.contents l.printer)
+    PutSoFar (noting l.fn.runner (g.E.Write.contents l.fn.reasons)) (noting l.runner (g.E.Write.contents l.reasons)) l.room l.buffer (g.R.Read.remaining l.fn.reader) (g.R.Read.remaining l.reader) (outlet g.W.Write.contents l.fn.printer) (outlet g.W.Write.contents l.printer)
 
 abbrev pub decreases-pieces : goal.decreases-pieces
 decreases-pieces g l = l.room
