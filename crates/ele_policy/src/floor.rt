@@ -27,6 +27,7 @@ impl Model for Floor {
 
 impl Floor {
     /// No floor.
+    /// Cost: constant time.
     pub const NONE: Floor = Floor { versions: 0 };
 
     const MOST_VERSIONS: u64 = 16;
@@ -43,6 +44,7 @@ impl Floor {
     }
 
     /// How many versions it is.
+    /// Cost: constant time.
     pub fn number(self) -> u64
         ensures value { result ≡ self }
         ensures valid { IsFloor result }

@@ -32,6 +32,7 @@ impl Model for Interval {
 
 impl Interval {
     /// A day, which is 86400 seconds.
+    /// Cost: constant time.
     pub const DAY: Interval = Interval { seconds: 86400 };
 
     const MOST_SECONDS: u64 = 253402300799;
@@ -48,6 +49,7 @@ impl Interval {
     }
 
     /// The seconds of the interval.
+    /// Cost: constant time.
     pub fn seconds(self) -> u64
         ensures value { result ≡ self }
         ensures valid { IsInterval result }
