@@ -45,6 +45,7 @@ impl Moment {
     const LAST: u64 = 253402300799;
 
     /// The moment of that many seconds. None past the last moment.
+    /// Cost: constant time.
     pub fn new(seconds: u64) -> Option<Moment>
         ensures some { IsSome result ↔ (seconds ≤ last_moment) }
         ensures value { IfSome result (λ m. m ≡ seconds) }

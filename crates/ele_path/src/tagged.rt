@@ -71,6 +71,7 @@ impl TaggedPath {
     }
 
     /// The tag.
+    /// Cost: constant time.
     pub fn tag(&self) -> Tag
         ensures { result ≡ self.now.tag }
     {

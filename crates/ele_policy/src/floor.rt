@@ -33,6 +33,7 @@ impl Floor {
     const MOST_VERSIONS: u64 = 16;
 
     /// The floor of that many versions. `BadLadder` for more than 16.
+    /// Cost: constant time.
     pub fn new(versions: u64) -> Result<Floor, BadLadder>
         ensures valid { IsOk result ↔ IsFloor versions }
         ensures value { IfOk result (λ floor. floor ≡ versions) }

@@ -38,6 +38,7 @@ impl Interval {
     const MOST_SECONDS: u64 = 253402300799;
 
     /// The interval of that many seconds. `BadLadder` for 0 and for more than 253402300799.
+    /// Cost: constant time.
     pub fn new(seconds: u64) -> Result<Interval, BadLadder>
         ensures valid { IsOk result ↔ IsInterval seconds }
         ensures value { IfOk result (λ interval. interval ≡ seconds) }

@@ -148,6 +148,7 @@ impl Ladder {
     }
 
     /// The number of the span of that level in which a version closed; the first level is 1.
+    /// Cost: constant time.
     pub fn span(&self, level: usize, closed: Moment) -> u64
         requires first { 1 ≤ level }
         requires last { level ≤ length self.now }
