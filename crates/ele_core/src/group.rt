@@ -31,8 +31,9 @@ impl Core {
     }
 
     /// The group goes, and its marks with it. Refused: `NoGroup`.
-    /// Cost: grows with the group's files times its marks, each pair a search of the file's
-    /// versions and a look at its groups; groups made later move.
+    /// Cost: grows with the group's files times its marks, each pair with the file's groups and the
+    /// logarithms of files, its versions and queued keys; groups made later move. Its memory grows
+    /// with the group's files and marks, and the keys that change.
     #[inline(never)]
     pub fn drop_group(&mut self, name: &Name) -> Result<(), Halt>
         ensures { Does done self.old.world (event.GroupDrop name.now) result self.new.world }
@@ -43,7 +44,8 @@ impl Core {
 
     /// The group gets the file at the path. Refused: `NoGroup`, as `open_write`, `AlreadyMember`, `Full`.
     /// Cost: grows with the path's names, and for each mark of the group with the file's groups and
-    /// the logarithms of its versions and of the queued keys.
+    /// the logarithms of files, versions and queued keys. Its memory grows with the group's marks
+    /// and the keys that change; a membership takes 88 bytes.
     #[inline(never)]
     pub fn add_to_group(&mut self, name: &Name, path: &Path) -> Result<(), Halt>
         ensures { Does done
@@ -57,8 +59,8 @@ impl Core {
     }
 
     /// The group loses the file at the path. Refused: `NoGroup`, `NoEntry`, `NotDirectory`, `IsDirectory`, `NotMember`.
-    /// Cost: as `add_to_group`, and grows with the group's files, among which it searches for the
-    /// file.
+    /// Cost: the time of `add_to_group`, and a search for the file among the group's files. Its
+    /// memory grows with the group's marks and the keys that change.
     #[inline(never)]
     pub fn remove_from_group(&mut self, name: &Name, path: &Path) -> Result<(), Halt>
         ensures { Does done
@@ -72,8 +74,9 @@ impl Core {
 
     /// The group is marked at the moment, which has passed, until the mark's end, which is to come, if one is named. Refused:
     /// `NoGroup`, `NotPast`, `NotAhead`, `MarkExists`, `Full`.
-    /// Cost: grows with the group's files, for each with its groups and the logarithms of all
-    /// files, of its versions and of the queued keys; takes memory for a mark.
+    /// Cost: grows with the group's files, for each with its groups and the logarithms of files,
+    /// versions and queued keys. Its memory grows with the group's files and the keys that change;
+    /// a mark takes some 60 bytes.
     #[inline(never)]
     pub fn mark(&mut self, name: &Name, moment: Moment, until: &Option<Moment>) -> Result<(), Halt>
         ensures { Does done
@@ -93,7 +96,8 @@ impl Core {
     }
 
     /// The group loses the mark. Refused: `NoGroup`, `NoMark`.
-    /// Cost: as `mark`, and grows with the group's marks, among which it searches for the mark.
+    /// Cost: the time of `mark`, and a search for the mark among the group's marks. Its memory
+    /// grows with the group's files and the keys that change.
     #[inline(never)]
     pub fn unmark(&mut self, name: &Name, moment: Moment) -> Result<(), Halt>
         ensures { Does done self.old.world (event.Unmark name.now moment) result self.new.world }

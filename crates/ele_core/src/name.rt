@@ -38,7 +38,8 @@ impl Core {
     /// The name of the file at the path dies; with the last one its current version ends. Refused: `IsRoot`, `NoEntry`,
     /// `NotDirectory`, `IsDirectory`.
     /// Cost: grows with the path's names, each hashed; a last name also takes, for up to 16
-    /// versions, the file's groups and the logarithms of files, versions and queued keys.
+    /// versions, the file's groups and the logarithms of files, versions and queued keys. Its
+    /// memory grows with the keys that these versions get.
     #[inline(never)]
     pub fn unlink(&mut self, path: &Path) -> Result<(), Halt>
         ensures { Does done self.old.world (event.Unlink path.now) result self.new.world }
@@ -70,7 +71,8 @@ impl Core {
     /// The dead name at the path stands again for what it last stood for; a file that had no live name gets a version with the
     /// content of its last one, and the answer is its number. Refused: as `create`, `NotRestorable`, `Drafting`.
     /// Cost: amortized, grows with the path's names and the logarithms of older name rows, files
-    /// and versions; a nameless file also takes a `revert`, and up to 15 keys more.
+    /// and versions; takes memory for a name. For a nameless file the time and the memory also grow
+    /// with what a `revert` takes, and with up to 15 keys.
     #[inline(never)]
     pub fn undelete(&mut self, path: &Path) -> Result<Option<VersionNo>, Halt>
         ensures { Does revived self.old.world (event.Undelete path.now) result self.new.world }

@@ -11,8 +11,8 @@ use ele_model::{ByteList, Handle, Path, Refusal, TaggedPath, VersionNo, Which};
 impl Core {
     /// A handle is opened by which the file at the path is written. Refused: `NoEntry`, `NotDirectory`, `IsDirectory`, `Full`.
     /// Cost: grows with the path's names and the logarithms of files, versions and drafts; a first
-    /// writer also takes a count for each 8 KiB, and may move all drafts. It takes memory for a
-    /// handle, and a first writer for a draft, with 4 bytes for each 8 KiB.
+    /// writer also takes a count for each 8 KiB, and may move all drafts. Its memory is a handle,
+    /// and for a first writer a draft, which grows with the content by 4 bytes for each 8 KiB.
     #[inline(never)]
     pub fn open_write(&mut self, path: &Path) -> Result<Handle, Halt>
         ensures { Does reply.Handle self.old.world (event.OpenWrite path.now) result self.new.world }
@@ -72,9 +72,9 @@ impl Core {
     /// Refused: `NoHandle`.
     /// Cost: the logarithms of handles, drafts and files, and up to all handles and drafts move by
     /// one place. If it makes a version, or closes a reader, the time also grows with the file's
-    /// groups and the logarithms of its versions and queued keys. If it drops an unchanged draft,
-    /// the time also grows with the content, by a count for each 8 KiB, and with what `clean_one`
-    /// takes for a dropped file.
+    /// groups and the logarithms of versions and queued keys; new keys take memory. If it drops an
+    /// unchanged draft, the time also grows with the content, by a count for each 8 KiB, and with
+    /// what `clean_one` takes for a dropped file.
     #[inline(never)]
     pub fn close(&mut self, handle: Handle) -> Result<Option<VersionNo>, Halt>
         ensures { Does reply.Closed self.old.world (event.Close handle) result self.new.world }

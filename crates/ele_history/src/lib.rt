@@ -118,8 +118,8 @@ impl<C: Step> History<C> {
     /// memory. Answers how many they were; the world and the count stay.
     ///
     /// `NoMemory` where memory is refused, which leaves the history.
-    /// Cost: grows with all rows of the core, which it copies as `flat` does before it frees the
-    /// old base, and with the entries, which it frees.
+    /// Cost: grows with all rows of the core, which it copies as `flat` does, and with the old base
+    /// and the entries, which it frees after that.
     pub fn trim(&mut self) -> Result<u64, NoMemory>
         ensures ok { IfOk result
             (λ count. (count ≡ length self.old.entries) × (self.new ≡ trimmed self.old)) }
