@@ -12,6 +12,9 @@ use ele_policy::laws;
 
 impl Core {
     /// The first due version is removed; the answer is its key. It takes no memory.
+    /// Cost: the logarithms of queued keys, files and the file's versions, and the version's
+    /// blocks; rarely the file's list of chunks moves. If the file is dropped with its last
+    /// version, the time also grows with its dead names, its groups and the later files.
     #[inline(never)]
     pub fn clean_one(&mut self) -> Option<Key>
         ensures step { (removed result, self.new.world) ≡ clean_step self.old.world }
@@ -25,6 +28,8 @@ impl Core {
 
     /// The clean event again and again, until nothing is due or as many versions are removed as the budget allows. It takes
     /// no memory, so it isn't stopped.
+    /// Cost: that of `clean_one` for each version that is removed, and one look at the queue of
+    /// keys if nothing is due.
     #[tactic(auto, using(ele_model::proofs::PassEnds::cleaned_none, ele_model::proofs::PassEnds::cleaned_more, ele_model::proofs::PassEnds::pass_finishes))]
     pub fn clean_pass(&mut self, budget: u64) -> PassEnd
         ensures end { EndsPass self.old.world budget result self.new.world }

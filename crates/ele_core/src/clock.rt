@@ -11,6 +11,7 @@ use ele_model::{Moment, Refusal};
 
 impl Core {
     /// The clock goes to the moment. Refused: `ClockBack`.
+    /// Cost: constant time.
     pub fn clock(&mut self, to: Moment) -> Result<Moment, Refusal>
         ensures does { DoesAtOnce Now self.old.world (event.Clock to) result self.new.world }
         ensures valid { to ≤ last_moment }
@@ -22,6 +23,7 @@ impl Core {
     }
 
     /// The clock goes on by so many seconds. Refused: `ClockEnd`.
+    /// Cost: constant time.
     pub fn tick(&mut self, seconds: u64) -> Result<Moment, Refusal>
         ensures { DoesAtOnce Now self.old.world (event.Tick seconds) result self.new.world }
     {

@@ -32,6 +32,9 @@ impl Core {
 
     /// Copies the bytes that `read` returns from the offset on, as many as there is room for, to the start of the caller's. It
     /// takes no memory. Refused: as `read`, and then nothing is copied.
+    /// Cost: grows with the bytes copied, the path's names or the logarithm of the handles, and the
+    /// logarithms of files, versions or drafts. At a moment each look-up of a name also grows with
+    /// the logarithm of older name rows.
     #[inline(never)]
     pub fn copy(&self, source: &Source, offset: u64, into: &mut [u8]) -> Result<Copied, Refusal>
         ensures { Copies self.now.world source.now offset into.old into.new result }

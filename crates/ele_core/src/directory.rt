@@ -11,6 +11,8 @@ use ele_model::{DirId, Path, Policy, Refusal, Target, Which};
 impl Core {
     /// A directory is made at the path, with the policy of the one that it stands in. Refused: `IsRoot`, `NoEntry`,
     /// `NotDirectory`, `Exists`, `Full`.
+    /// Cost: amortized, grows with the path's names, each hashed, and for a reused name the
+    /// logarithm of older name rows; takes memory for a name and a directory.
     #[inline(never)]
     pub fn make_dir(&mut self, path: &Path) -> Result<DirId, Halt>
         ensures { Does Directory self.old.world (event.MakeDir path.now) result self.new.world }
@@ -22,6 +24,7 @@ impl Core {
     }
 
     /// The name of the directory at the path dies. Refused: `IsRoot`, `NoEntry`, `NotDirectory`, `NotEmpty`.
+    /// Cost: grows with the path's names, each looked up by hashing.
     #[inline(never)]
     pub fn remove_dir(&mut self, path: &Path) -> Result<(), Refusal>
         ensures { DoesAtOnce done self.old.world (event.RemoveDir path.now) result self.new.world }
@@ -36,6 +39,7 @@ impl Core {
     }
 
     /// Files that are made in the directory at the path from now on get the policy. Refused: `NoEntry`, `NotDirectory`.
+    /// Cost: grows with the path's names, each looked up by hashing.
     #[inline(never)]
     pub fn set_default(&mut self, path: &Path, policy: Policy) -> Result<(), Refusal>
         ensures does { DoesAtOnce done

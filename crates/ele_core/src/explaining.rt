@@ -7,6 +7,8 @@ use ele_model::{Explain, Fate, KeyList, Moment, NoMemory, Refusal, TaggedPath};
 impl Core {
     /// What becomes of the version that the path and its tag mean, and why, as `fate` tells it. It takes no memory. Refused:
     /// `Future`, `NoEntry`, `NotDirectory`, `IsDirectory`, `NoVersion`, `Forgotten`.
+    /// Cost: as `fate`, and grows with the path's names, each looked up by hashing. At a moment
+    /// each look-up of a name also grows with the logarithm of older name rows.
     pub fn fate_at(&self, tagged: &TaggedPath) -> Result<Fate, Refusal>
         ensures { IsWhy self.now.world tagged.now result }
     {

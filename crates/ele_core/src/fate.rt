@@ -13,6 +13,8 @@ impl Core {
     /// covers it; its policy keeps it, until a moment or for good; or it is due, since a moment. None where the version isn't
     /// held. It takes no memory. A version has one fate and no other (`one_fate` of `ele_world::laws::fate`), and is told to be
     /// due just where the scan has its key (`due_fate`).
+    /// Cost: the logarithms of files and versions, and the file's groups with their marks; of a
+    /// marked version also all groups, up to the first whose mark covers it.
     pub fn fate(&self, file: FileId, number: VersionNo) -> Option<Fate>
         ensures some { IfSome result (HasFate self.now.world file number) }
         ensures none { IfNone result (is_held self.now.world file number ≡ false) }
@@ -24,6 +26,8 @@ impl Core {
     /// would be removed. Of a moment before now: the keys of those that are due now and were ripe by then.
     ///
     /// `NoMemory` where memory is refused.
+    /// Cost: grows with the keys in the answer, which take memory, and the logarithm of the queued
+    /// keys.
     pub fn due_by(&self, moment: Moment) -> Result<KeyList, NoMemory>
         ensures { IfOk result
             (λ keys. keys ≡ scan (after_change self.now.world (Time moment))) }

@@ -20,6 +20,7 @@ fn has_ended(until: &Option<Moment>, now: Moment) -> bool
 
 impl Core {
     /// A group of that name is made, without files and marks. Refused: `GroupExists`, `Full`.
+    /// Cost: constant time, amortized, by one look-up of the name; takes memory for a group.
     #[inline(never)]
     pub fn make_group(&mut self, name: &Name) -> Result<(), Halt>
         ensures { Does done self.old.world (event.GroupMake name.now) result self.new.world }
@@ -30,6 +31,9 @@ impl Core {
     }
 
     /// The group goes, and its marks with it. Refused: `NoGroup`.
+    /// Cost: grows with the group's files times its marks, each pair with the file's groups and the
+    /// logarithms of files, its versions and queued keys; groups made later move. Its memory grows
+    /// with the group's files and marks, and the keys that change.
     #[inline(never)]
     pub fn drop_group(&mut self, name: &Name) -> Result<(), Halt>
         ensures { Does done self.old.world (event.GroupDrop name.now) result self.new.world }
@@ -39,6 +43,9 @@ impl Core {
     }
 
     /// The group gets the file at the path. Refused: `NoGroup`, as `open_write`, `AlreadyMember`, `Full`.
+    /// Cost: grows with the path's names, and for each mark of the group with the file's groups and
+    /// the logarithms of files, versions and queued keys. Its memory grows with the group's marks
+    /// and the keys that change; a membership takes 88 bytes.
     #[inline(never)]
     pub fn add_to_group(&mut self, name: &Name, path: &Path) -> Result<(), Halt>
         ensures { Does done
@@ -52,6 +59,8 @@ impl Core {
     }
 
     /// The group loses the file at the path. Refused: `NoGroup`, `NoEntry`, `NotDirectory`, `IsDirectory`, `NotMember`.
+    /// Cost: the time of `add_to_group`, and a search for the file among the group's files. Its
+    /// memory grows with the group's marks and the keys that change.
     #[inline(never)]
     pub fn remove_from_group(&mut self, name: &Name, path: &Path) -> Result<(), Halt>
         ensures { Does done
@@ -65,6 +74,9 @@ impl Core {
 
     /// The group is marked at the moment, which has passed, until the mark's end, which is to come, if one is named. Refused:
     /// `NoGroup`, `NotPast`, `NotAhead`, `MarkExists`, `Full`.
+    /// Cost: grows with the group's files, for each with its groups and the logarithms of files,
+    /// versions and queued keys. Its memory grows with the group's files and the keys that change;
+    /// a mark takes some 60 bytes.
     #[inline(never)]
     pub fn mark(&mut self, name: &Name, moment: Moment, until: &Option<Moment>) -> Result<(), Halt>
         ensures { Does done
@@ -84,6 +96,8 @@ impl Core {
     }
 
     /// The group loses the mark. Refused: `NoGroup`, `NoMark`.
+    /// Cost: the time of `mark`, and a search for the mark among the group's marks. Its memory
+    /// grows with the group's files and the keys that change.
     #[inline(never)]
     pub fn unmark(&mut self, name: &Name, moment: Moment) -> Result<(), Halt>
         ensures { Does done self.old.world (event.Unmark name.now moment) result self.new.world }

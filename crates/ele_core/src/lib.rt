@@ -71,6 +71,7 @@ impl Core {
     /// The fresh world of these limits.
     ///
     /// `NoMemory` where memory is refused.
+    /// Cost: constant time; takes memory for the root directory.
     pub fn new(alloc: Global, limits: Limits) -> Result<Core, NoMemory>
         ensures { IfOk result (λ core. core.world ≡ fresh_world limits) }
     {
@@ -84,6 +85,8 @@ impl Core {
     /// come first. `takes_no_memory` tells which events take none.
     ///
     /// In whatever run it comes, the reply and the world after it are as the headline says.
+    /// Cost: that of the event's own call; a stat and a usage also take memory for their boxed
+    /// replies.
     pub fn apply(&mut self, event: &Event) -> Result<Reply, NoMemory>
         ensures step { IfOk result
             (λ reply. (reply, self.new.world) ≡ step self.old.world event.now) }
@@ -110,6 +113,7 @@ impl Core {
 
     /// The moment that it is. The world is well formed, its limits are within theirs, and it has no file of which nothing is
     /// left, so the laws of `ele_world` hold.
+    /// Cost: constant time.
     pub fn now(&self) -> Moment
         ensures value { result ≡ self.now.world.now }
         ensures formed { IsWellFormed self.now.world }
@@ -121,6 +125,7 @@ impl Core {
 
     /// How many version rows the last clean read; 0 after `apply` of any other event, whose reads
     /// aren't counted.
+    /// Cost: constant time.
     pub fn rows_read(&self) -> u64
         ensures { result ≡ self.now.rows_read }
     {
@@ -130,6 +135,8 @@ impl Core {
     /// A plain copy of all rows and counts.
     ///
     /// `NoMemory` where memory is refused.
+    /// Cost: grows with all names ever made, all other rows, and the bytes of all versions and
+    /// drafts, which it copies, shared blocks once for each version.
     pub fn flat(&self) -> Result<Flat, NoMemory>
         ensures { IfOk result (λ flat. flat ≡ self.now.world) }
     {

@@ -9,6 +9,8 @@ use ele_model::{FileId, Path, Refusal, Target, VersionNo, Which};
 
 impl Core {
     /// A file is made at the path, with an empty first version. Refused: `IsRoot`, `NoEntry`, `NotDirectory`, `Exists`, `Full`.
+    /// Cost: amortized, grows with the path's names, each hashed, and for a reused name the
+    /// logarithm of older name rows; takes memory for a name, a file and a version.
     #[inline(never)]
     pub fn create(&mut self, path: &Path) -> Result<FileId, Halt>
         ensures { Does File self.old.world (event.Create path.now) result self.new.world }
@@ -21,6 +23,8 @@ impl Core {
     }
 
     /// The file at the first path gets the second path as another name. Refused: as `open_write` of the first, and as `create`.
+    /// Cost: amortized, grows with the names of both paths, each hashed, and for a reused name the
+    /// logarithm of older name rows; takes memory for a name.
     #[inline(never)]
     pub fn link(&mut self, from: &Path, to: &Path) -> Result<(), Halt>
         ensures { Does done self.old.world (event.Link from.now to.now) result self.new.world }
@@ -33,6 +37,9 @@ impl Core {
 
     /// The name of the file at the path dies; with the last one its current version ends. Refused: `IsRoot`, `NoEntry`,
     /// `NotDirectory`, `IsDirectory`.
+    /// Cost: grows with the path's names, each hashed; a last name also takes, for up to 16
+    /// versions, the file's groups and the logarithms of files, versions and queued keys. Its
+    /// memory grows with the keys that these versions get.
     #[inline(never)]
     pub fn unlink(&mut self, path: &Path) -> Result<(), Halt>
         ensures { Does done self.old.world (event.Unlink path.now) result self.new.world }
@@ -46,6 +53,8 @@ impl Core {
 
     /// What stands at the first path has the second path as its name from now on. Refused: `IsRoot`, `NoEntry`, `NotDirectory`,
     /// `IntoItself`, `Exists`, `Full`.
+    /// Cost: amortized, grows with the names of both paths, each hashed, and for a reused name the
+    /// logarithm of older name rows; takes memory for a name.
     #[inline(never)]
     pub fn rename(&mut self, from: &Path, to: &Path) -> Result<(), Halt>
         ensures { Does done self.old.world (event.Rename from.now to.now) result self.new.world }
@@ -61,6 +70,9 @@ impl Core {
 
     /// The dead name at the path stands again for what it last stood for; a file that had no live name gets a version with the
     /// content of its last one, and the answer is its number. Refused: as `create`, `NotRestorable`, `Drafting`.
+    /// Cost: amortized, grows with the path's names and the logarithms of older name rows, files
+    /// and versions; takes memory for a name. For a nameless file the time and the memory also grow
+    /// with what a `revert` takes, and with up to 15 keys.
     #[inline(never)]
     pub fn undelete(&mut self, path: &Path) -> Result<Option<VersionNo>, Halt>
         ensures { Does revived self.old.world (event.Undelete path.now) result self.new.world }

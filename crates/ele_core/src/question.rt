@@ -52,6 +52,9 @@ impl Core {
 
     /// The bytes of the version that the path and its tag mean, or of what the handle reads. Refused: `Future`, `NoEntry`,
     /// `NotDirectory`, `IsDirectory`, `NoVersion`, `Forgotten`; `NoHandle`.
+    /// Cost: grows with the bytes, which take memory, the path's names or the logarithm of the
+    /// handles, and the logarithms of files, versions or drafts. At a moment each look-up of a name
+    /// also grows with the logarithm of older name rows.
     #[inline(never)]
     pub fn read(&self, source: &Source) -> Result<ByteList, Halt>
         ensures { Does Bytes self.now.world (event.Read source.now) result self.now.world }
@@ -91,6 +94,9 @@ impl Core {
 
     /// What the path and its tag mean, when it was made, how long it is, and its policy. Refused: `Future`, `NoEntry`,
     /// `NotDirectory`, `NoVersion`, `Forgotten`, and `IsDirectory` for a number.
+    /// Cost: grows with the path's names, each hashed, and the logarithms of the files and the
+    /// file's versions. At a moment each look-up of a name also grows with the logarithm of older
+    /// name rows.
     #[inline(never)]
     pub fn stat(&self, tagged: &TaggedPath) -> Result<Stat, Refusal>
         ensures { DoesAtOnce stat_told self.now.world (event.Stat tagged.now) result self.now.world }
@@ -103,6 +109,9 @@ impl Core {
 
     /// The versions that are held of the file that the path names, or named at its moment. Refused: `Future`, `NoEntry`,
     /// `NotDirectory`, `IsDirectory`.
+    /// Cost: grows with the file's versions, which take memory in the answer, the path's names, and
+    /// the logarithm of the files. At a moment each look-up of a name also grows with the logarithm
+    /// of older name rows.
     #[inline(never)]
     pub fn versions(&self, at: &PathAt) -> Result<StampsList, Halt>
         ensures { Does Rows self.now.world (event.Versions at.now) result self.now.world }
@@ -114,6 +123,9 @@ impl Core {
 
     /// The names that stand in the directory that the path names, or stood there at its moment. Refused: `Future`, `NoEntry`,
     /// `NotDirectory`.
+    /// Cost: grows with all names that the directory ever had, a sort of those in the answer, which
+    /// take memory, and the path's names. At a moment each look-up of a name also grows with the
+    /// logarithm of older name rows.
     #[inline(never)]
     pub fn list(&self, at: &PathAt) -> Result<NameList, Halt>
         ensures { Does NameList self.now.world (event.List at.now) result self.now.world }
@@ -127,6 +139,7 @@ impl Core {
     /// All groups with their files and marks, in order of making.
     ///
     /// `NoMemory` where memory is refused.
+    /// Cost: grows with all groups, their files and their marks, which it copies.
     #[inline(never)]
     pub fn groups(&self) -> Result<GroupList, NoMemory>
         ensures { IfOk result (λ groups. groups ≡ self.now.world.groups) }
@@ -135,6 +148,7 @@ impl Core {
     }
 
     /// What the files of each kind of policy use, in the order of `Kind`.
+    /// Cost: constant time.
     pub fn usage(&self) -> [Usage; 4]
         ensures { result ≡ usages self.now.world }
     {
@@ -145,6 +159,7 @@ impl Core {
     /// directory, the name and what it last meant.
     ///
     /// `NoMemory` if memory is refused.
+    /// Cost: that of `dead_names`, and a second copy of the names.
     pub fn restorable(&self) -> Result<Vec<(DirId, Name, Target)>, NoMemory>
         ensures { IfOk result (λ names. names.items ≡ map triple_of (restorable self.now.world)) }
     {
@@ -154,6 +169,8 @@ impl Core {
     /// The names that `restorable` returns, as the list that its reply holds.
     ///
     /// `NoMemory` if memory is refused.
+    /// Cost: grows with all names ever made, a sort of the dead ones, and for each of them the
+    /// logarithms of files and versions; takes memory for the dead names.
     #[inline(never)]
     pub fn dead_names(&self) -> Result<DeadNameList, NoMemory>
         ensures { IfOk result (λ names. names ≡ restorable self.now.world) }
@@ -162,6 +179,8 @@ impl Core {
     }
 
     /// Whether the version is held and due now.
+    /// Cost: the logarithms of files, the file's versions and queued keys, and the file's groups
+    /// with their marks.
     pub fn is_due(&self, file: FileId, number: VersionNo) -> bool
         ensures { result ≡ is_due self.now.world file number }
     {
@@ -171,6 +190,8 @@ impl Core {
     /// The keys of the versions that are due now, in the order in which they are removed.
     ///
     /// `NoMemory` if memory is refused.
+    /// Cost: grows with the keys in the answer, which take memory, and the logarithm of the queued
+    /// keys.
     pub fn due(&self) -> Result<Vec<Key>, NoMemory>
         ensures { IfOk result (λ keys. keys.items ≡ scan self.now.world) }
     {
@@ -180,6 +201,8 @@ impl Core {
     /// The keys that `due` returns, as the list that its reply holds.
     ///
     /// `NoMemory` if memory is refused.
+    /// Cost: grows with the keys in the answer, which take memory, and the logarithm of the queued
+    /// keys.
     pub fn due_keys(&self) -> Result<KeyList, NoMemory>
         ensures { IfOk result (λ keys. keys ≡ scan self.now.world) }
     {
@@ -187,6 +210,7 @@ impl Core {
     }
 
     /// The key of the version that is removed next, if one is due now.
+    /// Cost: the logarithm of the queued keys.
     pub fn due_first(&self) -> Option<Key>
         ensures { result ≡ first_due self.now.world }
     {

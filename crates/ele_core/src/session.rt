@@ -10,6 +10,9 @@ use ele_model::{ByteList, Handle, Path, Refusal, TaggedPath, VersionNo, Which};
 
 impl Core {
     /// A handle is opened by which the file at the path is written. Refused: `NoEntry`, `NotDirectory`, `IsDirectory`, `Full`.
+    /// Cost: grows with the path's names and the logarithms of files, versions and drafts; a first
+    /// writer also takes a count for each 8 KiB, and may move all drafts. Its memory is a handle,
+    /// and for a first writer a draft, which grows with the content by 4 bytes for each 8 KiB.
     #[inline(never)]
     pub fn open_write(&mut self, path: &Path) -> Result<Handle, Halt>
         ensures { Does reply.Handle self.old.world (event.OpenWrite path.now) result self.new.world }
@@ -24,6 +27,9 @@ impl Core {
     }
 
     /// A handle is opened by which the version is read that the path and its tag mean. Refused: as `stat`, and `Full`.
+    /// Cost: amortized, grows with the path's names, the file's groups with their marks, and the
+    /// logarithms of files, versions and queued keys; takes memory for a handle. At a moment each
+    /// look-up of a name also grows with the logarithm of older name rows.
     #[inline(never)]
     pub fn open_read(&mut self, tagged: &TaggedPath) -> Result<Handle, Halt>
         ensures { Does reply.Handle self.old.world (event.OpenRead tagged.now) result self.new.world }
@@ -34,6 +40,8 @@ impl Core {
     }
 
     /// The bytes are written through the handle, from that offset on. Refused: `NoHandle`, `NotWriter`, `TooBig`.
+    /// Cost: grows with the blocks of 512 bytes that it writes or fills with zeros, which take
+    /// memory, and the logarithms of handles, drafts and files.
     #[inline(never)]
     pub fn write(&mut self, handle: Handle, offset: u64, bytes: &ByteList) -> Result<(), Halt>
         ensures { Does done
@@ -49,6 +57,8 @@ impl Core {
     }
 
     /// The draft under the handle gets so many bytes. Refused: `NoHandle`, `NotWriter`, `TooBig`.
+    /// Cost: grows with the blocks of 512 bytes that it cuts or fills with zeros, and the
+    /// logarithms of handles, drafts and files; new blocks take memory.
     #[inline(never)]
     pub fn truncate(&mut self, handle: Handle, size: u64) -> Result<(), Halt>
         ensures { Does done self.old.world (event.Truncate handle size) result self.new.world }
@@ -60,6 +70,11 @@ impl Core {
 
     /// Closes the handle; the last one of a changed draft makes it the file's next version, and the answer is its number.
     /// Refused: `NoHandle`.
+    /// Cost: the logarithms of handles, drafts and files, and up to all handles and drafts move by
+    /// one place. If it makes a version, or closes a reader, the time also grows with the file's
+    /// groups and the logarithms of versions and queued keys; new keys take memory. If it drops an
+    /// unchanged draft, the time also grows with the content, by a count for each 8 KiB, and with
+    /// what `clean_one` takes for a dropped file.
     #[inline(never)]
     pub fn close(&mut self, handle: Handle) -> Result<Option<VersionNo>, Halt>
         ensures { Does reply.Closed self.old.world (event.Close handle) result self.new.world }

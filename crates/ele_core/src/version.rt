@@ -11,6 +11,9 @@ use ele_model::{Path, Policy, Refusal, Tag, VersionNo, Which};
 impl Core {
     /// The file at the path gets a version more, with the content of the one with that number; the answer is the new one's
     /// number. Refused: as `open_write`, `NoVersion`, `Forgotten`, `Drafting`.
+    /// Cost: grows with the path's names, the file's groups, the logarithms of files, versions,
+    /// drafts and queued keys, and a count for each 8 KiB. Its memory is one version, which grows
+    /// with the content by 4 bytes for each 8 KiB.
     #[inline(never)]
     pub fn revert(&mut self, path: &Path, number: VersionNo) -> Result<VersionNo, Halt>
         ensures { Does Version self.old.world (event.Revert path.now number) result self.new.world }
@@ -23,6 +26,9 @@ impl Core {
     }
 
     /// The file at the path has the policy from now on, with all its versions. Refused: `NoEntry`, `NotDirectory`, `IsDirectory`.
+    /// Cost: grows with the path's names, and for each version of the file with its blocks, the
+    /// file's groups and the logarithms of files, versions and queued keys. Its memory grows with
+    /// the file's versions and blocks while it runs, and with the keys that are new.
     #[inline(never)]
     pub fn set_policy(&mut self, path: &Path, policy: Policy) -> Result<(), Halt>
         ensures does { Does done

@@ -47,6 +47,8 @@ impl<C: Step> History<C> {
     /// The history of the fresh world of these limits, without an entry.
     ///
     /// `NoMemory` where memory is refused.
+    /// Cost: that of a fresh core and a copy of its rows, which is constant time for a core of
+    /// `ele_core`.
     pub fn new(alloc: Global, limits: Limits) -> Result<History<C>, NoMemory>
         ensures { IfOk result (λ history. history ≡ fresh limits) }
     {
@@ -65,6 +67,8 @@ impl<C: Step> History<C> {
     ///
     /// `HistoryFull` where as many entries were made as the limits allow, whatever the event, and
     /// `NoMemory` where memory is refused, also for the copy. Each leaves the history.
+    /// Cost: that of the core's `apply` and of a copy of the reply, amortized; takes memory for one
+    /// entry, 88 bytes, and for what the event and the reply hold.
     pub fn apply(&mut self, event: Event) -> Result<Reply, Stop>
         ensures { MayReply self.old event result self.new }
     {
@@ -87,6 +91,8 @@ impl<C: Step> History<C> {
     ///
     /// `HistoryFull` where as many entries were made as the limits allow, whatever the event, and
     /// `NoMemory` where memory is refused. Each leaves the history.
+    /// Cost: that of the core's `apply`, amortized; takes memory for one entry, 88 bytes, and for
+    /// what the event and the reply hold.
     pub fn record(&mut self, event: Event) -> Result<(), Stop>
         ensures { MayRecord self.old event result self.new }
     {
@@ -112,6 +118,8 @@ impl<C: Step> History<C> {
     /// memory. Answers how many they were; the world and the count stay.
     ///
     /// `NoMemory` where memory is refused, which leaves the history.
+    /// Cost: grows with all rows of the core, which it copies as `flat` does, and with the old base
+    /// and the entries, which it frees after that.
     pub fn trim(&mut self) -> Result<u64, NoMemory>
         ensures ok { IfOk result
             (λ count. (count ≡ length self.old.entries) × (self.new ≡ trimmed self.old)) }
@@ -131,6 +139,7 @@ impl<C: Step> History<C> {
     }
 
     /// The world that the entries begin from, which events led to.
+    /// Cost: constant time.
     pub fn base(&self) -> &Flat
         ensures value { result.now ≡ self.now.base }
         ensures reached { IsReached self.now.folded self.now.base }
@@ -139,6 +148,7 @@ impl<C: Step> History<C> {
     }
 
     /// How many entries were folded into the base.
+    /// Cost: constant time.
     pub fn folded(&self) -> u64
         ensures { result ≡ self.now.folded }
     {
@@ -147,6 +157,7 @@ impl<C: Step> History<C> {
 
     /// The entries, in their order: each reply is that of the step in the world after the entries
     /// before it, and so is as the headline says.
+    /// Cost: constant time.
     pub fn entries(&self) -> &[Entry]
         ensures value { result.now ≡ self.now.entries }
         ensures events { AllByRecursion IsEvent (events_of self.now.entries) }
@@ -159,6 +170,7 @@ impl<C: Step> History<C> {
     }
 
     /// The last entry; none where all are folded, or none was made.
+    /// Cost: constant time.
     pub fn last(&self) -> Option<&Entry>
         ensures { option_copied result
             ≡ slice_get self.now.entries (length self.now.entries - 1) }
@@ -167,6 +179,7 @@ impl<C: Step> History<C> {
     }
 
     /// How many entries were ever made, those that are folded among them.
+    /// Cost: constant time.
     pub fn count(&self) -> u64
         ensures value { result ≡ count_of self.now }
         ensures limit { result ≤ self.now.base.limits.events }
@@ -176,6 +189,7 @@ impl<C: Step> History<C> {
     }
 
     /// The core, whose world is the one after all entries.
+    /// Cost: constant time.
     pub fn core(&self) -> &C
         ensures { C.world result.now ≡ world_of self.now }
     {

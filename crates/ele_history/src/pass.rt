@@ -13,6 +13,8 @@ impl<C: Step> History<C> {
     /// Takes clean events until nothing is due, or so many versions are removed. Each is an entry,
     /// also the one that nothing was due. A stop ends it, and what was removed stays removed. Its world
     /// is that after a core's pass with the same end.
+    /// Cost: that of a `record` of a clean for each version that is removed, and of one more if
+    /// nothing is due.
     pub fn pass(&mut self, budget: u64) -> PassEnd
         ensures entries { MayPass self.old budget result self.new }
         ensures world { EndsPass (world_of self.old) budget result (world_of self.new) }

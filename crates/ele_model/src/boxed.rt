@@ -23,6 +23,7 @@ impl<T: Drop> Boxed<T> {
     /// The value in memory of its own.
     ///
     /// `NoMemory` where memory is refused, and then the value is dropped.
+    /// Cost: constant time; takes memory for the value.
     pub fn new(alloc: Global, value: T) -> Result<Boxed<T>, NoMemory>
         ensures { IfOk result (λ boxed. boxed ≡ value) }
     {
@@ -31,6 +32,7 @@ impl<T: Drop> Boxed<T> {
     }
 
     /// The value.
+    /// Cost: constant time.
     pub fn get(&self) -> &T
         ensures { result.now ≡ self.now }
     {
@@ -42,6 +44,7 @@ impl<T: Copy + Drop> Boxed<T> {
     /// A copy of the value in memory of its own.
     ///
     /// `NoMemory` where memory is refused.
+    /// Cost: constant time; takes memory for the value.
     pub fn copy(&self, alloc: Global) -> Result<Boxed<T>, NoMemory>
         ensures { IfOk result (λ boxed. boxed ≡ self.now) }
     {

@@ -42,6 +42,8 @@ impl Reply {
     /// A copy of the reply.
     ///
     /// `NoMemory` where memory is refused. A reply without a list or a value apart takes none.
+    /// Cost: grows with the list or the bytes of the reply, which it copies; constant time for all
+    /// other replies.
     pub fn copy(&self, alloc: Global) -> Result<Reply, NoMemory>
         ensures same { IfOk result (λ reply. reply ≡ self.now) }
         ensures ready { needs_memory self.now ≡ false → IsOk result }

@@ -17,6 +17,7 @@ pub enum Cover {
 
 impl Cover {
     /// For how long a mark keeps what it covers that ends then, or never.
+    /// Cost: constant time.
     pub fn until(end: Option<Moment>) -> Cover
         ensures { result ≡ cover_until end }
     {
@@ -27,6 +28,7 @@ impl Cover {
     }
 
     /// The longer of both.
+    /// Cost: constant time.
     pub fn longer(self, other: Cover) -> Cover
         ensures { result ≡ longer self other }
     {
@@ -42,6 +44,7 @@ impl Cover {
     }
 
     /// Whether it keeps still at the moment.
+    /// Cost: constant time.
     pub fn lasts(self, at: Moment) -> bool
         ensures { result ≡ lasts self at }
     {
@@ -54,6 +57,7 @@ impl Cover {
 
     /// When a version ripens that its policy lets go from the moment on: then, or once it is kept no
     /// longer. None for what is kept for ever.
+    /// Cost: constant time.
     pub fn ripe_past(self, ripe: Moment) -> Option<Moment>
         ensures { result ≡ ripe_past self ripe }
     {

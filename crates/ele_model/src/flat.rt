@@ -38,6 +38,8 @@ impl Flat {
     /// The keys of the versions that are due now, in order.
     ///
     /// `NoMemory` if memory is refused.
+    /// Cost: grows with the versions times all rows of files, handles, names, versions and groups,
+    /// which it scans for each version; takes memory for the keys.
     pub fn due(&self) -> Result<Vec<Key>, NoMemory>
         ensures { IfOk result (λ keys. keys.items ≡ scan self.entry.now) }
     {
@@ -47,6 +49,8 @@ impl Flat {
     /// The keys that `due` returns, as the list that a reply holds.
     ///
     /// `NoMemory` if memory is refused.
+    /// Cost: grows with the versions times all rows of files, handles, names, versions and groups,
+    /// which it scans for each version; takes memory for the keys.
     pub fn due_keys(&self) -> Result<KeyList, NoMemory>
         ensures { IfOk result (λ keys. keys ≡ scan self.entry.now) }
     {
@@ -57,6 +61,7 @@ impl Flat {
     /// directory, the name and what it last meant.
     ///
     /// `NoMemory` if memory is refused.
+    /// Cost: that of `dead_names`, and a second copy of the names.
     pub fn restorable(&self) -> Result<Vec<(DirId, Name, Target)>, NoMemory>
         ensures { IfOk result (λ names. names.items ≡ map triple_of (restorable self.entry.now)) }
     {
@@ -66,6 +71,8 @@ impl Flat {
     /// The names that `restorable` returns, as the list that a reply holds.
     ///
     /// `NoMemory` if memory is refused.
+    /// Cost: grows with a sort of all names, which takes memory, and with the dead ones times all
+    /// rows of files, versions and names.
     pub fn dead_names(&self) -> Result<DeadNameList, NoMemory>
         ensures { IfOk result (λ names. names ≡ restorable self.entry.now) }
     {

@@ -32,6 +32,7 @@ pub struct LimitNumbers {
 
 impl LimitNumbers {
     /// The largest of each.
+    /// Cost: constant time.
     pub const LARGEST: LimitNumbers = LimitNumbers {
         events: 1_000_000_000,
         files: 100_000,
@@ -99,6 +100,7 @@ impl Limits {
     /// The limits of events, files, directories, names, versions, handles, groups, members and marks, in this order; none
     /// where one is above its largest: 1,000,000,000 events, 100,000 files, 10,000 directories, 200,000 names, 1,000,000
     /// versions, 1,000,000 handles, 1,000 groups, 100,000 members and 10,000 marks.
+    /// Cost: constant time.
     pub fn new(numbers: [u64; 9]) -> Option<Limits>
         ensures valid { IsSome result ↔ AreBounds (bounds_of numbers) }
         ensures value { IfSome result (λ limits. limits ≡ bounds_of numbers) }
@@ -128,6 +130,7 @@ impl Limits {
     }
 
     /// The limits of these numbers; none where one is above its largest.
+    /// Cost: constant time.
     pub fn of(numbers: LimitNumbers) -> Option<Limits>
         ensures valid { IsSome result ↔ AreBounds numbers }
         ensures value { IfSome result (λ limits. limits ≡ numbers) }
@@ -139,6 +142,7 @@ impl Limits {
     }
 
     /// The largest limits.
+    /// Cost: constant time.
     pub fn largest() -> Limits
         ensures { result ≡ largest_bounds }
     {
@@ -149,6 +153,7 @@ impl Limits {
 
     /// The largest limits, but for how many replies may ever be given; none where these are more
     /// than 1,000,000,000.
+    /// Cost: constant time.
     pub fn with_events(events: u64) -> Option<Limits>
         ensures found { IsSome result ↔ (events ≤ largest_bounds.events) }
         ensures value { IfSome result
@@ -173,6 +178,7 @@ impl Limits {
     }
 
     /// How many replies may ever be given.
+    /// Cost: constant time.
     pub fn events(&self) -> u64
         ensures value { result ≡ self.now.events }
         ensures valid { AreBounds self.now }
@@ -181,6 +187,7 @@ impl Limits {
     }
 
     /// How many of these may ever be made.
+    /// Cost: constant time.
     pub fn limit(&self, which: Which) -> u64
         ensures value { result ≡ limit_of self.now which }
         ensures valid { AreBounds self.now }

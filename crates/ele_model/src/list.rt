@@ -28,6 +28,7 @@ pub type NameList = ListOf<(Name, Target)>;
 /// The names as triples of a directory, a name in it and what that name last meant.
 ///
 /// `NoMemory` if memory is refused.
+/// Cost: grows with the names, which it copies.
 pub fn triples_of(names: &DeadNameList) -> Result<Vec<(DirId, Name, Target)>, NoMemory>
     ensures { IfOk result (λ triples. triples.items ≡ map triple_of names.now) }
 {

@@ -22,6 +22,7 @@ pub enum Which {
 
 impl Which {
     /// The word for it.
+    /// Cost: constant time.
     pub fn word(self) -> &'static str
         ensures { result.now ≡ which_word self }
     {
@@ -106,6 +107,7 @@ pub enum Stop {
 
 impl Refusal {
     /// Its number.
+    /// Cost: constant time.
     pub fn number(self) -> u8
         ensures { result ≡ refusal_number self }
     {
@@ -140,6 +142,7 @@ impl Refusal {
     }
 
     /// Its name.
+    /// Cost: constant time.
     pub fn name(self) -> &'static str
         ensures { result.now ≡ refusal_name self }
     {
@@ -176,6 +179,7 @@ impl Refusal {
 
 impl Stop {
     /// Its number.
+    /// Cost: constant time.
     pub fn number(self) -> u8
         ensures { result ≡ stop_number self }
     {
@@ -186,6 +190,7 @@ impl Stop {
     }
 
     /// Its name.
+    /// Cost: constant time.
     pub fn name(self) -> &'static str
         ensures { result.now ≡ stop_name self }
     {

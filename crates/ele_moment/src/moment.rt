@@ -39,11 +39,13 @@ impl Model for Moment {
 
 impl Moment {
     /// 1970-01-01T00:00:00Z, where every clock starts.
+    /// Cost: constant time.
     pub const START: Moment = Moment { seconds: 0 };
 
     const LAST: u64 = 253402300799;
 
     /// The moment of that many seconds. None past the last moment.
+    /// Cost: constant time.
     pub fn new(seconds: u64) -> Option<Moment>
         ensures some { IsSome result ↔ (seconds ≤ last_moment) }
         ensures value { IfSome result (λ m. m ≡ seconds) }
@@ -56,6 +58,7 @@ impl Moment {
     }
 
     /// The seconds since 1970-01-01T00:00:00Z.
+    /// Cost: constant time.
     pub fn seconds(self) -> u64
         ensures value { result ≡ self }
         ensures bound { result ≤ last_moment }
@@ -69,6 +72,7 @@ impl Moment {
     {}
 
     /// The moment that many seconds later. None past the last moment.
+    /// Cost: constant time.
     pub fn plus(self, seconds: u64) -> Option<Moment>
         ensures some { IsSome result ↔ (self + seconds ≤ last_moment) }
         ensures value { IfSome result (λ m. m ≡ self + seconds) }
@@ -79,6 +83,7 @@ impl Moment {
     /// The moment that a word spells: its seconds in decimal digits with no zero in front, or
     /// `YYYY-MM-DDTHH:MM:SSZ` with a date of the calendar from 1970 to 9999. `BadMoment` for every
     /// other word. It takes no memory.
+    /// Cost: constant time; it looks at no more than 21 bytes.
     pub fn read(word: &[u8]) -> Result<Moment, BadMoment>
         ensures found { IfOk result (SpellsMoment word.now) }
         ensures only { (m : ℕ) → SpellsMoment word.now m → result ≡ Ok m }
@@ -93,6 +98,7 @@ impl Moment {
     }
 
     /// The moment in the form `YYYY-MM-DDTHH:MM:SSZ`. It takes no memory.
+    /// Cost: constant time.
     pub fn text(self) -> [u8; 20]
         ensures spells { SpellsTimestamp result self }
         ensures only { (word : List ℕ) → SpellsTimestamp word self → word ≡ result }
@@ -111,6 +117,7 @@ impl Moment {
     }
 
     /// What reading the text of a moment gives. It is a law more than a call: always the moment.
+    /// Cost: constant time.
     pub fn read_back(self) -> Result<Moment, BadMoment>
         ensures { result ≡ Ok self }
     {

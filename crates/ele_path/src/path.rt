@@ -40,6 +40,7 @@ impl Path {
     /// The word is read from the left. It is `BadPath` where it does not begin with a slash, where
     /// a piece between slashes is empty, and at the 33rd piece, whatever that is; `BadName` where a
     /// piece is no name. `NoMemory` may come in place of any other answer.
+    /// Cost: grows with the bytes of the word; takes memory for the names, 72 bytes each.
     pub fn read(alloc: Global, word: &[u8]) -> Result<Path, PathFault>
         ensures found { IfOk result (SpellsPath word.now) }
         ensures only { (names : List (List ℕ)) → SpellsPath word.now names
@@ -59,6 +60,7 @@ impl Path {
     }
 
     /// The path of the root. It takes no memory.
+    /// Cost: constant time.
     pub fn root(alloc: Global) -> Path
         ensures { result ≡ [] }
     {
@@ -68,6 +70,7 @@ impl Path {
     }
 
     /// The path of that name in the directory at this path. `BadPath` behind 32 names.
+    /// Cost: grows with the names, at most 32, which it copies into memory with spare places.
     pub fn join(&self, name: Name) -> Result<Path, PathFault>
         ensures found { IfOk result (λ path. path ≡ self.now ++ name ∷ []) }
         ensures full { IsErrOf result PathFault.BadPath ↔ (32 ≤ length self.now) }
@@ -83,6 +86,7 @@ impl Path {
     }
 
     /// The names, from the root on.
+    /// Cost: constant time.
     pub fn names(&self) -> &[Name]
         ensures names { result.now ≡ self.now }
         ensures short { length self.now ≤ 32 }

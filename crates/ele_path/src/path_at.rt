@@ -26,6 +26,7 @@ impl PathAt {
     /// The word is cut at its first `@` or `#`. A fault of the path is told first, as `Path::read`
     /// tells it. Behind a path it is `BadMoment` where no moment stands behind `@`, and `Numbered`
     /// where `#` stands, whatever is behind that. `NoMemory` may come in place of any other answer.
+    /// Cost: grows with the bytes of the word; takes memory for the names, 72 bytes each.
     pub fn read(alloc: Global, word: &[u8]) -> Result<PathAt, PathAtFault>
         ensures found { IfOk result (SpellsPathAt word.now) }
         ensures only { (value : PathAt) → SpellsPathAt word.now value

@@ -34,6 +34,7 @@ pub struct TaggedPath {
 
 impl TaggedPath {
     /// The path with the tag.
+    /// Cost: constant time.
     pub fn new(path: Path, tag: Tag) -> TaggedPath
         ensures path { result.path ≡ path }
         ensures tag { result.tag ≡ tag }
@@ -47,6 +48,7 @@ impl TaggedPath {
     /// The word is cut at its first `@` or `#`. A fault of the path is told first, as `Path::read`
     /// tells it. It is `BadMoment` where no moment stands behind `@`, and `BadPath` where no number
     /// stands behind `#`. `NoMemory` may come in place of any other answer.
+    /// Cost: grows with the bytes of the word; takes memory for the names, 72 bytes each.
     pub fn read(alloc: Global, word: &[u8]) -> Result<TaggedPath, PathFault>
         ensures found { IfOk result (SpellsTaggedPath word.now) }
         ensures only { (value : TaggedPath) → SpellsTaggedPath word.now value
@@ -61,6 +63,7 @@ impl TaggedPath {
     }
 
     /// The path.
+    /// Cost: constant time.
     pub fn path(&self) -> &Path
         ensures { result.now ≡ self.now.path }
     {
@@ -68,6 +71,7 @@ impl TaggedPath {
     }
 
     /// The tag.
+    /// Cost: constant time.
     pub fn tag(&self) -> Tag
         ensures { result ≡ self.now.tag }
     {

@@ -27,11 +27,13 @@ impl Model for Floor {
 
 impl Floor {
     /// No floor.
+    /// Cost: constant time.
     pub const NONE: Floor = Floor { versions: 0 };
 
     const MOST_VERSIONS: u64 = 16;
 
     /// The floor of that many versions. `BadLadder` for more than 16.
+    /// Cost: constant time.
     pub fn new(versions: u64) -> Result<Floor, BadLadder>
         ensures valid { IsOk result ↔ IsFloor versions }
         ensures value { IfOk result (λ floor. floor ≡ versions) }
@@ -43,6 +45,7 @@ impl Floor {
     }
 
     /// How many versions it is.
+    /// Cost: constant time.
     pub fn number(self) -> u64
         ensures value { result ≡ self }
         ensures valid { IsFloor result }

@@ -32,11 +32,13 @@ impl Model for Interval {
 
 impl Interval {
     /// A day, which is 86400 seconds.
+    /// Cost: constant time.
     pub const DAY: Interval = Interval { seconds: 86400 };
 
     const MOST_SECONDS: u64 = 253402300799;
 
     /// The interval of that many seconds. `BadLadder` for 0 and for more than 253402300799.
+    /// Cost: constant time.
     pub fn new(seconds: u64) -> Result<Interval, BadLadder>
         ensures valid { IsOk result ↔ IsInterval seconds }
         ensures value { IfOk result (λ interval. interval ≡ seconds) }
@@ -48,6 +50,7 @@ impl Interval {
     }
 
     /// The seconds of the interval.
+    /// Cost: constant time.
     pub fn seconds(self) -> u64
         ensures value { result ≡ self }
         ensures valid { IsInterval result }

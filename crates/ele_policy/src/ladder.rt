@@ -102,6 +102,7 @@ impl Ladder {
     const LAST: u64 = 253402300799;
 
     /// The ladder of these pairs of an age and a width. `BadLadder` where they are no ladder.
+    /// Cost: constant time; it looks at no more than eight pairs.
     pub fn new(pairs: &[(u64, u64)]) -> Result<Ladder, BadLadder>
         ensures valid { IsOk result ↔ IsLadder pairs.now }
         ensures value { IfOk result (λ ladder. ladder ≡ pairs.now) }
@@ -118,6 +119,7 @@ impl Ladder {
     }
 
     /// One version an hour from a day on, one a day from a week on, and one a week from 30 days on.
+    /// Cost: constant time.
     pub fn standard() -> Ladder
         ensures { result ≡ (86400, 3600) ∷ (604800, 86400) ∷ (2592000, 604800) ∷ [] }
     {
@@ -129,6 +131,7 @@ impl Ladder {
     }
 
     /// The pairs of an age and a width, lowest first.
+    /// Cost: constant time.
     pub fn pairs(&self) -> &[(u64, u64)]
         ensures value { result.now ≡ self.now }
         ensures ladder { IsLadder self.now }
@@ -137,6 +140,7 @@ impl Ladder {
     }
 
     /// The level of an age in seconds: how many ages of the ladder it has reached.
+    /// Cost: constant time; a ladder has at most eight pairs.
     pub fn level(&self, age: u64) -> usize
         ensures { result ≡ level_of self.now age }
     {
@@ -144,6 +148,7 @@ impl Ladder {
     }
 
     /// The number of the span of that level in which a version closed; the first level is 1.
+    /// Cost: constant time.
     pub fn span(&self, level: usize, closed: Moment) -> u64
         requires first { 1 ≤ level }
         requires last { level ≤ length self.now }
@@ -153,6 +158,7 @@ impl Ladder {
     }
 
     /// The lowest level, from 1 on, at which both moments lie in one span.
+    /// Cost: constant time; a ladder has at most eight pairs.
     pub fn shared_level(&self, a: Moment, b: Moment) -> Option<usize>
         ensures { result ≡ option_map (λ place. place + 1) (position (shares a b) self.now) }
     {

@@ -40,6 +40,7 @@ pub enum Policy {
 
 impl Policy {
     /// The kind of the policy.
+    /// Cost: constant time.
     pub fn kind(&self) -> Kind
         ensures { result ≡ kind_of self.now }
     {
@@ -52,6 +53,7 @@ impl Policy {
     }
 
     /// The policy's floor: how many newer versions a live file keeps beside one that goes. Only `Safe` has one.
+    /// Cost: constant time.
     pub fn floor(&self) -> Floor
         ensures { result ≡ floor_of self.now }
     {

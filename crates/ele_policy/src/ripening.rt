@@ -50,6 +50,8 @@ fn ripe_after(
 /// beside newer held versions of its file, which is live or not, that closed at those, in any order.
 /// None where that would be past the last moment. `Landmarks` alone looks at closings, and `Safe`
 /// at how many they are.
+/// Cost: constant time; under a ladder it grows with the newer versions, for each of at most eight
+/// pairs.
 pub fn ripe_beside(
     policy: &Policy,
     closed: Moment,
@@ -69,6 +71,7 @@ pub fn ripe_beside(
 /// The same of a version's case: told by the closing of the next held version of the file, if there is one, which isn't before the
 /// version's own, and by whether the floor is met. Whatever else stands beside the version, the answer is the same. `Safe` alone
 /// looks at the floor.
+/// Cost: constant time; a ladder has at most eight pairs.
 pub fn ripe(
     policy: &Policy,
     closed: Moment,

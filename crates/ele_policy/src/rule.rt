@@ -19,6 +19,7 @@ pub struct Rule {
 
 impl Policy {
     /// The policy as it is in force in a file that is live or not: without a live name it keeps no floor.
+    /// Cost: constant time.
     pub fn rule_in(self, is_live: bool) -> Rule
         ensures { result ≡ rule_in self is_live }
     {
@@ -64,6 +65,7 @@ impl Case {
 
     /// The first moment at which the policy lets a version of this case go that ended then: whatever else stands beside it, the
     /// answer is the same. None where that would be past the last moment, or is never.
+    /// Cost: constant time; a ladder has at most eight pairs.
     #[tactic(auto, using(crate::proofs::Waits::is_ripe, crate::proofs::Waits::ripe_from, crate::proofs::Waits::ripe_never))]
     pub fn ripe(&self, ended: Moment) -> Option<Moment>
         ensures value { IsRipe self.now ended result }

@@ -53,6 +53,8 @@ impl<C: Step> Shared<C> {
     /// no event and made no call.
     ///
     /// `NoMemory` where memory is refused, and then the history comes back as it was.
+    /// Cost: grows with the seats, at most 64, which take no memory; takes memory for one word and
+    /// for one slot, which holds the history.
     pub fn new(
         alloc: Global,
         history: History<C>,
@@ -124,6 +126,8 @@ impl<C: Step> Shared<C> {
     ///
     /// `HistoryFull` where as many events were published as the limits allow, and `NoMemory` where
     /// memory is refused. Each leaves the history, and the turn is given back.
+    /// Cost: that of the history's `apply`, after a wait for the turn that has no bound; between
+    /// two tries it sleeps for 200 microseconds.
     pub fn call<R: Wait>(&self, rt: &R, seat: &mut Seat<C>, event: Event) -> Result<Reply, Stop>
         requires { seat.old.object ≡ self.now }
         ensures ok { IfOk result (λ reply. Called seat.old event reply seat.new) }
@@ -138,6 +142,7 @@ impl<C: Step> Shared<C> {
     /// As `call`, with one attempt at the turn in place of a wait.
     ///
     /// `Busy` where another call had the turn, or took it first, which leaves the history too.
+    /// Cost: that of the history's `apply`, or constant time if another call has the turn.
     pub fn try_call(&self, seat: &mut Seat<C>, event: Event) -> Result<Reply, TryStop>
         requires { seat.old.object ≡ self.now }
         ensures ok { IfOk result (λ reply. Called seat.old event reply seat.new) }
@@ -151,6 +156,7 @@ impl<C: Step> Shared<C> {
 
     /// How many events were ever published, those of the opening history among them. The seat has
     /// seen them all then. It neither waits nor takes the turn.
+    /// Cost: constant time, by one atomic load.
     pub fn published(&self, seat: &mut Seat<C>) -> u64
         requires { seat.old.object ≡ self.now }
         ensures count { result ≡ count_seen seat.new }
@@ -164,6 +170,7 @@ impl<C: Step> Shared<C> {
     /// A new seat, with a number of its own and no calls, which has seen what this one has.
     ///
     /// A seat takes no memory, so it is always answered.
+    /// Cost: constant time, by two atomic loads.
     pub fn split(&self, seat: &mut Seat<C>) -> Result<Seat<C>, NoMemory>
         requires { seat.old.object ≡ self.now }
         ensures ok { IfOk result (λ other. SplitOff seat.old other × IsTrue other) }
@@ -184,6 +191,7 @@ impl<C: Step> Shared<C> {
     }
 
     /// Makes one seat of two: it has seen what both have, and has the numbers and calls of both.
+    /// Cost: constant time, by two atomic loads.
     pub fn join(&self, seat: &mut Seat<C>, other: Seat<C>)
         requires first { seat.old.object ≡ self.now }
         requires second { other.object ≡ self.now }
@@ -194,6 +202,7 @@ impl<C: Step> Shared<C> {
 
     /// Whatever any two seats have seen, one of them has seen all that the other has, in the same order:
     /// of one history each has seen a beginning. It changes neither seat, and publishes nothing.
+    /// Cost: constant time, by six atomic loads.
     pub fn agree(&self, seat: &mut Seat<C>, other: &mut Seat<C>)
         requires first { seat.old.object ≡ self.now }
         requires second { other.old.object ≡ self.now }
@@ -208,6 +217,7 @@ impl<C: Step> Shared<C> {
     /// The history after all calls: the opening one, with each published event behind it.
     ///
     /// `TurnHeld` where a call took the turn and never gave it back; the history is gone then.
+    /// Cost: constant time; frees the word and the slot.
     pub fn close(self, seat: Seat<C>) -> Result<History<C>, TurnHeld>
         requires { seat.object ≡ self }
         ensures { IfOk result (λ history. Closes self.opening seat history) }
