@@ -10,7 +10,7 @@ use Rattle.std.specs.List.{All, AllZip, slice_split}
 use Rattle.memchr.specs.Find.{IsFirstByte, is_byte}
 use Rattle.ele_lists.specs.Lists.{AllLater}
 use Rattle.ele_lists.proofs.Taken.{cut-at}
-use Rattle.ele_moment.specs.Spelled.{SpellsMoment}
+use Rattle.ele_tool_time.specs.Time.{SpellsTime}
 use Rattle.ele_outlook.specs.Input.{SpellClosings, lines_of, without_empty_last}
 use Rattle.ele_outlook.specs.Reading.{FailsToAdd, ReadSoFar, ReadsClosings}
 use Rattle.ele_outlook.specs.declared.fault.ForecastFault.{ForecastFault}
@@ -55,19 +55,19 @@ pub only_line : (rest : List ℕ) → IsFirstByte (is_byte 10) rest None → 0 <
 only_line [] h some = absurd (omega (arith, some))
 only_line (byte ∷ bytes) h some = ap without_empty_last (slice_split_none is_feed (byte ∷ bytes) (plain_all (byte ∷ bytes) h))
 
-zip_push : (words : List (List ℕ)) (closings : List ℕ) (word : List ℕ) (closing : ℕ) → AllZip SpellsMoment words closings → SpellsMoment word closing → AllZip SpellsMoment (words ++ word ∷ []) (closings ++ closing ∷ [])
+zip_push : (words : List (List ℕ)) (closings : List ℕ) (word : List ℕ) (closing : ℕ) → AllZip SpellsTime words closings → SpellsTime word closing → AllZip SpellsTime (words ++ word ∷ []) (closings ++ closing ∷ [])
 zip_push [] [] word closing all is = (is, tt)
 zip_push (w ∷ words) (c ∷ closings) word closing all is = (all.0, zip_push words closings word closing all.1 is)
 zip_push words closings word closing all is = grind arith
 
-zip_length : (words : List (List ℕ)) (closings : List ℕ) → AllZip SpellsMoment words closings → length words ≡ length closings
+zip_length : (words : List (List ℕ)) (closings : List ℕ) → AllZip SpellsTime words closings → length words ≡ length closings
 zip_length [] [] all = refl
 zip_length (w ∷ words) (c ∷ closings) all = ap suc (zip_length words closings all.1)
 zip_length words closings all = grind arith
 
 -- one more line
 pub read_more : {input rest closings new : List ℕ} (line behind : List ℕ) → ReadSoFar input rest closings → lines_of rest ≡ line ∷ lines_of behind
-    → (closing : ℕ) → SpellsMoment line closing → new ≡ closings ++ closing ∷ [] → ReadSoFar input behind new
+    → (closing : ℕ) → SpellsTime line closing → new ≡ closings ++ closing ∷ [] → ReadSoFar input behind new
 read_more {input} {rest} {closings} {new} line behind far cut closing is new_is =
     record {
       done = far.done ++ line ∷ [];
@@ -79,7 +79,7 @@ read_more {input} {rest} {closings} {new} line behind far cut closing is new_is 
 pub read_all : {input rest closings : List ℕ} → ReadSoFar input rest closings → lines_of rest ≡ [] → AllLater ◌≤◌ closings → SpellClosings (lines_of input) closings
 read_all {input} {rest} {closings} far none rise =
     let all : lines_of input ≡ far.done = far.lines ∙ ap (λ (ls : List (List ℕ)). far.done ++ ls) none ∙ append-nil far.done in
-    record { spelled = subst (λ (ls : List (List ℕ)). AllZip SpellsMoment ls closings) (sym all) far.spelled; rise = rise }
+    record { spelled = subst (λ (ls : List (List ℕ)). AllZip SpellsTime ls closings) (sym all) far.spelled; rise = rise }
 
 -- an input with a line isn't empty
 not_empty : (input : List ℕ) (before : List (List ℕ)) (line : List ℕ) (behind : List (List ℕ)) → lines_of input ≡ before ++ line ∷ behind → input ≢ []

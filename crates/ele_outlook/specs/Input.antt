@@ -2,7 +2,7 @@
 use Rattle.std.specs.Prelude.{◌≡◌, ℕ, ◌+◌, ◌-◌, ◌<◌, ◌≤◌, ◌==◌, List, [], ◌∷◌, ◌++◌, length, slice_get, IfSome, codes, decimal}
 use Rattle.std.specs.List.{AllZip, slice_split}
 use Rattle.ele_lists.specs.Lists.{AllLater}
-use Rattle.ele_moment.specs.Spelled.{SpellsMoment}
+use Rattle.ele_tool_time.specs.Time.{SpellsTime}
 use Rattle.ele_output.specs.Line.{line_text}
 use Rattle.ele_outlook.specs.declared.fault.BadLine.{BadLine}
 use Rattle.ele_outlook.specs.declared.fault.BadLine.TheVariants.{NotMoment, OutOfOrder}
@@ -20,14 +20,14 @@ lines_of input = without_empty_last (slice_split (λ byte. byte == 10) input)
 
 -- each line spells its closing, and none comes before the one ahead of it
 pub record SpellClosings (lines : List (List ℕ)) (closings : List ℕ) : Type 0 where
-  pub spelled : AllZip SpellsMoment lines closings
+  pub spelled : AllZip SpellsTime lines closings
   pub rise : AllLater ◌≤◌ closings
 
 -- what is wrong with a line behind those that spell these closings
 abbrev pub IsBad : List ℕ → List ℕ → BadLine → Type 0
-IsBad closings line NotMoment = (moment : ℕ) → ¬ SpellsMoment line moment
+IsBad closings line NotMoment = (moment : ℕ) → ¬ SpellsTime line moment
 IsBad closings line OutOfOrder =
-    (moment : ℕ) × SpellsMoment line moment × IfSome (slice_get closings (length closings - 1)) (λ last. moment < last)
+    (moment : ℕ) × SpellsTime line moment × IfSome (slice_get closings (length closings - 1)) (λ last. moment < last)
 
 -- the lines up to that one spell closings, and it is bad; the first line is 1
 pub record IsFirstBad (input : List ℕ) (number : ℕ) (why : BadLine) : Type 0 where

@@ -3,7 +3,7 @@ use Rattle.std.specs.Prelude.{◌≡◌, ◌≢◌, ◌≤◌, ℕ, true, ◌+�
 use Rattle.std.specs.List.{AllZip}
 use Rattle.std.specs.Io.KnownBytes.{Appends, Consumes, Keeps}
 use Rattle.ele_lists.specs.Lists.{AllLater}
-use Rattle.ele_moment.specs.Spelled.{SpellsMoment}
+use Rattle.ele_tool_time.specs.Time.{SpellsTime}
 use Rattle.ele_output.specs.Front.{AppendsFront}
 use Rattle.ele_outlook.specs.Input.{IsBad, IsFirstBad, SpellClosings, lines_of}
 use Rattle.ele_outlook.specs.Told.{IsForecastText, are_too_many}
@@ -23,7 +23,7 @@ GivesUp input rest WriteFault = ⊥
 pub record ReadSoFar (input rest closings : List ℕ) : Type 0 where
   pub done : List (List ℕ)
   pub lines : lines_of input ≡ done ++ lines_of rest
-  pub spelled : AllZip SpellsMoment done closings
+  pub spelled : AllZip SpellsTime done closings
 
 -- a line behind those of these closings is bad, or there was no memory for its closing
 abbrev pub FailsToAdd : List ℕ → List ℕ → ForecastFault → Type 0
@@ -35,7 +35,7 @@ FailsToAdd line closings WriteFault = ⊥
 
 -- the closing of a line was added to those of the lines before
 abbrev pub AddsClosing : {A : Type 0} → List ℕ → List ℕ → List ℕ → Result A ForecastFault → Type 0
-AddsClosing line old new (Ok _) = (closing : ℕ) × SpellsMoment line closing × (new ≡ old ++ closing ∷ [])
+AddsClosing line old new (Ok _) = (closing : ℕ) × SpellsTime line closing × (new ≡ old ++ closing ∷ [])
 AddsClosing line old new (Err fault) = FailsToAdd line old fault
 
 -- the closings of all lines, or the first bad one; memory is asked for only where there is one

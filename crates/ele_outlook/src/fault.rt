@@ -12,7 +12,7 @@ use thiserror::Error;
 /// What is wrong with a line.
 #[derive(Clone, Copy, Debug, PartialEq, Eq, Error)]
 pub enum BadLine {
-    /// It spells no moment.
+    /// It spells no time.
     #[error("not a moment")]
     NotMoment,
     /// Its moment comes before that of the line ahead.

@@ -8,7 +8,7 @@ ghost use Rattle.ele_outlook.specs.Reading.{AddsClosing, GivesUp, ReadSoFar, Rea
 
 use crate::fault::{BadLine, ForecastFault};
 use ele_forecast::{Closings, NotClosed};
-use ele_moment::Moment;
+use ele_tool_time::read_time;
 use memchr::memchr;
 use std::alloc::Global;
 use std::io::{ErrorKind, Read};
@@ -94,7 +94,7 @@ fn add_line(line: &[u8], closings: &mut Closings) -> Result<(), ForecastFault>
     ensures { AddsClosing line.now closings.old closings.new result }
 {
     let number = number_of_next(closings);
-    let Ok(moment) = Moment::read(line) else {
+    let Ok(moment) = read_time(line) else {
         return Err(ForecastFault::BadInput(number, BadLine::NotMoment));
     };
     match closings.push(moment) {

@@ -18,12 +18,12 @@ use ele_svg::{MOST, put_drawing};
 use std::alloc::Global;
 use std::io::{Read, Write};
 
-/// Reads the closings of a file to the end of the input, a moment a line, and writes what becomes of
+/// Reads the closings of a file to the end of the input, a time a line, and writes what becomes of
 /// its versions, and which stay at the moments that are asked about, in the form that is asked for.
 /// The writer is flushed. The last line may lack its line feed. At an error nothing is written, but at a
 /// WriteFault:
 /// - ReadFault: the reader failed. What is only interrupted is read again.
-/// - BadInput: a line spells no moment, or one before that of the line ahead; the first such line.
+/// - BadInput: a line spells no time, or one before that of the line ahead; the first such line.
 /// - TooMany: there are more than 2,000 versions to draw.
 /// - WriteFault: the writer failed, took no byte of some, or wasn't flushed; it took a front.
 /// - NoMemory: there was none for the closings, or for what is told of them.

@@ -3,7 +3,7 @@ ghost use Rattle.ele_words.specs.Invocation.{IsAsked};
 
 use crate::invocation::{Invocation, flag, not_understood};
 use clap::{Arg, ArgAction, ArgMatches, Command};
-use ele_moment::Moment;
+use ele_tool_time::read_time;
 use ele_outlook::{ForecastOptions, Form};
 use ele_policy::Policy;
 use ele_script::read_policy;
@@ -61,13 +61,13 @@ fn form_in(forecast: &ArgMatches) -> Form {
     }
 }
 
-// What a forecast under that policy asks for at the moments that these words spell.
+// What a forecast under that policy asks for at the times that these words spell.
 fn asked_at(alloc: Global, policy: Policy, words: &[&str], form: Form) -> Invocation
     ensures { IsAsked result }
 {
     let mut moments = Vec::new(alloc);
     for word in words {
-        let Ok(at) = Moment::read(word.as_bytes()) else {
+        let Ok(at) = read_time(word.as_bytes()) else {
             return not_understood(alloc, BAD_MOMENT);
         };
         if moments.push(at).is_err() {
