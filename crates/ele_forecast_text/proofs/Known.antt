@@ -4,11 +4,13 @@ use Rattle.std.proofs.lemmas.List.{append-nil}
 use Rattle.std.specs.List.{join_with_byte}
 use Rattle.std.specs.Prelude.{decimal}
 use Rattle.ele_output.specs.Line.{line_text}
+use Rattle.ele_forecast_text.specs.Labels.{labelled_line, name_of}
 use Rattle.ele_forecast_text.specs.Stamp.{stamp_of, stamp_or}
 use Rattle.ele_forecast_text.specs.Table.{table_line}
 use Rattle.ele_forecast_text.specs.Why.{spaced, why_words}
 use Rattle.ele_policy.specs.declared.policy.Policy.{Policy}
 use Rattle.ele_forecast.specs.declared.forecast.Forecast.{Forecast}
+use Rattle.ele_forecast_text.specs.declared.label.Label.{Label}
 
 -- joined words are the first, and each other with a space in front
 pub joined : (first : List ℕ) (words : List (List ℕ)) → join_with_byte 32 (first ∷ words) ≡ first ++ spaced words
@@ -44,3 +46,16 @@ line_parts a b c d words =
 pub version_parts : (policy : Policy) (told : Forecast) → table_line policy told
     ≡ join_with_byte 32 (decimal told.number ∷ stamp_of told.closed ∷ stamp_or told.ended ∷ stamp_or told.ripe ∷ []) ++ (spaced (why_words policy told.ended told.why) ++ 10 ∷ [])
 version_parts policy told = line_parts (decimal told.number) (stamp_of told.closed) (stamp_or told.ended) (stamp_or told.ripe) (why_words policy told.ended told.why)
+
+-- the line of a version that has a label in its parts
+pub labelled_parts : (policy : Policy) (labels : List Label) (told : Forecast) → labelled_line policy labels told
+    ≡ join_with_byte 32 (decimal told.number ∷ name_of labels told.number ∷ [])
+    ++ (spaced (stamp_of told.closed ∷ stamp_or told.ended ∷ stamp_or told.ripe ∷ []) ++ (spaced (why_words policy told.ended told.why) ++ 10 ∷ []))
+labelled_parts policy labels told =
+    let named = decimal told.number in
+    let name = name_of labels told.number ∷ [] in
+    let moments = stamp_of told.closed ∷ stamp_or told.ended ∷ stamp_or told.ripe ∷ [] in
+    let why = why_words policy told.ended told.why in
+    ap (λ (r : List ℕ). r ++ 10 ∷ []) (joined_both named name (moments ++ why) ∙ ap (λ (r : List ℕ). join_with_byte 32 (named ∷ name) ++ r) (spaced_both moments why))
+    ∙ append_assoc (join_with_byte 32 (named ∷ name)) (spaced moments ++ spaced why) (10 ∷ [])
+    ∙ ap (λ (r : List ℕ). join_with_byte 32 (named ∷ name) ++ r) (append_assoc (spaced moments) (spaced why) (10 ∷ []))

@@ -2,3 +2,5 @@
 pub mod Known
 -- dates, one after another
 mod Dates
+-- marks of versions
+mod Marks

@@ -1,3 +1,5 @@
 pub mod Stamp
 pub mod Table
 pub mod Why
+pub mod Labels
+pub mod Marked

@@ -2,13 +2,17 @@
 //! bytes, and a printer as its outlet.
 #![tactic(auto)]
 
+mod label;
+mod listing;
 mod row;
 mod staying;
 mod table;
 mod unit;
 mod why;
 
+pub use label::{Label, put_names};
+pub use listing::listed_at;
 pub use row::{put_version, stamp_of};
 pub use staying::{Staying, staying_at};
-pub use table::put_table;
+pub use table::{put_labelled_table, put_table};
 pub use why::put_length;

@@ -22,8 +22,8 @@ pub fn stamp_of(moment: Moment) -> [u8; 20]
     moment.text()
 }
 
-// That of a moment, or `-` for none.
-fn stamp_or<'s>(moment: Option<Moment>, stamp: &'s mut [u8; 20]) -> &'s [u8]
+/// That of a moment, or `-` for none.
+pub(crate) fn stamp_or<'s>(moment: Option<Moment>, stamp: &'s mut [u8; 20]) -> &'s [u8]
     ensures { result.now ≡ stamp_or moment }
 {
     match moment {

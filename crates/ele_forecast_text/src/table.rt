@@ -2,9 +2,11 @@
 ghost use Rattle.std.specs.Prelude.{◌∷◌, [], codes, decimal, length};
 ghost use Rattle.std.specs.List.{flat_map, join_with_byte};
 ghost use Rattle.ele_output.specs.Prints.{Prints};
+ghost use Rattle.ele_forecast_text.specs.Labels.{labelled_line, labelled_text};
 ghost use Rattle.ele_forecast_text.specs.Stamp.{stamp_of};
 ghost use Rattle.ele_forecast_text.specs.Table.{numbered_line, staying_line, table_text, table_line};
 
+use crate::label::{Label, put_labelled};
 use crate::row::{put_version, stamp_of};
 use crate::staying::Staying;
 use ele_forecast::Forecast;
@@ -27,6 +29,37 @@ pub fn put_table<W: Write>(
     put_line(b"version closed ended due why", &[], printer);
     put_versions(policy, forecasts, printer);
     put_stayings(stayings, printer);
+}
+
+/// Puts a table of versions that have labels.
+pub fn put_labelled_table<W: Write>(
+    policy: &Policy,
+    labels: &[Label],
+    forecasts: &[Forecast],
+    stayings: &[Staying],
+    printer: &mut Printer<'_, W>,
+)
+    ensures { Prints W.contents printer.old printer.new
+        (labelled_text policy.now labels.now forecasts.now stayings.now) }
+{
+    put_line(b"version label closed ended due why", &[], printer);
+    put_labelled_versions(policy, labels, forecasts, printer);
+    put_stayings(stayings, printer);
+}
+
+// Puts the line of each version, with its label.
+fn put_labelled_versions<W: Write>(
+    policy: &Policy,
+    labels: &[Label],
+    forecasts: &[Forecast],
+    printer: &mut Printer<'_, W>,
+)
+    ensures { Prints W.contents printer.old printer.new
+        (flat_map (labelled_line policy.now labels.now) forecasts.now) }
+{
+    for forecast in forecasts {
+        put_labelled(policy, labels, forecast, printer);
+    }
 }
 
 // Puts the line of each version.

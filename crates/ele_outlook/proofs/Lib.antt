@@ -2,3 +2,5 @@
 mod Known
 -- the lines of an input
 mod Lines
+-- the labels of lines
+mod Labelled

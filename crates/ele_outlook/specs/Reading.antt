@@ -1,12 +1,12 @@
 -- What reading and telling come to, part by part. No public clause cites this module.
-use Rattle.std.specs.Prelude.{◌≡◌, ◌≢◌, ◌≤◌, ℕ, true, ◌+◌, List, [], ◌∷◌, ◌++◌, length, Option, Result, Ok, Err, ◌⊎◌}
+use Rattle.std.specs.Prelude.{◌≡◌, ◌≢◌, ◌≤◌, ℕ, Bool, true, map, ◌+◌, List, [], ◌∷◌, ◌++◌, length, Option, Result, Ok, Err, ◌⊎◌}
 use Rattle.std.specs.List.{AllZip}
 use Rattle.std.specs.Io.KnownBytes.{Appends, Consumes, Keeps}
 use Rattle.ele_lists.specs.Lists.{AllLater}
-use Rattle.ele_moment.specs.Spelled.{SpellsMoment}
 use Rattle.ele_output.specs.Front.{AppendsFront}
-use Rattle.ele_outlook.specs.Input.{IsBad, IsFirstBad, SpellClosings, lines_of}
-use Rattle.ele_outlook.specs.Told.{IsForecastText, are_too_many}
+use Rattle.ele_outlook.specs.Input.{IsBad, IsFirstBad, SpellClosings, SpellsLine, label_of, lines_of}
+use Rattle.ele_outlook.specs.Told.{IsForecastText, are_too_many, texts_of}
+use Rattle.ele_forecast_text.specs.declared.label.Label.{Label}
 use Rattle.ele_outlook.specs.declared.options.ForecastOptions.{ForecastOptions}
 use Rattle.ele_outlook.specs.declared.fault.ForecastFault.{ForecastFault}
 use Rattle.ele_outlook.specs.declared.fault.ForecastFault.TheVariants.{ReadFault, BadInput, TooMany, WriteFault, NoMemory}
@@ -20,40 +20,67 @@ GivesUp input rest TooMany = ⊥
 GivesUp input rest WriteFault = ⊥
 
 -- these lines were read, and spell these closings
-pub record ReadSoFar (input rest closings : List ℕ) : Type 0 where
+pub record ReadSoFar (labelled : Bool) (input rest closings : List ℕ) : Type 0 where
   pub done : List (List ℕ)
   pub lines : lines_of input ≡ done ++ lines_of rest
-  pub spelled : AllZip SpellsMoment done closings
+  pub spelled : AllZip (SpellsLine labelled) done closings
 
 -- a line behind those of these closings is bad, or there was no memory for its closing
-abbrev pub FailsToAdd : List ℕ → List ℕ → ForecastFault → Type 0
-FailsToAdd line closings (BadInput number why) = (number ≡ length closings + 1) × AllLater ◌≤◌ closings × IsBad closings line why
-FailsToAdd line closings NoMemory = Unit {0}
-FailsToAdd line closings ReadFault = ⊥
-FailsToAdd line closings TooMany = ⊥
-FailsToAdd line closings WriteFault = ⊥
+abbrev pub FailsToAdd : Bool → List ℕ → List ℕ → ForecastFault → Type 0
+FailsToAdd labelled line closings (BadInput number why) = (number ≡ length closings + 1) × AllLater ◌≤◌ closings × IsBad labelled closings line why
+FailsToAdd labelled line closings NoMemory = Unit {0}
+FailsToAdd labelled line closings ReadFault = ⊥
+FailsToAdd labelled line closings TooMany = ⊥
+FailsToAdd labelled line closings WriteFault = ⊥
 
 -- the closing of a line was added to those of the lines before
-abbrev pub AddsClosing : {A : Type 0} → List ℕ → List ℕ → List ℕ → Result A ForecastFault → Type 0
-AddsClosing line old new (Ok _) = (closing : ℕ) × SpellsMoment line closing × (new ≡ old ++ closing ∷ [])
-AddsClosing line old new (Err fault) = FailsToAdd line old fault
+abbrev pub AddsClosing : {A : Type 0} → Bool → List ℕ → List ℕ → List ℕ → Result A ForecastFault → Type 0
+AddsClosing labelled line old new (Ok _) = (closing : ℕ) × SpellsLine labelled line closing × (new ≡ old ++ closing ∷ [])
+AddsClosing labelled line old new (Err fault) = FailsToAdd labelled line old fault
 
 -- the closings of all lines, or the first bad one; memory is asked for only where there is one
-abbrev pub ReadsClosings : List ℕ → Result (List ℕ) ForecastFault → Type 0
-ReadsClosings input (Ok closings) = SpellClosings (lines_of input) closings
-ReadsClosings input (Err (BadInput number why)) = IsFirstBad input number why
-ReadsClosings input (Err NoMemory) = input ≢ []
-ReadsClosings input (Err ReadFault) = ⊥
-ReadsClosings input (Err TooMany) = ⊥
-ReadsClosings input (Err WriteFault) = ⊥
+abbrev pub ReadsClosings : Bool → List ℕ → Result (List ℕ) ForecastFault → Type 0
+ReadsClosings labelled input (Ok closings) = SpellClosings labelled (lines_of input) closings
+ReadsClosings labelled input (Err (BadInput number why)) = IsFirstBad labelled input number why
+ReadsClosings labelled input (Err NoMemory) = input ≢ []
+ReadsClosings labelled input (Err ReadFault) = ⊥
+ReadsClosings labelled input (Err TooMany) = ⊥
+ReadsClosings labelled input (Err WriteFault) = ⊥
+
+-- these lines were read, and have these labels
+pub record LabelsSoFar (input rest : List ℕ) (labels : List Label) : Type 0 where
+  pub done : List (List ℕ)
+  pub lines : lines_of input ≡ done ++ lines_of rest
+  pub texts : texts_of labels ≡ map label_of done
+
+-- there was no memory
+abbrev pub IsMemory : ForecastFault → Type 0
+IsMemory NoMemory = Unit {0}
+IsMemory (BadInput number why) = ⊥
+IsMemory ReadFault = ⊥
+IsMemory TooMany = ⊥
+IsMemory WriteFault = ⊥
+
+-- the label of a line was added to those of the lines before
+abbrev pub AddsLabel : {A : Type 0} → List ℕ → List Label → List Label → Result A ForecastFault → Type 0
+AddsLabel line old new (Ok _) = texts_of new ≡ texts_of old ++ label_of line ∷ []
+AddsLabel line old new (Err fault) = IsMemory fault
+
+-- memory is asked for only where there is a line
+abbrev pub FailsToRead : List ℕ → ForecastFault → Type 0
+FailsToRead input NoMemory = input ≢ []
+FailsToRead input (BadInput number why) = ⊥
+FailsToRead input ReadFault = ⊥
+FailsToRead input TooMany = ⊥
+FailsToRead input WriteFault = ⊥
 
 -- what becomes of the versions of these closings was told
-abbrev pub TellsClosings : {A : Type 0} → ForecastOptions → List ℕ → Option (List ℕ) → Option (List ℕ) → Result A ForecastFault → Type 0
-TellsClosings options closings old new (Ok _) =
-    (text : List ℕ) × IsForecastText options.form options.policy closings options.moments.items text × Appends old new text
-TellsClosings options closings old new (Err WriteFault) =
-    (text : List ℕ) × IsForecastText options.form options.policy closings options.moments.items text × AppendsFront old new text
-TellsClosings options closings old new (Err TooMany) = (are_too_many options.form (length closings) ≡ true) × Keeps old new
-TellsClosings options closings old new (Err NoMemory) = ((closings ≢ []) ⊎ (options.moments.items ≢ [])) × Keeps old new
-TellsClosings options closings old new (Err (BadInput number why)) = ⊥
-TellsClosings options closings old new (Err ReadFault) = ⊥
+abbrev pub TellsClosings : {A : Type 0} → ForecastOptions → List ℕ → List (List ℕ) → Option (List ℕ) → Option (List ℕ) → Result A ForecastFault → Type 0
+TellsClosings options closings labels old new (Ok _) =
+    (text : List ℕ) × IsForecastText options closings labels text × Appends old new text
+TellsClosings options closings labels old new (Err WriteFault) =
+    (text : List ℕ) × IsForecastText options closings labels text × AppendsFront old new text
+TellsClosings options closings labels old new (Err TooMany) = (are_too_many options.form (length closings) ≡ true) × Keeps old new
+TellsClosings options closings labels old new (Err NoMemory) = ((closings ≢ []) ⊎ (options.moments.items ≢ [])) × Keeps old new
+TellsClosings options closings labels old new (Err (BadInput number why)) = ⊥
+TellsClosings options closings labels old new (Err ReadFault) = ⊥

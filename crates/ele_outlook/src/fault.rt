@@ -12,9 +12,12 @@ use thiserror::Error;
 /// What is wrong with a line.
 #[derive(Clone, Copy, Debug, PartialEq, Eq, Error)]
 pub enum BadLine {
-    /// It spells no moment.
+    /// It spells no time.
     #[error("not a moment")]
     NotMoment,
+    /// It is to have a tab and a label, and has none.
+    #[error("no label")]
+    NoLabel,
     /// Its moment comes before that of the line ahead.
     #[error("before the closing ahead of it")]
     OutOfOrder,
@@ -58,6 +61,7 @@ impl BadLine {
     {
         match self {
             BadLine::NotMoment => "is not a moment",
+            BadLine::NoLabel => "has no label",
             BadLine::OutOfOrder => "comes before the line ahead of it",
         }
     }

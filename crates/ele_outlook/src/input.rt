@@ -7,8 +7,9 @@ ghost use Rattle.ele_lists.specs.Lists.{AllLater};
 ghost use Rattle.ele_outlook.specs.Reading.{AddsClosing, GivesUp, ReadSoFar, ReadsClosings};
 
 use crate::fault::{BadLine, ForecastFault};
+use crate::labels::{has_label, time_of};
 use ele_forecast::{Closings, NotClosed};
-use ele_moment::Moment;
+use ele_tool_time::read_time;
 use memchr::memchr;
 use std::alloc::Global;
 use std::io::{ErrorKind, Read};
@@ -44,43 +45,47 @@ pub(crate) fn read_input<R: Read>(alloc: Global, reader: &mut R) -> Result<Vec<u
 }
 
 /// The closings that the lines of an input spell, or the first line that is none.
-pub(crate) fn read_closings(alloc: Global, input: &[u8]) -> Result<Closings, ForecastFault>
-    ensures { ReadsClosings input.now result }
+pub(crate) fn read_closings(
+    alloc: Global,
+    labelled: bool,
+    input: &[u8],
+) -> Result<Closings, ForecastFault>
+    ensures { ReadsClosings labelled input.now result }
 {
     let mut closings = Closings::new(alloc);
     let mut rest = input;
     'lines: while let Some(at) = line_end(rest) {
         let (line, behind) = cut_line(rest, at);
-        add_line(line, &mut closings)?;
+        add_line(labelled, line, &mut closings)?;
         rest = behind;
     }
-    add_last(rest, closings)
+    add_last(labelled, rest, closings)
 }
 
-// AddsClosing the closing that the last line spells, which has no line feed; none stands there if no bytes
-// do.
-fn add_last(rest: &[u8], mut closings: Closings) -> Result<Closings, ForecastFault>
+// Adds the closing that the last line spells, which has no line feed; none stands there if no bytes do.
+fn add_last(labelled: bool, rest: &[u8], mut closings: Closings) -> Result<Closings, ForecastFault>
     requires { IsFirstByte (is_byte 10) rest.now None }
-    ensures { (input : List ℕ) → ReadSoFar input rest.now closings → ReadsClosings input result }
+    ensures { (input : List ℕ) → ReadSoFar labelled input rest.now closings
+        → ReadsClosings labelled input result }
 {
     if rest.is_empty() {
         closings.lemma_sorted();
         return Ok(closings);
     }
-    add_line(rest, &mut closings)?;
+    add_line(labelled, rest, &mut closings)?;
     closings.lemma_sorted();
     Ok(closings)
 }
 
-// Where the first line feed stands.
-fn line_end(bytes: &[u8]) -> Option<usize>
+/// Where the first line feed stands.
+pub(crate) fn line_end(bytes: &[u8]) -> Option<usize>
     ensures { IsFirstByte (is_byte 10) bytes.now result }
 {
     memchr(b'\n', bytes)
 }
 
-// The line that ends at that place, and what stands behind its line feed.
-fn cut_line(rest: &[u8], at: usize) -> (&[u8], &[u8])
+/// The line that ends at that place, and what stands behind its line feed.
+pub(crate) fn cut_line(rest: &[u8], at: usize) -> (&[u8], &[u8])
     requires { at < length rest.now }
     ensures line { result.0.now ≡ take at rest.now }
     ensures behind { result.1.now ≡ drop (at + 1) rest.now }
@@ -89,12 +94,15 @@ fn cut_line(rest: &[u8], at: usize) -> (&[u8], &[u8])
     (line, behind.split_at(1).1)
 }
 
-// AddsClosing the closing that the next line spells.
-fn add_line(line: &[u8], closings: &mut Closings) -> Result<(), ForecastFault>
-    ensures { AddsClosing line.now closings.old closings.new result }
+// Adds the closing that the next line spells.
+fn add_line(labelled: bool, line: &[u8], closings: &mut Closings) -> Result<(), ForecastFault>
+    ensures { AddsClosing labelled line.now closings.old closings.new result }
 {
     let number = number_of_next(closings);
-    let Ok(moment) = Moment::read(line) else {
+    if !has_label(labelled, line) {
+        return Err(ForecastFault::BadInput(number, BadLine::NoLabel));
+    }
+    let Ok(moment) = read_time(time_of(labelled, line)) else {
         return Err(ForecastFault::BadInput(number, BadLine::NotMoment));
     };
     match closings.push(moment) {

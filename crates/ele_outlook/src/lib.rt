@@ -6,6 +6,7 @@
 
 mod fault;
 mod input;
+mod labels;
 mod options;
 mod telling;
 

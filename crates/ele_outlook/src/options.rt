@@ -9,6 +9,11 @@ pub enum Form {
     Table,
     /// An SVG drawing, of 2,000 versions at most.
     Drawing,
+    /// The names of the versions that are due at the first of the moments, one a line: their labels, or
+    /// their numbers if they have none.
+    Due,
+    /// The names of those that are kept then.
+    Kept,
 }
 
 /// What is asked about the versions of a file: what becomes of them under a policy, and which stay
@@ -17,5 +22,7 @@ pub enum Form {
 pub struct ForecastOptions {
     pub policy: Policy,
     pub moments: Vec<Moment>,
+    /// Whether each line has a label behind its time.
+    pub labels: bool,
     pub form: Form,
 }

@@ -53,6 +53,7 @@ fn ask_about(alloc: Global, policy: Policy, words: &[&[u8]]) -> Result<Invocatio
     Ok(Invocation::Forecast(ForecastOptions {
         policy,
         moments,
+        labels: false,
         form: Form::Table,
     }))
 }
@@ -62,6 +63,7 @@ fn drawing(alloc: Global) -> Invocation {
     Invocation::Forecast(ForecastOptions {
         policy: Policy::One,
         moments: Vec::new(alloc),
+        labels: false,
         form: Form::Drawing,
     })
 }

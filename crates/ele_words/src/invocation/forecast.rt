@@ -3,10 +3,10 @@ ghost use Rattle.ele_words.specs.Invocation.{IsAsked};
 
 use crate::invocation::{Invocation, flag, not_understood};
 use clap::{Arg, ArgAction, ArgMatches, Command};
-use ele_moment::Moment;
 use ele_outlook::{ForecastOptions, Form};
 use ele_policy::Policy;
 use ele_script::read_policy;
+use ele_tool_time::read_time;
 use std::alloc::{AllocError, Global};
 
 const FORECAST: &str = "Tells from when on each version of a file may be forgotten, and why, \
@@ -19,6 +19,16 @@ const POLICY: &str = "The file's policy: one, all, safe:SECONDS, safe:SECONDS/FL
 const AT: &str = "Tells which versions stay at that moment; may be given several times";
 
 const SVG: &str = "Draws it as SVG, up to 2000 versions, in place of the table";
+
+const LABELS: &str =
+    "Takes a tab and a label behind the time of each line, and prints it in each row";
+
+const LIST: &str =
+    "Lists the labels of the versions that are due at the moment of --at, or kept then, \
+    in place of the table; numbers without --labels";
+
+const BAD_LIST: &str = "error: --list takes due or kept, one --at, and no --svg\n\n\
+    For more information, try 'elephant forecast --help'.\n";
 
 const BAD_POLICY: &str =
     "error: --policy takes one, all, safe:SECONDS, safe:SECONDS/FLOOR or landmarks:AGE/WIDTH,..\n\n\
@@ -40,10 +50,16 @@ pub(crate) fn forecast<'a>(alloc: Global) -> Result<Command<'a>, AllocError> {
         .value_name("M")
         .help(AT)
         .action(ArgAction::Append);
+    let list = Arg::new(alloc, "list")
+        .long("list")
+        .value_name("WHICH")
+        .help(LIST);
     Command::new(alloc, "forecast")
         .about(FORECAST)
         .arg(policy)?
         .arg(at)?
+        .arg(flag(alloc, "labels", LABELS))?
+        .arg(list)?
         .arg(flag(alloc, "svg", SVG))
 }
 
@@ -52,22 +68,28 @@ fn policy_in(forecast: &ArgMatches) -> Option<Policy> {
     read_policy(forecast.get_str("policy")?.as_bytes()).ok()
 }
 
-// The form in which it is to be told.
-fn form_in(forecast: &ArgMatches) -> Form {
-    if forecast.get_flag("svg") {
-        Form::Drawing
-    } else {
-        Form::Table
+// The form in which it is to be told. None if there is no such list, or a drawing is asked for too.
+fn form_in(forecast: &ArgMatches) -> Option<Form> {
+    let is_drawn = forecast.get_flag("svg");
+    match forecast.get_str("list") {
+        None if is_drawn => Some(Form::Drawing),
+        None => Some(Form::Table),
+        Some("due") if !is_drawn => Some(Form::Due),
+        Some("kept") if !is_drawn => Some(Form::Kept),
+        Some(_) => None,
     }
 }
 
-// What a forecast under that policy asks for at the moments that these words spell.
-fn asked_at(alloc: Global, policy: Policy, words: &[&str], form: Form) -> Invocation
+// What a forecast under that policy asks for at the times that these words spell.
+fn asked_at(alloc: Global, policy: Policy, words: &[&str], labels: bool, form: Form) -> Invocation
     ensures { IsAsked result }
 {
+    if matches!(form, Form::Due | Form::Kept) && words.len() != 1 {
+        return not_understood(alloc, BAD_LIST);
+    }
     let mut moments = Vec::new(alloc);
     for word in words {
-        let Ok(at) = Moment::read(word.as_bytes()) else {
+        let Ok(at) = read_time(word.as_bytes()) else {
             return not_understood(alloc, BAD_MOMENT);
         };
         if moments.push(at).is_err() {
@@ -77,6 +99,7 @@ fn asked_at(alloc: Global, policy: Policy, words: &[&str], form: Form) -> Invoca
     Invocation::Forecast(ForecastOptions {
         policy,
         moments,
+        labels,
         form,
     })
 }
@@ -88,8 +111,12 @@ pub(crate) fn asked_forecast(alloc: Global, forecast: &ArgMatches) -> Invocation
     let Some(policy) = policy_in(forecast) else {
         return not_understood(alloc, BAD_POLICY);
     };
+    let Some(form) = form_in(forecast) else {
+        return not_understood(alloc, BAD_LIST);
+    };
+    let labels = forecast.get_flag("labels");
     match forecast.get_strs("at") {
-        Some(words) => asked_at(alloc, policy, words, form_in(forecast)),
-        None => asked_at(alloc, policy, &[], form_in(forecast)),
+        Some(words) => asked_at(alloc, policy, words, labels, form),
+        None => asked_at(alloc, policy, &[], labels, form),
     }
 }

@@ -1,0 +1,11 @@
+use Rattle.std.specs.Prelude.{drop}
+use Rattle.std.specs.List.{flat_map}
+use Rattle.ele_output.specs.Prints.{outlet}
+use Rattle.ele_forecast_text.specs.Labels.{labelled_line}
+use Rattle.ele_output.proofs.Known.{HasPut}
+use Rattle.ele_forecast_text.proofs.table.put_labelled_versions.Given as goal
+
+-- the lines of the versions so far are put, and the others are left
+abbrev pub invariant-loop-forecast : goal.invariant-loop-forecast
+invariant-loop-forecast g l =
+    HasPut (outlet g.W.Write.contents l.fn.printer) (outlet g.W.Write.contents l.printer) (flat_map (labelled_line l.policy l.labels) l.forecasts) (flat_map (labelled_line l.policy l.labels) (drop l.forecast-index l.forecasts))

@@ -1,0 +1,8 @@
+-- Marks at the numbers of versions. No public clause cites this module.
+use Rattle.std.specs.Prelude.{◌≡◌, ℕ, ◌<◌, ◌==◌, Bool, false, List, length}
+use Rattle.std.specs.List.{list_any}
+use Rattle.std.proofs.Common.{get_or}
+
+-- the mark at each number says whether it is one of these
+abbrev pub IsMarked : List ℕ → List Bool → Type 0
+IsMarked numbers marks = (number : ℕ) → number < length marks → get_or marks number false ≡ list_any (λ other. other == number) numbers

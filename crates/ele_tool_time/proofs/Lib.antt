@@ -1,0 +1,8 @@
+-- zones, and what is read of them
+mod Zones
+-- fractions, and what follows them
+mod Fractions
+-- dates and times of day
+mod Locals
+-- the forms of a time
+mod Times

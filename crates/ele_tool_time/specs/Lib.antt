@@ -1,0 +1,4 @@
+pub mod Zone
+pub mod Time
+pub mod OneTime
+pub mod ReadParts
