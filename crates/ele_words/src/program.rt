@@ -78,7 +78,7 @@ fn why_failed<R: LastError, W: LastError>(
     }
 }
 
-// TellsFault how a run ended, and why where the system failed, and the status to end with.
+// Reports how a run ended, and why where the system failed, and the status to end with.
 fn tell_run<E: Write>(
     alloc: Global,
     options: RunOptions,
@@ -107,7 +107,7 @@ pub(crate) fn write_text<W: Write>(text: &str, writer: &mut W) -> Result<(), She
     after_flush(Ok(()), &flushed)
 }
 
-/// TellsFault the fault as its number and its name, if there is one, and the status to end with.
+/// Reports the fault as its number and its name, if there is one, and the status to end with.
 pub(crate) fn tell<E: Write>(fault: Option<ShellFault>, errors: &mut E) -> u8
     ensures status { result ≡ status_of fault }
     ensures told { TellsFault fault (E.contents errors.old) (E.contents errors.new) }
