@@ -1,5 +1,5 @@
 -- The fault of a line.
-use Rattle.std.proofs.Common.{◌≡◌, ℕ, List, ◌⊎◌, inl, inr}
+use Rattle.std.proofs.Common.{◌≡◌, ℕ, true, List, ◌⊎◌, inl, inr}
 use Rattle.std.specs.Prelude.{◌≢◌}
 use Rattle.ele_embed.specs.Hears.{IsPlainFault}
 use Rattle.ele_printer.specs.declared.fault.LineFault.{LineFault}

@@ -1,5 +1,5 @@
 -- What is said to a line without a history, by what it asks for.
-use Rattle.std.proofs.Common.{◌≡◌, ℕ, List, Option, true, refl}
+use Rattle.std.proofs.Common.{ℕ, List, Option, true, refl}
 use Rattle.ele_embed.specs.Hears.{Answers, as_taken, as_told}
 use Rattle.ele_embed.specs.Takes.{Steps}
 use Rattle.ele_model.specs.World.{World}

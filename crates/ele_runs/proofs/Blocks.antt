@@ -1,8 +1,7 @@
 -- The answer to a line, and its block.
 use Rattle.ele_runs.proofs.Basics.{◌≡◌, ◌≢◌, ℕ, ◌≤◌, ◌+◌, Bool, true, false, List, [], ◌∷◌, length, Option, Some, None, Result, Ok, Err, ◌⊎◌, inl, inr, refl, sym, ap, subst, arith, nat_tests, ◌++◌, ◌-◌, ◌∙◌, length-append, slice_get}
 use Rattle.std.specs.Prelude.{not, ◌&&◌, if◌then◌else◌, IsErr, ◌<◌}
-use Rattle.ele_model.specs.World.{World}
-use Rattle.ele_runs.proofs.Words.{HistoryFull, RunState, Outlet, Puts, HasRoom, IsNoted, recorded, MayAnswer, MayMean, as_entry, as_told, as_trim, IsTold, front_of, heard, is_well, noting, Past, PutsBlock, reply_to, world_of}
+use Rattle.ele_runs.proofs.Words.{HistoryFull, RunState, Outlet, Puts, IsNoted, recorded, MayAnswer, MayMean, as_entry, as_told, as_trim, IsTold, front_of, heard, is_well, noting, Past, PutsBlock, reply_to, world_of}
 use Rattle.ele_model.specs.declared.entry.Entry.{Entry}
 use Rattle.ele_model.specs.declared.event.Event.{Event}
 use Rattle.ele_model.specs.declared.refusal.Stop.TheVariants.{NoMemory}

@@ -1,5 +1,5 @@
 -- What a line was answered, before it is told.
-use Rattle.std.specs.Prelude.{◌≡◌, ℕ, ◌+◌, ◌-◌, ◌≤◌, ◌==◌, Bool, true, ◌&&◌, List, [], ◌∷◌, ◌++◌, decimal, length, Option, Some, None, Result, Ok, Err, slice_get, if◌then◌else◌}
+use Rattle.std.specs.Prelude.{◌≡◌, ℕ, ◌+◌, ◌-◌, ◌≤◌, ◌==◌, Bool, true, ◌&&◌, List, [], ◌∷◌, ◌++◌, decimal, length, Option, Some, None, Ok, Err, slice_get, if◌then◌else◌}
 use Rattle.ele_history.specs.Past.{HasRoom, Past, recorded, trimmed}
 use Rattle.ele_history.specs.Reply.{MayStop}
 use Rattle.ele_runs.specs.Answer.{Answer}

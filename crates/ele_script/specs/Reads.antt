@@ -1,5 +1,5 @@
 -- What is read of the words behind a command. No public clause cites this module.
-use Rattle.std.specs.Prelude.{◌≡◌, ◌≢◌, ℕ, List, [], ◌∷◌, length, Bool, true, ◌⊎◌, Result, Ok, Err}
+use Rattle.std.specs.Prelude.{◌≡◌, ◌≢◌, ℕ, List, length, Bool, true, ◌⊎◌, Result, Ok, Err}
 use Rattle.ele_printer.specs.declared.command.Command.{Command}
 use Rattle.ele_printer.specs.declared.fault.LineFault.{LineFault}
 use Rattle.ele_printer.specs.declared.fault.LineFault.TheVariants.{NoMemory, Syntax}
