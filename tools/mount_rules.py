@@ -245,9 +245,10 @@ def ending(room, asked):
 
 
 def _status_of(mounted):
-    """Returns the status of a mount that is to end, or where its threads wait."""
+    """Returns the status of a mount that is to end, with its last lines if it isn't 0, or where its threads wait."""
     try:
-        return mounted.process.wait(60)
+        status = mounted.process.wait(60)
+        return status and (status, mounted.log()[-1500:])
     except subprocess.TimeoutExpired:
         tasks = Path("/proc", str(mounted.process.pid), "task")
         return [(it / "wchan").read_text(encoding="ascii") + (it / "stat").read_text(encoding="ascii")[:60] for it in tasks.iterdir()]
