@@ -51,7 +51,7 @@ const FILE_GIVEN: &str =
 
 const NO_WORDS: &str = "error: the words can't be read as text\n";
 
-const VERSION: &str = "0.1.0";
+const VERSION: &str = "0.2.0";
 
 const EXAMPLE: &str = "\
 A script is lines, and each is answered as it comes. This one saves a file, and reads it as it was:
