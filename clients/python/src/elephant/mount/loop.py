@@ -6,6 +6,7 @@ replaced (`pyfuse3_asyncio` does so for asyncio), and this one waits for a reque
 
 from __future__ import annotations
 
+import errno
 import os
 import select
 import time
@@ -71,6 +72,10 @@ class Loop:
             pyfuse3.main(min_tasks=1, max_tasks=1).send(None)
         except StopIteration:
             pass
+        except OSError as fault:
+            # The last file of a lazy unmount may be closed while a request waits: then the kernel says so in place of "no device".
+            if fault.errno != errno.ECONNABORTED:
+                raise
 
     def stop(self) -> None:
         """Ends `run` as soon as the kernel asks nothing any more, at the latest after some seconds."""
