@@ -16,6 +16,7 @@ from elephant import JournalError, Limits
 from elephant.mount import keeper as keepers
 from elephant.mount.control import Lines
 from elephant.mount.keeper import Keeper
+from elephant.mount.loop import Loop
 from elephant.mount.mounting import Mount
 from elephant.mount.operations import Operations
 from elephant.mount.rewriting import SUFFIX, Rewriting
@@ -212,6 +213,24 @@ class Beginning(Case):
                 self.assertEqual(mount.run(False), 1)
         self.assertTrue(mount.store.is_closed)
         Mounted(self.journal).close()
+
+class Ends(unittest.TestCase):
+    """How requests end, by what the kernel says in place of one."""
+
+    @staticmethod
+    def run_to(number):
+        async def main(**_):
+            raise OSError(number, os.strerror(number))
+
+        with mock.patch.object(pyfuse3, "main", main):
+            Loop().run()
+
+    def test_a_connection_that_is_cut_ends_them(self):
+        self.run_to(errno.ECONNABORTED)
+
+    def test_any_other_fault_is_told(self):
+        with self.assertRaisesRegex(OSError, "Input/output"):
+            self.run_to(errno.EIO)
 
 
 if __name__ == "__main__":
