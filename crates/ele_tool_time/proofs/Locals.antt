@@ -17,7 +17,7 @@ use Rattle.ele_moment.specs.Spelled.{SpellsMoment}
 use Rattle.ele_moment.specs.Timestamp.{date_text, time_text, timestamp_text, IsTimestamp, IsWorth, SpellsTimestamp}
 use Rattle.ele_moment.proofs.Moments.{short_number, timestamp_only}
 use Rattle.ele_moment.proofs.Timestamps.{fields_again, some_is}
-use Rattle.ele_tool_time.specs.ReadParts.{midnight_of, rest_of, stamp_of}
+use Rattle.ele_tool_time.specs.ReadParts.{midnight_of, midnight_text, rest_of, stamp_of}
 use Rattle.ele_tool_time.specs.Time.{IsMark, IsShown, SpellsDate, SpellsZoned}
 use Rattle.ele_tool_time.specs.declared.zone.Offset.{Offset}
 use Rattle.ele_tool_time.proofs.Fractions.{rest_found, rest_again}
@@ -138,9 +138,9 @@ date_found w m ten twenty is =
     let stamp = moment_stamp (midnight_of w) m twenty is in
     let f = stamp.fields in
     let text = stamp.text in
-    let date : w ≡ date_text f.year f.month f.day = sym (exact_take 10 w (codes "T00:00:00Z") ten) ∙ ap (take 10) text in
-    let behind : codes "T00:00:00Z" ≡ 84 ∷ time_text f.hour f.minute f.second ++ 90 ∷ [] =
-    sym (exact_drop 10 w (codes "T00:00:00Z") ten) ∙ ap (drop 10) text in
+    let date : w ≡ date_text f.year f.month f.day = sym (exact_take 10 w midnight_text ten) ∙ ap (take 10) text in
+    let behind : midnight_text ≡ 84 ∷ time_text f.hour f.minute f.second ++ 90 ∷ [] =
+    sym (exact_drop 10 w midnight_text ten) ∙ ap (drop 10) text in
     let hours : (◌≡◌ {A = ℕ} 48 (48 + f.hour / 10)) × (◌≡◌ {A = ℕ} 48 (48 + f.hour % 10)) = (cc, cc) in
     let minutes : (◌≡◌ {A = ℕ} 48 (48 + f.minute / 10)) × (◌≡◌ {A = ℕ} 48 (48 + f.minute % 10)) = (cc, cc) in
     let seconds : (◌≡◌ {A = ℕ} 48 (48 + f.second / 10)) × (◌≡◌ {A = ℕ} 48 (48 + f.second % 10)) = (cc, cc) in

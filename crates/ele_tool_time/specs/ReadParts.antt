@@ -67,6 +67,10 @@ rest_of rest = do
 abbrev pub stamp_of : List ℕ → List ℕ
 stamp_of word = take 10 word ++ (84 ∷ take 8 (drop 11 word) ++ 90 ∷ [])
 
+-- what follows the date in a midnight in UTC: `T` (84) and the time of day
+abbrev pub midnight_text : List ℕ
+midnight_text = 84 ∷ codes "00:00:00Z"
+
 -- a date's midnight, as a time in UTC
 abbrev pub midnight_of : List ℕ → List ℕ
-midnight_of date = date ++ codes "T00:00:00Z"
+midnight_of date = date ++ midnight_text

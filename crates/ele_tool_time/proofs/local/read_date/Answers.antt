@@ -1,15 +1,14 @@
 use Rattle.std.proofs.Common.{ℕ, List, Option, Some, None, IfSome, length, sym, subst, ◌≡◌, arith}
 use Rattle.std.proofs.lemmas.List.{length-append}
-use Rattle.std.specs.Prelude.{codes}
 use Rattle.ele_moment.specs.Spelled.{SpellsMoment}
-use Rattle.ele_tool_time.specs.ReadParts.{midnight_of}
+use Rattle.ele_tool_time.specs.ReadParts.{midnight_of, midnight_text}
 use Rattle.ele_tool_time.specs.Time.{SpellsDate}
 use Rattle.ele_tool_time.proofs.Locals.{date_found, date_stamp, stamp_moment}
 use Rattle.ele_tool_time.proofs.local.read_date.Goals as goal
 
 found : (w s : List ℕ) (r : Option ℕ) → length w ≡ 10 → s ≡ midnight_of w → IfSome r (SpellsMoment s) → IfSome r (SpellsDate w)
 found w s (Some m) ten is spelled =
-    date_found w m ten (omega (arith, length-append w (codes "T00:00:00Z"), ten)) (subst (λ (s : List ℕ). SpellsMoment s m) is spelled)
+    date_found w m ten (omega (arith, length-append w midnight_text, ten)) (subst (λ (s : List ℕ). SpellsMoment s m) is spelled)
 found w s None ten is spelled = tt
 
 pub returns-clause-found : goal.returns-clause-found
