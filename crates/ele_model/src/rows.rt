@@ -1,8 +1,12 @@
 //! The rows of a world: what stands in it of each file, name, version, draft and handle.
+ghost use Rattle.std.specs.Prelude.{Some};
+ghost use Rattle.ele_model.specs.FateText.{mark_word};
+
 use ele_content::Cell;
 use ele_lists::{Keyed, ListOf};
 use ele_moment::{DirId, FileId, Handle, Moment, Name, VersionNo};
 use ele_policy::Policy;
+use std::fmt;
 
 /// A file: its policy, and the number that its next version gets.
 #[derive(Clone, Copy, Debug, PartialEq, Eq)]
@@ -115,11 +119,23 @@ impl Keyed for HandleRow {
 }
 
 /// A mark of a group: the moment at which it was marked, and the moment at which the mark ends, if it does. It is in force
-/// before that one, and stays listed when it has ended.
+/// before that one, and stays listed when it has ended. It is displayed as scripts print it, `5` or `5/60`.
 #[derive(Clone, Copy, Debug, PartialEq, Eq)]
 pub struct MarkRow {
     pub at: Moment,
     pub until: Option<Moment>,
+}
+
+impl fmt::Display for MarkRow {
+    ghost output = { λ mark. Some (mark_word mark) };
+
+    fn fmt<W: fmt::Write>(&self, f: &mut fmt::Formatter<W>) -> fmt::Result {
+        let at = self.at;
+        match self.until {
+            Some(until) => write!(f, "{at}/{until}"),
+            None => write!(f, "{at}"),
+        }
+    }
 }
 
 /// A group: its files in order of adding, and its marks in order of making.
