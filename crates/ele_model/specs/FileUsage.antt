@@ -1,4 +1,5 @@
--- The usage that a change of policy moves from one kind to another. Only `ele_files` needs this module; the core's promises don't cite it.
+-- The usage that a change of policy moves from one kind to another. No public clause that a reader of the core needs cites this module:
+-- `ele_files` uses it.
 use Rattle.std.specs.Prelude.{ℕ, ◌==◌, List, length, filter}
 use Rattle.ele_usage.specs.declared.usage.Usage.{Usage}
 use Rattle.ele_content.specs.Place.{is_place, different}

@@ -37,7 +37,6 @@ fn are_same_sums(sums: &[Usage; 4], others: &[Usage; 4]) -> bool
 /// of the world. The caller knows that the sums are within 64 bits.
 ///
 /// `NoMemory` if memory for a scan is refused.
-/// `NoMemory` where memory for a scan is refused.
 /// Cost: that of the three scans of `Flat`, which are `due_keys`, `dead_names` and `usage`, and of
 /// a comparison with each answer.
 pub fn audit(
