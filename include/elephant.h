@@ -427,7 +427,7 @@ int32_t elephant_pass(elephant *e, uint64_t budget, uint64_t *removed, uint64_t 
 /* ---- The history ----
  * NO_HISTORY without one. */
 
-/* Returns how many events are folded, and how many entries follow them. The line `history` prints the entries. */
+/* Returns how many events are folded, and how many entries follow them. The line `history` also prints the entries. */
 int32_t elephant_history(elephant *e, uint64_t *folded, uint64_t *entries);
 
 /* Folds all entries into the base, and frees them. *folded: how many they were. */
