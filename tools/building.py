@@ -68,8 +68,7 @@ def crate_rows(crates):
 
 def lay_out(room, crates, rows=()):
     """Makes a repository of only these crates of this one, without wrong bodies and tests' data. crates.txt gets a line for each crate
-    that
-    the caller adds to them."""
+    that the caller adds to them."""
     # rt takes the folder that holds .git for the top of a repository.
     (room / ".git").mkdir()
     (room / "crates.txt").write_text("".join([*crate_rows(crates), *(f"{it}\n" for it in rows)]), encoding="utf-8")
@@ -86,8 +85,7 @@ def lay_out(room, crates, rows=()):
 
 def gate_environment():
     """Returns the environment for `rt ci`: as many checks at once as processors and memory allow. By default it gives a check up to four
-    idle
-    processors; a check uses little more than one, so the next checks would wait for nothing."""
+    idle processors; a check uses little more than one, so the next checks would wait for nothing."""
     checks = min(len(os.sched_getaffinity(0)), free_memory() // CHECK_MEMORY)
     return {"RT_JOBS": str(max(checks, 1)), **os.environ}
 
@@ -122,8 +120,7 @@ def has_libraries(crates):
 
 def prove_above(folder, name, uses, made=None, top=ROOT):
     """Proves the library `name` in a folder, which uses these crates of a repository, over the gate's libraries. If `made` is given, it
-    also
-    builds the library there as a static one. Returns whether it is proved, and what was printed."""
+    also builds the library there as a static one. Returns whether it is proved, and what was printed."""
     kit = ["--extern", f"std={kit_file('rlibs/std.rlib')}", "-L", f"dependency={kit_file('rlibs')}"]
     own = [word for it in sorted(uses) for word in ("--extern", f"{it}={library_of(it, top)}")]
     own += [word for it in sorted(with_below(uses)) for word in ("-L", f"dependency={library_of(it, top).parent}")]
@@ -216,8 +213,7 @@ def write_whole(path, data, mode=0o644):
 
 class Product:
     """What is proved and built of a crate: files in out/, each with its mode, and a stamp of their sources: the commit, the kit, and a
-    sum and a
-    path for each source. The stamp is written last, so without it the product doesn't count."""
+    sum and a path for each source. The stamp is written last, so without it the product doesn't count."""
 
     def __init__(self, what, crate, stamp, files, command):
         self.what, self.crate, self.stamp, self.files, self.command = what, crate, stamp, files, command

@@ -305,8 +305,7 @@ class Repository:
 
     def kind_to_read(self, node):
         """Returns which part of a definition's file to read: of a type its declaration, or what a contract sees in its place, which the
-        file's
-        contracts have too; of a type without fields nothing."""
+        file's contracts have too; of a type without fields nothing."""
         if node.kind != "types":
             return node.kind
         shown = self.shown_of(node)

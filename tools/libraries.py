@@ -83,8 +83,7 @@ def build_and_install(sums):
 
 def installed(prefix, folder=OUT):
     """Returns the installed files of the libraries: for each path below the prefix its mode, and its bytes, or no mode and the target of
-    a
-    link."""
+    a link."""
     return {
         "include/elephant.h": (0o644, HEADER.read_bytes()),
         f"lib/{STATIC.name}": (0o644, (Path(folder) / STATIC.name).read_bytes()),

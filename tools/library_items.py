@@ -1,8 +1,7 @@
 """How tools/library_page reads the sources of the library: the types and calls that a crate exports, with their comments.
 
 A **call** is a public function or constant that a crate exports, of a type or of none. Functions of traits, and laws and lemmas, which
-only
-a proof calls, are no calls here.
+only a proof calls, are no calls here.
 """
 
 import re

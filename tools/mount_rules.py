@@ -245,7 +245,7 @@ def ending(room, asked):
 
 
 def _status_of(mounted):
-    """Returns the status of a mount that should end, with its last lines if it isn't 0, or the stacks of its threads."""
+    """Returns the status of a mount that should end, with its last lines if it isn't 0, or where its threads wait in the kernel."""
     try:
         status = mounted.process.wait(60)
         return status and (status, mounted.log()[-1500:])

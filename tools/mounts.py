@@ -113,7 +113,7 @@ class Mounted:
         self.start()
 
     def kill(self):
-        """Ends it by a signal that it can't handle, and removes its mount point."""
+        """Ends it by a signal that it can't handle, and unmounts the folder."""
         self.process.send_signal(signal.SIGKILL)
         self.process.wait()
         self._release()

@@ -52,8 +52,7 @@ def cells_of(line):
 
 def files_in(cell):
     """Returns the files that a cell names, each with its kind, which follows in brackets. A name without a folder is in the folder of the
-    one
-    before it."""
+    one before it."""
     found, folder, waiting = [], "", []
     for name, kind in re.findall(rf"`([\w/]+)`|\(({'|'.join(KINDS)})", cell):
         if kind:
@@ -78,8 +77,7 @@ class Table:
 
 class Page:
     """The lines of the page over a repository. A table whose rows have figures is for readers; a table of two columns says which files
-    not to
-    read, and why."""
+    not to read, and why."""
 
     def __init__(self, lines, repository):
         self.lines, self.repository = lines, repository
@@ -157,8 +155,7 @@ class Page:
 
     def holes(self):
         """Yields a line for each file that the page leaves out, or lists though no public clause reaches it, and for each file of
-        definitions
-        whose first words on that are wrong."""
+        definitions whose first words on that are wrong."""
         needed = self.needed_of(self.repository.crates - self.left_out)
         for (kind, name), names in sorted(needed.items()):
             is_there = (kind, name) in self.read or kind == "either" and {("types", name), ("contracts", name)} & self.read
