@@ -2,11 +2,12 @@
 
 The store's journal stores them, as remarks:
 
-    # made f12 d3 100644 0 0 NS           file 12 was made in directory 3: mode (octal), owner, group, and the time names NS d3 d5 f12
-    # names in directories 3 and 5 changed, and with them file 12 saved f12 NS                        the content of file 12 was written
-    # attr f12 100644 0 0 NS NS NS        file 12: mode, owner, group, times of access, content and attributes xattr f12 NS 757365722e61
-    # =6f6e65   file 12 has the extended attribute user.a with the value one, both in hexadecimal xattr f12 NS 757365722e61           file
-    # 12 has lost the attribute, and without a name it has none
+    # made f12 d3 100644 0 0 NS           file 12 was made in directory 3: mode (octal), owner, group, and the time
+    # names NS d3 d5 f12                  names in directories 3 and 5 changed, and with them file 12
+    # saved f12 NS                        the content of file 12 was written
+    # attr f12 100644 0 0 NS NS NS        file 12: mode, owner, group, times of access, content and attributes
+    # xattr f12 NS 757365722e61 =6f6e65   file 12 has the extended attribute user.a with the value one, both in hexadecimal
+    # xattr f12 NS 757365722e61           file 12 has lost the attribute, and without a name it has none
 
 NS is a time in nanoseconds since 1970. A mode has the kind of the file too: a symbolic link is a file of the store whose content is
 its target path.
