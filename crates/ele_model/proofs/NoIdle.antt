@@ -1,5 +1,5 @@
--- After an event each file has a live name, a held version or a draft. In a well-formed world a live file has a version, so what counts is whether
--- each file has a version or a draft.
+-- After an event each file has a live name, a held version or a draft. In a well-formed world a live file has a version, so what counts is
+-- whether each file has a version or a draft.
 use Rattle.ele_model.proofs.Basics.{rules, ◌≡◌, ◌==◌, ℕ, Bool, true, false, not, ◌||◌, List, [], ◌∷◌, arith, AllByRecursion, list_any, false≢true, not-true, nat_tests, update_first, remove_first, filter-passes, all-push, all-weaker, all-both}
 use Rattle.ele_model.proofs.Basics.{all-update_first, all-remove_first, found_passes, list_any-update_first, list_any-insert_before, list_any-remove_first, any-found, remove_first-key}
 use Rattle.ele_model.proofs.Words.{Change, Cell, Policy, Take, MakeFile, SetFilePolicy, EndFileName, EndDraft, DropIdle, ShutHandle, StartDraft, after_change, is_idle, numbered_on, set_policy, with_file, with_name, with_version, without_file, is_version_of, IsEvent}
