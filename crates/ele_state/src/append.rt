@@ -30,8 +30,8 @@ use ele_model::{FileId, Moment, NoMemory, VersionInfo, VersionNo};
 use ele_policy::{Case, Rule};
 use ele_sessions::FoundHandle;
 
-// Where the content of a file's next version comes from: the draft that was opened then, whose last
-// handle this is, or the held version of that number.
+// The source of a file's next version: the draft that was opened then, with its last handle, or the
+// held version of that number.
 #[derive(Clone, Copy)]
 pub enum Source {
     Draft(FoundHandle, Moment),
