@@ -22,7 +22,7 @@ given None f y h k = absurd cc
 digits : (a b : ℕ) → is_digit a && is_digit b ≡ true → (48 ≤ a) × (a < 58) × (48 ≤ b) × (b < 58)
 digits a b h = (grind (arith, nat_tests), grind (arith, nat_tests), grind (arith, nat_tests), grind (arith, nat_tests))
 
--- two digits in front of a word are those of the number that was read
+-- two digits at the start of a word are those of the number that was read
 pair_takes : (w : List ℕ) (x : ℕ × List ℕ) → pair_at w ≡ Some x → w ≡ two_digits x.0 ++ x.1
 pair_takes [] x h = absurd cc
 pair_takes (a ∷ []) x h = absurd cc
