@@ -118,9 +118,9 @@ fn former_moment(rows: &Rows, file: FileId, rule: &Rule, gaining: &VersionInfo) 
     )
 }
 
-// The key of the held version that becomes due with enough newer ones as the next one closes. None
-// if the file is restored and its rule asks for newer ones: the version got its key while the rule
-// asked for none.
+// The key of the held version that has enough newer ones once the next one closes. None if the file
+// is restored and its rule asks for newer ones: the version got its key while the rule asked for
+// none.
 #[tactic(auto, using(crate::proofs::Words::nat_tests))]
 fn former_key(rows: &Rows, file: FileId, head: &FileHead, rule: &Rule, again: bool) -> KeyChange
     requires stands { Stands rows.now.files file head.now }
