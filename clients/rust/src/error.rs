@@ -4,25 +4,25 @@ use crate::sys;
 use std::fmt;
 use std::io;
 
-/// What a limit counts ([`Limits`](crate::Limits)).
+/// A kind of thing that has a limit ([`Limits`](crate::Limits)).
 #[derive(Clone, Copy, Debug, PartialEq, Eq, Hash)]
 #[non_exhaustive]
 pub enum Limit {
-    /// Files that are ever made.
+    /// Files ever made.
     Files,
-    /// Directories that are ever made.
+    /// Directories ever made.
     Directories,
-    /// Names that are ever given.
+    /// Names ever given.
     Names,
-    /// Versions that are ever made, with the drafts that are open.
+    /// Versions ever made, with the open drafts.
     Versions,
-    /// Handles that are ever opened.
+    /// Handles ever opened.
     Handles,
-    /// Groups that are ever made.
+    /// Groups ever made.
     Groups,
-    /// Files that are ever added to groups.
+    /// Files ever added to groups.
     Members,
-    /// Marks that are ever made.
+    /// Marks ever made.
     Marks,
 }
 
@@ -57,11 +57,12 @@ impl fmt::Display for Limit {
     }
 }
 
-// The errors that say no more than their code, each with its text.
+// The errors that have only their code, each with its text.
 macro_rules! errors {
     ($($name:ident = $code:ident, $text:literal;)*) => {
-        /// Why a call was refused or stopped. Nothing has changed then.
-        ///
+        /// Why a call was refused or stopped. Nothing has changed then, unless the variant or the call says
+/// otherwise.
+///
         /// A function that adds to an error what it was about can look at the variant:
         ///
         /// ```
@@ -81,17 +82,17 @@ macro_rules! errors {
             $(#[doc = concat!("`", stringify!($code), "`: ", $text, ".")] $name,)*
             /// `ELEPHANT_FORGOTTEN`: the version was removed.
             Forgotten {
-                /// The greatest number of a version of the file that is held and is smaller.
+                /// The greatest held number of the file's versions before it.
                 last: Option<u64>,
             },
             /// `ELEPHANT_FULL`: a limit is reached.
             Full(Limit),
-            /// A code that no call of this crate should answer.
+            /// A code that no call of this crate should return.
             Unexpected(i32),
         }
 
         impl Error {
-            /// Its number, as in `elephant.h` and in the answers of the script language.
+            /// Returns its number, as in `elephant.h` and in the answers of the script language.
             pub fn code(self) -> i32 {
                 match self {
                     $(Error::$name => sys::$code,)*
@@ -101,7 +102,7 @@ macro_rules! errors {
                 }
             }
 
-            // `detail` is asked only after a code that has one.
+            // It calls `detail` only after a code that has one.
             pub(crate) fn from_code(code: i32, detail: impl FnOnce() -> Option<u64>) -> Error {
                 match code {
                     $(sys::$code => Error::$name,)*

@@ -15,21 +15,22 @@
 //!     session.write_all(b"buy milk")?;
 //!     session.close()?;
 //!
-//!     // The store reads no clock: you move it.
+//! You move the store's clock.
 //!     store.tick(60)?;
 //!     store.save("/notes", b"oops")?;
 //!     assert_eq!(store.read(at("/notes", 59))?, b"buy milk");
 //!     assert_eq!(store.read(version("/notes", 2))?, b"buy milk");
 //!
-//!     // Undo, by which the file gets one more version.
+//! Undo: the file gets one more version.
 //!     store.revert("/notes", 2)?;
 //!     assert_eq!(store.read("/notes")?, b"buy milk");
 //!     Ok(())
 //! }
 //! ```
 //!
-//! A [`Store`] wraps the C library, which is built from proved code; this crate itself is not proved. It is linked statically, and
-//! depends on no other crate. `docs/EMBED.md` of the repository has a table of all calls and their limits.
+//! A [`Store`] wraps the C library, which is built from proved code; this crate itself is not
+//! proved. It links the library statically, and depends on no other crate. `docs/EMBED.md` of the
+//! repository has a table of all calls and their limits.
 
 #![deny(missing_docs)]
 #![deny(unsafe_op_in_unsafe_fn)]

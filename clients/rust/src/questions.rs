@@ -9,10 +9,10 @@ const LONGEST_NAME: usize = 64;
 
 /// Questions.
 impl Store {
-    /// What a path and its tag mean: when it was made, how long it is, and its policy.
+    /// Returns what a path and its tag mean: when it was made, how long it is, and its policy.
     ///
     /// # Errors
-    /// Those of [`read`](Store::read), but a directory is answered.
+    /// Those of [`read`](Store::read), but it accepts directories.
     pub fn stat<'a>(&self, target: impl Into<Target<'a>>) -> Result<Stat, Error> {
         let (path, tag, number) = parts(target.into());
         let row: sys::elephant_stat_row =
@@ -48,7 +48,8 @@ impl Store {
         Ok(rung)
     }
 
-    /// The held versions of a file, by number: of the one that the path names now, or named [`at`](crate::at) a moment.
+    /// Returns the held versions of a file, by number: of the one that the path names now, or named
+    /// [`at`](crate::at) a moment.
     ///
     /// # Errors
     /// [`Error::NoEntry`], [`Error::IsDirectory`], [`Error::Future`]; [`Error::Syntax`] with [`version`](crate::version).
@@ -74,7 +75,7 @@ impl Store {
         Ok(found)
     }
 
-    /// The names in a directory, in order: now, or [`at`](crate::at) a moment.
+    /// Returns the names in a directory, in order: now, or [`at`](crate::at) a moment.
     ///
     /// # Errors
     /// [`Error::NoEntry`], [`Error::NotDirectory`], [`Error::Future`]; [`Error::Syntax`] with [`version`](crate::version).
@@ -85,7 +86,8 @@ impl Store {
         self.rows(rows, |index| self.name_row(index).map(|(_, name, node)| Entry { name, node }))
     }
 
-    /// The dead names that [`undelete`](Store::undelete) takes, by directory and name.
+    /// Returns the dead names that [`undelete`](Store::undelete) can restore, by directory and
+    /// name.
     ///
     /// # Errors
     /// [`Error::NoMemory`].
@@ -115,7 +117,7 @@ impl Store {
         Ok(String::from_utf8_lossy(name).into_owned())
     }
 
-    /// The versions that are due now, in the order in which they are removed.
+    /// Returns the versions that are due now, in order of removal.
     ///
     /// # Errors
     /// [`Error::NoMemory`].
@@ -125,7 +127,7 @@ impl Store {
         self.rows(rows, |index| self.due_row(index))
     }
 
-    /// The versions that would be due at a later moment, if nothing happened but the clock.
+    /// Returns the versions that will be due at a later moment if only the clock moves.
     ///
     /// # Errors
     /// [`Error::NotAhead`], [`Error::BadMoment`].
@@ -140,7 +142,7 @@ impl Store {
         self.row(|e, key| unsafe { sys::elephant_row_key(e, index, key) }).map(due_of)
     }
 
-    /// What the files of each kind of policy use.
+    /// Returns what the files of each kind of policy use.
     ///
     /// # Errors
     /// [`Error::NoMemory`].
@@ -161,7 +163,7 @@ impl Store {
         Ok(Usage { files: row.files, versions: row.versions, bytes: row.bytes, blocks: row.blocks })
     }
 
-    /// Why a version is held, or may be removed.
+    /// Returns why a version is held, or due.
     ///
     /// # Errors
     /// Those of [`read`](Store::read).

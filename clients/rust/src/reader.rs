@@ -4,7 +4,8 @@ use crate::session::sought;
 use crate::{Error, Store};
 use std::io::{self, BufRead, Read, Seek, SeekFrom};
 
-/// Reads a version. As long as there is a reader, the version isn't removed. Dropping the reader lets it go.
+/// Reads a version. While a reader is open, its version isn't removed. Dropping the reader closes
+/// it.
 ///
 /// ```
 /// use elephant::{version, Policy, Store};
@@ -32,7 +33,7 @@ use std::io::{self, BufRead, Read, Seek, SeekFrom};
 pub struct Reader<'store> {
     store: &'store Store,
     handle: u64,
-    // The version's bytes, which are asked for once: a version never changes.
+    // The version's bytes, read once: a version never changes.
     content: Option<Vec<u8>>,
     position: u64,
 }
@@ -42,12 +43,12 @@ impl<'store> Reader<'store> {
         Reader { store, handle, content: None, position: 0 }
     }
 
-    /// Its number in the store.
+    /// Returns its number in the store.
     pub fn handle(&self) -> u64 {
         self.handle
     }
 
-    /// The whole version, whatever was read before.
+    /// Returns the whole version, from any position.
     ///
     /// # Errors
     /// [`Error::NoMemory`].
@@ -58,7 +59,7 @@ impl<'store> Reader<'store> {
         Ok(self.content.as_deref().unwrap_or_default())
     }
 
-    /// Lets the version go.
+    /// Closes the reader.
     ///
     /// # Errors
     /// [`Error::NoMemory`]; the reader is then closed again when it is dropped, which may succeed.
@@ -101,7 +102,7 @@ impl Seek for Reader<'_> {
 
 impl Drop for Reader<'_> {
     fn drop(&mut self) {
-        // There is nobody to report an error to.
+        // A drop can't return an error.
         let _ = self.store.close_handle(self.handle);
     }
 }

@@ -6,7 +6,7 @@ use crate::{Due, Error, Group, Mark, Pass, PassEnd, Policy, Store};
 
 /// Policies.
 impl Store {
-    /// Puts a file under another policy.
+    /// Sets the policy of a file.
     ///
     /// # Errors
     /// [`Error::BadLadder`] if no policy has these numbers, [`Error::NoEntry`], [`Error::IsDirectory`].
@@ -16,7 +16,7 @@ impl Store {
         self.call(|e| unsafe { sys::elephant_policy(e, path.as_ptr(), path.len(), word.as_ptr(), word.len()) })
     }
 
-    /// Sets the policy of the files that are made in a directory from now on.
+    /// Sets the policy of later files in a directory.
     ///
     /// # Errors
     /// [`Error::BadLadder`] if no policy has these numbers, [`Error::NoEntry`], [`Error::NotDirectory`].
@@ -40,7 +40,7 @@ impl Store {
         self.call(|e| unsafe { sys::elephant_group_make(e, group.as_ptr(), group.len()) })
     }
 
-    /// Ends a group with its marks.
+    /// Removes a group and its marks.
     ///
     /// # Errors
     /// [`Error::NoGroup`].
@@ -49,7 +49,7 @@ impl Store {
         self.call(|e| unsafe { sys::elephant_group_drop(e, group.as_ptr(), group.len()) })
     }
 
-    /// Puts a file into a group.
+    /// Adds a file to a group.
     ///
     /// # Errors
     /// [`Error::AlreadyMember`], [`Error::NoEntry`], [`Error::IsDirectory`], [`Error::Full`].
@@ -58,7 +58,7 @@ impl Store {
         self.call(|e| unsafe { sys::elephant_group_add(e, group.as_ptr(), group.len(), path.as_ptr(), path.len()) })
     }
 
-    /// Takes a file out of a group.
+    /// Removes a file from a group.
     ///
     /// # Errors
     /// [`Error::NotMember`], [`Error::NoEntry`], [`Error::IsDirectory`].
@@ -67,7 +67,8 @@ impl Store {
         self.call(|e| unsafe { sys::elephant_group_remove(e, group.as_ptr(), group.len(), path.as_ptr(), path.len()) })
     }
 
-    /// Keeps what was current of a group's files at a moment that has passed, until another moment or for good.
+    /// Marks a group: no version that was current in its files at a past moment is removed, until
+    /// another moment or for good.
     ///
     /// # Errors
     /// [`Error::NotPast`], [`Error::NotAhead`], [`Error::MarkExists`], [`Error::BadMoment`], [`Error::Full`].
@@ -77,7 +78,7 @@ impl Store {
         self.call(|e| unsafe { sys::elephant_mark(e, group.as_ptr(), group.len(), moment, until) })
     }
 
-    /// Ends a mark.
+    /// Removes a mark.
     ///
     /// # Errors
     /// [`Error::NoMark`].
@@ -86,7 +87,7 @@ impl Store {
         self.call(|e| unsafe { sys::elephant_unmark(e, group.as_ptr(), group.len(), moment) })
     }
 
-    /// The groups with their files and marks, in order of making.
+    /// Returns the groups with their files and marks, in order of making.
     ///
     /// # Errors
     /// [`Error::NoMemory`].
@@ -114,7 +115,7 @@ impl Store {
 
 /// Forgetting, and the history.
 impl Store {
-    /// Removes the first due version, and returns it; none if no version is due.
+    /// Removes the first due version, and returns it. None if no version is due.
     ///
     /// # Errors
     /// [`Error::NoMemory`].
@@ -137,7 +138,8 @@ impl Store {
         Pass { removed, end }
     }
 
-    /// How many events were folded, and how many are kept after them. The line `history` prints these.
+    /// Returns how many events are folded, and how many entries follow them. The line `history`
+    /// also prints the entries.
     ///
     /// # Errors
     /// [`Error::NoHistory`].
@@ -148,7 +150,7 @@ impl Store {
         Ok((folded, entries))
     }
 
-    /// Folds the events that are kept, which gives back their memory, and returns how many these were.
+    /// Folds the entries into the base, which frees their memory, and returns how many they were.
     ///
     /// # Errors
     /// [`Error::NoHistory`], [`Error::NoMemory`].

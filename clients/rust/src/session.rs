@@ -36,12 +36,12 @@ impl<'store> Session<'store> {
         Session { store, handle, position: 0 }
     }
 
-    /// Its number in the store.
+    /// Returns its number in the store.
     pub fn handle(&self) -> u64 {
         self.handle
     }
 
-    /// Writes bytes from an offset on, and leaves the position. A gap before the offset is filled with zeros.
+    /// Writes bytes from an offset on, and leaves the position. Zeros fill a gap before the offset.
     ///
     /// # Errors
     /// [`Error::TooBig`] if the content would be longer than 1,048,576 bytes.
@@ -49,7 +49,7 @@ impl<'store> Session<'store> {
         self.store.write(self.handle, offset, bytes)
     }
 
-    /// Gives the draft a length: what is longer is cut, and what is shorter is filled with zeros.
+    /// Sets the length of the draft: cuts a longer one, and fills a shorter one with zeros.
     ///
     /// # Errors
     /// [`Error::TooBig`] if the length is above 1,048,576.
@@ -57,7 +57,7 @@ impl<'store> Session<'store> {
         self.store.truncate(self.handle, length)
     }
 
-    /// The whole draft.
+    /// Returns the whole draft.
     ///
     /// # Errors
     /// [`Error::NoMemory`].
@@ -65,7 +65,8 @@ impl<'store> Session<'store> {
         self.store.read_handle(self.handle)
     }
 
-    /// Closes the session, and returns the number of the version that this made, if it made one.
+    /// Closes the session, and returns the number of the version that the close made. None if it
+    /// made none.
     ///
     /// # Errors
     /// [`Error::NoMemory`]; the session is then closed again when it is dropped, which may succeed.
@@ -100,7 +101,7 @@ impl Seek for Session<'_> {
     }
 }
 
-/// Where a seek leads, or an error before the start.
+/// The position after a seek, or an error before the start.
 pub(crate) fn sought(position: u64, length: u64, to: SeekFrom) -> io::Result<u64> {
     let (from, by) = match to {
         SeekFrom::Start(offset) => return Ok(offset),
@@ -113,7 +114,7 @@ pub(crate) fn sought(position: u64, length: u64, to: SeekFrom) -> io::Result<u64
 
 impl Drop for Session<'_> {
     fn drop(&mut self) {
-        // There is nobody to report an error to.
+        // A drop can't return an error.
         let _ = self.store.close_handle(self.handle);
     }
 }

@@ -9,7 +9,7 @@ use std::ptr::{self, NonNull};
 /// The longest content, in bytes.
 pub const LARGEST_CONTENT: usize = 1 << 20;
 
-/// How a store is opened.
+/// How to open a store.
 ///
 /// ```
 /// use elephant::{Limits, Options};
@@ -29,19 +29,19 @@ pub struct Options {
 }
 
 impl Options {
-    /// The largest limits, and no history.
+    /// The options with the largest limits, and without a history.
     pub fn new() -> Options {
         Options::default()
     }
 
-    /// How much the store may ever make.
+    /// Sets how many of each kind the store may ever make.
     pub fn limits(mut self, limits: Limits) -> Options {
         self.limits = limits;
         self
     }
 
-    /// Whether the store keeps each event with its answer, questions too. A store that lives long should have none, or be trimmed
-    /// ([`Store::trim`]).
+    /// Sets whether the store keeps each event and question with its answer. Use it only for a
+    /// short time, or call [`Store::trim`] now and then.
     pub fn history(mut self, is_kept: bool) -> Options {
         self.history = is_kept;
         self
@@ -75,8 +75,9 @@ impl Options {
 
 /// A file system that keeps earlier versions of its files, in memory.
 ///
-/// It takes calls from one thread at a time: it is [`Send`] and not [`Sync`], so threads share it behind a
-/// [`Mutex`](std::sync::Mutex). Its calls take `&self`, so that sessions and readers can be open while others are made.
+/// It takes calls from one thread at a time: it is [`Send`] and not [`Sync`], so threads share it
+/// in a [`Mutex`](std::sync::Mutex). Its calls take `&self`, so that other calls are possible while
+/// sessions and readers are open.
 ///
 /// ```
 /// use elephant::{at, Store};
@@ -100,12 +101,13 @@ impl Options {
 /// is_sync::<elephant::Store>();
 /// ```
 pub struct Store {
-    // What `elephant_new` gave, and open.
+    // The open handle from `elephant_new`.
     raw: NonNull<sys::elephant>,
 }
 
-// SAFETY: the library keeps nothing of a thread, and takes a handle's calls from any thread, one at a time. `Store` isn't `Sync`, and
-// neither it nor what borrows it is `Clone`, so no two threads make calls at a time.
+// SAFETY: the library keeps no state of a thread, and takes a handle's calls from any thread, one
+// at a time. `Store` isn't `Sync`, and neither `Store` nor a type that borrows it is `Clone`, so no
+// two threads make calls at a time.
 unsafe impl Send for Store {}
 
 impl fmt::Debug for Store {
@@ -116,7 +118,7 @@ impl fmt::Debug for Store {
 
 impl Drop for Store {
     fn drop(&mut self) {
-        // SAFETY: `elephant_new` gave it, and nobody deletes it but here.
+        // SAFETY: the handle is from `elephant_new`, and only this drop deletes it.
         unsafe { sys::elephant_delete(self.raw.as_ptr()) }
     }
 }
@@ -132,9 +134,10 @@ impl Store {
 
     // Makes one call of the library, and reads its code.
     //
-    // Each call that `made` makes is sound: the handle is that of `elephant_new` and not deleted, as long as there is a store; no
-    // other call runs meanwhile, since the store isn't `Sync` and the library calls nobody back; a pointer with a length comes from a
-    // slice; the other pointers come from references to one object; and what is written is borrowed mutably, so nothing overlaps it.
+    // Each call in `made` is sound. The handle is from `elephant_new`, and the store deletes it
+    // only in its drop. No other call runs meanwhile, since the store isn't `Sync` and the library
+    // has no callbacks. A pointer with a length points into a slice, and each other pointer is a
+    // reference to one object. The call borrows mutably what it writes, so nothing overlaps it.
     pub(crate) fn call(&self, made: impl FnOnce(*mut sys::elephant) -> i32) -> Result<(), Error> {
         match made(self.raw.as_ptr()) {
             sys::ELEPHANT_OK => Ok(()),
@@ -170,14 +173,16 @@ impl Store {
     /// too: `no 5 NoEntry`.
     ///
     /// # Errors
-    /// [`Error::Untold`]: the line was run, and [`tell`](Store::tell) may have its answer later. [`Error::NoMemory`].
+    /// [`Error::Untold`]: the line was run, and [`tell`](Store::tell) may return its answer later.
+    /// [`Error::NoMemory`].
     pub fn line(&self, line: &str) -> Result<String, Error> {
         // SAFETY: see `call`.
         let length = self.number(|e, length| unsafe { sys::elephant_line(e, line.as_ptr(), line.len(), length) })?;
         self.answer(length)
     }
 
-    /// The text of what the last call was answered, also of one that is no line, as the program prints it: `ok file 1`.
+    /// Returns the text of the last call's answer, also of a call that is no line, as the program
+    /// prints it: `ok file 1`.
     ///
     /// # Errors
     /// [`Error::Untold`].
@@ -208,13 +213,13 @@ impl Store {
 
 /// The clock, which only these calls move.
 impl Store {
-    /// The store's moment, in seconds since 1970-01-01T00:00:00Z.
+    /// Returns the store's moment, in seconds since 1970-01-01T00:00:00Z.
     pub fn now(&self) -> u64 {
-        // SAFETY: see `call`. An open store always answers.
+        // SAFETY: see `call`. An open store has no error here.
         self.number(|e, moment| unsafe { sys::elephant_now(e, moment) }).unwrap_or_default()
     }
 
-    /// Sets the clock to a moment; [`moment`](crate::moment) makes one of a time of the system.
+    /// Moves the clock to a moment; [`moment`](crate::moment) makes one of a system time.
     ///
     /// # Errors
     /// [`Error::ClockBack`], [`Error::BadMoment`].
@@ -223,7 +228,7 @@ impl Store {
         self.call(|e| unsafe { sys::elephant_clock(e, moment) })
     }
 
-    /// Sets it on by so many seconds.
+    /// Moves the clock forward by so many seconds.
     ///
     /// # Errors
     /// [`Error::ClockEnd`].
@@ -246,7 +251,7 @@ impl Store {
         self.number(|e, directory| unsafe { sys::elephant_mkdir(e, path.as_ptr(), path.len(), directory) })
     }
 
-    /// Ends the name of a directory that has no live name in it.
+    /// Removes the name of a directory that has no live name in it.
     ///
     /// # Errors
     /// [`Error::NotEmpty`], [`Error::IsRoot`].
@@ -273,7 +278,7 @@ impl Store {
         self.call(|e| unsafe { sys::elephant_link(e, from.as_ptr(), from.len(), to.as_ptr(), to.len()) })
     }
 
-    /// Ends a name of a file. With its last name its current version ends.
+    /// Removes a name of a file. With its last name its current version ends.
     ///
     /// # Errors
     /// [`Error::IsDirectory`], [`Error::IsRoot`].
@@ -291,7 +296,8 @@ impl Store {
         self.call(|e| unsafe { sys::elephant_rename(e, from.as_ptr(), from.len(), to.as_ptr(), to.len()) })
     }
 
-    /// Brings a dead name back. Returns the number of the version that a file got which had no live name.
+    /// Restores a dead name. If the file had no live name, it gets a version, and the call returns
+    /// its number.
     ///
     /// # Errors
     /// [`Error::NotRestorable`], [`Error::Exists`], [`Error::Drafting`], [`Error::Full`].
@@ -301,20 +307,22 @@ impl Store {
     }
 }
 
-// A version's number, where 0 stands for none.
+// A version's number, with 0 for none.
 fn version_of(number: u64) -> Option<u64> {
     Some(number).filter(|it| *it != 0)
 }
 
 /// Contents.
 impl Store {
-    /// Makes a file's next version of these bytes, and returns its number. The file must exist, and nothing else should be writing it:
-    /// a session that is open shares the draft, and the version is made when that session is closed.
+    /// Makes the file's next version of these bytes, and returns its number. The file must exist,
+    /// and no session should write it: an open session shares the draft, and the version is made
+    /// when that session closes.
     ///
     /// # Errors
-    /// [`Error::TooBig`], [`Error::NoEntry`], [`Error::IsDirectory`], [`Error::Full`]. If memory runs out between the steps
-    /// ([`Error::NoMemory`]), the draft gets the content back that the file has, so one more version may have that content. If there is
-    /// no memory for that either, the new version mixes both contents; the one before it can be read.
+    /// [`Error::TooBig`], [`Error::NoEntry`], [`Error::IsDirectory`], [`Error::Full`]. If memory
+    /// runs out between the steps ([`Error::NoMemory`]), the draft gets the file's content again,
+    /// so one more version may have that content. If there is no memory for that either, the new
+    /// version mixes both contents; you can still read the one before it.
     pub fn save(&self, path: &str, bytes: &[u8]) -> Result<Option<u64>, Error> {
         if bytes.len() > LARGEST_CONTENT {
             return Err(Error::TooBig);
@@ -323,14 +331,14 @@ impl Store {
         // If this fails the draft is unchanged, and makes no version.
         session.write_at(0, bytes)?;
         if let Err(error) = session.set_len(bytes.len() as u64) {
-            // The first error counts.
+            // The first error is returned.
             let _ = self.restore(path, &session);
             return Err(error);
         }
         session.close()
     }
 
-    // Gives a draft the content that its file has.
+    // Sets a draft to the content of its file.
     fn restore(&self, path: &str, session: &Session<'_>) -> Result<(), Error> {
         let held = self.read(path)?;
         session.write_at(0, &held)?;
@@ -362,8 +370,9 @@ impl Store {
     /// Reads a version: what the path holds now, or what [`at`](crate::at) or [`version`](crate::version) mean.
     ///
     /// # Errors
-    /// [`Error::NoEntry`], [`Error::IsDirectory`], [`Error::Future`], [`Error::NoVersion`], and [`Error::Forgotten`] if the version
-    /// was removed: no neighbour is read in its place.
+    /// [`Error::NoEntry`], [`Error::IsDirectory`], [`Error::Future`], [`Error::NoVersion`], and
+    /// [`Error::Forgotten`] if the version was removed: it never returns another version in its
+    /// place.
     pub fn read<'a>(&self, target: impl Into<Target<'a>>) -> Result<Vec<u8>, Error> {
         let (path, tag, number) = parts(target.into());
         // SAFETY: see `call`.
@@ -371,7 +380,8 @@ impl Store {
         self.taken(length)
     }
 
-    /// Gives a file one more version, with the content of the one with that number. Returns the number of the new one.
+    /// Makes a new version of a file, with the content of the version of that number. Returns the
+    /// new number.
     ///
     /// # Errors
     /// [`Error::NoVersion`], [`Error::Forgotten`], [`Error::Drafting`], [`Error::Full`].
@@ -411,7 +421,7 @@ impl Store {
     }
 }
 
-// A path, and its tag in the words of C.
+// A path, and its tag as C has it.
 pub(crate) fn parts(target: Target<'_>) -> (&str, u32, u64) {
     match target.tag {
         Tag::Now => (target.path, sys::ELEPHANT_NOW, 0),

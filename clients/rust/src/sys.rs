@@ -2,11 +2,11 @@
 
 use std::marker::{PhantomData, PhantomPinned};
 
-/// What a handle points to.
+/// The type of a handle.
 #[repr(C)]
 pub struct elephant {
     private: [u8; 0],
-    // Neither `Send` nor `Sync` nor `Unpin`, since nobody knows what is in it.
+    // Neither `Send` nor `Sync` nor `Unpin`, since its content is unknown here.
     marker: PhantomData<(*mut u8, PhantomPinned)>,
 }
 

@@ -1,15 +1,15 @@
-//! What calls take and answer.
+//! The arguments and results of calls.
 
 use std::fmt;
 use std::time::{SystemTime, UNIX_EPOCH};
 
-/// The seconds since 1970-01-01T00:00:00Z of a time of the system, and 0 for an earlier one. A store reads no clock: this is the
-/// moment to give [`Store::clock`](crate::Store::clock).
+/// Returns the seconds since 1970-01-01T00:00:00Z of a system time, and 0 for an earlier one. Pass
+/// it to [`Store::clock`](crate::Store::clock), since a store never reads the machine's clock.
 pub fn moment(time: SystemTime) -> u64 {
     time.duration_since(UNIX_EPOCH).map_or(0, |it| it.as_secs())
 }
 
-/// A path, and which version of what it names is meant. A `&str` means what is current now.
+/// A path, and which version of its file is meant. A `&str` means the current one.
 #[derive(Clone, Copy, Debug, PartialEq, Eq, Hash)]
 pub struct Target<'a> {
     pub(crate) path: &'a str,
@@ -35,7 +35,7 @@ impl<'a> From<&'a String> for Target<'a> {
     }
 }
 
-/// What the path named and held at a moment, which is not later than now.
+/// The version that was current at a moment, not after now, in the file that the path named then.
 pub fn at(path: &str, moment: u64) -> Target<'_> {
     Target { path, tag: Tag::At(moment) }
 }
@@ -45,24 +45,25 @@ pub fn version(path: &str, number: u64) -> Target<'_> {
     Target { path, tag: Tag::Version(number) }
 }
 
-/// How much a store may ever make. Nothing that is removed gives its number back. The default is the largest.
+/// How many of each kind a store may ever make. A removal lowers no count. The default is the
+/// largest.
 #[derive(Clone, Debug, PartialEq, Eq, Hash)]
 pub struct Limits {
-    /// Events that are answered, in a store with a history: at most 1,000,000,000.
+    /// Events answered, in a store with a history: at most 1,000,000,000.
     pub events: u64,
     /// Files: at most 100,000.
     pub files: u64,
     /// Directories without the root: at most 10,000.
     pub directories: u64,
-    /// Names that are given, also by link, rename and undelete: at most 200,000.
+    /// Names given, also by link, rename and undelete: at most 200,000.
     pub names: u64,
-    /// Versions, with the drafts that are open: at most 1,000,000.
+    /// Versions, with the open drafts: at most 1,000,000.
     pub versions: u64,
-    /// Handles that are opened: at most 1,000,000.
+    /// Handles opened: at most 1,000,000.
     pub handles: u64,
     /// Groups: at most 1,000.
     pub groups: u64,
-    /// Files that are added to groups: at most 100,000.
+    /// Files added to groups: at most 100,000.
     pub members: u64,
     /// Marks: at most 10,000.
     pub marks: u64,
@@ -98,7 +99,8 @@ pub enum Policy {
         /// From 0 to 16.
         floor: u64,
     },
-    /// The longer ago they ended, the fewer stay: one to eight rungs, with rising ages and each width dividing the next.
+    /// The longer ago they ended, the fewer stay: one to eight rungs, with rising ages; each width
+    /// divides the next.
     KeepLandmarks(Vec<Rung>),
 }
 
@@ -114,12 +116,13 @@ pub struct Rung {
 const DAY: u64 = 86_400;
 
 impl Policy {
-    /// Versions stay for so many days after their end.
+    /// Keeps versions for so many days after their end.
     pub fn keep_days(days: u64) -> Policy {
         Policy::KeepSafe { seconds: days.saturating_mul(DAY), floor: 0 }
     }
 
-    /// All versions of a day, then one for each hour, after a week one for each day, and after a month one for each week.
+    /// Keeps all versions of a day, then one of each hour, after a week one of each day, and after
+    /// 30 days one of each week.
     pub fn standard_landmarks() -> Policy {
         let rungs = [(DAY, 3_600), (7 * DAY, DAY), (30 * DAY, 7 * DAY)];
         Policy::KeepLandmarks(rungs.iter().map(|&(age, width)| Rung { age, width }).collect())
@@ -155,9 +158,10 @@ pub struct Version {
     pub opened: u64,
     /// The moment at which it became the current version.
     pub closed: u64,
-    /// The moment at which the next version took its place, or the file lost its last name.
+    /// The moment at which the next version superseded it, or the file lost its last name. None if
+    /// it has not ended.
     pub ended: Option<u64>,
-    /// How many bytes it holds.
+    /// Its length in bytes.
     pub length: u64,
 }
 
@@ -182,7 +186,7 @@ pub enum Stat {
     },
 }
 
-/// What a name stands for, with its number.
+/// The file or directory of a name, by its number.
 #[derive(Clone, Copy, Debug, PartialEq, Eq, Hash)]
 pub enum Node {
     /// A file.
@@ -196,25 +200,25 @@ pub enum Node {
 pub struct Entry {
     /// The name, without slashes.
     pub name: String,
-    /// What it stands for.
+    /// Its file or directory.
     pub node: Node,
 }
 
-/// A dead name that [`Store::undelete`](crate::Store::undelete) takes.
+/// A dead name that [`Store::undelete`](crate::Store::undelete) can restore.
 #[derive(Clone, Debug, PartialEq, Eq, Hash)]
 pub struct DeadName {
-    /// The number of the directory that it stood in; the root's is 0.
+    /// The number of its directory; the root's is 0.
     pub directory: u64,
     /// The name, without slashes.
     pub name: String,
-    /// What it last stood for.
+    /// Its last file or directory.
     pub node: Node,
 }
 
 /// A version that may be removed, or was.
 #[derive(Clone, Copy, Debug, PartialEq, Eq, Hash, PartialOrd, Ord)]
 pub struct Due {
-    /// The moment from which on it is due.
+    /// The moment from which it is due.
     pub since: u64,
     /// The file's number.
     pub file: u64,
@@ -259,12 +263,13 @@ pub struct Group {
     pub marks: Vec<Mark>,
 }
 
-/// What was current in a group at the moment isn't removed before the end.
+/// A mark of a group: no version that was current in its files at the moment is removed before the
+/// end.
 #[derive(Clone, Copy, Debug, PartialEq, Eq, Hash)]
 pub struct Mark {
-    /// The moment that is marked.
+    /// The marked moment.
     pub moment: u64,
-    /// The moment at which the mark ends; none if it doesn't.
+    /// The moment at which the mark ends. None if it has no end.
     pub until: Option<u64>,
 }
 
@@ -284,12 +289,12 @@ pub enum Fate {
     },
     /// Its policy keeps it.
     Kept {
-        /// Until when, if nothing happens but the clock; none if without end.
+        /// Until when, if only the clock moves. None for good.
         until: Option<u64>,
-        /// The level of the ladder that its age has reached.
+        /// The level of the ladder that its age has reached. None for other policies.
         level: Option<u64>,
     },
-    /// It may be removed.
+    /// A clean may remove it.
     Due {
         /// Since when.
         since: u64,
@@ -303,21 +308,21 @@ pub enum Fate {
 pub enum Cause {
     /// [`Policy::KeepOne`] keeps no version that has ended.
     AtOnce,
-    /// It has been ended for so long.
+    /// It ended so many seconds ago.
     ByAge {
-        /// What the policy says.
+        /// The seconds of the policy.
         seconds: u64,
     },
-    /// At this level of the ladder another version closed in the same span.
+    /// A newer version closed in the same span, at this level of the ladder.
     Displaced {
         /// The level, from 1 on.
         level: u64,
-        /// The number of the other version.
+        /// The number of the newer version.
         by: u64,
     },
 }
 
-/// What a pass did.
+/// The result of a pass.
 #[derive(Clone, Copy, Debug, PartialEq, Eq, Hash)]
 #[must_use = "a pass may have been stopped"]
 pub struct Pass {
@@ -334,6 +339,6 @@ pub enum PassEnd {
     Finished,
     /// It removed as many as the budget says.
     Budget,
-    /// It stopped before.
+    /// An error stopped it.
     Stopped(crate::Error),
 }

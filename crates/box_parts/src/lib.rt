@@ -1,5 +1,5 @@
-//! A box as its pointer and its allocator, so that a C handle can hold it between two calls. A contract sees the value that lies
-//! at the pointer.
+//! A box as its pointer and its allocator, so that a C handle can hold it between two calls. A
+//! contract sees the value at the pointer.
 #![tactic(auto)]
 
 ghost use Rattle.std.specs.Prelude.{◌≡◌};
@@ -10,9 +10,9 @@ use std::marker::Model;
 
 /// The pointer and the allocator of a box. It owns what the box owned: the value, and the right to free its memory.
 pub struct Parts<T, A: Allocator> {
-    /// Where the value lies.
+    /// The pointer to the value.
     pub at: *mut T,
-    /// What frees its memory.
+    /// The allocator that frees its memory.
     pub alloc: A,
     pub ghost value: { T },
 }
@@ -22,7 +22,7 @@ impl<T, A: Allocator> Model for Parts<T, A> {
 }
 
 impl<T, A: Allocator> Parts<T, A> {
-    /// Takes a box apart. Nothing is copied or freed.
+    /// Takes a box apart, without a copy.
     pub fn of(boxed: Box<T, A>) -> Parts<T, A>
     where
         T: Drop,
@@ -32,7 +32,7 @@ impl<T, A: Allocator> Parts<T, A> {
         Parts { at, alloc }
     }
 
-    /// Makes the box of its parts again.
+    /// Makes the box again from its parts.
     pub fn into_box(self) -> Box<T, A>
         ensures { result.value ≡ self.value }
     {

@@ -1,5 +1,5 @@
-//! Tests of a core that many threads call: what no clause says, as that a call is answered at all,
-//! and which events a storm makes. It gives out nothing.
+//! Tests of a core that many threads call. They check what no clause says: that a call is answered
+//! at all, and which events a storm makes. The crate exports nothing.
 #![tactic(auto)]
 
 #[cfg(test)]

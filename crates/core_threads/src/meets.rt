@@ -1,19 +1,19 @@
-//! Where the workers of a storm arrive: what each of these tells them.
+//! Places where the workers of a storm arrive, for tests.
 use ele_storm::{Meet, MeetEnd};
 use std::sync::atomic::{AtomicBool, AtomicU32, Ordering};
 use std::thread;
 
-/// How often is looked at most.
+/// The most looks for another worker.
 pub const LOOKS: u64 = 10_000_000;
 
-/// Lets each worker go on, and counts how often it was asked by each of four.
+/// Lets each worker go on, and counts the calls of each of four.
 #[derive(Drop)]
 pub struct Counting {
     asked: [AtomicU32; 4],
 }
 
 impl Counting {
-    /// None has asked.
+    /// No worker has called.
     pub fn new() -> Counting {
         Counting {
             asked: [
@@ -25,7 +25,7 @@ impl Counting {
         }
     }
 
-    /// How often each has asked.
+    /// How often each worker has called.
     pub fn counts(&self) -> [u32; 4] {
         let [first, second, third, fourth] = &self.asked;
         [
@@ -60,21 +60,21 @@ impl Meet for AllBut {
     }
 }
 
-/// Holds worker 0 until it is let go.
+/// Holds worker 0 until it is released.
 #[derive(Drop)]
 pub struct Holding {
     let_go: AtomicBool,
 }
 
 impl Holding {
-    /// Holds it.
+    /// Holds the worker.
     pub fn new() -> Holding {
         Holding {
             let_go: AtomicBool::new(false),
         }
     }
 
-    /// Lets it go.
+    /// Releases the worker.
     pub fn let_go(&self) {
         self.let_go.store(true, Ordering::SeqCst);
     }

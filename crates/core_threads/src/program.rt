@@ -1,4 +1,4 @@
-//! A storm as the program runs it over a core, watched and not.
+//! A storm as the program runs it over a core, watched and unwatched.
 use ele_core::Core;
 use ele_model::{Audit, Explain};
 use ele_storm::StormPlan;
@@ -9,10 +9,10 @@ use std::test::Fail;
 use std::thread::Threads;
 use std::time::Clock;
 
-/// What the program writes at its writer and at the one for faults, and its status.
+/// The program's output, its output of faults, and its status.
 type Told = (Vec<u8>, Vec<u8>, u8);
 
-/// What it tells of a storm of two writers, one historian and ten rounds.
+/// What the program prints for a storm of two writers, one historian and ten rounds.
 fn storm_by_program<C: Audit + Explain + Send, T: Threads + Wait + Clock + Sync>(
     rt: &T,
     alloc: Global,
@@ -35,8 +35,8 @@ fn storm_by_program<C: Audit + Explain + Send, T: Threads + Wait + Clock + Sync>
     Ok((written, told, status))
 }
 
-// 1 + 2 + 4 * 2 * 10 + 2 * 1 * 10 + 10 events. A watched one that takes longer than a second is told of
-// meanwhile.
+// 1 + 2 + 4 * 2 * 10 + 2 * 1 * 10 + 10 events. The program reports on a watched storm that takes
+// longer than a second.
 #[test]
 fn the_program_runs_a_storm_to_its_end(rt: HostRuntime) -> Result<(), Fail> {
     let line = b"storm events 113 audit equal\n";

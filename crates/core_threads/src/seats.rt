@@ -1,4 +1,4 @@
-//! Seats of one history, called in turn by one thread.
+//! Seats of one history, which one thread calls in turn.
 ghost use Rattle.std.specs.Prelude.{◌≡◌, IfOk};
 
 use ele_core::Core;
@@ -10,18 +10,18 @@ use std::alloc::Global;
 use std::sync::Wait;
 use std::test::Fail;
 
-/// What a call is answered.
+/// The result of a call.
 pub type Answer = Result<Reply, Stop>;
 
-/// What four calls are answered, whether an attempt then says that the history is full, how many
-/// events a seat is told, and how many the closed history has.
+/// The results of four calls, whether an attempt then says that the history is full, how many
+/// events a seat has seen, and how many the closed history has.
 type Filled = ([Answer; 4], bool, [u64; 2]);
 
-/// How many events each of three seats is told, which of four attempts are answered, and how many
-/// events a seat is told then.
+/// How many events each of three seats has seen, which of four attempts succeed, and how many
+/// events a seat has seen then.
 type Attempts = ([u64; 3], [bool; 4], u64);
 
-/// A fresh history that takes so many events.
+/// A fresh history with a limit of so many events.
 fn fresh<C: Step>(alloc: Global, events: u64) -> Result<History<C>, NoMemory> {
     match Limits::with_events(events) {
         Some(limits) => History::new(alloc, limits),
@@ -42,7 +42,7 @@ fn share<C: Step>(alloc: Global, history: History<C>) -> Result<(Shared<C>, Seat
     Ok((shared, seat))
 }
 
-/// A fresh history that takes so many events, shared, a seat of it, and one that is split off.
+/// A fresh shared history with a limit of so many events, a seat of it, and one that is split off.
 pub fn opened<C: Step>(alloc: Global, events: u64) -> Result<(Shared<C>, Seat<C>, Seat<C>), Fail>
     ensures { IfOk result (λ made. (made.1.object ≡ made.0) × (made.2.object ≡ made.0)) }
 {
@@ -51,7 +51,7 @@ pub fn opened<C: Step>(alloc: Global, events: u64) -> Result<(Shared<C>, Seat<C>
     Ok((shared, one, other))
 }
 
-/// What the line's event is answered.
+/// The result of the line's event.
 pub fn ask<C: Step, R: Wait>(
     rt: &R,
     alloc: Global,
@@ -66,9 +66,9 @@ pub fn ask<C: Step, R: Wait>(
     Ok(shared.call(rt, seat, event))
 }
 
-/// What a history of three events answers three calls of one seat and one of another; whether an
-/// attempt of this one is told that it is full; how many events it is told, and how many the closed
-/// history has.
+/// The results of three calls of one seat and one of another, over a history of three events. Then
+/// whether an attempt of this one says that it is full, how many events the seat has seen, and how
+/// many the closed history has.
 fn fill<C: Step, R: Wait>(rt: &R, alloc: Global, joins: bool) -> Result<Filled, Fail> {
     let (shared, mut one, mut other) = opened::<C>(alloc, 3)?;
     let answers = [
@@ -86,9 +86,9 @@ fn fill<C: Step, R: Wait>(rt: &R, alloc: Global, joins: bool) -> Result<Filled, 
     Ok((answers, is_full, [told, shared.close(other)?.count()]))
 }
 
-/// How many events the seats of a fresh history are told, and one that is split off; which of four
-/// attempts of the first one are answered; and how many events the second one is told then, which
-/// never called, and of which it was asked before whether it agrees with the first.
+/// How many events the seats of a fresh history and one that is split off have seen. Then which of
+/// four attempts of the first one succeed, and how many events the second one has seen. The second
+/// one never calls, and agrees with the first before that.
 fn attempt_four<C: Step>(alloc: Global) -> Result<Attempts, Fail> {
     let (shared, mut one, mut other) = opened::<C>(alloc, 1_000)?;
     let mut third = shared.split(&mut one)?;
@@ -107,7 +107,7 @@ fn attempt_four<C: Step>(alloc: Global) -> Result<Attempts, Fail> {
     Ok((fresh, answered, shared.published(&mut other)))
 }
 
-/// What a seat that is split off reads of a file that the other one wrote.
+/// What a seat that is split off reads from a file that the other one wrote.
 fn read_by_another<C: Step, R: Wait>(rt: &R, alloc: Global) -> Result<Answer, Fail> {
     let (shared, mut one, _other) = opened::<C>(alloc, 1_000)?;
     ask(rt, alloc, &shared, &mut one, "create /f")??;
@@ -118,8 +118,8 @@ fn read_by_another<C: Step, R: Wait>(rt: &R, alloc: Global) -> Result<Answer, Fa
     ask(rt, alloc, &shared, &mut third, "read /f")
 }
 
-/// What seats are told that one thread calls in turn: those of a full history, without a join and
-/// with one, those that make attempts, and one that reads.
+/// The results of seats that one thread calls in turn: of a full history, without a join and with
+/// one, of attempts, and of a read.
 fn call_in_turn<C: Step, R: Wait>(
     rt: &R,
     alloc: Global,
@@ -132,7 +132,7 @@ fn call_in_turn<C: Step, R: Wait>(
     ))
 }
 
-/// What a history of three events answers four calls.
+/// The results of four calls on a history of three events.
 fn three_answers() -> [Answer; 4] {
     [
         Ok(Reply::File(FileId(1))),

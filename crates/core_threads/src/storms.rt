@@ -14,30 +14,31 @@ use std::test::Fail;
 use std::thread;
 use std::thread::{Threads, join};
 
-/// What a storm answers.
+/// The result of a storm.
 type Ended = Result<u64, StormFault>;
 
-/// How a storm ends, and how many events the closed history has; whether its entries begin with what
-/// makes ready, whether they are those of ten rounds, and whether an audit finds all equal.
+/// The result of a storm, and how many events the closed history has. Then whether its entries
+/// begin with the preparation, whether the rest are those of ten rounds, and whether an audit finds
+/// all answers equal.
 type Stormed = (Ended, u64, [bool; 3]);
 
 fn plan() -> Result<StormPlan, Fail> {
     Ok(StormPlan::new(2, 1, 10).ok_or("there is such a plan")?)
 }
 
-// Whether what the core tells is what the scans of its rows give.
+// Whether the core's answers are those of the scans of its rows.
 fn is_equal<C: Audit>(core: &C) -> Result<bool, NoMemory> {
     let due = core.due_keys()?;
     let names = core.dead_names()?;
     let usage = core.usage();
     let flat = core.flat()?;
-    // Told for the proof: the world is well formed, so the sums of its usage are within 64 bits.
+    // For the proof: the world is well formed, so the sums of its usage are within 64 bits.
     let _now = core.now();
     laws::usage_fits();
     audit(due.as_slice(), names.as_slice(), &usage, &flat)
 }
 
-/// How a storm ends over a history that takes so many events.
+/// The result of a storm over a history with a limit of so many events.
 fn storm_by<C: Audit + Send, R: Threads + Wait + Sync, M: Meet + Sync>(
     rt: &R,
     alloc: Global,
@@ -55,8 +56,8 @@ fn storm_by<C: Audit + Send, R: Threads + Wait + Sync, M: Meet + Sync>(
     Ok((ended, history.count(), looked))
 }
 
-/// How storms end that leave one worker alone, by its number; and one whose first worker is alone,
-/// and whose others find the history full.
+/// The results of storms that leave one worker alone, by its number; and of one whose first worker
+/// is alone, and whose others find the history full.
 fn storms_alone<C: Audit + Send, R: Threads + Wait + Sync>(
     rt: &R,
     alloc: Global,
@@ -70,7 +71,7 @@ fn storms_alone<C: Audit + Send, R: Threads + Wait + Sync>(
     ])
 }
 
-/// How a storm ends whose workers are counted, and how often each was.
+/// The result of a storm whose workers are counted, and how often each arrived.
 fn storm_counted<C: Audit + Send, R: Threads + Wait + Sync>(
     rt: &R,
     alloc: Global,
@@ -80,7 +81,7 @@ fn storm_counted<C: Audit + Send, R: Threads + Wait + Sync>(
     Ok((stormed, counting.counts()))
 }
 
-// Lets the worker go as soon as the seat is told of more than three events.
+// Releases the worker as soon as the seat has seen more than three events.
 fn watch<C: Step>(shared: &Shared<C>, mut seat: Seat<C>, holding: &Holding)
     requires { seat.object ≡ shared.now }
 {
@@ -93,7 +94,7 @@ fn watch<C: Step>(shared: &Shared<C>, mut seat: Seat<C>, holding: &Holding)
     }
 }
 
-/// How a storm ends whose first worker is held until another thread sees that the others work.
+/// The result of a storm whose first worker is held until another thread sees that the others work.
 fn storm_held<C: Step + Send, R: Threads + Wait + Sync>(
     rt: &R,
     alloc: Global,
@@ -115,7 +116,7 @@ fn storm_held<C: Step + Send, R: Threads + Wait + Sync>(
     Ok(ended)
 }
 
-/// What one worker of a small plan is answered on a fresh history.
+/// The result of one worker of a small plan on a fresh history.
 fn work_one<C: Step, R: Wait>(rt: &R, alloc: Global, worker: u32) -> Result<Ended, Fail> {
     let (shared, mut seat, _other) = opened::<C>(alloc, 1_000)?;
     let plan = StormPlan::new(1, 1, 2).ok_or("there is such a plan")?;
@@ -133,8 +134,8 @@ fn work_one<C: Step, R: Wait>(rt: &R, alloc: Global, worker: u32) -> Result<Ende
     ))
 }
 
-/// How storms end: by flags, with room for all events and for 20; counted; with one worker alone;
-/// with one that is held; and what a writer and a cleaner are answered by themselves.
+/// The results of storms: by flags, with limits for all events and for 20; counted; with one worker
+/// alone; with a held worker. And those of a writer and a cleaner by themselves.
 fn storms<C: Audit + Send, R: Threads + Wait + Sync>(
     rt: &R,
     alloc: Global,

@@ -1,4 +1,4 @@
-//! Which events stand in a history, whatever their order.
+//! Which events a history has, in any order.
 use ele_model::{Entry, Event, Path, Source, Tag, TaggedPath, VersionNo};
 use ele_script::read_event;
 use std::alloc::Global;
@@ -20,7 +20,7 @@ enum Kind {
     Read(u8),
 }
 
-/// How many there are of each in ten rounds, with one historian.
+/// How many events of each kind there are in ten rounds, with one historian.
 const WANTED: [(Kind, usize); 19] = [
     (Kind::Tick, 20),
     (Kind::OpenWrite(1), 10),
@@ -43,7 +43,7 @@ const WANTED: [(Kind, usize); 19] = [
     (Kind::Read(2), 5),
 ];
 
-/// Whether the entries have of each kind as many as ten rounds make.
+/// Whether the entries have as many of each kind as ten rounds make.
 pub fn are_ten_rounds(entries: &[Entry]) -> bool {
     for (kind, wanted) in WANTED {
         if count(entries, kind) != wanted {
@@ -64,7 +64,7 @@ fn count(entries: &[Entry], kind: Kind) -> usize {
     found
 }
 
-// The event's kind, if it has one of these.
+// The event's kind, if it is one of these.
 fn kind_of(event: &Event) -> Option<Kind> {
     match event {
         Event::Tick(1) => Some(Kind::Tick),
@@ -81,7 +81,7 @@ fn kind_of(event: &Event) -> Option<Kind> {
     }
 }
 
-// The writer whose file stands at the path.
+// The writer whose file is at the path.
 fn writer_of(path: &Path) -> Option<u8> {
     let [name] = path.names() else {
         return None;
@@ -93,7 +93,7 @@ fn writer_of(path: &Path) -> Option<u8> {
     }
 }
 
-// The writer whose file stands at the path, if it has this tag.
+// The writer whose file is at the path, if it has this tag.
 fn tagged_writer(tagged: &TaggedPath, tag: Tag) -> Option<u8> {
     if tagged.tag() == tag {
         writer_of(tagged.path())
@@ -102,7 +102,7 @@ fn tagged_writer(tagged: &TaggedPath, tag: Tag) -> Option<u8> {
     }
 }
 
-// The number below 256 that these 8 bytes are.
+// The number of these 8 bytes, if it is below 256.
 fn number_of(bytes: &[u8]) -> Option<u8> {
     match bytes {
         [0, 0, 0, 0, 0, 0, 0, number] => Some(*number),

@@ -10,13 +10,13 @@ use std::sync::Wait;
 use std::test::Fail;
 use std::thread::{Threads, join};
 
-/// Whether each of two threads' replies stand in its order, and how many events there are.
+/// Whether each of two threads' replies are entries in its order, and how many events there are.
 type Ticked = ([bool; 2], u64);
 
-/// What calls of one thread and of two came to, and how many events there are.
+/// The results of calls of one thread and of two, and how many events there are.
 type Filled = ([Counts; 2], u64);
 
-/// What five ticks by so many seconds are answered.
+/// The results of five ticks by so many seconds.
 fn tick_five<C: Step, R: Wait>(
     rt: &R,
     shared: &Shared<C>,
@@ -36,7 +36,7 @@ fn tick_five<C: Step, R: Wait>(
     (seat, told)
 }
 
-/// Whether the entries of ticks by so many seconds are these, in their order.
+/// Whether the entries of ticks by so many seconds are these, in order.
 fn stand_in_order(entries: &[Entry], seconds: u64, told: &[Answer]) -> bool {
     let mut found = 0usize;
     for entry in entries {
@@ -54,8 +54,8 @@ fn stand_in_order(entries: &[Entry], seconds: u64, told: &[Answer]) -> bool {
     found == told.len()
 }
 
-/// Whether what two threads with five calls each were answered stands in the entries, each one's in
-/// its order, and how many events there are.
+/// Whether the results of two threads with five calls each are entries, in each thread's order, and
+/// how many events there are.
 fn tick_by_two<C: Step + Send, R: Threads + Wait + Sync>(
     rt: &R,
     alloc: Global,
@@ -84,7 +84,7 @@ fn tick_by_two<C: Step + Send, R: Threads + Wait + Sync>(
     Ok((in_order, history.count()))
 }
 
-/// How many calls were answered, and how many stopped since the history was full.
+/// How many calls were answered, and how many stopped at a full history.
 #[derive(Clone, Copy)]
 struct Counts {
     answered: u32,
@@ -140,8 +140,8 @@ fn ask_by_two<C: Step + Send, R: Threads + Wait + Sync>(
     (one, counts)
 }
 
-/// What nine calls of three threads come to where the history takes five events, and how many events
-/// there are.
+/// The results of nine calls of three threads over a history with a limit of five events, and how
+/// many events there are.
 fn ask_by_three<C: Step + Send, R: Threads + Wait + Sync>(
     rt: &R,
     alloc: Global,
@@ -164,7 +164,7 @@ fn ask_by_three<C: Step + Send, R: Threads + Wait + Sync>(
     Ok(([by_one, by_two], shared.close(one)?.count()))
 }
 
-/// What threads are told: two that make ten calls, and three that fill a history.
+/// The results of threads: two that make ten calls, and three that fill a history.
 fn call_by_threads<C: Step + Send, R: Threads + Wait + Sync>(
     rt: &R,
     alloc: Global,

@@ -1,4 +1,4 @@
--- A block map as contracts see it, and what it shows through the store where its leaves and blocks stand.
+-- A block map as contracts see it, and its cells through the store of its leaves and blocks.
 use Rattle.std.specs.Prelude.{ℕ, Bool, ◌&&◌, nat_le, nat_lt, List, map}
 use Rattle.ele_blocks.specs.declared.slot.Slot.{Slot}
 use Rattle.ele_content.specs.declared.cell.Cell.{Cell}
@@ -27,7 +27,7 @@ slot_by writer id = record { writer = writer; block = id }
 abbrev pub cell_by : ℕ → List ℕ → Cell
 cell_by writer bytes = record { writer = writer; bytes = bytes }
 
--- the slots from the first on, up to before the last
+-- the slot is one from the first until before the last
 abbrev pub is_between : ℕ → ℕ → ℕ → Bool
 is_between first past slot = nat_le first slot && nat_lt slot past
 

@@ -1,4 +1,4 @@
--- What the fields of a block map keep. No public clause cites this module.
+-- The invariant of a block map's fields. No public clause cites this module.
 use Rattle.std.specs.Prelude.{◌≡◌, ◌≤◌, length}
 use Rattle.ele_content.specs.Content.{longest_content, slot_count}
 use Rattle.ele_blocks.specs.Layout.{Layout}

@@ -1,4 +1,4 @@
--- What a store is owed by all the maps that live in it, and how one call moves it.
+-- The owners that a store counts for all the maps that live in it, and how one call changes them.
 use Rattle.std.specs.Prelude.{◌≡◌, ℕ, ◌+◌, ◌<◌, ◌^◌, List, [], ◌∷◌, if◌then◌else◌}
 use Rattle.ele_blocks.specs.Hands.{Hands}
 use Rattle.ele_blocks.specs.Shared.{times, owners}
@@ -19,19 +19,18 @@ named leaf ms = tally (λ m. times leaf m.leaves) ms
 abbrev pub broken : Store → List Layout → ℕ
 broken s ms = tally (λ m. if is_whole s m then 0 else 1) ms
 
--- these maps and no others live in the store: each leaf has as many owners as these maps name it,
--- each block as many as slots of leaves name it, and each map is whole
+-- exactly these maps live in the store: each leaf has as many owners as these maps name it, each block as many as slots of leaves name it,
+-- and each map is whole
 pub record Owes (s : Store) (ms : List Layout) : Type 0 where
   pub counted : (leaf : ℕ) → owners s.leaves leaf ≡ named leaf ms
   pub backed : (id : ℕ) → owners_at s id ≡ backing s.leaves id
   pub whole : broken s ms ≡ 0
 
--- the first maps have given way to the second, which are whole; a leaf that has another owner beside
--- the first maps shows what it showed
+-- the second maps have replaced the first, and are whole; a leaf that has another owner beside the first maps shows the same bytes
 pub record Moves (s t : Store) (was now : List Layout) : Type 0 where
   pub hands : Hands s t (λ leaf. named leaf was) (λ leaf. named leaf now)
   pub whole : broken t now ≡ 0
 
--- no leaf has so many owners that a map more could not be counted
+-- each leaf has few enough owners to count another map
 pub record IsUncrowded (s : Store) : Type 0 where
   pub few : (leaf : ℕ) → owners s.leaves leaf < 2 ^ 62

@@ -3,15 +3,15 @@ use Rattle.std.specs.Prelude.{◌≡◌, ℕ, ◌*◌, ◌-◌, ◌<◌, min, Li
 use Rattle.std.specs.Simd.{first_chunks}
 use Rattle.ele_content.specs.Content.{slot_count}
 
--- what f shows of each is a piece of c items, the last of 1 to c, and they have so many in all
+-- f gives a piece of c items for each, and 1 to c for the last; they have so many in all
 abbrev pub AreSized : {A X : Type 0} → ℕ → (A → List X) → ℕ → List A → Type 0
 AreSized c f n [] = n ≡ 0
 AreSized c f n (x ∷ xs) = (length (f x) ≡ min n c) × (0 < n) × AreSized c f (n - c) xs
 
--- the pieces of 512 bytes from the first on, up to before the last
+-- the pieces of 512 bytes from the first until before the last
 abbrev pub pieces_between : ℕ → ℕ → List ℕ → List (List ℕ)
 pieces_between first past xs = first_chunks 512 (past - first) (drop (512 * first) xs)
 
--- the bytes in pieces of 512, of which the last may be shorter
+-- the bytes in pieces of 512; the last may be shorter
 unfoldable pub pieces : List ℕ → List (List ℕ)
 pieces xs = first_chunks 512 (slot_count (length xs)) xs

@@ -4,8 +4,8 @@ use Rattle.ele_blocks.specs.Shared.{times}
 use Rattle.ele_blocks.specs.Store.{Store, owners_at}
 use Rattle.ele_blocks.specs.Layout.{Layout, slots_of, ids_of}
 
--- the slots that pass the test have new blocks by the writer, which nobody owned before; the others
--- have the writers and blocks that they had; and no new block stands in two slots
+-- the slots that pass the test have new blocks by the writer, which had no owner before; the others have their old writers and blocks; and
+-- no new block is in two slots
 pub record Renews (s t : Store) (writer : ℕ) (renewed : ℕ → Bool) (was now : Layout) : Type 0 where
   pub fresh : (slot : ℕ) → renewed slot ≡ true → IfSome (slice_get (slots_of t now) slot) (λ cell. (cell.writer ≡ writer) × (owners_at s cell.block ≡ 0))
   pub stays : (slot : ℕ) → renewed slot ≡ false → slot < length (slots_of t now) → slice_get (slots_of t now) slot ≡ slice_get (slots_of s was) slot

@@ -1,4 +1,4 @@
--- What the fields of a store of shared values keep. No public clause cites this module.
+-- The invariant of the fields of a store of shared values. No public clause cites this module.
 use Rattle.std.specs.Prelude.{ℕ, nat_le, List, [], ◌∷◌, length, Option, if◌then◌else◌}
 use Rattle.std.specs.Option.{option_map}
 use Rattle.slab.specs.Slab.{Slab}
@@ -11,13 +11,13 @@ module _ {X : Type 0} where
   abbrev pub with_count : ℕ → X → Counted X
   with_count count value = record { value = value; owners = count }
 
-  -- each value with the count at its place, which is none past the last
+  -- each value with the count at its place
   abbrev pub counted : List (Option X) → List ℕ → List (Option (Counted X))
   counted [] counts = []
   counted (value ∷ values) [] = option_map (with_count 0) value ∷ counted values []
   counted (value ∷ values) (count ∷ counts) = option_map (with_count count) value ∷ counted values counts
 
-  -- there is room where there is room for the counts too
+  -- the capacity, if the list of counts has it too
   abbrev pub counted_with : Slab X → List ℕ → Slab (Counted X)
   counted_with values counts = record {
     slots = counted values.slots counts;

@@ -1,4 +1,4 @@
--- What stands in a store: blocks of bytes, and leaves of slots that name blocks.
+-- A store: blocks of bytes, and leaves of slots that name blocks.
 use Rattle.std.specs.Prelude.{ℕ, List, [], Option, unwrap_or}
 use Rattle.std.specs.List.{flat_map}
 use Rattle.ele_blocks.specs.Shared.{Counted}
@@ -9,7 +9,7 @@ pub record Store : Type 0 where
   pub blocks : List (Option (Counted (List ℕ)))
   pub leaves : List (Option (Counted (List Slot)))
 
--- the store where nothing stands
+-- the empty store
 abbrev pub no_blocks : Store
 no_blocks = record { blocks = []; leaves = [] }
 
@@ -17,7 +17,7 @@ no_blocks = record { blocks = []; leaves = [] }
 abbrev pub block_at : Store → ℕ → Option (Counted (List ℕ))
 block_at s id = place_at s.blocks id
 
--- how many own the block under the id
+-- how many owners the block under the id has
 abbrev pub owners_at : Store → ℕ → ℕ
 owners_at s id = owners s.blocks id
 

@@ -1,4 +1,4 @@
-//! Items laid over a list, from one of its places on.
+//! Items that replace part of a list, from one of its places on.
 //! A contract sees lists.
 ghost use Rattle.std.specs.Prelude.{◌≡◌, ◌<◌, ◌≤◌, ◌+◌, [], ◌∷◌, length, map, vec_capacity};
 ghost use Rattle.ele_blocks.specs.LaidOver.{laid_over};
@@ -8,7 +8,7 @@ use crate::slot::Slot;
 use crate::store::BlockId;
 use ele_moment::VersionNo;
 
-// Puts the item in its place, or behind the last where there is room.
+// Sets the item at its place, or adds it at the end, in reserved memory.
 #[tactic(auto, using(crate::proofs::LaidOvers::laid_set))]
 fn place<T: Copy>(items: &mut Vec<T>, at: usize, item: T)
     requires within { at ≤ length items.old.items }
@@ -23,8 +23,8 @@ fn place<T: Copy>(items: &mut Vec<T>, at: usize, item: T)
     }
 }
 
-/// Lays the writer's slots for the blocks over the slots from the first on. There is room for those
-/// that go past the end.
+/// Replaces slots from `first` on by the writer's slots for the blocks. The caller has reserved
+/// memory for those past the end.
 pub fn lay_slots(slots: &mut Vec<Slot>, first: usize, writer: VersionNo, ids: &[usize])
     requires within { first ≤ length slots.old.items }
     requires room { first + length ids.now ≤ vec_capacity slots.old }
@@ -36,7 +36,7 @@ pub fn lay_slots(slots: &mut Vec<Slot>, first: usize, writer: VersionNo, ids: &[
     }
 }
 
-/// Lays the leaves over the leaves from the first on. There is room for those that go past the end.
+/// Replaces leaves from `first` on. The caller has reserved memory for those past the end.
 #[tactic(auto, using(crate::proofs::Cited::length_take_le, crate::proofs::Cited::take_more, crate::proofs::Cited::laid_more))]
 pub fn lay_leaves(leaves: &mut Vec<u32>, first: usize, ids: &[u32])
     requires within { first ≤ length leaves.old.items }

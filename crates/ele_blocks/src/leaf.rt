@@ -9,7 +9,7 @@ use std::marker::Model;
 /// How many slots a leaf holds.
 pub const LEAF: usize = 16;
 
-/// Slots that lie in the leaf itself.
+/// Slots that are stored inline in the leaf.
 #[derive(Debug, Drop)]
 pub struct Leaf {
     slots: ArrayVec<Slot, 16>,
@@ -25,7 +25,7 @@ impl Model for Leaf {
 }
 
 impl Leaf {
-    /// A leaf of these slots.
+    /// Makes a leaf of these slots.
     pub fn new(part: &[Slot]) -> Leaf
         requires { length part.now ≤ 16 }
         ensures { result ≡ part.now }
@@ -38,7 +38,7 @@ impl Leaf {
         Leaf { slots }
     }
 
-    /// The slots.
+    /// Returns the slots.
     pub fn as_slice(&self) -> &[Slot]
         ensures { result.now ≡ self.now }
     {

@@ -1,6 +1,6 @@
-//! Blocks of at most 512 bytes in leaves that block maps share, and the maps, each of which is one
-//! content. A contract sees a store as what stands under each number, and a map through it as its
-//! cells.
+//! Blocks of at most 512 bytes, leaves that name them, and block maps, which share leaves; each map
+//! is one content. A contract sees a store as the value under each number, and a map through it as
+//! its cells.
 #![tactic(auto)]
 
 mod laid;

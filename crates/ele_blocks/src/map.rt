@@ -1,6 +1,5 @@
-//! A block map: one content of at most 1,048,576 bytes, cut into slots of 512 bytes, which stand in
-//! leaves of 16. A contract sees its length and leaves, and through a store the cells of the
-//! content.
+//! A block map: one content of at most 1,048,576 bytes, cut into slots of 512 bytes, in leaves of
+//! 16 slots. A contract sees its length and leaves, and through a store the cells of the content.
 ghost use Rattle.std.specs.Prelude.{◌≡◌, ◌<◌, ◌-◌, ◌*◌, ◌/◌, [], ◌∷◌, OnOk, OnErr, IfOk, IfSome, Some, drop, slice_get, take, vec_len};
 ghost use Rattle.std.specs.Option.{option_map};
 ghost use Rattle.ele_content.specs.Content.{content_of, slot_bytes, slot_count};
@@ -19,8 +18,9 @@ use ele_moment::{NoMemory, VersionNo};
 use std::alloc::Global;
 use std::marker::Model;
 
-/// One content, as the leaves of its slots. They stand in a store, of which the map owns a share:
-/// whoever makes a map gives it up in that store, or leaves and blocks stay there.
+/// One content, as the leaves of its slots. A store holds the leaves, and the map owns a share of
+/// them. Who makes a map has to call `give_up` with that store, or its leaves and blocks stay
+/// there.
 #[derive(Debug, Drop)]
 pub struct BlockMap {
     length: u64,
@@ -41,7 +41,7 @@ impl Model for BlockMap {
 }
 
 impl BlockMap {
-    /// The map of an empty content; this takes no memory.
+    /// Makes the map of an empty content. It takes no memory.
     pub fn new(alloc: Global) -> BlockMap
         ensures { result ≡ record { size = 0; leaves = [] } }
     {
@@ -52,21 +52,21 @@ impl BlockMap {
         }
     }
 
-    /// How many bytes the content has.
+    /// Returns the length of the content, in bytes.
     pub fn length(&self) -> u64
         ensures { result ≡ self.now.size }
     {
         self.length
     }
 
-    /// How many slots the content has: one for each 512 bytes, and one for what is left.
+    /// Returns the number of slots: one for each 512 bytes, and one for a shorter rest.
     pub fn slots(&self) -> usize
         ensures { result ≡ slot_count self.now.size }
     {
         (self.length as usize).div_ceil(SLOT)
     }
 
-    /// The version that last wrote the slot, and the slot's block; none past the last slot.
+    /// Returns the version that last wrote the slot, and the slot's block. None past the last slot.
     #[tactic(auto, using(crate::proofs::Cited::slice_get_past, crate::proofs::Cited::slots_count))]
     pub fn cell(&self, store: &BlockStore, slot: usize) -> Option<(VersionNo, BlockId)>
         requires { LivesIn store.now self.now }
@@ -107,8 +107,8 @@ impl BlockMap {
         self.leaves[slot / LEAF] as usize
     }
 
-    /// A second map of the same content, which shares every leaf with this one.
-    /// Where memory is refused, the store is as it was.
+    /// Makes a second map of the same content, which shares every leaf with this one. If memory is
+    /// refused, the store is as it was.
     pub fn copy(&self, store: &mut BlockStore) -> Result<BlockMap, NoMemory>
         requires lives { LivesIn store.old self.now }
         requires few { IsUncrowded store.old }
@@ -125,7 +125,7 @@ impl BlockMap {
         })
     }
 
-    /// The bytes of the content.
+    /// Returns the bytes of the content.
     #[tactic(auto, using(crate::proofs::Cited::content_of, crate::proofs::Cited::shown, crate::proofs::Cited::take_add, crate::proofs::Cited::take_all, crate::proofs::Cited::length_content))]
     pub fn content(&self, store: &BlockStore) -> Result<Vec<u8>, NoMemory>
         requires { LivesIn store.now self.now }
@@ -139,7 +139,7 @@ impl BlockMap {
         Ok(all)
     }
 
-    /// Ends the map: each of its leaves has an owner fewer, and those without owners leave, with
+    /// Ends the map: each of its leaves loses an owner. Leaves without an owner are freed, and then
     /// the blocks that no other leaf names.
     pub fn give_up(self, store: &mut BlockStore)
         requires { LivesIn store.old self }

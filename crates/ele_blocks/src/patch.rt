@@ -9,7 +9,8 @@ use ele_lists::ByteList;
 use ele_moment::NoMemory;
 use std::alloc::Global;
 
-// The bytes over older ones from the offset on, with zeros before them where the older ones end.
+// The old bytes with new ones written over them from the offset on. If the old bytes end before the
+// offset, zeros fill the gap.
 fn spliced(alloc: Global, old: &[u8], offset: usize, bytes: &[u8]) -> Result<Vec<u8>, NoMemory>
     requires { offset + length bytes.now < 2 ^ 64 }
     ensures { IfOk result (λ new. new.items ≡ content_after_write old.now offset bytes.now) }
@@ -24,8 +25,8 @@ fn spliced(alloc: Global, old: &[u8], offset: usize, bytes: &[u8]) -> Result<Vec
     Ok(new)
 }
 
-/// A slot's bytes once the bytes lie over the content from the offset on: what of them falls into
-/// the slot lies over its old bytes.
+/// Returns a slot's bytes after a write of the bytes from the offset on: the part that falls into
+/// the slot is written over its old bytes.
 #[tactic(auto, using(crate::proofs::Cited::patched))]
 pub fn patched(
     alloc: Global,
@@ -47,7 +48,7 @@ pub fn patched(
     Ok(ByteList::from_vec(new))
 }
 
-/// The bytes cut into pieces of 512, of which the last may be shorter.
+/// Cuts the bytes into pieces of 512; the last piece may be shorter.
 #[tactic(auto, using(crate::proofs::Cited::chunk_next, crate::proofs::Cited::append_assoc, crate::proofs::Cited::length_drop), unfolding(crate::specs::Pieces::pieces))]
 pub fn pieces(alloc: Global, all: &[u8]) -> Result<Vec<ByteList>, NoMemory>
     ensures { IfOk result (λ cut. cut.items ≡ pieces all.now) }

@@ -1,6 +1,5 @@
-//! Values that many own, each under a number, with the count of its owners.
-//! A contract sees its places, each of which holds a value with its owners or nothing, and the room
-//! behind them.
+//! Values with many owners, each under a number, with the count of its owners.
+//! A contract sees the places, each with a value and its owners or empty, and the capacity.
 ghost use Rattle.std.specs.Prelude.{◌≡◌, ◌<◌, ◌≤◌, ◌+◌, ◌^◌, [], OnOk, OnErr, IfOk, Some, None, map, count_by, is_some, vec_len, vec_capacity};
 ghost use Rattle.slab.specs.Slab.{HasRoomFor};
 ghost use Rattle.ele_blocks.specs.Shared.{place_at, value_at, owners, Sets, Adds, Owned, shared, released, leaving};
@@ -9,8 +8,8 @@ use slab::Slab;
 use std::alloc::{AllocError, Global};
 use std::marker::Model;
 
-/// Values under numbers that the store picks. A value leaves with its last owner.
-/// The counts stand beside the values: who changes hundreds of them reads no value.
+/// Values under numbers that the store picks. A value is removed with its last owner. The counts
+/// are in a list of their own, so that a change of hundreds of them reads no value.
 #[derive(Debug, Drop)]
 pub struct Shared<T> {
     values: Slab<T>,
@@ -31,7 +30,7 @@ impl<T> Model for Shared<T> {
 }
 
 impl<T: Drop> Shared<T> {
-    /// No values; this takes no memory.
+    /// Makes an empty store. It takes no memory.
     pub fn new(alloc: Global) -> Self
         ensures { result.slots ≡ [] }
     {
@@ -41,7 +40,8 @@ impl<T: Drop> Shared<T> {
         }
     }
 
-    /// Keeps a value with one owner. Where memory is refused, the store is as it was.
+    /// Adds a value with one owner, and returns its number. If memory is refused, the store is as
+    /// it was.
     pub fn put(&mut self, value: T) -> Result<usize, AllocError>
         ensures vacant { IfOk result (λ id. place_at self.old.slots id ≡ None) }
         ensures sets { IfOk result (λ id.
@@ -52,7 +52,7 @@ impl<T: Drop> Shared<T> {
         Ok(self.put_reserved(value))
     }
 
-    /// Makes room for so many values more.
+    /// Reserves memory for so many more values.
     pub fn reserve(&mut self, more: usize) -> Result<(), AllocError>
         ensures room { OnOk result (HasRoomFor self.new more) }
         ensures same { self.new.slots ≡ self.old.slots }
@@ -65,14 +65,14 @@ impl<T: Drop> Shared<T> {
         Ok(())
     }
 
-    /// How many values fit, with those that stand, once room was made.
+    /// Returns how many values fit into the reserved memory, with those that are there.
     pub fn capacity(&self) -> usize
         ensures { 0 < self.now.capacity → result ≡ self.now.capacity }
     {
         self.values.capacity()
     }
 
-    /// Keeps a value with one owner where there is room.
+    /// Adds a value with one owner, in reserved memory.
     #[tactic(auto, using(crate::proofs::Cited::room_in, crate::proofs::Cited::HasRoomFor, crate::proofs::Cited::owned_new, crate::proofs::Cited::place_counted, crate::proofs::Cited::sets_new, crate::proofs::Cited::room_after))]
     pub fn put_reserved(&mut self, value: T) -> usize
         requires { HasRoomFor self.old 1 }
@@ -89,8 +89,8 @@ impl<T: Drop> Shared<T> {
         id
     }
 
-    /// Keeps each of the values with one owner, and answers their numbers in the same order.
-    /// Where memory is refused, none is kept and the store is as it was.
+    /// Adds each of the values with one owner, and returns their numbers in the same order. If
+    /// memory is refused, it adds none, and the store is as it was.
     pub fn put_all(&mut self, alloc: Global, values: Vec<T>) -> Result<Vec<usize>, AllocError>
         ensures adds { IfOk result (λ ids. Adds self.old.slots self.new.slots ids.items) }
         ensures values { IfOk result (λ ids.
@@ -104,7 +104,7 @@ impl<T: Drop> Shared<T> {
         Ok(ids)
     }
 
-    /// The value under the number.
+    /// Returns the value under the number.
     #[tactic(auto, using(crate::proofs::Cited::place_counted))]
     pub fn get(&self, id: usize) -> &T
         requires { 0 < owners self.now.slots id }
@@ -113,7 +113,7 @@ impl<T: Drop> Shared<T> {
         &self.values[id]
     }
 
-    /// How many own the value under the number.
+    /// Returns how many owners the value under the number has.
     #[tactic(auto, using(crate::proofs::Cited::is_counted, crate::proofs::Cited::get_or_default_zero, crate::proofs::Cited::owners_counted))]
     pub fn owners(&self, id: usize) -> u64
         requires { 0 < owners self.now.slots id }
@@ -122,7 +122,7 @@ impl<T: Drop> Shared<T> {
         self.owners[id]
     }
 
-    /// How many values stand.
+    /// Returns the number of values.
     #[tactic(auto, using(crate::proofs::Cited::count_counted))]
     pub fn len(&self) -> usize
         ensures count { result ≡ count_by is_some self.now.slots }
@@ -131,14 +131,14 @@ impl<T: Drop> Shared<T> {
         self.values.len()
     }
 
-    /// Each value that stands has an owner; this says so and does nothing.
+    /// Brings a proof the fact that each value has an owner.
     pub fn lemma_owned(&self)
         ensures { Owned self.now.slots }
     {
         let _ = &self.values;
     }
 
-    /// Gives the value one owner more.
+    /// Adds an owner to the value.
     #[tactic(auto, using(crate::proofs::Cited::is_counted, crate::proofs::Cited::get_or_default_zero, crate::proofs::Cited::owners_counted, crate::proofs::Cited::owned_more, crate::proofs::Cited::sets_more))]
     pub fn share(&mut self, id: usize)
         requires there { 0 < owners self.old.slots id }
@@ -148,7 +148,7 @@ impl<T: Drop> Shared<T> {
         self.owners[id] += 1;
     }
 
-    /// Takes one owner from the value, which leaves with its last and is then answered.
+    /// Takes one owner from the value. With the last owner the value is removed and returned.
     #[tactic(auto, using(crate::proofs::Cited::is_counted, crate::proofs::Cited::get_or_default_zero, crate::proofs::Cited::owned_less, crate::proofs::Cited::owners_counted, crate::proofs::Cited::none_leaves))]
     pub fn release(&mut self, id: usize) -> Option<T>
         requires { 0 < owners self.old.slots id }
@@ -164,7 +164,7 @@ impl<T: Drop> Shared<T> {
     }
 }
 
-// Keeps each of the values with one owner where there is room.
+// Adds each of the values with one owner, in reserved memory.
 fn put_each<T: Drop>(store: &mut Shared<T>, ids: &mut Vec<usize>, values: Vec<T>)
     requires room { HasRoomFor store.old (vec_len values) }
     requires room_ids { vec_len ids.old + vec_len values ≤ vec_capacity ids.old }

@@ -5,7 +5,7 @@ ghost use Rattle.std.specs.Prelude.{◌≡◌};
 use crate::store::BlockId;
 use ele_moment::VersionNo;
 
-/// How many bytes a slot holds at most.
+/// The largest length of a slot, in bytes.
 pub const SLOT: usize = 512;
 
 /// The version that last wrote the slot, and the block with the slot's bytes.

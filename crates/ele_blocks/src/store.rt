@@ -1,5 +1,5 @@
 //! The blocks and leaves that all maps of one core share.
-//! A contract sees what stands under each number: bytes or slots and a count of owners, or nothing.
+//! A contract sees what is under each number: bytes or slots and a count of owners, or nothing.
 ghost use Rattle.std.specs.Prelude.{◌≡◌, ◌<◌, ◌≤◌, ◌^◌, OnErr, IfOk, Some, None, List, length, count_by, is_some, nat_eq};
 ghost use Rattle.ele_content.specs.Place.{different};
 ghost use Rattle.ele_blocks.specs.Distinct.{blocks_of};
@@ -18,7 +18,7 @@ use ele_moment::NoMemory;
 use std::alloc::Global;
 use std::marker::Model;
 
-/// The number of a block in its store. A block that left gives its number back for a later one.
+/// The number of a block in its store. A later block may get the number of a removed one.
 #[derive(Clone, Copy, Debug, PartialEq, Eq)]
 pub struct BlockId {
     pub(crate) key: usize,
@@ -34,8 +34,8 @@ impl Model for BlockId {
     ghost inverse = { λ n. record { key = n } };
 }
 
-/// Blocks of 1 to 512 bytes, each with a count of its owners, and the leaves of the maps that live
-/// here, of which a copy of a map is one owner more. Each slot of a leaf owns its block.
+/// Blocks of 1 to 512 bytes and leaves, each with a count of its owners. The owners of a leaf are
+/// the maps of this store that have it. Each slot of a leaf owns its block.
 #[derive(Debug, Drop)]
 pub struct BlockStore {
     blocks: Shared<ByteList>,
@@ -52,7 +52,7 @@ impl Model for BlockStore {
 }
 
 impl BlockStore {
-    /// No blocks; this takes no memory.
+    /// Makes an empty store. It takes no memory.
     pub fn new(alloc: Global) -> BlockStore
         ensures { result ≡ no_blocks }
     {
@@ -63,8 +63,8 @@ impl BlockStore {
         }
     }
 
-    /// Keeps a copy of 1 to 512 bytes as a new block with one owner.
-    /// Where memory is refused, the store is as it was.
+    /// Adds a copy of 1 to 512 bytes as a new block with one owner. If memory is refused, the store
+    /// is as it was.
     pub fn put(&mut self, bytes: &[u8]) -> Result<BlockId, NoMemory>
         requires some { 0 < length bytes.now }
         requires fits { length bytes.now ≤ 512 }
@@ -79,7 +79,7 @@ impl BlockStore {
         Ok(BlockId { key })
     }
 
-    /// Gives a block one owner more.
+    /// Adds an owner to a block.
     pub fn share(&mut self, id: BlockId)
         requires there { 0 < owners_at self.old id }
         requires few { owners_at self.old id < 2 ^ 63 }
@@ -89,7 +89,7 @@ impl BlockStore {
         self.blocks.share(id.key);
     }
 
-    /// Takes one owner from a block. With its last owner the block leaves the store.
+    /// Takes one owner from a block. With its last owner the block is removed.
     pub fn release(&mut self, id: BlockId)
         requires { 0 < owners_at self.old id }
         ensures sets { Sets self.old.blocks self.new.blocks id (released (block_at self.old id)) }
@@ -98,7 +98,7 @@ impl BlockStore {
         let _last = self.blocks.release(id.key);
     }
 
-    /// The bytes of a block.
+    /// Returns the bytes of a block.
     pub fn get(&self, id: BlockId) -> &[u8]
         requires { 0 < owners_at self.now id }
         ensures { result.now ≡ bytes_at self.now id }
@@ -106,7 +106,7 @@ impl BlockStore {
         self.blocks.get(id.key).as_slice()
     }
 
-    /// How many own a block.
+    /// Returns how many owners a block has.
     pub fn owners(&self, id: BlockId) -> u64
         requires { 0 < owners_at self.now id }
         ensures { result ≡ owners_at self.now id }
@@ -114,8 +114,8 @@ impl BlockStore {
         self.blocks.owners(id.key)
     }
 
-    /// How many blocks stand, however many own each: as many different ones as the maps name that
-    /// live here.
+    /// Returns the number of blocks, each counted once: as many different ones as the store's maps
+    /// name.
     #[tactic(auto, using(crate::proofs::Cited::distinct_named))]
     pub fn distinct(&self) -> u64
         ensures count { result ≡ count_by is_some self.now.blocks }
@@ -126,7 +126,7 @@ impl BlockStore {
         self.blocks.len() as u64
     }
 
-    /// How many leaves stand, however many maps own each.
+    /// Returns the number of leaves, each counted once.
     pub fn leaves(&self) -> u64
         ensures { result ≡ count_by is_some self.now.leaves }
     {

@@ -18,7 +18,7 @@ use Rattle.ele_printer.specs.declared.fault.LineFault.TheVariants.{NoMemory, Bad
 use Rattle.std.specs.Option.{option_map}
 use Rattle.ele_script.specs.PolicyWord.{ReadsPolicy}
 
--- what is found, or a fault; want of memory may come in place of any other answer
+-- the value, or a fault; refused memory is possible in place of any other answer
 abbrev pub Finds : {X : Type 0} → (X → Type 0) → (LineFault → Type 0) → Result X LineFault → Type 0
 Finds is bad (Ok x) = is x
 Finds is bad (Err fault) = (fault ≡ NoMemory) ⊎ bad fault
@@ -38,7 +38,7 @@ tag_of kind number =
     else (if kind == 1 then (if nat_le number last_moment then Ok (At number) else Err BadMoment)
     else (if kind == 2 then Ok (Number number) else Err Syntax))
 
--- the same, where no version is meant
+-- the same, without a version's number
 abbrev pub time_of : ℕ → ℕ → Result (Option ℕ) LineFault
 time_of kind number =
     if kind == 0 then Ok None
@@ -106,7 +106,7 @@ AsksEnd event group moment until =
     Finds (λ asked. (end : Option ℕ) × IsName group × (moment_of moment ≡ Ok moment) × (end_of until ≡ Ok end) × (asked ≡ event group moment end))
     (λ fault. IsNameFault group fault ⊎ (moment_of moment ≡ Err fault) ⊎ (end_of until ≡ Err fault))
 
--- the event itself, for which there may be no memory
+-- the event itself, unless memory for it is refused
 abbrev pub Asks : Event → Result Event LineFault → Type 0
 Asks event = Finds (λ asked. asked ≡ event) (λ fault. ⊥)
 

@@ -16,12 +16,12 @@ use Rattle.ele_printer.specs.declared.fault.LineFault.{LineFault}
 use Rattle.ele_runs.specs.declared.said.Said.{Said}
 use Rattle.ele_runs.specs.declared.said.Said.TheVariants.{Passed}
 
--- a closed handle answers 64 and stays closed; an open one stays open, and this becomes of its store
+-- a closed handle returns 64 and stays closed; an open one stays open, and its store changes in this way
 abbrev pub Calls : Option Embedding → (Embedding → Embedding → Type 0) → ℤ → Option Embedding → Type 0
 Calls None does code after = (code ≡ pos 64) × (after ≡ None)
 Calls (Some before) does code after = (store : Embedding) × (after ≡ Some store) × does before store
 
--- what is asked for was run, and the code is that of what was said
+-- the event was run, and the code is that of its result
 pub record Ran (asked : Result Event LineFault) (code : ℤ) (before after : Embedding) : Type 0 where
   pub runs : Runs before.state asked after.said after.state
   pub answer : after.answer ≡ before.answer
@@ -33,7 +33,7 @@ pub record RunsOn (asks : Result Event LineFault → Type 0) (before : Option Em
   pub is : asks asked
   pub ran : Calls before (Ran asked code) code after
 
--- what the store tells is given if the code is 0, and else nothing is written
+-- the store's value is given if the code is 0, and else nothing is written
 abbrev pub Gives : {X : Type 0} → (Embedding → X) → ℤ → Option Embedding → X → X → Type 0
 Gives tells code None old new = new ≡ old
 Gives tells code (Some store) old new = (code ≡ pos 0 → new ≡ tells store) × (code ≢ pos 0 → new ≡ old)
@@ -41,7 +41,7 @@ Gives tells code (Some store) old new = (code ≡ pos 0 → new ≡ tells store)
 abbrev pub GivesNumber : ℤ → Option Embedding → ℕ → ℕ → Type 0
 GivesNumber = Gives number_of
 
--- a call that only looks at the store: a row is told, or a code in its place, and then nothing is written
+-- a call that only looks at the store: it gives a row, or it returns a code, and then nothing is written
 abbrev pub ShowsRow : {X : Type 0} → Result X ℤ → ℤ → X → X → Type 0
 ShowsRow (Ok row) code old new = (code ≡ pos 0) × (new ≡ row)
 ShowsRow (Err why) code old new = (code ≡ why) × (new ≡ old)
@@ -50,7 +50,7 @@ abbrev pub Shows : {X : Type 0} → (Embedding → Result X ℤ) → Option Embe
 Shows row None code after old new = (code ≡ pos 64) × (after ≡ None) × (new ≡ old)
 Shows row (Some store) code after old new = (after ≡ Some store) × ShowsRow (row store) code old new
 
--- bytes are copied whole, or a code stands in their place, and then nothing is written
+-- the bytes are copied whole, or the call returns a code, and then nothing is written
 abbrev pub ShowsBytes : Result (List ℕ) ℤ → List ℕ → List ℕ → ℕ → ℕ → ℤ → Type 0
 ShowsBytes (Ok bytes) old new before count code = CopiesWhole bytes old new before count code
 ShowsBytes (Err why) old new before count code = (code ≡ why) × (count ≡ before) × (new ≡ old)
@@ -59,7 +59,7 @@ abbrev pub ShowsName : (Embedding → Result (List ℕ) ℤ) → Option Embeddin
 ShowsName name None code after old new before count = (code ≡ pos 64) × (after ≡ None) × (count ≡ before) × (new ≡ old)
 ShowsName name (Some store) code after old new before count = (after ≡ Some store) × ShowsBytes (name store) old new before count code
 
--- a piece of bytes is copied, or a code stands in its place, and then nothing is written
+-- a piece of bytes is copied, or the call returns a code, and then nothing is written
 abbrev pub ShowsPart : Option (List ℕ) → ℕ → List ℕ → List ℕ → ℕ → ℕ → ℤ → Type 0
 ShowsPart None offset old new before count code = (code ≡ pos 68) × (count ≡ before) × (new ≡ old)
 ShowsPart (Some bytes) offset old new before count code = (code ≡ pos 0) × CopiesPiece bytes offset old new count
@@ -68,7 +68,7 @@ abbrev pub ShowsPiece : (Embedding → Option (List ℕ)) → ℕ → Option Emb
 ShowsPiece bytes offset None code after old new before count = (code ≡ pos 64) × (after ≡ None) × (count ≡ before) × (new ≡ old)
 ShowsPiece bytes offset (Some store) code after old new before count = (after ≡ Some store) × ShowsPart (bytes store) offset old new before count code
 
--- a line was run, and its text made, or there is no memory for that
+-- a line was run, and its text made, unless memory for that is refused
 abbrev pub TellsText : ℤ → Embedding → ℕ → ℕ → Type 0
 TellsText code after old new =
     ((code ≡ pos 0) × IsTold after.state after.said after.answer × (new ≡ length after.answer))
@@ -113,13 +113,13 @@ FoldedIf false code before after = FoldsOrNot before false after × (code ≡ po
 abbrev pub Folded : ℤ → Embedding → Embedding → Type 0
 Folded code before after = (has : Bool) × FoldedIf has code before after
 
--- why a version is held was asked
+-- the handle was asked why a version is held
 pub record WhyOn (path : List ℕ) (kind number : ℕ) (before : Option Embedding) (code : ℤ) (after : Option Embedding) : Type 0 where
   pub asked : Result TaggedPath LineFault
   pub is : Finds (IsTagged path kind number) (IsTaggedFault path kind number) asked
   pub told : Calls before (ToldWhy asked code) code after
 
--- a store was opened: 66 if the limits are too large, and 65, whatever they are, if it is open, which leaves it
+-- a store was opened; 66 if the limits are too large; 65, whatever they are, if it is open, which leaves it
 abbrev pub OpensFresh : Option Bounds → Bool → ℤ → Option Embedding → Type 0
 OpensFresh None history code after = (code ≡ pos 66) × (after ≡ None)
 OpensFresh (Some limits) history code after =
@@ -143,7 +143,7 @@ abbrev pub said_pass : (PassEnd → ℕ) → Said → ℕ → ℕ
 said_pass number (Passed end) old = number end
 said_pass number said old = old
 
--- these numbers of the pass that was said, or the old ones if the handle is closed
+-- these numbers of the pass, or the old ones if the handle is closed
 abbrev pub if_removed : Option Embedding → ℕ → ℕ
 if_removed None old = old
 if_removed (Some store) old = said_pass removed_by store.said old

@@ -1,4 +1,4 @@
--- The codes and numbers by which C is told what a store said.
+-- The codes and numbers of a result, as C gets them.
 use Rattle.std.specs.Prelude.{ℕ, ◌-◌, ◌^◌, length, Option, Some, None, Ok, Err}
 use Rattle.ele_embed.specs.Embedding.{Embedding, reply_of}
 use Rattle.ele_model.specs.Answers.{refusal_number, stop_number}
@@ -21,7 +21,7 @@ abbrev pub reply_code : Option Reply → ℕ
 reply_code (Some (Refused refusal)) = refusal_number refusal
 reply_code reply = 0
 
--- the code of what was said: the number of a fault, a stop or a refusal, or 0
+-- the code of a result: the number of a fault, a stop or a refusal, or 0
 abbrev pub said_code : Said → Option Reply → ℕ
 said_code (Bad fault) reply = fault_number fault
 said_code (Stopped stop) reply = stop_number stop
@@ -33,7 +33,7 @@ said_code said reply = reply_code reply
 abbrev pub code_of : Embedding → ℕ
 code_of store = said_code store.said (reply_of store)
 
--- the number that a reply tells: of a list and of bytes, how many they are
+-- the number in a reply; for a list and for bytes, how many there are
 abbrev pub reply_number : Option Reply → ℕ
 reply_number (Some (Now moment)) = moment
 reply_number (Some (Directory id)) = id
@@ -58,7 +58,7 @@ said_number said reply = reply_number reply
 abbrev pub number_of : Embedding → ℕ
 number_of store = said_number store.said (reply_of store)
 
--- the limit that is reached, in the order of the limits
+-- the number of the limit that is reached, in the order of the limits
 abbrev pub limit_number : Which → ℕ
 limit_number which.Files = 1
 limit_number which.Directories = 2
@@ -74,7 +74,7 @@ abbrev pub number_or_zero : Option ℕ → ℕ
 number_or_zero None = 0
 number_or_zero (Some number) = number
 
--- what a refusal tells beyond its code
+-- the detail of a refusal, beside its code
 abbrev pub detail_in : Refusal → Option ℕ
 detail_in (Forgotten before) = Some (number_or_zero before)
 detail_in (Full which) = Some (limit_number which)

@@ -1,4 +1,4 @@
--- Rows in numbers, and what is kept of each kind.
+-- Rows in numbers, and what the handle keeps of each kind.
 use Rattle.std.specs.Prelude.{ℕ, ℤ, pos, List, [], length, slice_get, Option, Some, None, Result, Ok, Err}
 use Rattle.ele_c.specs.Codes.{never}
 use Rattle.ele_c.specs.declared.fields.GroupFields.{GroupFields}
@@ -37,7 +37,7 @@ abbrev pub or_never : Option ℕ → ℕ
 or_never None = never
 or_never (Some number) = number
 
--- an item of a list that is kept: 68 if none is kept, and 69 if it has no such item
+-- an item of the kept list: 68 if none is kept, and 69 if it has no such item
 abbrev pub or_no_row : {X : Type 0} → Option X → Result X ℤ
 or_no_row None = Err (pos 69)
 or_no_row (Some x) = Ok x
@@ -98,7 +98,7 @@ usage_fields usage = record { files = usage.files; versions = usage.versions; by
 abbrev pub usage_at : Embedding → ℕ → Result UsageFields ℤ
 usage_at store index = found_as usage_fields (item_at (usages_in (reply_of store)) index)
 
--- names: a directory's, and those that may come back
+-- names: a directory's, and the restorable ones
 abbrev pub target_fields : ℕ → List ℕ → Target → NameFields
 target_fields directory name (target.File file) = record { directory = directory; is_directory = 0; id = file; name_length = length name }
 target_fields directory name (target.Directory id) = record { directory = directory; is_directory = 1; id = id; name_length = length name }
@@ -219,7 +219,7 @@ stat_in other = no_stat
 abbrev pub stat_fields : Embedding → StatFields
 stat_fields store = stat_in (reply_of store)
 
--- the rungs of the policy that was told
+-- the rungs of the policy in the reply
 abbrev pub rungs_in : Option Reply → Option (List (ℕ × ℕ))
 rungs_in (Some (reply.FileStat stat)) = Some (rungs_of stat.policy)
 rungs_in (Some (reply.DirStat row)) = Some (rungs_of row.default)
@@ -228,7 +228,7 @@ rungs_in other = None
 abbrev pub rung_at : Embedding → ℕ → Result (ℕ × ℕ) ℤ
 rung_at store index = item_at (rungs_in (reply_of store)) index
 
--- what becomes of a version
+-- the fate of a version
 abbrev pub no_why : WhyFields
 no_why = record { fate = 0; moment = 0; until = 0; level = 0; cause = 0; seconds = 0; by = 0 }
 
@@ -251,12 +251,12 @@ why_in other = no_why
 abbrev pub why_fields : Embedding → WhyFields
 why_fields store = why_in store.said
 
--- the name of the group whose mark keeps it
+-- the name of the group whose mark holds it
 abbrev pub marked_in : Said → Result (List ℕ) ℤ
 marked_in (said.Why (Ok (fate.Marked group mark))) = Ok group
 marked_in other = Err (pos 68)
 
--- the bytes that are kept
+-- the kept bytes
 abbrev pub content_in : Option Reply → Option (List ℕ)
 content_in (Some (reply.Bytes bytes)) = Some bytes
 content_in other = None
@@ -264,12 +264,12 @@ content_in other = None
 abbrev pub content_of : Embedding → Option (List ℕ)
 content_of store = content_in (reply_of store)
 
--- what a refusal tells beyond its code, or 68
+-- the detail of a refusal, or 68
 abbrev pub told_or : Option ℕ → Result ℕ ℤ
 told_or None = Err (pos 68)
 told_or (Some detail) = Ok detail
 
--- how many events were folded and how many stand behind them, or 67 without a history
+-- how many events are folded and how many entries follow them, or 67 without a history
 abbrev pub counts_in : Option Past → Result (ℕ × ℕ) ℤ
 counts_in None = Err (pos 67)
 counts_in (Some past) = Ok (past.folded, length past.entries)
@@ -277,6 +277,6 @@ counts_in (Some past) = Ok (past.folded, length past.entries)
 abbrev pub counts_of : Embedding → Result (ℕ × ℕ) ℤ
 counts_of store = counts_in (past_in store.state)
 
--- the moment that it is
+-- the current moment
 abbrev pub now_of : Embedding → Result ℕ ℤ
 now_of store = Ok (world_in store.state).now

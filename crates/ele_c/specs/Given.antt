@@ -1,4 +1,4 @@
--- What a handle on the heap is.
+-- A handle on the heap.
 use base.Fml.{Fml, ftrue}
 use denote.RawPtr.{Ptr, block_ptr, null_ptr}
 use Rattle.std.specs.Prelude.{false}
@@ -12,7 +12,7 @@ use Rattle.ele_model.specs.Bounds.{largest_bounds}
 abbrev pub handle_at : Ptr → the_row.Denot → Fml
 handle_at p elephant = box_owns (ghosts.dealloc_token (record { memory = record { seal = tt } })) the_row p elephant
 
--- a closed handle; what it would hold says nothing
+-- a closed handle; its store says nothing
 abbrev pub closed_handle : the_row.Denot
 closed_handle = record { at = null_ptr; is_full = false; held = fresh_plain largest_bounds }
 

@@ -1,4 +1,4 @@
--- The limits that C gives.
+-- The limits that a C program gives.
 use Rattle.std.specs.Prelude.{◌≡◌, ℤ, Bool, Option, Some, None}
 use Rattle.ele_c.specs.Calls.{Opens}
 use Rattle.ele_c.specs.declared.fields.LimitFields.{LimitFields}
@@ -18,12 +18,12 @@ bounds_in limits = record {
   marks = limits.marks;
 }
 
--- none if one is above its largest
+-- there are none if one is above its largest
 abbrev pub IsLimits : LimitFields → Option Bounds → Type 0
 IsLimits limits None = ¬ AreBounds (bounds_in limits)
 IsLimits limits (Some bounds) = (bounds ≡ bounds_in limits) × AreBounds (bounds_in limits)
 
--- a store was opened with the limits that these are
+-- a store was opened with these limits
 pub record OpensWith (given : LimitFields) (history : Bool) (before : Option Embedding) (code : ℤ) (after : Option Embedding) : Type 0 where
   pub limits : Option Bounds
   pub are : IsLimits given limits

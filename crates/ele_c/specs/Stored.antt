@@ -1,4 +1,4 @@
--- The store behind a handle.
+-- The store of a handle.
 use Rattle.std.specs.Prelude.{if◌then◌else◌, Option, Some, None}
 use Rattle.ele_c.specs.declared.handle.Elephant.{Elephant}
 use Rattle.ele_embed.specs.Embedding.{Embedding}

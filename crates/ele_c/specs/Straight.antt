@@ -1,4 +1,4 @@
--- Reads straight into the caller's memory.
+-- Reads straight into the caller's buffer.
 use Rattle.std.specs.Prelude.{◌≡◌, ℕ, ℤ, pos, List, Option, Some, None, Result, Ok, Err}
 use Rattle.ele_c.specs.Asks.{Finds, IsTagged, IsTaggedFault}
 use Rattle.ele_embed.specs.Embedding.{Embedding, State}
@@ -12,12 +12,12 @@ use Rattle.ele_path.specs.declared.tagged.TaggedPath.{TaggedPath}
 use Rattle.ele_printer.specs.LineFault.{fault_number}
 use Rattle.ele_printer.specs.declared.fault.LineFault.{LineFault}
 
--- a version is asked for by a path with a tag
+-- a path with a tag means the version to read
 abbrev pub AsksVersion : List ℕ → ℕ → ℕ → Result Source LineFault → Type 0
 AsksVersion bytes kind number =
     Finds (λ source. (tagged : TaggedPath) × IsTagged bytes kind number tagged × (source ≡ Tagged tagged)) (IsTaggedFault bytes kind number)
 
--- bytes were copied, or the number of the refusal or the fault is told, and nothing was written
+-- bytes were copied; or the result is the number of the refusal or the fault, and nothing was written
 abbrev pub CopiesAsked : State → Result Source LineFault → ℕ → List ℕ → List ℕ → Result Copied ℤ → Type 0
 CopiesAsked state (Ok source) offset old new (Ok copied) = CopiesRead state source offset old new (Ok copied)
 CopiesAsked state (Ok source) offset old new (Err code) =
@@ -25,7 +25,7 @@ CopiesAsked state (Ok source) offset old new (Err code) =
 CopiesAsked state (Err fault) offset old new (Ok copied) = ⊥
 CopiesAsked state (Err fault) offset old new (Err code) = (code ≡ pos (fault_number fault)) × (new ≡ old)
 
--- how long the content is and how many bytes were copied, or a code in their place, and then nothing is told
+-- the length of the content and the number of copied bytes are given; or the call returns a code, and nothing is written
 abbrev pub TellsCopied : Result Copied ℤ → ℤ → ℕ × ℕ → ℕ × ℕ → Type 0
 TellsCopied (Ok copied) code before after = (code ≡ pos 0) × (after ≡ (copied.length, copied.count))
 TellsCopied (Err why) code before after = (code ≡ why) × (after ≡ before)

@@ -1,4 +1,4 @@
-//! What a store said, as codes and numbers for C. A contract sees these.
+//! The result of a call, as codes and numbers for C. A contract sees these.
 ghost use Rattle.std.specs.Prelude.{◌≡◌, pos};
 ghost use Rattle.std.specs.Option.{option_copied};
 ghost use Rattle.ele_c.specs.Codes.{code_of, detail_in, detail_of, limit_number, number_of, number_or_zero, reply_code, reply_detail, reply_number};
@@ -6,9 +6,9 @@ ghost use Rattle.ele_c.specs.Codes.{code_of, detail_in, detail_of, limit_number,
 use ele_embed::{Said, Store};
 use ele_model::{PassEnd, Refusal, Reply, VersionNo, Which};
 
-/// It is done.
+/// Success.
 pub(crate) const OK: i32 = 0;
-/// There is no memory.
+/// Memory was refused.
 pub(crate) const NO_MEMORY: i32 = 1;
 /// The handle is closed.
 pub(crate) const CLOSED: i32 = 64;
@@ -22,15 +22,15 @@ pub(crate) const NO_HISTORY: i32 = 67;
 pub(crate) const NO_RESULT: i32 = 68;
 /// There is no such row.
 pub(crate) const NO_ROW: i32 = 69;
-/// The room is too small.
+/// The buffer is too small.
 pub(crate) const NO_ROOM: i32 = 70;
-/// There is no memory for the text.
+/// Memory for the text was refused.
 pub(crate) const UNTOLD: i32 = 71;
 
 /// Neither a moment nor a level.
 pub(crate) const NEVER: u64 = u64::MAX;
 
-/// The code of what was said last.
+/// Returns the code of the last result.
 pub(crate) fn code_of(store: &Store) -> i32
     ensures { result ≡ pos (code_of store.now) }
 {
@@ -54,7 +54,7 @@ fn reply_code(reply: Option<&Reply>) -> i32
     }
 }
 
-/// The number that what was said last tells: of a list and of bytes, how many they are.
+/// Returns the number in the last result; for a list and for bytes, how many there are.
 pub(crate) fn number_of(store: &Store) -> u64
     ensures { result ≡ number_of store.now }
 {
@@ -65,7 +65,7 @@ pub(crate) fn number_of(store: &Store) -> u64
     }
 }
 
-// The number that a reply tells.
+// The number in a reply.
 fn reply_number(reply: Option<&Reply>) -> u64
     ensures { result ≡ reply_number (option_copied reply.entry) }
 {
@@ -90,7 +90,7 @@ fn reply_number(reply: Option<&Reply>) -> u64
     }
 }
 
-/// What the last refusal tells beyond its code.
+/// Returns the detail of the last refusal, beside its code.
 pub(crate) fn detail_of(store: &Store) -> Option<u64>
     ensures { result ≡ detail_of store.now }
 {
@@ -100,7 +100,7 @@ pub(crate) fn detail_of(store: &Store) -> Option<u64>
     }
 }
 
-// What a reply tells beyond its code, if it is a refusal.
+// The detail of a reply, if it is a refusal that has one.
 fn reply_detail(reply: Option<&Reply>) -> Option<u64>
     ensures { result ≡ reply_detail (option_copied reply.entry) }
 {
@@ -110,7 +110,7 @@ fn reply_detail(reply: Option<&Reply>) -> Option<u64>
     }
 }
 
-// What a refusal tells beyond its code.
+// The detail of a refusal, if it has one.
 fn detail_in(refusal: Refusal) -> Option<u64>
     ensures { result ≡ detail_in refusal }
 {

@@ -1,9 +1,9 @@
-//! Copies of what is kept, into the caller's memory.
+//! Copies of the kept result into the caller's buffer.
 ghost use Rattle.ele_c.specs.Copies.{CopiesPiece, CopiesWhole};
 
 use crate::codes::{NO_ROOM, OK};
 
-/// Copies the bytes from the offset on, as many as there is room for, and answers how many.
+/// Copies the bytes from the offset on, as many as fit, and returns how many.
 pub(crate) fn copy_piece(bytes: &[u8], offset: u64, into: &mut [u8]) -> u64
     ensures { CopiesPiece bytes.now offset into.old into.new result }
 {
@@ -16,7 +16,7 @@ pub(crate) fn copy_piece(bytes: &[u8], offset: u64, into: &mut [u8]) -> u64
     count as u64
 }
 
-/// Copies all of the bytes if there is room for them, and tells how many they are.
+/// Copies all of the bytes if they fit, and sets `length` to how many there are.
 pub(crate) fn copy_whole(bytes: &[u8], into: &mut [u8], length: &mut u64) -> i32
     ensures { CopiesWhole bytes.now into.old into.new length.old length.new result }
 {

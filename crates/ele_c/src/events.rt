@@ -1,4 +1,4 @@
-//! Events by a handle. A contract sees the store that it holds, if it is open.
+//! Events by a handle. A contract sees the handle's store, if it is open.
 ghost use Rattle.ele_c.specs.Calls.{Calls, GivesNumber, Ran};
 ghost use Rattle.ele_c.specs.Stored.{stored};
 
@@ -9,7 +9,7 @@ use ele_model::Event;
 use ele_script::LineFault;
 use std::alloc::Global;
 
-/// Runs what is asked for, and answers the code.
+/// Runs the event, and returns the code.
 pub(crate) fn run(alloc: Global, elephant: &mut Elephant, asked: Result<Event, LineFault>) -> i32
     ensures { Calls (stored elephant.old) (Ran asked result) result (stored elephant.new) }
 {
@@ -23,7 +23,7 @@ pub(crate) fn run(alloc: Global, elephant: &mut Elephant, asked: Result<Event, L
     code
 }
 
-/// The same, with the number that the reply tells.
+/// Does the same, and returns the number in the reply.
 pub(crate) fn run_for(
     alloc: Global,
     elephant: &mut Elephant,

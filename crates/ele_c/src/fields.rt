@@ -1,4 +1,4 @@
-//! Rows as C sees them: whole numbers alone.
+//! Rows as C sees them, in whole numbers.
 
 /// `elephant_limits`.
 #[repr(C)]

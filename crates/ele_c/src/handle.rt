@@ -1,4 +1,5 @@
-//! The handle and its three moves, whose proofs are by hand. A contract sees its fields: whether it is open, and the store.
+//! The handle and its three operations, whose proofs are by hand. A contract sees its fields:
+//! whether it is open, and the store.
 ghost use Rattle.std.specs.Prelude.{◌≡◌, true, false};
 ghost use Rattle.ele_embed.specs.Embedding.{Embedding};
 ghost use Rattle.ele_c.specs.Held.{owns_store};
@@ -23,11 +24,11 @@ impl Model for Elephant {
     ghost also_owns = { λ elephant. owns_store elephant.is_full elephant.at elephant.held };
 }
 
-// C may hand it to another thread between two calls.
+// A C program may pass it to another thread between two calls.
 unsafe impl Send for Elephant {}
 
 impl Elephant {
-    /// Whether it is open.
+    /// Returns whether it is open.
     pub(crate) fn is_open(&mut self) -> bool
         ensures full { result ≡ self.old.is_full }
         ensures same { self.new ≡ self.old }

@@ -85,7 +85,7 @@ pub extern "C" fn elephant_history(
     }
 }
 
-// How many events were folded, and how many stand behind them.
+// How many events are folded, and how many entries follow them.
 fn counts_of(store: &Store) -> Result<(u64, u64), i32>
     ensures { result ≡ counts_of store.now }
 {
@@ -113,7 +113,7 @@ pub extern "C" fn elephant_trim(alloc: Global, elephant: &mut Elephant, folded: 
     code
 }
 
-// Folds the history, and answers the code.
+// Folds the history, and returns the code.
 fn trim(store: &mut Store) -> i32
     ensures { Folded result store.old store.new }
 {

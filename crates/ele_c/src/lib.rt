@@ -32,7 +32,7 @@ pub use handle::Elephant;
 use handle::fresh::{Grip, fresh};
 use std::alloc::Global;
 
-/// Puts a closed handle on the heap at `out`, or null if there is no memory.
+/// Stores a closed handle on the heap at `out`, or null if memory is refused.
 #[unsafe(no_mangle)]
 pub extern "C" fn elephant_new(alloc: Global, out: &mut *mut Elephant)
     ensures* { sem 𝓛 (given out.new) }
@@ -41,7 +41,7 @@ pub extern "C" fn elephant_new(alloc: Global, out: &mut *mut Elephant)
     *out = at;
 }
 
-/// Closes a handle that `elephant_new` gave, and frees it.
+/// Closes a handle from `elephant_new`, and frees it.
 #[unsafe(no_mangle)]
 pub unsafe extern "C" fn elephant_delete(alloc: Global, elephant: *mut Elephant)
     ghost inside: { Elephant }

@@ -38,7 +38,7 @@ pub extern "C" fn elephant_line(
     }
 }
 
-/// Makes the text of what the last call was answered.
+/// Makes the text of the last call's answer.
 #[unsafe(no_mangle)]
 pub extern "C" fn elephant_tell(alloc: Global, elephant: &mut Elephant, length: &mut u64) -> i32
     ensures { TellsAgain (stored elephant.old) result (stored elephant.new) length.old
@@ -81,7 +81,7 @@ pub extern "C" fn elephant_answer(
     OK
 }
 
-/// What the last refusal tells beyond its code.
+/// Returns the detail of the last refusal.
 #[unsafe(no_mangle)]
 pub extern "C" fn elephant_detail(alloc: Global, elephant: &mut Elephant, detail: &mut u64) -> i32
     ensures { Shows (λ store. told_or (detail_of store)) (stored elephant.old) result

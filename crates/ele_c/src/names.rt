@@ -30,7 +30,7 @@ pub extern "C" fn elephant_mkdir(
     )
 }
 
-/// Ends the name of a directory.
+/// Removes the name of a directory.
 #[unsafe(no_mangle)]
 pub extern "C" fn elephant_rmdir(alloc: Global, elephant: &mut Elephant, path: &[u8]) -> i32
     ensures { RunsOn (AsksPath event.RemoveDir path.now)
@@ -81,7 +81,7 @@ pub extern "C" fn elephant_link(
     )
 }
 
-/// Ends the name of a file.
+/// Removes the name of a file.
 #[unsafe(no_mangle)]
 pub extern "C" fn elephant_unlink(alloc: Global, elephant: &mut Elephant, path: &[u8]) -> i32
     ensures { RunsOn (AsksPath event.Unlink path.now)
@@ -90,7 +90,7 @@ pub extern "C" fn elephant_unlink(alloc: Global, elephant: &mut Elephant, path: 
     run(alloc, elephant, asks::path(alloc, path).map(Event::Unlink))
 }
 
-/// Gives a file or a directory another name in place of the one that it has.
+/// Moves a file or a directory to another path.
 #[unsafe(no_mangle)]
 pub extern "C" fn elephant_rename(
     alloc: Global,
@@ -108,7 +108,7 @@ pub extern "C" fn elephant_rename(
     )
 }
 
-/// Brings a dead name back.
+/// Restores a dead name.
 #[unsafe(no_mangle)]
 pub extern "C" fn elephant_undelete(
     alloc: Global,

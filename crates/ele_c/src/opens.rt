@@ -37,7 +37,7 @@ pub extern "C" fn elephant_open_largest(alloc: Global, elephant: &mut Elephant, 
     open(alloc, elephant, Some(Limits::largest()), history != 0)
 }
 
-/// Forgets the store.
+/// Drops the store.
 #[unsafe(no_mangle)]
 pub extern "C" fn elephant_close(alloc: Global, elephant: &mut Elephant)
     ensures { stored elephant.new ≡ None }

@@ -19,7 +19,7 @@ use ele_model::{Cause, DirectoryRow, Event, Fate, FileStat, Moment, Policy, Repl
 use ele_script::LineFault;
 use std::alloc::Global;
 
-/// Says what a path and its tag mean.
+/// Returns what a path and its tag mean.
 #[unsafe(no_mangle)]
 pub extern "C" fn elephant_stat(
     alloc: Global,
@@ -147,7 +147,7 @@ fn rungs_of(policy: &Policy) -> &[(u64, u64)]
     }
 }
 
-/// A rung of the ladder of the last stat.
+/// Returns a rung of the ladder of the last stat.
 #[unsafe(no_mangle)]
 pub extern "C" fn elephant_rung(
     alloc: Global,
@@ -194,7 +194,7 @@ fn rung_at(reply: Option<&Reply>, index: u64) -> Result<(u64, u64), i32>
     }
 }
 
-/// Says why a version is held.
+/// Returns why a version is held.
 #[unsafe(no_mangle)]
 pub extern "C" fn elephant_why(
     alloc: Global,
@@ -307,7 +307,7 @@ fn due_fields(since: Moment, cause: &Cause) -> WhyFields
     }
 }
 
-/// Copies the name of the group whose mark keeps the version.
+/// Copies the name of the group whose mark holds the version.
 #[unsafe(no_mangle)]
 pub extern "C" fn elephant_why_group(
     alloc: Global,

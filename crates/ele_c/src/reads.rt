@@ -61,7 +61,7 @@ pub extern "C" fn elephant_read(
     )
 }
 
-/// Keeps the bytes of what a handle reads.
+/// Keeps the bytes that a handle reads.
 #[unsafe(no_mangle)]
 pub extern "C" fn elephant_read_handle(
     alloc: Global,
@@ -120,7 +120,7 @@ pub extern "C" fn elephant_list(
     run_for(alloc, elephant, asks::list(alloc, path, tag, number), rows)
 }
 
-/// Lists the names that may come back.
+/// Lists the restorable names.
 #[unsafe(no_mangle)]
 pub extern "C" fn elephant_restorable(alloc: Global, elephant: &mut Elephant, rows: &mut u64) -> i32
     ensures ran { RunsOn (Asks event.Restorable)

@@ -1,4 +1,4 @@
-//! Rows of the list that is kept. A contract sees a row as the numbers that C gets.
+//! Rows of the kept list. A contract sees a row as the numbers that C gets.
 ghost use Rattle.std.specs.Prelude.{◌≡◌};
 ghost use Rattle.std.specs.Option.{option_copied, option_map};
 ghost use Rattle.std.specs.Result.{result_map_both};
@@ -221,7 +221,7 @@ pub extern "C" fn elephant_row_bytes(
     code
 }
 
-/// Copies the bytes that were found.
+/// Copies the bytes, or returns the code.
 pub(crate) fn copy_found(found: Result<&[u8], i32>, into: &mut [u8], length: &mut u64) -> i32
     ensures { ShowsBytes (result_map_both (λ bytes. bytes.now) (λ code. code) found.entry) into.old into.new length.old length.new result }
 {
@@ -231,7 +231,7 @@ pub(crate) fn copy_found(found: Result<&[u8], i32>, into: &mut [u8], length: &mu
     }
 }
 
-/// The item of a list, if one is kept.
+/// Returns the item of the kept list, if there is one.
 pub(crate) fn item_at<T>(items: Option<&[T]>, index: u64) -> Result<&T, i32>
     ensures { result_map_both (λ item. item.now) (λ code. code) result
         ≡ item_at (option_map (λ items. items.now) items.entry) index }

@@ -1,4 +1,4 @@
-//! Reads straight into the caller's memory.
+//! Reads straight into the caller's buffer.
 ghost use Rattle.std.specs.Prelude.{◌≡◌, Ok};
 ghost use Rattle.ele_c.specs.Stored.{stored};
 ghost use Rattle.ele_c.specs.Straight.{AsksVersion, CopiesAsked, Reads, ReadsInto};
@@ -33,7 +33,7 @@ pub extern "C" fn elephant_read_into(
     read_into(alloc, elephant, asked, offset, into, length, copied)
 }
 
-/// Copies bytes of what a handle reads.
+/// Copies bytes that a handle reads.
 #[unsafe(no_mangle)]
 pub extern "C" fn elephant_read_handle_into(
     alloc: Global,
@@ -51,7 +51,7 @@ pub extern "C" fn elephant_read_handle_into(
     read_into(alloc, elephant, asked, offset, into, length, copied)
 }
 
-// Copies bytes of what is asked for, and tells how many.
+// Copies the bytes, and sets how many.
 fn read_into(
     alloc: Global,
     elephant: &mut Elephant,
@@ -80,7 +80,7 @@ fn read_into(
     }
 }
 
-// Copies bytes of what is asked for, or answers the code.
+// Copies the bytes, or returns the code.
 fn copy_asked(
     store: &Store,
     asked: &Result<Source, LineFault>,

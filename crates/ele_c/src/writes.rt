@@ -13,7 +13,7 @@ use box_parts::Parts;
 use ele_model::{Event, Handle};
 use std::alloc::Global;
 
-/// The moment that it is.
+/// Returns the current moment.
 #[unsafe(no_mangle)]
 pub extern "C" fn elephant_now(alloc: Global, elephant: &mut Elephant, moment: &mut u64) -> i32
     ensures { Shows now_of (stored elephant.old) result (stored elephant.new) moment.old
@@ -37,7 +37,7 @@ pub extern "C" fn elephant_clock(alloc: Global, elephant: &mut Elephant, moment:
     run(alloc, elephant, asks::moment(moment).map(Event::Clock))
 }
 
-/// Sets the clock on.
+/// Moves the clock forward.
 #[unsafe(no_mangle)]
 pub extern "C" fn elephant_tick(alloc: Global, elephant: &mut Elephant, seconds: u64) -> i32
     ensures { RunsOn (Asks (event.Tick seconds))
@@ -85,7 +85,7 @@ pub extern "C" fn elephant_write(
     )
 }
 
-/// Gives a draft another length.
+/// Sets the length of a draft.
 #[unsafe(no_mangle)]
 pub extern "C" fn elephant_truncate(
     alloc: Global,
@@ -130,7 +130,7 @@ pub extern "C" fn elephant_revert(
     run_for(alloc, elephant, asks::revert(alloc, path, number), version)
 }
 
-/// Gives a file a policy.
+/// Sets the policy of a file.
 #[unsafe(no_mangle)]
 pub extern "C" fn elephant_policy(
     alloc: Global,
@@ -148,7 +148,7 @@ pub extern "C" fn elephant_policy(
     )
 }
 
-/// Gives a directory the policy of its new files.
+/// Sets the default policy of a directory.
 #[unsafe(no_mangle)]
 pub extern "C" fn elephant_default(
     alloc: Global,

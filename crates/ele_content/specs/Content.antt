@@ -1,4 +1,4 @@
--- The content of cells, and what a write and a truncate make of them.
+-- The content of cells, and the cells after a write and a truncate.
 use Rattle.std.specs.Prelude.{ℕ, ◌+◌, ◌-◌, ◌*◌, ◌/◌, ◌==◌, nat_lt, min, Bool, ◌&&◌, List, [], ◌∷◌, ◌++◌, length, take, drop, map, replicate, slice_get, if◌then◌else◌}
 use Rattle.std.specs.List.{flat_map, range_with_len}
 use Rattle.std.specs.Option.{option_map_or}
@@ -17,7 +17,7 @@ abbrev pub fill_slots : ℕ → List Cell → Bool
 fill_slots n [] = n == 0
 fill_slots n (cell ∷ cells) = (length cell.bytes == min n 512) && (nat_lt 0 n && fill_slots (n - 512) cells)
 
--- the content with the bytes over it from the offset on; before that zeros fill it up to the offset
+-- the content with the bytes written over it from the offset on; if it ends before the offset, zeros fill it up to there
 abbrev pub content_after_write : List ℕ → ℕ → List ℕ → List ℕ
 content_after_write content offset bytes =
     take offset content ++ replicate (offset - length content) 0 ++ bytes ++ drop (offset + length bytes) content
@@ -33,7 +33,7 @@ slot_count len = (len + 511) / 512
 abbrev pub writer_at : List Cell → ℕ → ℕ
 writer_at cells slot = option_map_or (λ cell. cell.writer) (slice_get cells slot) 0
 
--- some byte of the slot stands in the range from one place up to before another
+-- some byte of the slot is in the range from one place until before another
 abbrev pub meets : ℕ → ℕ → ℕ → Bool
 meets from to slot = nat_lt from to && (nat_lt (512 * slot) to && nat_lt from (512 * slot + 512))
 
@@ -48,7 +48,7 @@ cells_after_write writer offset bytes cells =
       bytes = slot_bytes new slot;
     }) (range_with_len 0 (slot_count (length new)))
 
--- the content's bytes up to this length, with zeros behind them where it is shorter
+-- the content's bytes up to this length, followed by zeros if it is shorter
 abbrev pub content_after_truncate : List ℕ → ℕ → List ℕ
 content_after_truncate content len = take len content ++ replicate (len - length content) 0
 

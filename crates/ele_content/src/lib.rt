@@ -1,4 +1,4 @@
-//! Cells, what a write and a truncate make of them, and when two slots are one block.
+//! Cells, the result of a write or a truncate, and when two slots are one block.
 //! A contract sees a content as the list of its cells.
 #![tactic(auto)]
 

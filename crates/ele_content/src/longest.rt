@@ -3,10 +3,10 @@
 ghost use Rattle.std.specs.Prelude.{◌≡◌, ◌+◌, nat_lt};
 ghost use Rattle.ele_content.specs.Content.{longest_content};
 
-/// How many bytes a content may have.
+/// The largest length of a content, in bytes.
 const LONGEST_CONTENT: u64 = 1_048_576;
 
-/// Whether a content would be too long whose bytes go on for this length after the offset.
+/// Whether bytes of this length from the offset on would make a content too long.
 pub fn is_too_long(offset: u64, length: u64) -> bool
     ensures { result ≡ nat_lt longest_content (offset + length) }
 {

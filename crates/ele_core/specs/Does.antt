@@ -1,4 +1,4 @@
--- What a call does, as the event that it takes.
+-- What a call does: the same as its event.
 use Rattle.std.specs.Prelude.{◌≡◌, ℕ, Bool, true, false, Option, Some, None, Result, Ok, Err}
 use Rattle.ele_core.specs.declared.halt.Halt.{Halt}
 use Rattle.ele_core.specs.declared.halt.Halt.TheVariants as halt
@@ -21,27 +21,27 @@ abbrev pub refuses : World → Event → Bool
 refuses w event = is_refused ((step w event).0)
 
 module _ {X : Type 0} where
-  -- what is found is told, and the refusal is replied; where memory is refused, the world stays, and the step doesn't refuse
+  -- a value is the reply, and so is a refusal; if memory is refused, the world stays, and the step doesn't refuse the event
   abbrev pub Does : (X → Reply) → World → Event → Result X Halt → World → Type 0
   Does told before event (Ok x) after = (told x, after) ≡ step before event
   Does told before event (Err (halt.Refused refusal)) after = (Refused refusal, after) ≡ step before event
   Does told before event (Err halt.NoMemory) after = (after ≡ before) × (refuses before event ≡ false)
 
-  -- the same, of a call that takes no memory
+  -- the same for a call that takes no memory
   abbrev pub DoesAtOnce : (X → Reply) → World → Event → Result X Refusal → World → Type 0
   DoesAtOnce told before event (Ok x) after = (told x, after) ≡ step before event
   DoesAtOnce told before event (Err refusal) after = (Refused refusal, after) ≡ step before event
 
-  -- nothing is told beyond that it is done
+  -- the reply that holds no value
   abbrev pub done : X → Reply
   done x = Done
 
--- a name came back, and with a file that had none a version
+-- a name was restored, and a version was made if the file had no name
 abbrev pub revived : Option ℕ → Reply
 revived None = Done
 revived (Some number) = Version number
 
--- the version that went, if any was due
+-- the version that was removed, if any was due
 abbrev pub removed : Option Key → Reply
 removed None = Nothing
 removed (Some key) = Removed key

@@ -1,4 +1,4 @@
-//! Each event as a value: which call it is, and what is replied.
+//! Events as values: `apply` finds the call of an event, and returns its reply.
 ghost use Rattle.std.specs.Prelude.{◌≡◌, ◌≢◌, Err, IfOk, OnErr, true};
 ghost use Rattle.ele_core.specs.Does.{Does, removed, revived, stat_told};
 ghost use Rattle.ele_core.specs.Reads.{IsRead};
@@ -18,7 +18,7 @@ use ele_model::{
 };
 use std::alloc::Global;
 
-// The reply to a clean.
+// The reply to a clean, which removed the version of the key, or none.
 fn removed(key: Option<Key>) -> Reply
     ensures { result ≡ removed key }
 {
@@ -38,7 +38,8 @@ fn revived(number: Option<VersionNo>) -> Reply
     }
 }
 
-// The reply to a stat. Each is taken apart, since no proof is made of a box where no value has the types of its fields.
+// The reply to a stat. It takes each row apart, since no proof is made of a box if no value has the
+// types of its fields.
 fn stat_told(alloc: Global, stat: Stat) -> Result<Reply, NoMemory>
     ensures { IfOk result (λ reply. reply ≡ stat_told stat) }
 {
@@ -52,7 +53,7 @@ fn stat_told(alloc: Global, stat: Stat) -> Result<Reply, NoMemory>
     }
 }
 
-// The reply where nothing is told.
+// The reply that holds no value.
 fn done(_unit: ()) -> Reply
     ensures { result ≡ Done }
 {
@@ -60,7 +61,7 @@ fn done(_unit: ()) -> Reply
 }
 
 impl Core {
-    // What a stat is replied, apart.
+    // Replies to a stat. It is a function of its own, so that its proof stays small.
     #[inline(never)]
     fn stat_reply(&self, tagged: &TaggedPath) -> Result<Reply, Halt>
         ensures { Does (λ reply. reply)
@@ -70,7 +71,8 @@ impl Core {
         Ok(stat_told(self.state.allocator(), stat)?)
     }
 
-    // What the files of each kind of policy use, apart.
+    // Replies with the usage of each kind of policy. It is a function of its own, so that its proof
+    // stays small.
     fn usage_reply(&self) -> Result<Reply, NoMemory>
         ensures { IfOk result (λ reply. reply ≡ UsageList (usages self.now.world)) }
     {
@@ -78,8 +80,8 @@ impl Core {
         Ok(Reply::UsageList(usage))
     }
 
-    // What the event answers, and its change. What only sets the clock or asks the queue is answered without the room on the
-    // stack that the many kinds of the others take.
+    // Answers the event, and makes its change. The events that only set the clock or ask the queue
+    // are answered here, without the stack that `answer_any` takes for the other kinds.
     pub(crate) fn answer(&mut self, event: &Event) -> Result<Reply, Halt>
         requires { self.old.rows_read ≡ 0 }
         ensures does { Does (λ reply. reply) self.old.world event.now result self.new.world }
@@ -96,7 +98,7 @@ impl Core {
         self.answer_any(event)
     }
 
-    // The same of any event.
+    // Answers any event.
     #[inline(never)]
     fn answer_any(&mut self, event: &Event) -> Result<Reply, Halt>
         requires { self.old.rows_read ≡ 0 }

@@ -1,4 +1,4 @@
-//! The events that clean.
+//! The events that remove due versions.
 ghost use Rattle.std.specs.Prelude.{◌≡◌, Some, false};
 ghost use Rattle.ele_core.specs.Does.{removed};
 ghost use Rattle.ele_core.specs.Reads.{CleanReads};
@@ -11,7 +11,7 @@ use ele_model::{Key, PassEnd};
 use ele_policy::laws;
 
 impl Core {
-    /// The first due version is removed; the answer is its key. It takes no memory.
+    /// Removes the first due version, and returns its key. It takes no memory.
     /// Cost: the logarithms of queued keys, files and the file's versions, and the version's
     /// blocks; rarely the file's list of chunks moves. If the file is dropped with its last
     /// version, the time also grows with its dead names, its groups and the later files.
@@ -26,8 +26,8 @@ impl Core {
         Some(key)
     }
 
-    /// The clean event again and again, until nothing is due or as many versions are removed as the budget allows. It takes
-    /// no memory, so it isn't stopped.
+    /// Repeats `clean_one` until nothing is due or as many versions are removed as the budget
+    /// allows. It takes no memory, so it always finishes or uses up its budget.
     /// Cost: that of `clean_one` for each version that is removed, and one look at the queue of
     /// keys if nothing is due.
     #[tactic(auto, using(ele_model::proofs::PassEnds::cleaned_none, ele_model::proofs::PassEnds::cleaned_more, ele_model::proofs::PassEnds::pass_finishes))]

@@ -10,7 +10,7 @@ use crate::halt::{check, refuse_if};
 use ele_model::{Moment, Refusal};
 
 impl Core {
-    /// The clock goes to the moment. Refused: `ClockBack`.
+    /// Moves the clock to the moment. Refused: `ClockBack`.
     /// Cost: constant time.
     pub fn clock(&mut self, to: Moment) -> Result<Moment, Refusal>
         ensures does { DoesAtOnce Now self.old.world (event.Clock to) result self.new.world }
@@ -22,7 +22,7 @@ impl Core {
         Ok(to)
     }
 
-    /// The clock goes on by so many seconds. Refused: `ClockEnd`.
+    /// Moves the clock forward by so many seconds. Refused: `ClockEnd`.
     /// Cost: constant time.
     pub fn tick(&mut self, seconds: u64) -> Result<Moment, Refusal>
         ensures { DoesAtOnce Now self.old.world (event.Tick seconds) result self.new.world }

@@ -1,4 +1,4 @@
-//! Reads that copy a content out of its blocks, and keep no copy. They change nothing.
+//! Reads that copy a content from its blocks into the caller's buffer. They change nothing.
 ghost use Rattle.ele_core.specs.Copies.{Copies};
 ghost use Rattle.ele_model.specs.declared.event.Source.TheVariants as source;
 
@@ -8,7 +8,7 @@ use ele_model::{Handle, Reads, Refusal, Source, TaggedPath};
 use ele_state::Copied;
 
 impl Core {
-    // Copies bytes of what the handle reads.
+    // Copies bytes of the version or draft that the handle reads.
     fn copy_handle(&self, handle: Handle, offset: u64, into: &mut [u8]) -> Result<Copied, Refusal>
         ensures { Copies self.now.world (source.Of handle) offset into.old into.new result }
     {
@@ -30,8 +30,8 @@ impl Core {
         Ok(self.state.copy_bytes(reads, offset, into))
     }
 
-    /// Copies the bytes that `read` returns from the offset on, as many as there is room for, to the start of the caller's. It
-    /// takes no memory. Refused: as `read`, and then nothing is copied.
+    /// Copies the bytes that `read` returns, from the offset on, into the caller's buffer, as many
+    /// as fit. It takes no memory. Refused: as `read`, and then nothing is copied.
     /// Cost: grows with the bytes copied, the path's names or the logarithm of the handles, and the
     /// logarithms of files, versions or drafts. At a moment each look-up of a name also grows with
     /// the logarithm of older name rows.

@@ -9,8 +9,8 @@ use crate::halt::{Halt, check, refuse_if};
 use ele_model::{DirId, Path, Policy, Refusal, Target, Which};
 
 impl Core {
-    /// A directory is made at the path, with the policy of the one that it stands in. Refused: `IsRoot`, `NoEntry`,
-    /// `NotDirectory`, `Exists`, `Full`.
+    /// Makes a directory at the path, with the default policy of its parent. Refused: `IsRoot`,
+    /// `NoEntry`, `NotDirectory`, `Exists`, `Full`.
     /// Cost: amortized, grows with the path's names, each hashed, and for a reused name the
     /// logarithm of older name rows; takes memory for a name and a directory.
     #[inline(never)]
@@ -23,7 +23,8 @@ impl Core {
         Ok(self.state.make_directory(directory, name)?)
     }
 
-    /// The name of the directory at the path dies. Refused: `IsRoot`, `NoEntry`, `NotDirectory`, `NotEmpty`.
+    /// Removes the name of the empty directory at the path. Refused: `IsRoot`, `NoEntry`,
+    /// `NotDirectory`, `NotEmpty`.
     /// Cost: grows with the path's names, each looked up by hashing.
     #[inline(never)]
     pub fn remove_dir(&mut self, path: &Path) -> Result<(), Refusal>
@@ -38,7 +39,8 @@ impl Core {
         Ok(())
     }
 
-    /// Files that are made in the directory at the path from now on get the policy. Refused: `NoEntry`, `NotDirectory`.
+    /// Sets the policy that later files and directories in the directory at the path get. Refused:
+    /// `NoEntry`, `NotDirectory`.
     /// Cost: grows with the path's names, each looked up by hashing.
     #[inline(never)]
     pub fn set_default(&mut self, path: &Path, policy: Policy) -> Result<(), Refusal>

@@ -1,4 +1,5 @@
-//! What becomes of a held version, and which versions will be due. Neither call changes anything.
+//! Explains what becomes of a held version, and which versions will be due. Neither call changes
+//! anything.
 ghost use Rattle.std.specs.Prelude.{◌≡◌, false, IfOk, IfSome, IfNone};
 ghost use Rattle.ele_model.specs.Change.{Time, after_change};
 ghost use Rattle.ele_model.specs.Fate.{HasFate};
@@ -9,10 +10,11 @@ use crate::Core;
 use ele_model::{Fate, FileId, KeyList, Moment, NoMemory, VersionNo};
 
 impl Core {
-    /// What becomes of the version, and why: the first of these that holds. It has no end; a handle reads it; a mark in force
-    /// covers it; its policy keeps it, until a moment or for good; or it is due, since a moment. None where the version isn't
-    /// held. It takes no memory. A version has one fate and no other (`one_fate` of `ele_world::laws::fate`), and is told to be
-    /// due just where the scan has its key (`due_fate`).
+    /// Returns what becomes of the version, and why: the first case of `Fate` that holds. None if
+    /// the version isn't held. It takes no memory.
+    ///
+    /// Each held version has exactly one fate (`one_fate` of `ele_world::laws::fate`). The fate is
+    /// `Due` exactly if the scan has the version's key (`due_fate`).
     /// Cost: the logarithms of files and versions, and the file's groups with their marks; of a
     /// marked version also all groups, up to the first whose mark covers it.
     pub fn fate(&self, file: FileId, number: VersionNo) -> Option<Fate>
@@ -22,10 +24,11 @@ impl Core {
         self.state.fate(file, number)
     }
 
-    /// The keys of the versions that are due at the moment if until then nothing comes but the clock, in the order in which they
-    /// would be removed. Of a moment before now: the keys of those that are due now and were ripe by then.
+    /// Returns the keys of the versions that are due at the moment if only the clock moves until
+    /// then, in order of removal. For a moment before now these are the keys of versions that are
+    /// due now and were ripe by then.
     ///
-    /// `NoMemory` where memory is refused.
+    /// `NoMemory` if memory is refused.
     /// Cost: grows with the keys in the answer, which take memory, and the logarithm of the queued
     /// keys.
     pub fn due_by(&self, moment: Moment) -> Result<KeyList, NoMemory>

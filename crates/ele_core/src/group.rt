@@ -8,7 +8,7 @@ use crate::Core;
 use crate::halt::{Halt, check, refuse_if};
 use ele_model::{MarkRow, Moment, Name, Path, Refusal, Which};
 
-// Whether the end, if there is one, has come by then.
+// Whether there is an end, and the clock has reached it.
 fn has_ended(until: &Option<Moment>, now: Moment) -> bool
     ensures { result ≡ option_map_or (λ end. nat_le end now) until.now false }
 {
@@ -19,7 +19,7 @@ fn has_ended(until: &Option<Moment>, now: Moment) -> bool
 }
 
 impl Core {
-    /// A group of that name is made, without files and marks. Refused: `GroupExists`, `Full`.
+    /// Makes a group of that name, without files and marks. Refused: `GroupExists`, `Full`.
     /// Cost: constant time, amortized, by one look-up of the name; takes memory for a group.
     #[inline(never)]
     pub fn make_group(&mut self, name: &Name) -> Result<(), Halt>
@@ -30,7 +30,7 @@ impl Core {
         Ok(self.state.make_group(name)?)
     }
 
-    /// The group goes, and its marks with it. Refused: `NoGroup`.
+    /// Removes the group and its marks. Refused: `NoGroup`.
     /// Cost: grows with the group's files times its marks, each pair with the file's groups and the
     /// logarithms of files, its versions and queued keys; groups made later move. Its memory grows
     /// with the group's files and marks, and the keys that change.
@@ -42,7 +42,8 @@ impl Core {
         Ok(self.state.drop_group(name)?)
     }
 
-    /// The group gets the file at the path. Refused: `NoGroup`, as `open_write`, `AlreadyMember`, `Full`.
+    /// Adds the file at the path to the group. Refused: `NoGroup`, as `open_write`,
+    /// `AlreadyMember`, `Full`.
     /// Cost: grows with the path's names, and for each mark of the group with the file's groups and
     /// the logarithms of files, versions and queued keys. Its memory grows with the group's marks
     /// and the keys that change; a membership takes 88 bytes.
@@ -58,7 +59,8 @@ impl Core {
         Ok(self.state.add_member(name, file)?)
     }
 
-    /// The group loses the file at the path. Refused: `NoGroup`, `NoEntry`, `NotDirectory`, `IsDirectory`, `NotMember`.
+    /// Removes the file at the path from the group. Refused: `NoGroup`, `NoEntry`, `NotDirectory`,
+    /// `IsDirectory`, `NotMember`.
     /// Cost: the time of `add_to_group`, and a search for the file among the group's files. Its
     /// memory grows with the group's marks and the keys that change.
     #[inline(never)]
@@ -72,7 +74,7 @@ impl Core {
         Ok(self.state.remove_member(name, file)?)
     }
 
-    /// The group is marked at the moment, which has passed, until the mark's end, which is to come, if one is named. Refused:
+    /// Marks the group at a moment before now, for good or until a moment after now. Refused:
     /// `NoGroup`, `NotPast`, `NotAhead`, `MarkExists`, `Full`.
     /// Cost: grows with the group's files, for each with its groups and the logarithms of files,
     /// versions and queued keys. Its memory grows with the group's files and the keys that change;
@@ -95,7 +97,7 @@ impl Core {
         Ok(self.state.add_mark(name, &mark)?)
     }
 
-    /// The group loses the mark. Refused: `NoGroup`, `NoMark`.
+    /// Removes the group's mark at the moment. Refused: `NoGroup`, `NoMark`.
     /// Cost: the time of `mark`, and a search for the mark among the group's marks. Its memory
     /// grows with the group's files and the keys that change.
     #[inline(never)]

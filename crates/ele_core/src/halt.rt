@@ -1,4 +1,4 @@
-//! Why an event isn't done.
+//! Why an event failed.
 //! A contract sees the variants.
 ghost use Rattle.std.specs.Prelude.{◌≡◌, OnOk, IfErr, OnErr, Some, true, false};
 ghost use Rattle.ele_core.specs.HaltText.{halt_text};
@@ -7,13 +7,13 @@ use ele_model::{NoMemory, Refusal, Stop};
 use std::error::Error;
 use std::fmt;
 
-/// Why an event isn't done. The world is as it was. It is displayed as scripts print it behind `no` or `stop`: `8 Exists`,
-/// `1 NoMemory`.
+/// Why an event failed. The world is as it was. It is displayed as scripts print it after `no` or
+/// `stop`: `8 Exists`, `1 NoMemory`.
 #[derive(Clone, Copy, Debug, PartialEq, Eq)]
 pub enum Halt {
-    /// The world refuses it.
+    /// The world refuses the event.
     Refused(Refusal),
-    /// Memory was refused, and the world doesn't refuse the event.
+    /// Memory was refused. The world itself wouldn't refuse the event.
     NoMemory,
 }
 
@@ -55,7 +55,7 @@ impl fmt::Display for Halt {
 
 impl Error for Halt {}
 
-// Refused where the test holds.
+// Refuses if the test holds.
 pub fn refuse_if(test: bool, refusal: Refusal) -> Result<(), Refusal>
     ensures passes { OnOk result (test ≡ false) }
     ensures refused { IfErr result (λ why. why ≡ refusal) }
@@ -64,7 +64,8 @@ pub fn refuse_if(test: bool, refusal: Refusal) -> Result<(), Refusal>
     if test { Err(refusal) } else { Ok(()) }
 }
 
-/// What was found, or the refusal is handed on: what `?` is, which isn't proved of an error that may hold a number.
+/// Returns the value, or passes the refusal to the caller. It stands for `?`, which isn't proved of
+/// an error that may hold a number.
 macro_rules! check {
     ($found:expr) => {
         match $found {

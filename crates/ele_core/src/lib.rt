@@ -1,5 +1,5 @@
-//! One world, which events change. A contract sees a core as its flat world, with a count of the
-//! rows that the last clean read.
+//! One world, which events change. A contract sees a core as its flat world, with the number of
+//! version rows that the last clean read.
 #![tactic(auto)]
 
 ghost use Rattle.std.specs.Prelude.{◌≡◌, IfOk, OnErr, IsOk, true, false};
@@ -47,8 +47,8 @@ use ele_state::State;
 use std::alloc::Global;
 use std::marker::Model;
 
-/// One world, which is well formed. Each event is a call: one that changes takes `&mut self`, one that asks `&self`, and each
-/// tells by its type what it answers; `apply` takes any of them as a value.
+/// One world, which is well formed. Each event is a call. A call that changes the world takes `&mut
+/// self`, and a call that only asks takes `&self`. `apply` takes any event as a value.
 pub struct Core {
     state: State,
 }
@@ -68,9 +68,9 @@ impl Model for Core {
 }
 
 impl Core {
-    /// The fresh world of these limits.
+    /// Makes the fresh world with these limits.
     ///
-    /// `NoMemory` where memory is refused.
+    /// `NoMemory` if memory is refused.
     /// Cost: constant time; takes memory for the root directory.
     pub fn new(alloc: Global, limits: Limits) -> Result<Core, NoMemory>
         ensures { IfOk result (λ core. core.world ≡ fresh_world limits) }
@@ -79,12 +79,12 @@ impl Core {
         Ok(Core { state })
     }
 
-    /// Takes the event: answers it, and makes its change.
+    /// Answers the event, and makes its change.
     ///
-    /// `NoMemory` where memory is refused, and then the world is as it was, and the event isn't one that is refused: its checks
-    /// come first. `takes_no_memory` tells which events take none.
+    /// `NoMemory` if memory is refused. The world is then as it was, and it doesn't refuse the
+    /// event, since `apply` checks refusals first. `takes_no_memory` says which events take none.
     ///
-    /// In whatever run it comes, the reply and the world after it are as the headline says.
+    /// After any run, the reply and the next world are as the headline says.
     /// Cost: that of the event's own call; a stat and a usage also take memory for their boxed
     /// replies.
     pub fn apply(&mut self, event: &Event) -> Result<Reply, NoMemory>
@@ -98,7 +98,7 @@ impl Core {
         ensures event { IsEvent event.now }
         ensures read { IfOk result (λ reply. IsRead event.now reply self.new.rows_read) }
     {
-        // Told for the proof: what the step answers keeps the headline.
+        // For the proof: the reply of the step keeps the headline.
         ele_headline::headline();
         self.state.reset_rows_read();
         let halt = match self.answer(event) {
@@ -111,8 +111,9 @@ impl Core {
         }
     }
 
-    /// The moment that it is. The world is well formed, its limits are within theirs, and it has no file of which nothing is
-    /// left, so the laws of `ele_world` hold.
+    /// Returns the current moment. Its contract also says that the world is well formed, and that
+    /// its limits are allowed. Each file has a live name, a held version or a draft. So the laws of
+    /// `ele_world` hold.
     /// Cost: constant time.
     pub fn now(&self) -> Moment
         ensures value { result ≡ self.now.world.now }
@@ -123,8 +124,8 @@ impl Core {
         self.state.now()
     }
 
-    /// How many version rows the last clean read; 0 after `apply` of any other event, whose reads
-    /// aren't counted.
+    /// Returns how many version rows the last clean read; 0 after `apply` of any other event, whose
+    /// reads aren't counted.
     /// Cost: constant time.
     pub fn rows_read(&self) -> u64
         ensures { result ≡ self.now.rows_read }
@@ -132,9 +133,9 @@ impl Core {
         self.state.rows_read()
     }
 
-    /// A plain copy of all rows and counts.
+    /// Returns a plain copy of all rows and counts.
     ///
-    /// `NoMemory` where memory is refused.
+    /// `NoMemory` if memory is refused.
     /// Cost: grows with all names ever made, all other rows, and the bytes of all versions and
     /// drafts, which it copies, shared blocks once for each version.
     pub fn flat(&self) -> Result<Flat, NoMemory>

@@ -1,4 +1,4 @@
-//! The events of files' names.
+//! The events that change names of files.
 ghost use Rattle.ele_core.specs.Does.{Does, done, revived};
 ghost use Rattle.ele_model.specs.declared.event.Event.TheVariants as event;
 ghost use Rattle.ele_model.specs.declared.reply.Reply.TheVariants.{File};
@@ -8,7 +8,8 @@ use crate::halt::{Halt, check, refuse_if};
 use ele_model::{FileId, Path, Refusal, Target, VersionNo, Which};
 
 impl Core {
-    /// A file is made at the path, with an empty first version. Refused: `IsRoot`, `NoEntry`, `NotDirectory`, `Exists`, `Full`.
+    /// Makes a file at the path, with an empty first version. Refused: `IsRoot`, `NoEntry`,
+    /// `NotDirectory`, `Exists`, `Full`.
     /// Cost: amortized, grows with the path's names, each hashed, and for a reused name the
     /// logarithm of older name rows; takes memory for a name, a file and a version.
     #[inline(never)]
@@ -22,7 +23,8 @@ impl Core {
         Ok(self.state.make_file(directory, name)?)
     }
 
-    /// The file at the first path gets the second path as another name. Refused: as `open_write` of the first, and as `create`.
+    /// Gives the file at the first path the second path as another name. Refused: as `open_write`
+    /// of the first, and as `create`.
     /// Cost: amortized, grows with the names of both paths, each hashed, and for a reused name the
     /// logarithm of older name rows; takes memory for a name.
     #[inline(never)]
@@ -35,8 +37,8 @@ impl Core {
         Ok(self.state.add_name(directory, name, Target::File(file))?)
     }
 
-    /// The name of the file at the path dies; with the last one its current version ends. Refused: `IsRoot`, `NoEntry`,
-    /// `NotDirectory`, `IsDirectory`.
+    /// Removes the name of the file at the path; with the last name the current version ends.
+    /// Refused: `IsRoot`, `NoEntry`, `NotDirectory`, `IsDirectory`.
     /// Cost: grows with the path's names, each hashed; a last name also takes, for up to 16
     /// versions, the file's groups and the logarithms of files, versions and queued keys. Its
     /// memory grows with the keys that these versions get.
@@ -51,8 +53,8 @@ impl Core {
         Ok(self.state.end_file_name(directory, &name, &found, file)?)
     }
 
-    /// What stands at the first path has the second path as its name from now on. Refused: `IsRoot`, `NoEntry`, `NotDirectory`,
-    /// `IntoItself`, `Exists`, `Full`.
+    /// Moves the file or directory at the first path to the second path. Refused: `IsRoot`,
+    /// `NoEntry`, `NotDirectory`, `IntoItself`, `Exists`, `Full`.
     /// Cost: amortized, grows with the names of both paths, each hashed, and for a reused name the
     /// logarithm of older name rows; takes memory for a name.
     #[inline(never)]
@@ -68,8 +70,9 @@ impl Core {
         Ok(self.state.move_name(&old, &new, &found)?)
     }
 
-    /// The dead name at the path stands again for what it last stood for; a file that had no live name gets a version with the
-    /// content of its last one, and the answer is its number. Refused: as `create`, `NotRestorable`, `Drafting`.
+    /// Restores the dead name at the path, with the file or directory that it last had. A file
+    /// without a live name gets a version with the content of its last one, and `undelete` returns
+    /// the number of that version. Refused: as `create`, `NotRestorable`, `Drafting`.
     /// Cost: amortized, grows with the path's names and the logarithms of older name rows, files
     /// and versions; takes memory for a name. For a nameless file the time and the memory also grow
     /// with what a `revert` takes, and with up to 15 keys.

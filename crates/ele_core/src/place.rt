@@ -1,4 +1,4 @@
-//! What many events check, and what is known of every world.
+//! Checks that many events share, and a fact of every world.
 ghost use Rattle.std.specs.Prelude.{◌≡◌, IfOk, OnOk, OnErr, IfErr, is_some, true, false};
 ghost use Rattle.ele_core.specs.Place.{free_place};
 ghost use Rattle.ele_state.specs.Full.{is_full};
@@ -12,14 +12,14 @@ use crate::halt::refuse_if;
 use ele_model::{DirId, Name, Path, Refusal, Which};
 
 impl Core {
-    // Says that the world is well formed, and does nothing.
+    // Brings a proof the fact that the world is well formed.
     pub(crate) fn lemma_well_formed(&self)
         ensures { IsWellFormed self.now.world }
     {
         let _now = self.state.now();
     }
 
-    // The place of a new name at the path. Refused: as `parent_now`, and `Exists`.
+    // Finds the place of a new name at the path. Refused: as `parent_now`, and `Exists`.
     pub(crate) fn free_place(&self, path: &Path) -> Result<(DirId, Name), Refusal>
         ensures value { result ≡ free_place self.now.world.names path.now }
         ensures place { IfOk result
@@ -38,7 +38,8 @@ impl Core {
         Ok(at)
     }
 
-    // Room for one more, in the counts of all that were ever made. Refused: `Full`.
+    // Checks the limit for one thing more, in the counts of all that were ever made. Refused:
+    // `Full`.
     pub(crate) fn room_for(&self, which: Which) -> Result<(), Refusal>
         ensures room { OnOk result (is_full self.now.world which ≡ false) }
         ensures refused { IfErr result (λ why. why ≡ Full which) }

@@ -1,4 +1,4 @@
-//! The events that ask, and what else is asked. None changes anything.
+//! The events that ask, and other questions. None changes anything.
 ghost use Rattle.std.specs.Prelude.{◌≡◌, ◌<◌, Ok, Err, IfOk, IfErr, map};
 ghost use Rattle.ele_core.specs.Does.{Does, DoesAtOnce, stat_told};
 ghost use Rattle.ele_model.specs.Due.{is_due};
@@ -21,17 +21,17 @@ use ele_model::{
 };
 use ele_state::{directory_in, file_in};
 
-/// What a path and its tag mean.
+/// A file or directory that a path and its tag mean.
 #[derive(Clone, Copy, Debug, PartialEq, Eq)]
 pub enum Stat {
     /// A version, and the policy that governs its file.
     File(FileStat),
-    /// A directory, and the policy that it gives.
+    /// A directory, with the default policy of its files.
     Directory(DirectoryRow),
 }
 
 impl Core {
-    // The bytes of what the handle reads.
+    // The bytes that the handle reads.
     fn read_handle(&self, handle: Handle) -> Result<ByteList, Halt>
         ensures { Does Bytes
             self.now.world (event.Read (source.Of handle)) result self.now.world }
@@ -50,8 +50,9 @@ impl Core {
         Ok(self.state.bytes_of(reads)?)
     }
 
-    /// The bytes of the version that the path and its tag mean, or of what the handle reads. Refused: `Future`, `NoEntry`,
-    /// `NotDirectory`, `IsDirectory`, `NoVersion`, `Forgotten`; `NoHandle`.
+    /// Returns the bytes of the version that the path and its tag mean, or of the handle's version
+    /// or draft. Refused: `Future`, `NoEntry`, `NotDirectory`, `IsDirectory`, `NoVersion`,
+    /// `Forgotten`; `NoHandle`.
     /// Cost: grows with the bytes, which take memory, the path's names or the logarithm of the
     /// handles, and the logarithms of files, versions or drafts. At a moment each look-up of a name
     /// also grows with the logarithm of older name rows.
@@ -65,7 +66,7 @@ impl Core {
         }
     }
 
-    // What is told of the file's version that the tag means.
+    // The stat of the file's version that the tag means.
     fn stat_file(&self, file: FileId, tag: Tag) -> Result<Stat, Refusal>
         requires { 0 < next_of self.now.world.files file }
         ensures ok { IfOk result
@@ -78,7 +79,7 @@ impl Core {
         Ok(Stat::File(FileStat { file, info, policy }))
     }
 
-    // What is told of the directory, which has no numbered versions.
+    // The stat of the directory, which has no numbered versions.
     fn stat_directory(&self, id: DirId, tag: Tag) -> Result<Stat, Refusal>
         ensures ok { IfOk result
             (λ stat. stat_of self.now.world (Directory id) tag ≡ Ok (stat_told stat)) }
@@ -92,8 +93,9 @@ impl Core {
         Ok(Stat::Directory(DirectoryRow { id, default }))
     }
 
-    /// What the path and its tag mean, when it was made, how long it is, and its policy. Refused: `Future`, `NoEntry`,
-    /// `NotDirectory`, `NoVersion`, `Forgotten`, and `IsDirectory` for a number.
+    /// Returns what the path and its tag mean, when it was made, how long it is, and its policy.
+    /// Refused: `Future`, `NoEntry`, `NotDirectory`, `NoVersion`, `Forgotten`, and `IsDirectory`
+    /// for a number.
     /// Cost: grows with the path's names, each hashed, and the logarithms of the files and the
     /// file's versions. At a moment each look-up of a name also grows with the logarithm of older
     /// name rows.
@@ -107,8 +109,8 @@ impl Core {
         }
     }
 
-    /// The versions that are held of the file that the path names, or named at its moment. Refused: `Future`, `NoEntry`,
-    /// `NotDirectory`, `IsDirectory`.
+    /// Returns the held versions of the file that the path names, or named at its moment. Refused:
+    /// `Future`, `NoEntry`, `NotDirectory`, `IsDirectory`.
     /// Cost: grows with the file's versions, which take memory in the answer, the path's names, and
     /// the logarithm of the files. At a moment each look-up of a name also grows with the logarithm
     /// of older name rows.
@@ -121,8 +123,8 @@ impl Core {
         Ok(self.state.versions(file)?)
     }
 
-    /// The names that stand in the directory that the path names, or stood there at its moment. Refused: `Future`, `NoEntry`,
-    /// `NotDirectory`.
+    /// Returns the names in the directory that the path names, or named at its moment. Refused:
+    /// `Future`, `NoEntry`, `NotDirectory`.
     /// Cost: grows with all names that the directory ever had, a sort of those in the answer, which
     /// take memory, and the path's names. At a moment each look-up of a name also grows with the
     /// logarithm of older name rows.
@@ -136,9 +138,9 @@ impl Core {
         Ok(self.state.names_in(directory, moment)?)
     }
 
-    /// All groups with their files and marks, in order of making.
+    /// Returns all groups with their files and marks, in order of making.
     ///
-    /// `NoMemory` where memory is refused.
+    /// `NoMemory` if memory is refused.
     /// Cost: grows with all groups, their files and their marks, which it copies.
     #[inline(never)]
     pub fn groups(&self) -> Result<GroupList, NoMemory>
@@ -147,7 +149,7 @@ impl Core {
         self.state.groups()
     }
 
-    /// What the files of each kind of policy use, in the order of `Kind`.
+    /// Returns what the files of each kind of policy use: four sums, in the order of `Kind`.
     /// Cost: constant time.
     pub fn usage(&self) -> [Usage; 4]
         ensures { result ≡ usages self.now.world }
@@ -155,8 +157,8 @@ impl Core {
         self.state.usage()
     }
 
-    /// The names that may come back, by directory and then by the bytes of the name: of each its
-    /// directory, the name and what it last meant.
+    /// Returns the restorable names, each with its directory and what it last meant. They are in
+    /// order of directory and then of the bytes of the name.
     ///
     /// `NoMemory` if memory is refused.
     /// Cost: that of `dead_names`, and a second copy of the names.
@@ -166,7 +168,7 @@ impl Core {
         triples_of(&self.dead_names()?)
     }
 
-    /// The names that `restorable` returns, as the list that its reply holds.
+    /// Returns the names of `restorable`, as the list that its reply holds.
     ///
     /// `NoMemory` if memory is refused.
     /// Cost: grows with all names ever made, a sort of the dead ones, and for each of them the
@@ -178,7 +180,7 @@ impl Core {
         self.state.restorable()
     }
 
-    /// Whether the version is held and due now.
+    /// Returns whether the version is held and due now.
     /// Cost: the logarithms of files, the file's versions and queued keys, and the file's groups
     /// with their marks.
     pub fn is_due(&self, file: FileId, number: VersionNo) -> bool
@@ -187,7 +189,7 @@ impl Core {
         self.state.is_due(file, number)
     }
 
-    /// The keys of the versions that are due now, in the order in which they are removed.
+    /// Returns the keys of the versions that are due now, in order of removal.
     ///
     /// `NoMemory` if memory is refused.
     /// Cost: grows with the keys in the answer, which take memory, and the logarithm of the queued
@@ -198,7 +200,7 @@ impl Core {
         Ok(self.due_keys()?.into_vec())
     }
 
-    /// The keys that `due` returns, as the list that its reply holds.
+    /// Returns the keys of `due`, as the list that its reply holds.
     ///
     /// `NoMemory` if memory is refused.
     /// Cost: grows with the keys in the answer, which take memory, and the logarithm of the queued
@@ -209,7 +211,7 @@ impl Core {
         self.state.due()
     }
 
-    /// The key of the version that is removed next, if one is due now.
+    /// Returns the key of the version that is removed next, if one is due now.
     /// Cost: the logarithm of the queued keys.
     pub fn due_first(&self) -> Option<Key>
         ensures { result ≡ first_due self.now.world }

@@ -9,7 +9,8 @@ use ele_content::is_too_long;
 use ele_model::{ByteList, Handle, Path, Refusal, TaggedPath, VersionNo, Which};
 
 impl Core {
-    /// A handle is opened by which the file at the path is written. Refused: `NoEntry`, `NotDirectory`, `IsDirectory`, `Full`.
+    /// Opens a handle that writes the file at the path. Refused: `NoEntry`, `NotDirectory`,
+    /// `IsDirectory`, `Full`.
     /// Cost: grows with the path's names and the logarithms of files, versions and drafts; a first
     /// writer also takes a count for each 8 KiB, and may move all drafts. Its memory is a handle,
     /// and for a first writer a draft, which grows with the content by 4 bytes for each 8 KiB.
@@ -26,7 +27,8 @@ impl Core {
         Ok(self.state.open_write(file)?)
     }
 
-    /// A handle is opened by which the version is read that the path and its tag mean. Refused: as `stat`, and `Full`.
+    /// Opens a handle that reads the version that the path and its tag mean. Refused: as `stat`,
+    /// and `Full`.
     /// Cost: amortized, grows with the path's names, the file's groups with their marks, and the
     /// logarithms of files, versions and queued keys; takes memory for a handle. At a moment each
     /// look-up of a name also grows with the logarithm of older name rows.
@@ -39,7 +41,8 @@ impl Core {
         Ok(self.state.open_read(file, info.number)?)
     }
 
-    /// The bytes are written through the handle, from that offset on. Refused: `NoHandle`, `NotWriter`, `TooBig`.
+    /// Writes the bytes into the handle's draft, from that offset in bytes on. Refused: `NoHandle`,
+    /// `NotWriter`, `TooBig`.
     /// Cost: grows with the blocks of 512 bytes that it writes or fills with zeros, which take
     /// memory, and the logarithms of handles, drafts and files.
     #[inline(never)]
@@ -56,7 +59,8 @@ impl Core {
         Ok(self.state.write(file, offset, bytes)?)
     }
 
-    /// The draft under the handle gets so many bytes. Refused: `NoHandle`, `NotWriter`, `TooBig`.
+    /// Sets the length of the handle's draft to so many bytes. Refused: `NoHandle`, `NotWriter`,
+    /// `TooBig`.
     /// Cost: grows with the blocks of 512 bytes that it cuts or fills with zeros, and the
     /// logarithms of handles, drafts and files; new blocks take memory.
     #[inline(never)]
@@ -68,8 +72,8 @@ impl Core {
         Ok(self.state.truncate(file, size)?)
     }
 
-    /// Closes the handle; the last one of a changed draft makes it the file's next version, and the answer is its number.
-    /// Refused: `NoHandle`.
+    /// Closes the handle; the last writer of a changed draft makes it the file's next version, and
+    /// `close` returns its number. Refused: `NoHandle`.
     /// Cost: the logarithms of handles, drafts and files, and up to all handles and drafts move by
     /// one place. If it makes a version, or closes a reader, the time also grows with the file's
     /// groups and the logarithms of versions and queued keys; new keys take memory. If it drops an

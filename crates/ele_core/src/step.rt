@@ -1,4 +1,4 @@
-//! A core steps, and can be audited. A contract of what is generic over both sees it as its flat world.
+//! A core runs events, and can be audited. Generic code over the traits sees it as its flat world.
 use crate::Core;
 use ele_model::{
     Audit, DeadNameList, Event, Flat, KeyList, Limits, Moment, NoMemory, Reply, Step, Usage,

@@ -1,4 +1,4 @@
-//! The events of versions, and of the policy that governs them.
+//! The events that make a version of an older one, and that set the policy of a file.
 ghost use Rattle.ele_core.specs.Does.{Does, done};
 ghost use Rattle.ele_policy.specs.Policy.{IsPolicy};
 ghost use Rattle.ele_model.specs.declared.event.Event.TheVariants as event;
@@ -9,8 +9,8 @@ use crate::halt::{Halt, check, refuse_if};
 use ele_model::{Path, Policy, Refusal, Tag, VersionNo, Which};
 
 impl Core {
-    /// The file at the path gets a version more, with the content of the one with that number; the answer is the new one's
-    /// number. Refused: as `open_write`, `NoVersion`, `Forgotten`, `Drafting`.
+    /// Makes a new version of the file at the path, with the content of the version of that number,
+    /// and returns its number. Refused: as `open_write`, `NoVersion`, `Forgotten`, `Drafting`.
     /// Cost: grows with the path's names, the file's groups, the logarithms of files, versions,
     /// drafts and queued keys, and a count for each 8 KiB. Its memory is one version, which grows
     /// with the content by 4 bytes for each 8 KiB.
@@ -25,7 +25,8 @@ impl Core {
         Ok(self.state.revert_to(file, number)?)
     }
 
-    /// The file at the path has the policy from now on, with all its versions. Refused: `NoEntry`, `NotDirectory`, `IsDirectory`.
+    /// Sets the policy of the file at the path, for all its versions. Refused: `NoEntry`,
+    /// `NotDirectory`, `IsDirectory`.
     /// Cost: grows with the path's names, and for each version of the file with its blocks, the
     /// file's groups and the logarithms of files, versions and queued keys. Its memory grows with
     /// the file's versions and blocks while it runs, and with the keys that are new.

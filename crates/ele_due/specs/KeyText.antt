@@ -1,4 +1,4 @@
--- Keys in text.
+-- The text of keys.
 use Rattle.std.specs.Prelude.{ℕ, List, ◌∷◌, ◌++◌}
 use Rattle.std.specs.Fmt.{decimal}
 use Rattle.ele_due.specs.declared.key.Key.{Key}

@@ -1,4 +1,4 @@
--- Words of a queue of keys, which no reader of the core needs.
+-- Words about a queue of keys. A reader of the core doesn't need them.
 use Rattle.std.specs.Prelude.{ℕ, Bool, nat_le, Option, Some, None, option_and_then, if◌then◌else◌, List}
 use Rattle.ele_due.specs.declared.key.Key.{Key}
 use Rattle.std.specs.List.Sorted.{IsStrictlySortedBy}

@@ -1,4 +1,4 @@
-//! Keys: a version, and the moment from which on it is due.
+//! Keys: a version, and the moment from which it is due.
 //! A contract sees a key as the three numbers, and its order as `key_cmp`.
 ghost use Rattle.std.specs.Prelude.{Some};
 ghost use Rattle.ele_due.specs.KeyText.{key_word};
@@ -7,11 +7,10 @@ use ele_moment::{FileId, Moment, VersionNo};
 use std::fmt;
 
 /// A version and the first moment at which it is due. Keys are ordered by that moment, then by
-/// file, then by number, which is the order in which versions are removed. A key is displayed as the
-/// three numbers.
+/// file, then by number, which is the order of removal. A key is displayed as the three numbers.
 #[derive(Clone, Copy, Debug, PartialEq, Eq, PartialOrd, Ord, Hash)]
 pub struct Key {
-    /// The moment from which on the version is due.
+    /// The first moment at which the version is due.
     pub ripe: Moment,
     /// The file of the version.
     pub file: FileId,

@@ -1,4 +1,4 @@
-//! Which versions are due, and from when on: the queue of their keys, first to be removed first.
+//! The queue of keys, in order of removal: which versions are due, and from when.
 //! A contract sees the queue as the list of its keys, each key once, in order.
 #![tactic(auto)]
 

@@ -15,7 +15,7 @@ use std::alloc::{AllocError, Global};
 use std::collections::BTreeSet;
 use std::marker::Model;
 
-/// A queue of keys, each at most once, first to be removed first.
+/// A queue of keys in order of removal, each key at most once.
 #[derive(Drop)]
 pub struct DueQueue {
     keys: BTreeSet<Key>,
@@ -35,7 +35,7 @@ impl Model for DueQueue {
 }
 
 impl DueQueue {
-    /// A queue of no keys. It takes no memory; later calls take theirs from `alloc`.
+    /// Makes an empty queue. It takes no memory; later calls take theirs from `alloc`.
     pub fn new(alloc: Global) -> DueQueue
         ensures { result ≡ [] }
     {
@@ -45,7 +45,7 @@ impl DueQueue {
         }
     }
 
-    /// How many keys the queue has.
+    /// Returns the number of keys.
     pub fn len(&self) -> usize
         ensures value { result ≡ length self.now }
         ensures bound { result < 2 ^ 63 }
@@ -54,15 +54,15 @@ impl DueQueue {
         self.keys.len()
     }
 
-    /// Whether the queue has no key.
+    /// Returns whether the queue has no key.
     pub fn is_empty(&self) -> bool
         ensures { IsTrue result ↔ (self.now ≡ []) }
     {
         self.keys.is_empty()
     }
 
-    /// Puts the key at its place. Where the queue has it already, nothing changes and the answer is
-    /// `Ok`. `NoMemory` where there is no room for a new key; the queue is then as it was.
+    /// Adds the key, unless the queue has it already. `NoMemory` if memory for a new key is
+    /// refused; the queue is then as it was.
     pub fn insert(&mut self, key: Key) -> Result<(), NoMemory>
         ensures ok { OnOk result (self.new ≡ insert_key key_cmp self.old key) }
         ensures members { OnOk result
@@ -75,7 +75,7 @@ impl DueQueue {
         Ok(())
     }
 
-    /// Removes the key, and answers whether it was there. It takes no memory.
+    /// Removes the key, and returns whether it was there. It takes no memory.
     pub fn remove(&mut self, key: &Key) -> bool
         ensures was { result ≡ has_key key.now self.old }
         ensures rest { self.new ≡ remove_key (is_key key.now) self.old }
@@ -86,17 +86,17 @@ impl DueQueue {
         self.keys.remove(key)
     }
 
-    /// Whether the queue has the key.
+    /// Returns whether the queue has the key.
     pub fn holds(&self, key: &Key) -> bool
         ensures { result ≡ has_key key.now self.now }
     {
         self.keys.contains(key)
     }
 
-    /// The first key in order. None where the queue is empty.
+    /// Returns the first key in order. None if the queue is empty.
     pub fn first(&self) -> Option<Key>
         ensures value { result ≡ slice_get self.now 0 }
-        // Of any list that has just the keys that are ripe by a moment it is the first, if it is
+        // Of any list that has exactly the keys that are ripe by a moment it is the first, if it is
         // ripe.
         ensures ripe { (moment : ℕ) (ripe : List Key)
             → ((k : Key) → has_key k ripe ≡ (is_ripe_by moment k && has_key k self.now))
@@ -106,12 +106,12 @@ impl DueQueue {
         first_key(&self.keys)
     }
 
-    /// The keys of the versions that are due at the moment, in order: those that are ripe then or
-    /// were before. `NoMemory` where there is no room for the answer.
+    /// Returns the keys of the versions that are ripe at the moment, in order. `NoMemory` if memory
+    /// for the list is refused.
     pub fn until(&self, moment: Moment) -> Result<Vec<Key>, NoMemory>
         ensures keys { IfOk result
             (λ keys. keys.items ≡ filter (is_ripe_by moment) self.now) }
-        // Any list that has just the ripe keys is the answer, once in order.
+        // Any list that has exactly the ripe keys is the answer, once in order.
         ensures only { IfOk result (λ keys. (ripe : List Key)
             → ((k : Key) → has_key k ripe ≡ (is_ripe_by moment k && has_key k self.now))
             → keys.items ≡ in_order ripe) }
@@ -128,7 +128,7 @@ fn first_key(keys: &BTreeSet<Key>) -> Option<Key>
     keys.first().copied()
 }
 
-// The keys up to the first that is not ripe.
+// The keys before the first that is not ripe.
 fn ripe_keys(keys: &BTreeSet<Key>, moment: Moment, alloc: Global) -> Result<Vec<Key>, AllocError>
     ensures { IfOk result
         (λ ripe. ripe.items ≡ take_while (is_ripe_by moment) keys.now.keys) }

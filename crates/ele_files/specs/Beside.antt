@@ -1,4 +1,4 @@
--- What stands beside a version.
+-- What a version's ripe moment depends on.
 use Rattle.std.specs.Prelude.{◌≡◌, ℕ, Bool, Some, find}
 use Rattle.std.specs.Option.{option_map}
 use Rattle.ele_files.specs.declared.files.newer.Beside.{Beside}

@@ -24,7 +24,7 @@ pub record Held : Type 0 where
   pub handles : List HandleRow
   pub opened : ℕ
 
--- the rows that the files hold of a world
+-- the rows of a world that the files hold
 abbrev pub rows_of : World → Held
 rows_of w = record { files = w.files; versions = w.versions; drafts = w.drafts; handles = w.handles; opened = w.made.handles }
 
@@ -38,7 +38,7 @@ with_rows w h = record w {
   made = record w.made { handles = h.opened };
 }
 
--- what changes leave of the rows in that world
+-- the rows after the changes in that world
 abbrev pub rows_after : World → Held → List Change → Held
 rows_after w h changes = rows_of (after_changes (with_rows w h) changes)
 
@@ -46,15 +46,15 @@ rows_after w h changes = rows_of (after_changes (with_rows w h) changes)
 abbrev pub world_with : Held → ℕ → World
 world_with h now = with_rows (record (fresh_world largest_bounds) { now = now }) h
 
--- what changes leave of the rows, where nothing but the moment matters
+-- the rows after the changes, if only the moment matters
 abbrev pub changed_at : Held → ℕ → List Change → Held
 changed_at h now changes = rows_of (after_changes (world_with h now) changes)
 
--- the changes left these rows, in whatever world of that moment they stand in which the file is live or not, as told
+-- the rows after the changes, in every world of that moment with these rows in which the file is live or not, as `live` says
 abbrev pub Became : Held → ℕ → ℕ → Bool → List Change → Held → Type 0
 Became h now file live changes after = (w : World) → w.now ≡ now → is_live w file ≡ live → after ≡ rows_after w h changes
 
--- a file was made by whatever name, in whatever world of that moment
+-- the rows after a file was made by any name, in any world of that moment
 abbrev pub GotFile : Held → ℕ → Policy → ℕ → Held → Type 0
 GotFile h id policy now after =
     (w : World) (directory : ℕ) (name : List ℕ) → w.now ≡ now → after ≡ rows_after w h (MakeFile directory name id policy ∷ [])
@@ -62,7 +62,7 @@ GotFile h id policy now after =
 abbrev pub first_draft : Held → ℕ → ℕ → DraftRow
 first_draft h file now = new_draft (world_with h now) file
 
--- with one handle more, which writes the file: its draft, or else a new one
+-- the rows with another handle, which writes the file's draft, or else a new one
 abbrev pub opened_by : Held → ℕ → ℕ → Held
 opened_by h file now =
     let number = h.opened + 1 in
@@ -76,7 +76,7 @@ has_length h file size = option_map_or (λ row. length (content_of row.cells) ==
 abbrev pub cells_of_draft : Held → ℕ → List Cell
 cells_of_draft h file = option_map_or (λ row. row.cells) (find (is_draft file) h.drafts) []
 
--- without the version
+-- the rows without the version
 abbrev pub without : Held → ℕ → ℕ → Held
 without h file number = changed_at h 0 (Take file number ∷ [])
 
@@ -84,14 +84,14 @@ without h file number = changed_at h 0 (Take file number ∷ [])
 abbrev pub cells_of_version : Held → ℕ → ℕ → List Cell
 cells_of_version h file number = option_map_or (λ row. row.cells) (find (is_version file number) h.versions) []
 
--- the version before the file's next one has ended, then or before
+-- the rows, in which the version before the file's next one has ended, then or before
 abbrev pub current_ended : Held → ℕ → ℕ → Held
 current_ended h file now = record h { versions = with_end (world_with h now) file }
 
--- nothing of the file is held: no version and no draft
+-- the file has neither a held version nor a draft
 abbrev pub is_bare : Held → ℕ → Bool
 is_bare h file = not (list_any (is_version_of file) h.versions) && not (list_any (is_draft file) h.drafts)
 
--- without the file's row
+-- the rows without the file's row
 abbrev pub without_file : Held → ℕ → Held
 without_file h file = record h { files = remove_first (is_file file) h.files }

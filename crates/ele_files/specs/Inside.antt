@@ -1,4 +1,4 @@
--- The rows behind the files, and what the fields keep. No public clause cites this module.
+-- The rows of the files, and the invariant of the fields. No public clause cites this module.
 use Rattle.std.specs.Prelude.{◌≡◌, ℕ, ◌+◌, ◌<◌, ◌≤◌, ◌==◌, Bool, List, ◌++◌, map, None}
 use Rattle.std.specs.List.{flat_map, AllByRecursion}
 use Rattle.ele_blocks.specs.Layout.{shown}
@@ -16,7 +16,7 @@ use Rattle.ele_model.specs.declared.rows.VersionRow.{VersionRow}
 use Rattle.ele_model.specs.declared.rows.DraftRow.{DraftRow}
 use Rattle.ele_model.specs.World.{next_of}
 
--- ---- what the fields show
+-- ---- the rows of the fields
 
 abbrev pub file_row : File → FileRow
 file_row f = record { id = f.id; policy = f.policy; next = f.next }
@@ -49,9 +49,9 @@ held_in s files sessions = record {
 abbrev pub held_of : Inside → Held
 held_of i = held_in i.store i.files.items i.sessions
 
--- ---- what they keep
+-- ---- the invariant
 
--- the maps of all versions and drafts: none was written by a later version
+-- the maps of all versions and drafts: a later version wrote none of a map's slots
 abbrev pub row_stock : ℕ → log.VersionRow → Tagged
 row_stock file row = record { file = file; below = row.number + 1; layout = row.cells }
 
@@ -75,12 +75,12 @@ pub record IsFileKept (f : File) : Type 0 where
   pub rows : AllByRecursion (IsRowOf f.next) f.log.rows
   pub order : AreInOrder f.log.rows
 
--- a draft is the next version of its file, which is there
+-- a draft is to be the next version of its file, which is there
 pub record IsDraftKept (files : List File) (d : Draft) : Type 0 where
   pub there : 0 < d.number
   pub number : d.number ≡ next_of (map file_row files) d.file
 
--- the laws of stocks stand here, so that each change can cite them
+-- the laws of stocks are here, so that each change can cite them
 pub record Keeps (s : Store) (files : List File) (sessions : AllSessions) : Type 0 where
   pub laws : StockLaws
   pub rise : AllLater (λ x y. x.id < y.id) files

@@ -1,4 +1,4 @@
--- Which row of a file's log a tag means. No public clause cites this module.
+-- The row of a file's log that a tag means. No public clause cites this module.
 use Rattle.std.specs.Prelude.{ℕ, ◌-◌, ◌&&◌, nat_lt, Option, Result, Ok, Err, find, if◌then◌else◌}
 use Rattle.std.specs.Option.{option_map, option_map_or}
 use Rattle.ele_files.specs.declared.file.File.{File}
@@ -11,7 +11,7 @@ use Rattle.ele_model.specs.declared.refusal.Refusal.{Refusal}
 use Rattle.ele_model.specs.declared.refusal.Refusal.TheVariants.{Forgotten, NoVersion}
 use Rattle.ele_model.specs.declared.rows.VersionInfo.{VersionInfo}
 
--- the row's number, its moments, and how many bytes it has
+-- the row's number, its moments, and its length in bytes
 abbrev pub stamps_in : log.VersionRow → VersionInfo
 stamps_in row = record {
   number = row.number;
@@ -21,7 +21,7 @@ stamps_in row = record {
   length = row.cells.size;
 }
 
--- what the row tells, or where it isn't there, which one is held from before it
+-- the row's info, or if there is no row, the last held number before it
 abbrev pub told_or_forgotten : Option log.VersionRow → Option log.VersionRow → Result VersionInfo Refusal
 told_or_forgotten found before =
     option_map_or (λ row. Ok (stamps_in row)) found (Err (Forgotten (option_map (λ row. row.number) before)))

@@ -1,4 +1,4 @@
--- The slots of one file that were met, each with the version that wrote it. No public clause cites this module.
+-- The slots in the set, each with the version that wrote it. No public clause cites this module.
 use Rattle.std.specs.Prelude.{◌≡◌, ℕ, ◌==◌, ◌&&◌, Bool, List, ◌++◌, length}
 use Rattle.std.specs.List.{flat_map, list_any, sum_by}
 use Rattle.ele_blocks.specs.Layout.{shown}
@@ -16,7 +16,7 @@ pub record Counts (file : ℕ) (keys : List (ℕ × ℕ)) (places : List Place) 
   pub count : length keys ≡ different is_place places
   pub has : (slot writer : ℕ) → list_any (is_key slot writer) keys ≡ is_among places (record { file = file; slot = slot; writer = writer })
 
--- the file's places were met behind all that were met before
+-- the file's places are added after those that are in the set
 abbrev pub Meets : ℕ → List (ℕ × ℕ) → List (ℕ × ℕ) → List Place → Type 0
 Meets file was now places = (before : List Place) → Counts file was before → Counts file now (before ++ places)
 
@@ -24,6 +24,6 @@ Meets file was now places = (before : List Place) → Counts file was before →
 abbrev pub log_places : Store → List log.VersionRow → ℕ → List Place
 log_places s rows file = flat_map (λ row. places_from file 0 (shown s row.cells)) rows
 
--- how many bytes they have, each counted whole
+-- how many bytes the rows have; each row counts as a whole
 abbrev pub log_bytes : List log.VersionRow → ℕ
 log_bytes rows = sum_by (λ row. row.cells.size) rows

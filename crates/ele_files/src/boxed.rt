@@ -1,4 +1,4 @@
-//! A file that lies apart, so that few bytes move when another leaves the list of files.
+//! A boxed file, so that few bytes move when another is removed from the list of files.
 //! A contract sees the file.
 ghost use Rattle.std.specs.Prelude.{◌≡◌, IfOk};
 ghost use Rattle.std.specs.Borrow.{Lends, sem};
@@ -11,7 +11,7 @@ use ele_moment::NoMemory;
 use std::alloc::Global;
 use std::marker::Model;
 
-/// A file in memory of its own.
+/// A file in an allocation of its own.
 #[derive(Drop)]
 pub struct BoxedFile {
     file: Box<File>,
@@ -34,7 +34,7 @@ impl Keyed for BoxedFile {
 }
 
 impl BoxedFile {
-    /// The file in memory of its own.
+    /// Moves the file into an allocation of its own.
     pub fn new(alloc: Global, file: File) -> Result<BoxedFile, NoMemory>
         ensures { IfOk result (λ boxed. boxed ≡ file) }
     {
@@ -42,14 +42,14 @@ impl BoxedFile {
         Ok(BoxedFile { file })
     }
 
-    /// The file.
+    /// Returns the file.
     pub fn get(&self) -> &File
         ensures { result.now ≡ self.now }
     {
         &self.file
     }
 
-    /// The file, to be changed.
+    /// Returns the file, for changes.
     pub fn get_mut(&mut self) -> &mut File
         ensures* writes_back { sem 𝓛 (Lends the_row file_row self.entry result (λ w. w)) }
         ensures value { result.now ≡ self.old }

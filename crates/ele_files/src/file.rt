@@ -1,5 +1,5 @@
 //! One file.
-//! A contract sees its number, its policy, the number of its next version, and the rows of its log.
+//! A contract sees its number, its policy, its next version's number, and the rows of its log.
 ghost use Rattle.std.specs.Prelude.{◌≡◌, ◌<◌, ◌≤◌, ◌+◌, ◌^◌, []};
 ghost use Rattle.std.specs.List.{AllByRecursion};
 ghost use Rattle.ele_files.specs.Appending.{IsRowPast, HasRows, HasAppended, ended_rows, next_row};
@@ -10,7 +10,7 @@ use ele_inode_log::{InodeLog, Meter, VersionRow};
 use ele_moment::{FileId, Moment, VersionNo};
 use ele_policy::Policy;
 
-/// A version that a file got: its number, and how many bytes it has.
+/// A new version of a file: its number, and its length in bytes.
 #[derive(Clone, Copy, Debug)]
 pub struct NewVersion {
     pub number: VersionNo,
@@ -23,12 +23,12 @@ pub struct File {
     pub id: FileId,
     pub next: VersionNo,
     pub log: InodeLog,
-    // Last, since it is long: what stands before it lies together.
+    // The policy is last, since it is long: the fields before it stay close together.
     pub policy: Policy,
 }
 
 impl File {
-    /// The version before the next one ends, unless it has ended.
+    /// Ends the version before the next one, unless it has ended.
     #[tactic(auto, using(std::proofs::lemmas::Bool::Decides::nat_tests, crate::proofs::Endings::can_end, crate::proofs::Endings::no_end, crate::proofs::Endings::last_row, crate::proofs::Words::update_first_same, crate::proofs::Words::update_first_unfound, crate::proofs::Words::all_not_found))]
     pub fn end_before(&mut self, now: Moment)
         requires kept { IsFileKept self.old }
@@ -43,8 +43,9 @@ impl File {
         }
     }
 
-    /// Appends the next version, which closes now, and ends at once where the file isn't live. The
-    /// version before it ends. There is room for it. The answer is its number and its length.
+    /// Appends the next version, which closes now, and returns its number and its length. If the
+    /// file isn't live, it also ends now. The version before it ends. The caller has reserved the
+    /// memory.
     pub fn append(
         &mut self,
         opened: Moment,

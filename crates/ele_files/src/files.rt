@@ -39,14 +39,14 @@ use ele_sessions::Sessions;
 use std::alloc::Global;
 use std::marker::Model;
 
-/// A version that was taken out of its file.
+/// What a removed version leaves.
 #[derive(Clone, Copy, Debug)]
 pub struct RemovedVersion {
     /// The kind of the file's policy.
     pub kind: Kind,
     /// How many bytes the version had.
     pub bytes: u64,
-    /// Whether the file holds no version any more.
+    /// Whether the file now holds no version.
     pub was_last: bool,
 }
 
@@ -92,8 +92,8 @@ fn file_of(files: &[BoxedFile], id: FileId) -> Option<&File>
     Some(files[at].get())
 }
 
-// The map that a new draft of the file begins with: that of the version before the next one, or the
-// empty one where that version isn't held.
+// The first map of a new draft of the file: that of the version before the next one, or the empty
+// map if that version isn't held.
 fn first_map<'a>(file: &'a File, empty: &'a BlockMap) -> &'a BlockMap
     ensures { result.now ≡ option_map_or (λ row. row.cells)
         (find (has_number (file.now.next - 1)) file.now.log.rows) empty.now }
@@ -105,12 +105,12 @@ fn first_map<'a>(file: &'a File, empty: &'a BlockMap) -> &'a BlockMap
 }
 
 impl Files {
-    /// No files; this takes no memory.
+    /// Makes an empty list of files. It takes no memory.
     pub fn new(alloc: Global) -> Files
         ensures { result
             ≡ record { files = []; versions = []; drafts = []; handles = []; opened = 0 } }
     {
-        // The laws hold by themselves; from here on they stand in the invariant.
+        // The laws hold without a condition; the invariant keeps them.
         laws::stocks();
         Files {
             files: Vec::new(alloc),
@@ -120,8 +120,8 @@ impl Files {
         }
     }
 
-    /// A file of that number and policy, with an empty first version that opens and closes now. The
-    /// number is greater than those before. Where memory is refused, all is as it was.
+    /// Adds a file of that number and policy, with an empty first version that opens and closes
+    /// now. The number is greater than those before. If memory is refused, all is as it was.
     pub fn add(&mut self, id: FileId, policy: Policy, now: Moment) -> Result<(), NoMemory>
         requires { AllByRecursion (λ row. row.id < id) self.old.files }
         ensures ok { OnOk result (GotFile self.old id policy now self.new) }
@@ -143,9 +143,8 @@ impl Files {
         Ok(())
     }
 
-    /// A handle that writes the file, which is there. It joins the file's draft, or where there is
-    /// none it starts one with the content of the version before the next. Where memory is refused,
-    /// all is as it was.
+    /// Opens a handle that writes the file, which exists. It joins the file's draft, or starts one
+    /// with the content of the version before the next. If memory is refused, all is as it was.
     #[tactic(auto, using(std::proofs::lemmas::Bool::Decides::nat_tests, crate::proofs::Rows::next_found, crate::proofs::Openings::maps_seen, crate::proofs::Openings::first_lives))]
     pub fn open_write(&mut self, file: FileId, now: Moment) -> Result<Handle, NoMemory>
         requires there { 0 < next_of self.old.files file }
@@ -164,7 +163,8 @@ impl Files {
             .open_write(&mut self.store, file, held.next, now, map)
     }
 
-    /// A handle that reads the version, which is held. Where memory is refused, all is as it was.
+    /// Opens a handle that reads the version, which is held. If memory is refused, all is as it
+    /// was.
     pub fn open_read(&mut self, file: FileId, number: VersionNo) -> Result<Handle, NoMemory>
         requires held { list_any (is_version file number) self.old.versions ≡ true }
         requires room { self.old.opened < 2 ^ 63 }
@@ -176,7 +176,7 @@ impl Files {
         self.sessions.open_read(file, number)
     }
 
-    /// Takes out the version, and answers what it leaves; none where it isn't held.
+    /// Removes the version, and returns what it leaves. None if it isn't held.
     #[tactic(auto, using(std::proofs::lemmas::Bool::Decides::nat_tests, crate::proofs::Rows::version_none, crate::proofs::Rows::no_file, crate::proofs::Words::remove_first_unfound, crate::proofs::Words::all_not_found))]
     pub fn remove_version(
         &mut self,
@@ -208,8 +208,8 @@ impl Files {
         })
     }
 
-    /// How many different blocks the versions and drafts have: a slot that several have from one
-    /// writer is one block.
+    /// Returns how many different blocks the versions and drafts have. A slot that several have
+    /// from one writer is one block.
     #[tactic(auto, using(std::proofs::lemmas::Bool::Decides::nat_tests, crate::proofs::Copies::places_shown))]
     pub fn blocks(&self) -> u64
         ensures { result ≡ different is_place (places self.now.versions self.now.drafts) }

@@ -1,5 +1,5 @@
-//! The files of one world: their held versions, and the drafts and handles by which they are
-//! written. A contract sees the flat rows of all files.
+//! The files of one world: their held versions, and the drafts and handles that write them. A
+//! contract sees the flat rows of all files.
 #![tactic(auto)]
 
 mod boxed;

@@ -1,5 +1,5 @@
 //! The version of one file that a tag means.
-//! A contract sees a look-up among the rows of its log.
+//! A contract sees a look-up in the rows of its log.
 ghost use Rattle.std.specs.Prelude.{◌≡◌, ◌<◌, ◌≤◌, ◌+◌, ◌^◌};
 ghost use Rattle.ele_inode_log.specs.Rows.{ends_after};
 ghost use Rattle.ele_files.specs.Meant.{stamps_in, row_numbered, row_living, row_meant};
@@ -9,7 +9,7 @@ use ele_inode_log::{Meter, VersionRow};
 use ele_model::{Refusal, Tag, VersionInfo};
 use ele_moment::{Moment, VersionNo};
 
-/// The row's number, its moments, and how many bytes it has.
+/// Returns the row's number, its moments, and its length in bytes.
 pub fn info_of(row: &VersionRow) -> VersionInfo
     ensures { result ≡ stamps_in row.now }
 {
@@ -33,8 +33,7 @@ fn ends_after(row: &VersionRow, moment: Moment) -> bool
 }
 
 impl File {
-    // The version of that number. Refused: `Forgotten`, with the last number that is held from
-    // before it.
+    // The version of that number. Refused: `Forgotten`, with the last held number before it.
     fn numbered(&self, number: VersionNo) -> Result<VersionInfo, Refusal>
         ensures { result ≡ row_numbered self.now number }
     {
@@ -45,8 +44,8 @@ impl File {
         Err(Refusal::Forgotten(before.map(|row| row.number)))
     }
 
-    /// The version that lived at the moment. Refused: `Forgotten`, with the number of the last one
-    /// that is held of those that had closed by then.
+    /// Returns the version that lived at the moment. Refused: `Forgotten`, with the number of the
+    /// last held version that had closed by then.
     pub fn living(&self, moment: Moment) -> Result<VersionInfo, Refusal>
         ensures { result ≡ row_living self.now moment }
     {
@@ -60,8 +59,8 @@ impl File {
         }
     }
 
-    /// The version that the tag means; without one it is the version before the next. Refused:
-    /// `NoVersion` for a number that no version got, `Forgotten`.
+    /// Returns the version that the tag means; without one that is the version before the next.
+    /// Refused: `NoVersion` for a number that no version got, `Forgotten`.
     pub fn meant(&self, tag: Tag) -> Result<VersionInfo, Refusal>
         ensures { result ≡ row_meant self.now tag }
     {

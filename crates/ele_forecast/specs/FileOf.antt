@@ -1,4 +1,4 @@
--- A file that closed at these moments, as the definitions of the world see one.
+-- A file that closed at these moments, as the definitions of the world see it.
 use Rattle.std.specs.Prelude.{◌≡◌, ℕ, ◌+◌, true, List, [], ◌∷◌, map, Option, Some, slice_get}
 use Rattle.ele_policy.specs.declared.policy.Policy.{Policy}
 use Rattle.ele_model.specs.declared.rows.VersionRow.{VersionRow}

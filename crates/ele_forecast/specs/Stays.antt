@@ -7,7 +7,7 @@ use Rattle.ele_model.specs.FileView.{file_view, is_version_of}
 use Rattle.ele_model.specs.World.{World}
 use Rattle.ele_forecast.specs.FileOf.{IsFileOf}
 
--- the closings that have come by the moment
+-- the closings up to the moment
 abbrev pub come_by : ℕ → List ℕ → List ℕ
 come_by at closings = filter (λ closed. nat_le closed at) closings
 
@@ -15,7 +15,7 @@ come_by at closings = filter (λ closed. nat_le closed at) closings
 abbrev pub numbers_of : ℕ → List VersionRow → List ℕ
 numbers_of file rows = map (λ row. row.number) (filter (is_version_of file) rows)
 
--- in each world in which a file under the policy has closed as often by now, its versions that aren't due are these
+-- in each world in which a file under the policy has these closings up to now, the numbers of its versions that aren't due are these
 abbrev pub AreKept : Policy → List ℕ → ℕ → List ℕ → Type 0
 AreKept policy closings at numbers =
     (w : World) (file : ℕ) → w.now ≡ at → IsFileOf policy (come_by at closings) (file_view w file)

@@ -1,4 +1,4 @@
-//! The moments at which a file closed. A contract sees them as their list, which never falls.
+//! The moments at which a file closed. A contract sees them as a list in rising order.
 ghost use Rattle.std.specs.Prelude.{◌≡◌, ◌≤◌, ◌<◌, ◌+◌, ◌-◌, ◌++◌, ◌∷◌, ◌^◌, ◌↔◌, [], ℕ, false, IsTrue, ◌≢◌, OnOk, OnErr, IfOk, IfErr, IfSome, IsSome, Some, None, length, slice_get};
 ghost use Rattle.std.specs.List.{AllByRecursion};
 ghost use Rattle.ele_lists.specs.Lists.{AllLater};
@@ -14,19 +14,19 @@ use std::alloc::Global;
 use std::marker::Model;
 use thiserror::Error;
 
-/// A closing wasn't taken.
+/// Why a closing wasn't added.
 #[derive(Clone, Copy, Debug, PartialEq, Eq, Error)]
 pub enum NotClosed {
-    /// It comes before the last one.
+    /// It is before the last closing.
     #[error("before the closing ahead of it")]
     OutOfOrder,
-    /// There was no memory for it.
+    /// Memory for it was refused.
     #[error("out of memory")]
     NoMemory,
 }
 
-/// The moments at which a file closed, in order: version 1 closed at the first. None comes before
-/// the one ahead of it, and several may be one moment.
+/// The moments at which a file closed, in order: version 1 closed at the first. Several may be one
+/// moment.
 #[derive(Debug, Drop)]
 pub struct Closings {
     moments: Vec<Moment>,
@@ -44,7 +44,7 @@ impl Model for Closings {
 }
 
 impl Closings {
-    /// No closing; this takes no memory.
+    /// Makes an empty list. It takes no memory.
     pub fn new(alloc: Global) -> Closings
         ensures { result ≡ [] }
     {
@@ -53,9 +53,9 @@ impl Closings {
         }
     }
 
-    /// Adds a closing. At an error there are those of before:
-    /// - OutOfOrder: it comes before the last one.
-    /// - NoMemory: there was no memory for it.
+    /// Adds a closing. An error leaves the list as it was:
+    /// - OutOfOrder: the closing is before the last one.
+    /// - NoMemory: memory for it was refused.
     pub fn push(&mut self, closed: Moment) -> Result<(), NotClosed>
         ensures ok { OnOk result (self.new ≡ self.old ++ closed ∷ []) }
         ensures rises { OnOk result (AllByRecursion (λ other. other ≤ closed) self.old) }
@@ -74,7 +74,7 @@ impl Closings {
         }
     }
 
-    // Whether the moment comes before the last closing.
+    // Whether the moment is before the last closing.
     fn is_before_last(&self, moment: Moment) -> bool
         ensures before { IsTrue result
             → IfSome (slice_get self.now (length self.now - 1)) (λ last. moment < last) }
@@ -86,14 +86,15 @@ impl Closings {
         }
     }
 
-    /// How many there are.
+    /// Returns the number of closings.
     pub fn len(&self) -> usize
         ensures { result ≡ length self.now }
     {
         self.moments.len()
     }
 
-    /// What is told of the version that the closing at this place made; the first place is 0.
+    /// Returns the forecast of the version that the closing at this place made; the first place is
+    /// 0.
     pub fn forecast(&self, policy: &Policy, place: usize) -> Forecast
         requires { place < length self.now }
         ensures number { result.number ≡ place + 1 }
@@ -110,7 +111,7 @@ impl Closings {
         }
     }
 
-    /// What is told of each version, in order. Without closings this takes no memory.
+    /// Returns the forecast of each version, in order. Without closings this takes no memory.
     pub fn forecasts(&self, policy: &Policy) -> Result<Vec<Forecast>, NoMemory>
         ensures ok { IfOk result
             (λ forecasts. AreForecasts policy.now self.now forecasts.items) }
@@ -124,8 +125,8 @@ impl Closings {
         Ok(forecasts)
     }
 
-    /// Says that no closing comes before the one ahead of it, and that there are not too many to be
-    /// numbered, and one more.
+    /// Brings a proof the facts that the closings are in order, and that 64 bits can number them
+    /// and one more.
     pub fn lemma_sorted(&self)
         ensures rises { AllLater ◌≤◌ self.now }
         ensures few { length self.now + 1 < 2 ^ 64 }
@@ -133,8 +134,8 @@ impl Closings {
         self.moments.len();
     }
 
-    /// The numbers of the versions that stay at the moment: those that have closed by then and may
-    /// not be forgotten. A finished pass at that moment leaves them, whatever was cleaned before.
+    /// Returns the numbers of the versions that stay at the moment: they have closed by then and
+    /// are not due. A finished pass at that moment leaves them, whatever was cleaned before.
     pub fn staying(&self, policy: &Policy, at: Moment) -> Result<Vec<VersionNo>, NoMemory>
         ensures { IfOk result (λ numbers. AreKept policy.now self.now at numbers.items) }
     {
@@ -148,7 +149,7 @@ impl Closings {
         Ok(numbers)
     }
 
-    // The closings that have come by the moment, which are the first ones.
+    // The closings up to the moment, which are the first ones.
     fn come_by(&self, at: Moment) -> &[Moment]
         ensures come { result.now ≡ come_by at self.now }
         ensures rise { AllLater ◌≤◌ result.now }
@@ -157,7 +158,7 @@ impl Closings {
         &self.moments[..self.count_by(at)]
     }
 
-    // How many closings have come by the moment.
+    // How many closings are up to the moment.
     fn count_by(&self, at: Moment) -> usize
         ensures { result ≡ length (come_by at self.now) }
     {
@@ -176,7 +177,7 @@ impl Closings {
         self.moments[place]
     }
 
-    // The closing behind the one at that place, if there is one.
+    // The closing after the one at that place, if there is one.
     fn next(&self, place: usize) -> Option<Moment>
         requires { place < length self.now }
         ensures { result ≡ slice_get self.now (place + 1) }

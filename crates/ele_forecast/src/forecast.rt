@@ -1,4 +1,4 @@
-//! What is told of one version. A contract sees it as plain data, beside the version's row and the
+//! The forecast of one version. A contract sees it as plain data, beside the version's row and the
 //! file that holds it.
 ghost use Rattle.std.specs.Prelude.{◌≡◌, ◌≤◌, ℕ, ◌<◌, ◌+◌, ◌^◌, ◌++◌, ◌∷◌, List, [], Some, None, OnOk, slice_get, true, not};
 ghost use Rattle.ele_lists.specs.Lists.{AllLater};
@@ -15,18 +15,18 @@ ghost use Rattle.ele_forecast.specs.ForecastOf.{TellsOf};
 use ele_moment::{Moment, NoMemory, VersionNo};
 use ele_policy::{Cause, Newer, Policy, cause_of, ripe};
 
-/// Why a version may be forgotten from a moment on, or why from none.
+/// Why a version is due from a moment on, or why it never is.
 #[derive(Clone, Copy, Debug, PartialEq, Eq)]
 pub enum Why {
     /// It has no end.
     Current,
-    /// Its policy never lets it go, not before the last moment, or not beside so few newer ones.
+    /// Its policy never lets it go, not before the last moment, or not with so few newer ones.
     Never,
     /// Its policy lets it go from its ripe moment on.
     Goes(Cause),
 }
 
-/// A version of a file: when it closed and ended, and the moment from which it may be forgotten.
+/// A version of a file: when it closed and ended, and the moment from which it is due.
 #[derive(Clone, Copy, Debug, PartialEq, Eq)]
 pub struct Forecast {
     pub number: VersionNo,
@@ -37,8 +37,8 @@ pub struct Forecast {
     pub why: Why,
 }
 
-// Why the policy lets a version go from its ripe moment on that ended as the next one closed, which
-// has that number.
+// Why the policy lets a version go from its ripe moment on. The version ended as the next one
+// closed, which has that number.
 #[tactic(auto, using(crate::proofs::Followed::due_alone))]
 fn cause(policy: &Policy, closed: Moment, ended: Moment, ripe: Moment, next: VersionNo) -> Cause
     requires { ripe_by policy.now closed (alone (Some ended)) ended ≡ Some ripe }
@@ -97,7 +97,7 @@ pub(crate) fn add(forecasts: &mut Vec<Forecast>, forecast: Forecast) -> Result<(
     Ok(())
 }
 
-/// What is told of a version without an end.
+/// The forecast of a version without an end.
 pub(crate) fn current(number: VersionNo, closed: Moment) -> Forecast
     ensures number { result.number ≡ number }
     ensures closed { result.closed ≡ closed }
@@ -115,7 +115,8 @@ fn meets_floor(policy: &Policy, newer: usize) -> bool
     policy.floor().number() <= newer as u64
 }
 
-/// What is told of a version that ended as the next one closed, the first of so many newer ones.
+/// The forecast of a version that ended as the next one closed. That one is the first of so many
+/// newer ones.
 pub(crate) fn followed(
     policy: &Policy,
     number: VersionNo,
@@ -142,7 +143,7 @@ pub(crate) fn followed(
     }
 }
 
-/// Whether a version that closed then stays at the moment, beside the newer ones that have closed by
+/// Whether a version that closed then stays at the moment, with the newer ones that have closed by
 /// then. It ended as the first of these closed.
 pub(crate) fn stays(policy: &Policy, closed: Moment, newer: &[Moment], at: Moment) -> bool
     requires { AllLater ◌≤◌ (closed ∷ newer.now) }

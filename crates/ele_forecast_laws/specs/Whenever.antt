@@ -1,4 +1,4 @@
--- The versions of which a forecast says that they stay are those that a finished pass leaves, whatever was cleaned before.
+-- A finished pass leaves the versions that a forecast says stay, whatever was cleaned before.
 use Rattle.std.specs.Prelude.{◌≡◌, ℕ, true, not, ◌||◌, List, [], filter}
 use Rattle.std.specs.List.{AllByRecursion}
 use Rattle.ele_policy.specs.declared.policy.Policy.{Policy}
@@ -12,15 +12,15 @@ use Rattle.ele_model.specs.World.{World}
 use Rattle.ele_forecast.specs.FileOf.{IsFileOf}
 use Rattle.ele_forecast.specs.Stays.{AreKept, come_by, numbers_of}
 
--- a finished pass from the world leaves them of the file that has closed as often
+-- a finished pass from the world leaves them, in the file that has these closings
 abbrev pub PassLeavesStaying : Type 0
 PassLeavesStaying =
     (policy : Policy) (closings : List ℕ) (at : ℕ) (numbers : List ℕ) → AreKept policy closings at numbers
     → (w : World) (file : ℕ) → IsWellFormed w → w.now ≡ at → IsFileOf policy (come_by at closings) (file_view w file)
     → (removed : ℕ) (after : World) → IsPass w removed after → numbers ≡ numbers_of file after.versions
 
--- in a run with cleans in it, told by the world that its other events lead to: from any well-formed world without groups, of events
--- of which it doesn't matter when due versions are cleaned
+-- for a run with cleans, from any well-formed world without groups, whose other events are such that the time of cleaning doesn't matter:
+-- the forecast is that of the world to which the other events lead
 abbrev pub CleanedWhenever : Type 0
 CleanedWhenever =
     (policy : Policy) (closings : List ℕ) (at : ℕ) (numbers : List ℕ) → AreKept policy closings at numbers

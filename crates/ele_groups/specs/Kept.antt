@@ -1,4 +1,4 @@
--- What the fields of `Groups` are to each other. No public clause cites this module.
+-- The invariant of the fields of `Groups`. No public clause cites this module.
 use Rattle.std.specs.Prelude.{◌≡◌, ℕ, Bool, false, List, Option}
 use Rattle.std.specs.List.{AllByRecursion, IsDistinct}
 use Rattle.std.specs.Map.{keys_of, lookup}
@@ -10,11 +10,11 @@ use Rattle.ele_model.specs.GroupRows.{is_group, is_member}
 use Rattle.ele_groups.specs.declared.memberships.Memberships.{Memberships}
 use Rattle.ele_groups.specs.Members.{has}
 
--- the row that stands under the name
+-- the row under the name
 abbrev pub row_at : List (List ℕ × GroupRow) → List ℕ → Option GroupRow
 row_at es name = lookup (bytes_eq name) es
 
--- with f of that row in its place
+-- the rows with f applied to that row
 abbrev pub changed_at : List ℕ → (GroupRow → GroupRow) → List (List ℕ × GroupRow) → List (List ℕ × GroupRow)
 changed_at name f es = update_first (λ e. bytes_eq name e.0) (λ e. (e.0, f e.1)) es
 
@@ -22,7 +22,7 @@ changed_at name f es = update_first (λ e. bytes_eq name e.0) (λ e. (e.0, f e.1
 abbrev pub has_file : ℕ → Option GroupRow → Bool
 has_file file row = option_map_or (is_member file) row false
 
--- a row stands under its own name
+-- the row is under its own name
 abbrev pub IsNamed : List ℕ × GroupRow → Type 0
 IsNamed e = (name : List ℕ) → is_group name e.1 ≡ bytes_eq name e.0
 
@@ -30,7 +30,7 @@ IsNamed e = (name : List ℕ) → is_group name e.1 ≡ bytes_eq name e.0
 pub record AreOf (at : List ℕ → Option GroupRow) (memberships : Memberships) : Type 0 where
   pub each : (file : ℕ) (name : List ℕ) → has memberships file name ≡ has_file file (at name)
 
--- the rows stand under their names, none twice, and each file has those of its groups
+-- the rows are under their names, no two under one, and each file has the names of its groups
 pub record AreKept (es : List (List ℕ × GroupRow)) (memberships : Memberships) : Type 0 where
   pub apart : IsDistinct bytes_eq (keys_of es)
   pub named : AllByRecursion IsNamed es

@@ -1,4 +1,4 @@
--- What the fields of `Marks` are to each other. No public clause cites this module.
+-- The invariant of the fields of `Marks`. No public clause cites this module.
 use Rattle.std.specs.Prelude.{◌≡◌, ℕ, ◌==◌, ◌<◌, ◌≤◌, false, List, find, Some}
 use Rattle.std.specs.BTreeMap.{BTreeMap, get}
 use Rattle.std.specs.List.{list_any}
@@ -7,15 +7,15 @@ use Rattle.ele_lists.specs.Lists.{AllLater}
 use Rattle.ele_model.specs.declared.rows.MarkRow.{MarkRow}
 use Rattle.ele_model.specs.GroupRows.{is_mark}
 
--- no number stands there twice
+-- the list has each number once
 abbrev pub AreApart : List ℕ → Type 0
 AreApart xs = AllLater (λ earlier later. (earlier == later) ≡ false) xs
 
--- no two marks are of one moment
+-- no two marks have one moment
 abbrev pub AreMarksApart : List MarkRow → Type 0
 AreMarksApart xs = AllLater (λ earlier later. (earlier.at == later.at) ≡ false) xs
 
--- no two marks are of one moment, and each stands under its own
+-- no two marks have one moment, and each is under its own
 pub record AreTimed (made : List MarkRow) (times : BTreeMap ℕ MarkRow) : Type 0 where
   pub apart : AreMarksApart made
   pub same : (time : ℕ) → get nat_cmp times time ≡ find (is_mark time) made

@@ -1,4 +1,4 @@
-//! For how long marks of groups that have a file keep what was current in a span.
+//! How long marks hold what was current in a span.
 //! A contract sees the groups as their rows, each under its name.
 ghost use Rattle.std.specs.Prelude.{◌≡◌};
 ghost use Rattle.std.specs.Map.{values_of};
@@ -14,8 +14,8 @@ use ele_model::Cover;
 use ele_moment::{FileId, Name};
 use indexmap::IndexMap;
 
-/// For how long marks of groups that have the file keep, those aside that are left out. It looks at
-/// the file's groups alone, and at none behind one that keeps for ever.
+/// Returns how long marks of groups that have the file hold it, without the marks that are left
+/// out. It looks at the file's groups only, and stops at one that holds it forever.
 pub fn cover(
     rows: &IndexMap<Name, Group>,
     memberships: &Memberships,
@@ -36,7 +36,7 @@ pub fn cover(
     cover
 }
 
-// For how long marks of that group of a file keep, those aside that are left out.
+// How long the marks of one group of a file hold it, without those that are left out.
 fn cover_in(rows: &IndexMap<Name, Group>, membership: &Membership, span: &Span) -> Cover
     ensures { result
         ≡ option_map_or (row_cover span.now.except span.now.closed span.now.ended)
@@ -48,7 +48,7 @@ fn cover_in(rows: &IndexMap<Name, Group>, membership: &Membership, span: &Span) 
     }
 }
 
-// That group of a file. It is looked for where it stood first, since few groups are dropped.
+// The group of that membership. The old place is tried first, since few groups are dropped.
 fn group_of<'a>(rows: &'a IndexMap<Name, Group>, membership: &Membership) -> Option<&'a Group>
     ensures { option_copied result ≡ row_at rows.now.entries membership.now.name }
 {
@@ -58,7 +58,7 @@ fn group_of<'a>(rows: &'a IndexMap<Name, Group>, membership: &Membership) -> Opt
     }
 }
 
-/// For how long marks of the group of that name keep, those aside that are left out.
+/// Returns how long marks of the group of that name hold it, without those that are left out.
 pub fn cover_at(rows: &IndexMap<Name, Group>, name: &Name, span: &Span) -> Cover
     ensures { result
         ≡ option_map_or (row_cover span.now.except span.now.closed span.now.ended)

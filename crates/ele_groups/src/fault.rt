@@ -5,7 +5,7 @@ ghost use Rattle.ele_groups.specs.declared.fault.GroupFault.TheVariants as fault
 use ele_moment::NoMemory;
 use thiserror::Error;
 
-/// Why a change of groups is refused; all of them are as they were.
+/// Why a change of groups fails. All groups are as they were.
 #[derive(Clone, Copy, Debug, PartialEq, Eq, Error)]
 pub enum GroupFault {
     /// No group has the name.
@@ -23,10 +23,10 @@ pub enum GroupFault {
     /// The group was marked at that moment already.
     #[error("the mark exists")]
     MarkExists,
-    /// The group wasn't marked at that moment.
+    /// The group has no mark at that moment.
     #[error("no such mark")]
     NoMark,
-    /// There is no memory for the change.
+    /// Memory for the change was refused.
     #[error("out of memory")]
     NoMemory,
 }

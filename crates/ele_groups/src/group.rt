@@ -13,7 +13,7 @@ use ele_moment::{FileId, Moment, Name, NoMemory};
 use std::alloc::Global;
 use std::marker::Model;
 
-/// A group. It has no file twice.
+/// A group. It has each of its files once.
 #[derive(Drop)]
 pub struct Group {
     name: Name,
@@ -33,7 +33,7 @@ impl Model for Group {
 }
 
 impl Group {
-    /// A group without files and marks. It takes no memory.
+    /// Makes a group without files and marks. It takes no memory.
     pub fn new(name: Name, alloc: Global) -> Group
         ensures { result ≡ new_group name }
     {
@@ -44,28 +44,28 @@ impl Group {
         }
     }
 
-    /// Its name.
+    /// Returns its name.
     pub fn name(&self) -> &Name
         ensures { result.now ≡ self.now.name }
     {
         &self.name
     }
 
-    /// Its files in order of adding.
+    /// Returns its files in order of adding.
     pub fn members(&self) -> &[FileId]
         ensures { result.now ≡ self.now.members }
     {
         &self.members
     }
 
-    /// Its marks in order of making.
+    /// Returns its marks in order of making.
     pub fn marks(&self) -> &[MarkRow]
         ensures { result.now ≡ self.now.marks }
     {
         self.marks.as_slice()
     }
 
-    /// The moments at which it was marked, in order of making.
+    /// Returns the moments of its marks, in order of making.
     pub fn moments(&self, alloc: Global) -> Result<Vec<Moment>, NoMemory>
         ensures { IfOk result (λ moments. moments.items ≡ map (λ mark. mark.at) self.now.marks) }
     {
@@ -78,7 +78,7 @@ impl Group {
         )
     }
 
-    /// A copy of its row.
+    /// Returns a copy of its row.
     pub fn row(&self, alloc: Global) -> Result<GroupRow, NoMemory>
         ensures { IfOk result (λ row. row ≡ self.now) }
     {
@@ -89,7 +89,7 @@ impl Group {
         })
     }
 
-    /// Adds a file behind the others.
+    /// Adds a file at the end.
     pub fn add(&mut self, file: FileId) -> Result<(), NoMemory>
         requires { is_member file self.old ≡ false }
         ensures ok { OnOk result (self.new ≡ adds file self.old) }
@@ -99,7 +99,7 @@ impl Group {
         Ok(())
     }
 
-    /// Takes out the file, wherever it stands. It takes no memory.
+    /// Removes the file. It takes no memory.
     #[tactic(auto, using(crate::proofs::Basics::later_remove_first))]
     pub fn remove(&mut self, file: FileId)
         ensures removes { self.new ≡ removes file self.old }
@@ -110,14 +110,14 @@ impl Group {
         take_out(&mut self.members, &file);
     }
 
-    /// Whether it was marked at the moment.
+    /// Returns whether it has a mark at the moment.
     pub fn has_mark(&self, moment: Moment) -> bool
         ensures { result ≡ has_mark moment self.now }
     {
         self.marks.has(moment)
     }
 
-    /// Adds a mark behind the others.
+    /// Adds a mark at the end.
     pub fn mark(&mut self, mark: &MarkRow) -> Result<(), NoMemory>
         requires { has_mark mark.now.at self.old ≡ false }
         ensures ok { OnOk result (self.new ≡ marks mark.now self.old) }
@@ -126,14 +126,15 @@ impl Group {
         self.marks.add(mark)
     }
 
-    /// Takes out the mark at the moment. It takes no memory.
+    /// Removes the mark at the moment. It takes no memory.
     pub fn unmark(&mut self, moment: Moment)
         ensures { self.new ≡ unmarks moment self.old }
     {
         self.marks.remove(moment);
     }
 
-    /// For how long its marks keep what was current in the span, those aside that are left out.
+    /// Returns how long its marks hold what was current in the span, without those that are left
+    /// out.
     #[tactic(auto, using(crate::proofs::Covered::left_out, crate::proofs::Covered::none_out, crate::proofs::Covered::one_out))]
     pub fn cover(&self, span: &Span) -> Cover
         ensures { result ≡ row_cover span.now.except span.now.closed span.now.ended self.now }

@@ -45,7 +45,7 @@ impl Model for Groups {
 }
 
 impl Groups {
-    /// No groups. It takes no memory; later calls take theirs from `alloc`.
+    /// Makes an empty list of groups. It takes no memory; later calls take theirs from `alloc`.
     pub fn new(alloc: Global) -> Groups
         ensures { result ≡ [] }
     {
@@ -56,7 +56,7 @@ impl Groups {
         }
     }
 
-    /// Makes a group, which has no file and no mark.
+    /// Makes a group without files and marks.
     pub fn make(&mut self, name: &Name) -> Result<(), GroupFault>
         ensures allowed { OnOk result (make_fault self.old name.now ≡ None) }
         ensures made { OnOk result (self.new ≡ with_group name.now self.old) }
@@ -70,7 +70,7 @@ impl Groups {
         Ok(())
     }
 
-    /// Drops a group with its marks. It takes no memory.
+    /// Removes a group with its marks. It takes no memory.
     pub fn drop_group(&mut self, name: &Name) -> Result<(), GroupFault>
         ensures answer { result ≡ answer_of (drop_fault self.old name.now) }
         ensures dropped { OnOk result (self.new ≡ without_group name.now self.old) }
@@ -81,7 +81,7 @@ impl Groups {
         Ok(())
     }
 
-    /// Adds a file to a group, behind the files that it has.
+    /// Adds a file to a group, after the files that it has.
     pub fn add(&mut self, name: &Name, file: FileId) -> Result<(), GroupFault>
         ensures allowed { OnOk result (add_fault self.old name.now file ≡ None) }
         ensures added { OnOk result (self.new ≡ with_member name.now file self.old) }
@@ -96,7 +96,7 @@ impl Groups {
         Ok(())
     }
 
-    /// Takes a file out of a group. It takes no memory.
+    /// Removes a file from a group. It takes no memory.
     pub fn remove(&mut self, name: &Name, file: FileId) -> Result<(), GroupFault>
         ensures answer { result ≡ answer_of (remove_fault self.old name.now file) }
         ensures removed { OnOk result (self.new ≡ without_member name.now file self.old) }
@@ -110,7 +110,8 @@ impl Groups {
         Ok(())
     }
 
-    /// Marks a group at a moment, behind the marks that it has, until the mark's end, if one is named.
+    /// Marks a group at a moment, for good or until the mark's end. The mark is the group's last
+    /// one.
     pub fn mark(
         &mut self,
         name: &Name,
@@ -131,7 +132,7 @@ impl Groups {
         Ok(())
     }
 
-    /// Takes a mark out of a group. It takes no memory.
+    /// Removes a mark from a group. It takes no memory.
     pub fn unmark(&mut self, name: &Name, moment: Moment) -> Result<(), GroupFault>
         ensures answer { result ≡ answer_of (unmark_fault self.old name.now moment) }
         ensures unmarked { OnOk result (self.new ≡ without_mark name.now moment self.old) }
@@ -145,16 +146,16 @@ impl Groups {
         Ok(())
     }
 
-    /// Takes the file out of every group. It takes no memory.
+    /// Removes the file from every group. It takes no memory.
     pub fn forget_file(&mut self, file: FileId)
         ensures { self.new ≡ forgotten file self.old }
     {
         while self.forget_one(file) {}
     }
 
-    /// For how long the marks of groups that have the file keep what was current from `closed` until
-    /// `ended`, or still is: `Until` has the latest of their ends, which may have passed. It takes no
-    /// memory.
+    /// Returns how long the marks of groups that have the file hold what was current from `closed`
+    /// until `ended`, or still is. `Until` has the latest of their ends, which may have passed. It
+    /// takes no memory.
     pub fn cover(&self, file: FileId, closed: Moment, ended: Option<Moment>) -> Cover
         ensures { result ≡ cover_of self.now file closed ended }
     {
@@ -167,8 +168,8 @@ impl Groups {
         cover(&self.rows, &self.memberships, file, &span)
     }
 
-    /// For how long the marks of the group of that name keep what was current from `closed` until
-    /// `ended`, or still is, of a file that it has. It takes no memory.
+    /// Returns how long the marks of the group of that name hold a version that was current from
+    /// `closed` until `ended`, or still is. The group has the version's file. It takes no memory.
     pub fn cover_by_group(&self, name: &Name, closed: Moment, ended: Option<Moment>) -> Cover
         ensures { result ≡ option_map_or (λ row. cover_by closed ended row.marks)
             (group_named self.now name.now) Free }
@@ -181,8 +182,8 @@ impl Groups {
         cover_at(&self.rows, name, &span)
     }
 
-    /// For how long they do, that mark of that group left out, or the whole group where no mark is
-    /// named. It takes no memory.
+    /// Returns the same without one mark of a group, or without the whole group if no mark is
+    /// given. It takes no memory.
     pub fn cover_without(
         &self,
         name: &Name,
@@ -202,21 +203,21 @@ impl Groups {
         cover(&self.rows, &self.memberships, file, &span)
     }
 
-    /// Whether there is a group of that name.
+    /// Returns whether there is a group of that name.
     pub fn has_group(&self, name: &Name) -> bool
         ensures { result ≡ has_group self.now name.now }
     {
         self.rows.contains_key(name)
     }
 
-    /// Whether the group of that name has the file.
+    /// Returns whether the group of that name has the file.
     pub fn is_member(&self, name: &Name, file: FileId) -> bool
         ensures { result ≡ has_member self.now name.now file }
     {
         self.memberships.has(file, name)
     }
 
-    /// Whether the group of that name was marked at the moment.
+    /// Returns whether the group of that name has a mark at the moment.
     pub fn has_mark(&self, name: &Name, moment: Moment) -> bool
         ensures { result ≡ is_marked_at self.now name.now moment }
     {
@@ -226,14 +227,14 @@ impl Groups {
         }
     }
 
-    /// How many groups there are.
+    /// Returns the number of groups.
     pub fn len(&self) -> usize
         ensures { result ≡ length self.now }
     {
         self.rows.len()
     }
 
-    /// The name, the files and the marks of the group at that place in order of making.
+    /// Returns the name, the files and the marks of the group at that place in order of making.
     pub fn group(&self, place: usize) -> Option<(&Name, &[FileId], &[MarkRow])>
         ensures some { IfSome result (λ group. slice_get self.now place
             ≡ Some (row_of group.0.now group.1.now group.2.now)) }
@@ -243,7 +244,7 @@ impl Groups {
         Some((group.name(), group.members(), group.marks()))
     }
 
-    /// A copy of all rows, in order of making.
+    /// Returns a copy of all rows, in order of making.
     pub fn rows(&self) -> Result<ListOf<GroupRow>, NoMemory>
         ensures { IfOk result (λ rows. rows ≡ self.now) }
     {
@@ -254,7 +255,8 @@ impl Groups {
         Ok(ListOf::from_vec(rows))
     }
 
-    /// A copy of the group's files, in order of adding; none where there is no such group.
+    /// Returns a copy of the group's files, in order of adding, or an empty list if there is no
+    /// such group.
     pub fn members(&self, name: &Name) -> Result<Vec<FileId>, NoMemory>
         ensures { IfOk result (λ files. files.items ≡ members_of self.now name.now) }
     {
@@ -264,7 +266,8 @@ impl Groups {
         }
     }
 
-    /// The moments at which the group was marked, in order of making; none where there is no such group.
+    /// Returns the moments of the group's marks, in order of making, or an empty list if there is
+    /// no such group.
     pub fn marks(&self, name: &Name) -> Result<Vec<Moment>, NoMemory>
         ensures { IfOk result (λ marks. marks.items ≡ marks_of self.now name.now) }
     {
@@ -274,7 +277,7 @@ impl Groups {
         }
     }
 
-    // Whether there is a group of that name. `NoGroup` if there is none.
+    // Returns `NoGroup` if there is no group of that name.
     fn expect_group(&self, name: &Name) -> Result<(), GroupFault>
         ensures { result ≡ answer_of (drop_fault self.now name.now) }
     {
@@ -299,7 +302,7 @@ impl Groups {
         self.rows.get(name)
     }
 
-    /// Makes a group of a name that none has. It has no file and no mark.
+    /// Makes a group with a new name, without files and marks.
     pub fn add_group(&mut self, name: &Name) -> Result<(), NoMemory>
         requires { has_group self.old name.now ≡ false }
         ensures ok { OnOk result (self.new ≡ with_group name.now self.old) }
@@ -309,7 +312,7 @@ impl Groups {
         Ok(())
     }
 
-    /// Drops the group of that name with its marks, if there is one. It takes no memory.
+    /// Removes the group of that name with its marks, if there is one. It takes no memory.
     pub fn take_group(&mut self, name: &Name)
         ensures { self.new ≡ without_group name.now self.old }
     {
@@ -318,8 +321,7 @@ impl Groups {
         }
     }
 
-    /// Adds a file to the group of that name, if there is one, behind the files that it has.
-    // The name comes first: it can be taken back without memory.
+    /// Adds a file to the group of that name, if there is one, after the files that it has.
     pub fn add_member(&mut self, name: &Name, file: FileId) -> Result<(), NoMemory>
         requires { has_member self.old name.now file ≡ false }
         ensures ok { OnOk result (self.new ≡ with_member name.now file self.old) }
@@ -328,6 +330,7 @@ impl Groups {
         let Some(place) = self.place(name) else {
             return Ok(());
         };
+        // The membership is first, since its removal takes no memory.
         self.memberships
             .insert(file, Membership { name: *name, place })?;
         if let Err(_refused) = add_to(&mut self.rows, name, file) {
@@ -337,7 +340,7 @@ impl Groups {
         Ok(())
     }
 
-    /// Takes the file out of the group of that name, if it is there. It takes no memory.
+    /// Removes the file from the group of that name, if it is there. It takes no memory.
     pub fn take_member(&mut self, name: &Name, file: FileId)
         ensures { self.new ≡ without_member name.now file self.old }
     {
@@ -345,7 +348,7 @@ impl Groups {
         self.memberships.remove(file, name);
     }
 
-    /// Marks the group of that name, if there is one, behind the marks that it has.
+    /// Marks the group of that name, if there is one, after the marks that it has.
     pub fn add_mark(&mut self, name: &Name, mark: &MarkRow) -> Result<(), NoMemory>
         requires { is_marked_at self.old name.now mark.now.at ≡ false }
         ensures ok { OnOk result (self.new ≡ with_mark name.now mark.now self.old) }
@@ -354,14 +357,15 @@ impl Groups {
         mark_at(&mut self.rows, name, mark)
     }
 
-    /// Takes the mark at the moment out of the group of that name, if it is there. It takes no memory.
+    /// Removes the mark at the moment from the group of that name, if it is there. It takes no
+    /// memory.
     pub fn take_mark(&mut self, name: &Name, moment: Moment)
         ensures { self.new ≡ without_mark name.now moment self.old }
     {
         unmark_at(&mut self.rows, name, moment);
     }
 
-    // Takes the file out of one group that has it, and answers whether one had.
+    // Removes the file from one group that has it, and returns whether one had it.
     fn forget_one(&mut self, file: FileId) -> bool
         ensures others { forgotten file self.new ≡ forgotten file self.old }
         ensures fewer { IsTrue result

@@ -1,4 +1,4 @@
-//! Groups of files, and the moments at which they were marked.
+//! Groups of files, and their marks.
 //! A contract sees them as the list of their rows in order of making.
 #![tactic(auto)]
 

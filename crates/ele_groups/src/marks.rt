@@ -1,4 +1,4 @@
-//! The marks of one group, and for how long those between two moments keep.
+//! The marks of one group, and how long those between two moments hold.
 //! A contract sees them as their list in order of making.
 ghost use Rattle.std.specs.Prelude.{◌≡◌, vec_capacity, vec_len, ◌<◌, ◌≤◌, ◌==◌, ◌∷◌, ◌++◌, ℕ, [], not, false, filter, position, Some, if◌then◌else◌, IfSome, IfNone, OnOk, OnErr};
 ghost use Rattle.std.specs.BTreeMap.{get};
@@ -16,7 +16,7 @@ use std::alloc::Global;
 use std::collections::BTreeMap;
 use std::marker::Model;
 
-/// The marks in order of making, and beside them each under its seconds, in order of time.
+/// The marks in order of making, and also by their seconds, in order of time.
 #[derive(Drop)]
 pub struct Marks {
     made: Vec<MarkRow>,
@@ -36,7 +36,7 @@ impl Model for Marks {
 }
 
 impl Marks {
-    /// No marks. It takes no memory.
+    /// Makes an empty list of marks. It takes no memory.
     pub fn new(alloc: Global) -> Marks
         ensures { result ≡ [] }
     {
@@ -46,14 +46,14 @@ impl Marks {
         }
     }
 
-    /// The marks in order of making.
+    /// Returns the marks in order of making.
     pub fn as_slice(&self) -> &[MarkRow]
         ensures { result.now ≡ self.now }
     {
         &self.made
     }
 
-    /// Whether there is a mark at the moment.
+    /// Returns whether there is a mark at the moment.
     #[tactic(auto, using(crate::proofs::Times::any_is_found))]
     pub fn has(&self, moment: Moment) -> bool
         ensures { result ≡ list_any (is_mark moment) self.now }
@@ -61,7 +61,7 @@ impl Marks {
         self.times.contains_key(&moment.seconds())
     }
 
-    /// Adds a mark behind the others. Where memory is refused, the marks stay.
+    /// Adds a mark at the end. If memory is refused, the marks stay as they were.
     pub fn add(&mut self, mark: &MarkRow) -> Result<(), NoMemory>
         requires { list_any (is_mark mark.now.at) self.old ≡ false }
         ensures ok { OnOk result (self.new ≡ self.old ++ mark.now ∷ []) }
@@ -73,7 +73,7 @@ impl Marks {
         Ok(())
     }
 
-    /// Takes out the mark at the moment, if there is one. It takes no memory.
+    /// Removes the mark at the moment, if there is one. It takes no memory.
     pub fn remove(&mut self, moment: Moment)
         ensures { self.new ≡ remove_first (is_mark moment) self.old }
     {
@@ -81,8 +81,8 @@ impl Marks {
         let _was = self.times.remove(&moment.seconds());
     }
 
-    /// For how long the marks keep what was current from `closed` until `ended`, or still is. It looks
-    /// at marks of that time alone.
+    /// Returns how long the marks hold what was current from `closed` until `ended`, or still is.
+    /// It looks only at marks in that time.
     pub fn cover(&self, closed: Moment, ended: &Option<Moment>) -> Cover
         ensures { result ≡ cover_by closed ended.now self.now }
     {
@@ -92,7 +92,7 @@ impl Marks {
         }
     }
 
-    /// The same, the mark at `left` aside.
+    /// Returns the same without the mark at `left`.
     #[tactic(auto, using(crate::proofs::Times::until_without, crate::proofs::Times::from_without))]
     pub fn cover_without(&self, left: Moment, closed: Moment, ended: &Option<Moment>) -> Cover
         ensures { result
@@ -113,7 +113,7 @@ impl Marks {
         }
     }
 
-    // For how long those keep that lie within the seconds, the last not among them.
+    // How long the marks from the first seconds until before the last ones hold.
     #[tactic(auto, using(crate::proofs::Basics::nat_tests, crate::proofs::Times::between_more, crate::proofs::Times::between_done, crate::proofs::Times::none_before, crate::proofs::Times::always))]
     fn cover_between(&self, from: u64, until: u64) -> Cover
         ensures { result ≡ cover_by from (Some until) self.now }
@@ -134,7 +134,7 @@ impl Marks {
         cover
     }
 
-    // For how long those keep that lie at these seconds or later.
+    // How long the marks at these seconds or later hold.
     #[tactic(auto, using(crate::proofs::Basics::nat_tests, crate::proofs::Times::between_more, crate::proofs::Times::from_done, crate::proofs::Times::none_before, crate::proofs::Times::always))]
     fn cover_from(&self, from: u64) -> Cover
         ensures { result ≡ cover_by from None self.now }
@@ -167,7 +167,7 @@ impl Marks {
     }
 }
 
-// Adds the item, for which there is room.
+// Adds the item, in reserved memory.
 fn push_copy<T: Copy>(items: &mut Vec<T>, item: &T)
     requires { vec_len items.old < vec_capacity items.old }
     ensures { items.new.items ≡ items.old.items ++ item.now ∷ [] }
@@ -175,7 +175,7 @@ fn push_copy<T: Copy>(items: &mut Vec<T>, item: &T)
     items.push_reserved(*item);
 }
 
-// Puts the mark under its seconds.
+// Adds the mark under its seconds.
 fn put_at(times: &mut BTreeMap<u64, MarkRow>, mark: &MarkRow) -> Result<(), NoMemory>
     ensures ok { OnOk result ((time : ℕ) → get nat_cmp times.new time
         ≡ (if mark.now.at == time then Some mark.now else get nat_cmp times.old time)) }
@@ -186,7 +186,7 @@ fn put_at(times: &mut BTreeMap<u64, MarkRow>, mark: &MarkRow) -> Result<(), NoMe
     Ok(())
 }
 
-// Takes out the mark at the moment, if there is one. The others keep their order.
+// Removes the mark at the moment, if there is one. The others keep their order.
 #[tactic(auto, using(ele_lists::proofs::Places::first_places))]
 fn take_at(marks: &mut Vec<MarkRow>, moment: Moment)
     ensures { marks.new.items ≡ remove_first (is_mark moment) marks.old.items }

@@ -1,5 +1,5 @@
 //! The groups that have each file, by name.
-//! A contract sees of each file which names it has.
+//! A contract sees which names each file has.
 ghost use Rattle.std.specs.Prelude.{◌≡◌, ◌==◌, ◌∷◌, ◌++◌, ◌&&◌, ◌||◌, not, ℕ, List, [], false, filter, OnOk, OnErr};
 ghost use Rattle.std.specs.List.{list_any};
 ghost use Rattle.std.specs.Str.{bytes_eq};
@@ -9,15 +9,15 @@ use ele_moment::{FileId, Name, NoMemory};
 use std::alloc::Global;
 use std::collections::HashMap;
 
-/// A group that has a file: its name, and the place at which it stood when the file came to it. Its place is another one
-/// only behind a group that was dropped.
+/// A group that has a file: its name, and its place when it got the file. The place changes only
+/// after an earlier group was dropped.
 #[derive(Clone, Copy, Debug)]
 pub struct Membership {
     pub name: Name,
     pub place: usize,
 }
 
-/// The groups that have each file. A file in no group isn't there.
+/// The groups that have each file. A file in no group has no entry.
 #[derive(Drop)]
 pub struct Memberships {
     by_file: HashMap<FileId, Vec<Membership>>,
@@ -25,7 +25,7 @@ pub struct Memberships {
 }
 
 impl Memberships {
-    /// No groups. It takes no memory.
+    /// Makes an empty list. It takes no memory.
     pub fn new(alloc: Global) -> Memberships
         ensures { (q : ℕ) (n : List ℕ) → has result q n ≡ false }
     {
@@ -35,7 +35,7 @@ impl Memberships {
         }
     }
 
-    /// The file's groups.
+    /// Returns the file's groups.
     pub fn of(&self, file: FileId) -> &[Membership]
         ensures { result.now ≡ memberships_of self.now file }
     {
@@ -45,7 +45,7 @@ impl Memberships {
         }
     }
 
-    /// Whether the file has the name.
+    /// Returns whether the file is in the group of that name.
     pub fn has(&self, file: FileId, name: &Name) -> bool
         ensures { result ≡ has self.now file name.now }
     {
@@ -54,7 +54,7 @@ impl Memberships {
             .any(|membership| membership.name == *name)
     }
 
-    /// Gives the file a group more. `NoMemory` where there is no room for it; it then has the groups
+    /// Adds a group to the file's. `NoMemory` if memory is refused; the file then has the groups
     /// that it had.
     pub fn insert(&mut self, file: FileId, membership: Membership) -> Result<(), NoMemory>
         ensures ok { OnOk result ((q : ℕ) (n : List ℕ) → has self.new q n
@@ -71,7 +71,7 @@ impl Memberships {
         }
     }
 
-    /// Takes the name from the file, if it has it. It takes no memory.
+    /// Removes the name from the file's groups, if it is there. It takes no memory.
     pub fn remove(&mut self, file: FileId, name: &Name)
         ensures { (q : ℕ) (n : List ℕ) → has self.new q n
             ≡ (has self.old q n && not (file == q && bytes_eq name.now n)) }
@@ -84,7 +84,7 @@ impl Memberships {
         }
     }
 
-    /// Takes the name from each of the files. It takes no memory.
+    /// Removes the name from the groups of each of the files. It takes no memory.
     pub fn leave(&mut self, files: &[FileId], name: &Name)
         ensures { (q : ℕ) (n : List ℕ) → has self.new q n ≡ (has self.old q n
             && not (bytes_eq name.now n && list_any (λ file. file == q) files.now)) }
@@ -95,7 +95,7 @@ impl Memberships {
     }
 }
 
-// Adds the group behind the others. Most files are in few groups, so the list has room for no more.
+// Adds the group at the end. The list reserves no spare memory, since most files are in few groups.
 fn add_to(memberships: &mut Vec<Membership>, membership: Membership) -> Result<(), NoMemory>
     ensures ok { OnOk result
         (memberships.new.items ≡ memberships.old.items ++ membership ∷ []) }
@@ -106,7 +106,7 @@ fn add_to(memberships: &mut Vec<Membership>, membership: Membership) -> Result<(
     Ok(())
 }
 
-// Takes out the group of that name, wherever it stands.
+// Removes the group of that name.
 fn take_from(memberships: &mut Vec<Membership>, name: &Name)
     ensures { memberships.new.items
         ≡ filter (λ other. not (bytes_eq other.name name.now)) memberships.old.items }

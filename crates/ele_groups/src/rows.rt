@@ -27,7 +27,7 @@ pub fn add_to(rows: &mut IndexMap<Name, Group>, name: &Name, file: FileId) -> Re
     }
 }
 
-/// Takes the file out of the group. It takes no memory.
+/// Removes the file from the group. It takes no memory.
 pub fn remove_from(rows: &mut IndexMap<Name, Group>, name: &Name, file: FileId)
     ensures removes { rows.new.entries ≡ changed_at name.now (removes file) rows.old.entries }
     ensures forgets { rows.new.entries ≡ changed_at name.now (forgets file) rows.old.entries }
@@ -58,7 +58,7 @@ pub fn mark_at(
     }
 }
 
-/// Takes the mark at the moment out of the group. It takes no memory.
+/// Removes the mark at the moment from the group. It takes no memory.
 pub fn unmark_at(rows: &mut IndexMap<Name, Group>, name: &Name, moment: Moment)
     ensures { rows.new.entries ≡ changed_at name.now (unmarks moment) rows.old.entries }
 {

@@ -1,15 +1,15 @@
-//! When a version was current. A contract sees plain data.
+//! The time in which a version was current. A contract sees plain data.
 use ele_moment::{Moment, Name};
 
-/// A mark of one group, or all marks of it, that a question leaves out.
+/// A mark of one group, or all its marks, to leave out.
 #[derive(Clone, Copy, Debug)]
 pub struct Except {
     pub name: Name,
     pub mark: Option<Moment>,
 }
 
-/// When a version was current, from `closed` until `ended` or until now, and what is left out of the
-/// marks of that time.
+/// The time in which a version was current, from `closed` until `ended` or until now, and which
+/// marks of that time to leave out.
 #[derive(Clone, Copy, Debug)]
 pub struct Span {
     pub closed: Moment,

@@ -1,6 +1,6 @@
--- The headline. After any list of commands and interleaved cleaner steps, the versions due, the names restorable and the usage per
--- policy are what a full scan of what is now held gives; an undisturbed finished pass leaves exactly the versions that the scan kept;
--- no open or marked version is ever removed; and every time-tagged read of a held version gives its content as closed.
+-- The headline. After any list of commands and interleaved cleaner steps, the versions due, the names restorable and the usage per policy
+-- are what a full scan of what is now held gives. An undisturbed finished pass leaves exactly the versions that the scan kept. No open or
+-- marked version is ever removed. Every time-tagged read of a held version gives its content as closed.
 use Rattle.std.specs.Prelude.{◌≡◌, ◌⊎◌, ℕ, true, List, Ok, Err}
 use Rattle.std.specs.List.{AllByRecursion}
 use Rattle.ele_content.specs.Content.{content_of}
@@ -26,14 +26,15 @@ use Rattle.ele_model.specs.Tagged.{version_at}
 use Rattle.ele_model.specs.Usage.{usages}
 use Rattle.ele_model.specs.World.{World, fresh_world, is_held, reads_by}
 
--- a read of the version, by a tag or by a handle, is answered by the bytes of the row
+-- a read of the version, by a tag or by a handle, returns the bytes of the row
 pub record GivesRow (now : World) (event : Event) (reply : Reply) (row : VersionRow) : Type 0 where
   pub tagged : (tagged : TaggedPath) (held : VersionRow) → event ≡ Read (Tagged tagged) → version_at now tagged ≡ Ok held
       → held.file ≡ row.file → held.number ≡ row.number → reply ≡ Bytes (content_of row.cells)
   pub handle : (handle : ℕ) → event ≡ Read (Of handle) → reads_by now.handles handle ≡ Ok (Version row.file row.number)
       → reply ≡ Bytes (content_of row.cells)
 
--- A run from the fresh world of any limits. Any events, cleans anywhere among them, lead to the past world, and any later ones to the
+-- A run from the fresh world of any limits. Any events, with cleans anywhere among them, lead to the past world, and any later events to
+-- the present world.
 -- present one.
 module _ (limits : Bounds) (events later : List Event) where
   abbrev pub past : World
@@ -42,29 +43,29 @@ module _ (limits : Bounds) (events later : List Event) where
   abbrev pub present : World
   present = run_of past later
 
-  -- Then one more event is answered by a reply, which leaves the world `after`.
+  -- One more event gets the reply, and leaves the world `after`.
   pub record Headline (event : Event) (reply : Reply) (after : World) : Type 0 where
-    -- what is due is the scan: the key of each version held now that is due, once, in order, and no other
+    -- the reply to a question for due versions is the scan: the keys of exactly the versions that are held and due now, each once, in order
     pub due : event ≡ Due → (reply ≡ DueList (scan present)) × ListsDue present
-    -- what is restorable is each name, once, in order, whose newest row is dead and stood for what may have a name again
+    -- the restorable names are exactly those whose newest row is dead and whose target may have a name again, each once, in order
     pub names : event ≡ Restorable → (reply ≡ RestoreList (restorable present)) × ListsRestorable present
     -- the usage per policy is the sum over all rows held now
     pub usage : event ≡ UsageAll → reply ≡ UsageList (usages present)
-    -- a clean that finds nothing due finishes a pass: if only cleans came since the past world, just what wasn't due there is left
+    -- a clean that finds nothing due finishes a pass: if only cleans followed the past world, exactly what wasn't due there is left
     pub pass : AllByRecursion (λ clean. clean ≡ CleanOne) later → event ≡ CleanOne → reply ≡ Nothing → after.versions ≡ kept_rows past
-    -- each version held now stays held, unless the event is a clean, and it was due, no handle read it and no mark kept it
+    -- each version held now stays held, unless the event is a clean and it was due, no handle read it and no mark held it
     pub leaves : AllByRecursion (λ row. (is_held after row.file row.number ≡ true) ⊎ LeavesAsDue present event row) present.versions
-    -- a read of a version that the past world held gives the bytes that it had there, whatever came later
+    -- a read of a version that the past world held returns the bytes that it had there, whatever events followed
     pub reads : AllByRecursion (GivesRow present event reply) past.versions
-    -- a read by a tag whose version isn't held is refused: no neighbour is answered in its place
+    -- a read by a tag is refused if the version isn't held: no other version's bytes are returned in its place
     pub missing : (tagged : TaggedPath) (refusal : Refusal) → event ≡ Read (Tagged tagged) → version_at present tagged ≡ Err refusal → reply ≡ Refused refusal
 
--- the event is answered so in each run that leads to the world, wherever the run is cut in two
+-- the reply keeps the headline in each run that leads to the world, wherever the run is cut in two
 abbrev pub KeepsHeadline : World → Event → Reply → World → Type 0
 KeepsHeadline w event reply after =
     (limits : Bounds) (events later : List Event) → AreBounds limits → AllByRecursion IsEvent events → AllByRecursion IsEvent later
     → w ≡ present limits events later → Headline limits events later event reply after
 
--- whatever the event is
+-- this is true of every event
 abbrev pub HeadlineHolds : Type 0
 HeadlineHolds = (w : World) (event : Event) → KeepsHeadline w event ((step w event).0) ((step w event).1)

@@ -7,14 +7,14 @@ use Rattle.ele_model.specs.Step.{step}
 use Rattle.ele_model.specs.WellFormed.{IsWellFormed}
 use Rattle.ele_model.specs.World.{World, is_version}
 
--- the version is what it was; only an end may have come
+-- the version is the same, except that it may have got an end
 pub record IsSameVersion (before after : VersionRow) : Type 0 where
   pub opened : after.opened ≡ before.opened
   pub closed : after.closed ≡ before.closed
   pub cells : after.cells ≡ before.cells
   pub ended : (at : ℕ) → before.ended ≡ Some at → after.ended ≡ Some at
 
--- where the version is held after the event too, it is the same
+-- the version is the same after the event, if it is still held
 abbrev pub StaysSame : World → Event → VersionRow → Type 0
 StaysSame w event row =
     (after : VersionRow) → find (is_version row.file row.number) ((step w event).1).versions ≡ Some after → IsSameVersion row after

@@ -1,4 +1,4 @@
--- A read of a held version gives the bytes that it had when it closed, whatever was written, renamed, reverted or cleaned since.
+-- A read of a held version returns the bytes that it had when it closed, whatever was written, renamed, reverted or cleaned since.
 use Rattle.std.specs.Prelude.{◌≡◌, ℕ, List, Ok}
 use Rattle.std.specs.List.{AllByRecursion}
 use Rattle.ele_content.specs.Content.{content_of}
@@ -16,18 +16,18 @@ use Rattle.ele_model.specs.Tagged.{version_at}
 use Rattle.ele_model.specs.WellFormed.{IsWellFormed}
 use Rattle.ele_model.specs.World.{World, fresh_world, reads_by}
 
--- a read of the version gives the row's bytes, by whatever path and tag, and by whatever handle
+-- a read of the version returns the row's bytes, by whatever path and tag, and by whatever handle
 pub record ReadsRow (w : World) (row : VersionRow) : Type 0 where
   pub tagged : (tagged : TaggedPath) (held : VersionRow) → version_at w tagged ≡ Ok held → held.file ≡ row.file → held.number ≡ row.number
       → (step w (Read (Tagged tagged))).0 ≡ Bytes (content_of row.cells)
   pub handle : (handle : ℕ) → reads_by w.handles handle ≡ Ok (Version row.file row.number) → (step w (Read (Of handle))).0 ≡ Bytes (content_of row.cells)
 
--- from any well-formed world so does a read after any events of a version as it stood before them
+-- from any well-formed world: after any events a read of a version returns its bytes before them
 abbrev pub ReadsAsClosed : Type 0
 ReadsAsClosed =
     (w : World) (events : List Event) → IsWellFormed w → AllByRecursion IsEvent events → AllByRecursion (ReadsRow (run_of w events)) w.versions
 
--- and so in every run
+-- the same is true of every run
 abbrev pub ReadsAsClosedInRuns : Type 0
 ReadsAsClosedInRuns =
     (limits : Bounds) (before after : List Event) → AreBounds limits → AllByRecursion IsEvent before → AllByRecursion IsEvent after

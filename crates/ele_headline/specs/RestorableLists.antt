@@ -1,4 +1,4 @@
--- The list of restorable names has each name once, in order, and a name with a target just where its newest row is dead, stood for
+-- The list of restorable names has each name once, in order. It has a name with a target exactly if the name's newest row is dead, meant
 -- that target, and the target may have a name again.
 use Rattle.std.specs.Prelude.{◌≡◌, ℕ, ◌==◌, ◌&&◌, Bool, List, map, find}
 use Rattle.std.specs.List.Sorted.{IsStrictlySortedBy}

@@ -1,4 +1,4 @@
--- The scan has each key once, in order, and a key just where its version is held and due, and ripe at the key's moment.
+-- The scan has each key once, in order, and a key exactly if its version is held and due, and ripe at the key's moment.
 use Rattle.std.specs.Prelude.{◌≡◌, ◌==◌, ◌&&◌, Bool, false, find}
 use Rattle.std.specs.List.Sorted.{IsStrictlySortedBy}
 use Rattle.std.specs.Option.{option_map_or}

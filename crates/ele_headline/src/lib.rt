@@ -1,4 +1,5 @@
-//! The headline, one law over all runs, and the laws that it is made of. The definitions are those of `ele_model`.
+//! The headline, one law over all runs, and the laws that it consists of. `ele_model` has the
+//! definitions.
 #![tactic(auto)]
 
 ghost use Rattle.ele_headline.specs.Headline.{HeadlineHolds};
@@ -11,28 +12,31 @@ ghost use Rattle.ele_headline.specs.ScanLists.{ScanLists};
 
 use ele_policy::laws;
 
-/// The headline: in every run, after any events and any later ones, each event is answered as it says.
+/// The headline: in every run, each event gets the reply that the headline says, after any events
+/// and before any others.
 pub fn headline()
     ensures { HeadlineHolds }
 {
     laws::policies_are_lawful();
 }
 
-/// A version leaves only by a clean event in whose world it was due, and so neither open nor marked.
+/// Only a clean event removes a version, and only one that is due in its world, and so neither open
+/// nor marked.
 pub fn only_due_leave()
     ensures { OnlyDueLeave }
 {
     laws::policies_are_lawful();
 }
 
-/// A held version's opened, closed and cells never change, and its end is set at most once.
+/// The opened and closed moments and the cells of a held version never change, and its end is set
+/// at most once.
 pub fn held_stays()
     ensures { HeldStays }
 {
     laws::policies_are_lawful();
 }
 
-/// A read of a held version gives the bytes that it had when it closed, whatever events came since.
+/// A read of a held version returns the bytes that it had when it closed, whatever events followed.
 #[tactic(auto, using(crate::proofs::ReadsBack::reads_as_closed))]
 pub fn reads_as_closed()
     ensures { ReadsAsClosed }
@@ -40,7 +44,7 @@ pub fn reads_as_closed()
     laws::policies_are_lawful();
 }
 
-/// So it is in every run.
+/// The same law, for every run.
 #[tactic(auto, using(crate::proofs::ReadsBack::reads_as_closed_in_runs))]
 pub fn reads_as_closed_in_runs()
     ensures { ReadsAsClosedInRuns }
@@ -48,21 +52,22 @@ pub fn reads_as_closed_in_runs()
     laws::policies_are_lawful();
 }
 
-/// An undisturbed finished pass leaves exactly the versions that the scan at its start kept.
+/// An undisturbed finished pass leaves exactly the versions that the scan at its start keeps.
 pub fn pass_leaves_kept()
     ensures { PassLeavesKept }
 {
     laws::policies_are_lawful();
 }
 
-/// The scan has each key once, in order, and just those of held versions that are due.
+/// The scan has each key once, in order, and exactly the keys of the held versions that are due.
 pub fn scan_lists()
     ensures { ScanLists }
 {
     laws::policies_are_lawful();
 }
 
-/// The list of restorable names has each name once, in order, and just those whose newest row is dead and may come back.
+/// The list of restorable names has each name once, in order. It has exactly the names whose newest
+/// row is dead and whose target may have a name again.
 pub fn restorable_lists()
     ensures { RestorableLists }
 {}

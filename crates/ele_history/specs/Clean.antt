@@ -9,17 +9,17 @@ use Rattle.ele_history.specs.Pass.{RemovesOne}
 use Rattle.ele_history.specs.Past.{Past}
 use Rattle.ele_history.specs.Reply.{MayReply}
 
--- the reply tells of a version that was removed
+-- the reply has a removed version
 abbrev pub is_removed : Reply → Bool
 is_removed (Removed key) = true
 is_removed _ = false
 
--- so does that of the entry
+-- the entry's reply has a removed version
 abbrev pub has_removed : Option Entry → Bool
 has_removed None = false
 has_removed (Some entry) = is_removed entry.reply
 
--- it removed a version, nothing was due, or it was stopped
+-- the event removed a version, nothing was due, or it was stopped
 abbrev pub MayClean : Past → Result Bool Stop → Past → Type 0
 MayClean before (Ok true) after = RemovesOne before after
 MayClean before (Ok false) after = MayReply before CleanOne (Ok Nothing) after

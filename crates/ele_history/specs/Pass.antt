@@ -1,4 +1,4 @@
--- How a pass goes: clean events in a row, each of which is an entry.
+-- Passes: clean events in a row, each of which is an entry.
 use Rattle.std.specs.Prelude.{◌≡◌, ℕ, zero, suc, ◌<◌, Result, Ok, Err}
 use Rattle.ele_due.specs.declared.key.Key.{Key}
 use Rattle.ele_model.specs.declared.event.Event.TheVariants.{CleanOne}
@@ -10,16 +10,16 @@ use Rattle.ele_model.specs.declared.reply.Reply.TheVariants.{Nothing, Removed}
 use Rattle.ele_history.specs.Past.{Past}
 use Rattle.ele_history.specs.Reply.{MayReply}
 
--- a clean event was answered that it removed a version
+-- the reply to a clean event is a removed version
 abbrev pub RemovesOne : Past → Past → Type 0
 RemovesOne before after = (key : Key) × MayReply before CleanOne (Ok (Removed key)) after
 
--- so many in a row
+-- so many of them in a row
 abbrev pub Removes : Past → ℕ → Past → Type 0
 Removes before zero after = after ≡ before
 Removes before (suc n) after = (between : Past) × Removes before n between × RemovesOne between after
 
--- so many, fewer than the budget, and the clean event behind them is answered this
+-- so many of them, fewer than the budget, and the next clean event has this result
 abbrev pub EndsBy : Past → ℕ → ℕ → Result Reply Stop → Past → Type 0
 EndsBy before budget removed said after =
     (removed < budget) × ((between : Past) × Removes before removed between × MayReply between CleanOne said after)

@@ -1,4 +1,4 @@
--- What the pass of a history is of its world.
+-- How the pass of a history relates to its world.
 use Rattle.std.specs.Prelude.{◌≡◌, ℕ, ◌+◌}
 use Rattle.ele_model.specs.declared.pass.PassEnd.{PassEnd}
 use Rattle.ele_model.specs.declared.pass.PassEnd.TheVariants.{Finished, Budget, Stopped}
@@ -8,7 +8,7 @@ use Rattle.ele_model.specs.World.{World}
 use Rattle.ele_history.specs.Pass.{MayPass}
 use Rattle.ele_history.specs.Past.{Past, count_of, world_of}
 
--- a pass that finished is one of the world, and each other is so many clean events that removed a version
+-- a pass that finished is one of the world, and any other is so many clean events that removed a version
 abbrev pub IsOfWorld : World → PassEnd → World → Type 0
 IsOfWorld w (Finished removed) after = IsPass w removed after
 IsOfWorld w (Budget removed) after = IsCleaned w removed after
@@ -28,7 +28,7 @@ pub record PassOfWorld (before : Past) (end : PassEnd) (after : Past) : Type 0 w
 abbrev pub PassIsOfWorld : Type 0
 PassIsOfWorld = (before after : Past) (budget : ℕ) (end : PassEnd) → MayPass before budget end after → PassOfWorld before end after
 
--- and it ends as a core's pass does: how many were due as it began, and what stays
+-- and it ends as a core's pass does, in how many were due as it began, and what stays
 abbrev pub PassEndsAsOfWorld : Type 0
 PassEndsAsOfWorld =
     (before after : Past) (budget : ℕ) (end : PassEnd) → IsWellFormed (world_of before) → MayPass before budget end after

@@ -8,7 +8,7 @@ use Rattle.ele_model.specs.Run.{run_of}
 use Rattle.ele_model.specs.Step.{step}
 use Rattle.ele_model.specs.World.{World, fresh_world}
 
--- the world that the entries begin from, how many entries were folded into it, and the entries
+-- the base world, how many entries were folded into it, and the entries since
 pub record Past : Type 0 where
   pub base : World
   pub folded : ℕ
@@ -25,19 +25,19 @@ world_of past = run_of past.base (events_of past.entries)
 abbrev pub count_of : Past → ℕ
 count_of past = past.folded + length past.entries
 
--- fewer entries were made than may ever be
+-- fewer entries were made than the limit
 abbrev pub HasRoom : Past → Type 0
 HasRoom past = count_of past < past.base.limits.events
 
--- as many were made as may ever be
+-- as many entries were made as the limit
 abbrev pub IsFull : Past → Type 0
 IsFull past = count_of past ≡ past.base.limits.events
 
--- before the first entry
+-- the history before the first entry
 abbrev pub fresh : Bounds → Past
 fresh limits = record { base = fresh_world limits; folded = 0; entries = [] }
 
--- with this entry behind the others
+-- the history with this entry after the others
 abbrev pub extended : Past → Entry → Past
 extended past entry = record past { entries = past.entries ++ entry ∷ [] }
 
@@ -45,14 +45,14 @@ extended past entry = record past { entries = past.entries ++ entry ∷ [] }
 abbrev pub reply_to : Past → Event → Reply
 reply_to past event = (step (world_of past) event).0
 
--- with this event and its reply behind the others
+-- the history with this event and its reply after the others
 abbrev pub recorded : Past → Event → Past
 recorded past event = extended past (record { event = event; reply = reply_to past event })
 
--- an event is answered as the world's step answers it: its reply, and the history with both behind the others
+-- the result of an event: the reply of the world's step, and the history with both after the others
 abbrev pub answered : Past → Event → Reply × Past
 answered past event = (reply_to past event, recorded past event)
 
--- all entries are folded into the world that they make; the world and the count are as they were
+-- the history whose entries are folded into the base; the world and the count stay
 abbrev pub trimmed : Past → Past
 trimmed past = record { base = world_of past; folded = count_of past; entries = [] }

@@ -1,4 +1,4 @@
--- What the type keeps. No public clause cites this module.
+-- The invariant of the type. No public clause cites this module.
 use Rattle.std.specs.Prelude.{◌≡◌, ◌≤◌}
 use Rattle.std.specs.List.{AllByRecursion}
 use Rattle.ele_model.specs.Run.{IsEvent}

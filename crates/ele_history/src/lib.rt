@@ -1,5 +1,5 @@
-//! A core with its stored history, over whatever steps. A contract sees the world that the entries
-//! begin from, the entries, and how many were folded into that world before.
+//! A core with its stored history, generic in the core. A contract sees the base world, the entries
+//! since then, and how many entries were folded into the base.
 #![tactic(auto)]
 
 ghost use Rattle.std.specs.Prelude.{◌≡◌, ◌+◌, ◌-◌, ◌<◌, ◌≤◌, ◌↔◌, length, slice_get, IfOk, OnOk, OnErr, IsTrue, IsFalse, vec_len, vec_capacity};
@@ -20,7 +20,7 @@ pub use ele_model::{Entry, PassEnd, Stop};
 use std::alloc::Global;
 use std::marker::Model;
 
-/// A core and its history: each event that it answered, with the reply, from a base world on.
+/// A core and its history: a base world, and each event since then with its reply.
 #[derive(Drop)]
 pub struct History<C: Step> {
     core: C,
@@ -44,9 +44,9 @@ impl<C: Step> Model for History<C> {
 }
 
 impl<C: Step> History<C> {
-    /// The history of the fresh world of these limits, without an entry.
+    /// Makes the history of the fresh world with these limits, without an entry.
     ///
-    /// `NoMemory` where memory is refused.
+    /// `NoMemory` if memory is refused.
     /// Cost: that of a fresh core and a copy of its rows, which is constant time for a core of
     /// `ele_core`.
     pub fn new(alloc: Global, limits: Limits) -> Result<History<C>, NoMemory>
@@ -63,10 +63,10 @@ impl<C: Step> History<C> {
         })
     }
 
-    /// Takes the event: its reply stands behind the others, and a copy of it is answered.
+    /// Applies the event, adds it and its reply as the last entry, and returns a copy of the reply.
     ///
-    /// `HistoryFull` where as many entries were made as the limits allow, whatever the event, and
-    /// `NoMemory` where memory is refused, also for the copy. Each leaves the history.
+    /// `HistoryFull` if as many entries were made as the limits allow, whatever the event is.
+    /// `NoMemory` if memory is refused, also for the copy. Each error leaves the history as it was.
     /// Cost: that of the core's `apply` and of a copy of the reply, amortized; takes memory for one
     /// entry, 88 bytes, and for what the event and the reply hold.
     pub fn apply(&mut self, event: Event) -> Result<Reply, Stop>
@@ -78,7 +78,7 @@ impl<C: Step> History<C> {
         let Ok(reply) = ask(&mut self.core, &mut self.entries, &event) else {
             return Err(Stop::NoMemory);
         };
-        // Told for the proof: an event whose reply takes memory to copy changed nothing.
+        // For the proof: an event whose reply takes memory to copy changed nothing.
         ele_model::laws::readers_stay();
         let Ok(told) = reply.copy(self.alloc) else {
             return Err(Stop::NoMemory);
@@ -87,10 +87,10 @@ impl<C: Step> History<C> {
         Ok(told)
     }
 
-    /// Takes the event and copies nothing: the reply is that of the last entry.
+    /// Applies the event and adds its entry, without a copy: the last entry has the reply.
     ///
-    /// `HistoryFull` where as many entries were made as the limits allow, whatever the event, and
-    /// `NoMemory` where memory is refused. Each leaves the history.
+    /// `HistoryFull` if as many entries were made as the limits allow, whatever the event is.
+    /// `NoMemory` if memory is refused. Each error leaves the history as it was.
     /// Cost: that of the core's `apply`, amortized; takes memory for one entry, 88 bytes, and for
     /// what the event and the reply hold.
     pub fn record(&mut self, event: Event) -> Result<(), Stop>
@@ -114,10 +114,10 @@ impl<C: Step> History<C> {
         }
     }
 
-    /// Folds all entries into the base, which becomes a copy of the world, and gives back their
-    /// memory. Answers how many they were; the world and the count stay.
+    /// Folds all entries into the base, which becomes a copy of the world, and frees them. Returns
+    /// how many they were; the world and the count of entries stay.
     ///
-    /// `NoMemory` where memory is refused, which leaves the history.
+    /// `NoMemory` if memory is refused, which leaves the history as it was.
     /// Cost: grows with all rows of the core, which it copies as `flat` does, and with the old base
     /// and the entries, which it frees after that.
     pub fn trim(&mut self) -> Result<u64, NoMemory>
@@ -129,7 +129,7 @@ impl<C: Step> History<C> {
         let count = self.entries.len() as u64;
         self.base.limits.lemma_within();
         self.folded += count;
-        // Told for the proof: events led to the new base too, and its limits are the old ones.
+        // For the proof: events led to the new base too, and its limits are the old ones.
         ele_model::laws::always_well_formed();
         ele_model::laws::step_keeps_well_formed();
         ele_model::laws::numbers_rise();
@@ -138,7 +138,7 @@ impl<C: Step> History<C> {
         Ok(count)
     }
 
-    /// The world that the entries begin from, which events led to.
+    /// Returns the base: the world before the first entry, which events led to.
     /// Cost: constant time.
     pub fn base(&self) -> &Flat
         ensures value { result.now ≡ self.now.base }
@@ -147,7 +147,7 @@ impl<C: Step> History<C> {
         &self.base
     }
 
-    /// How many entries were folded into the base.
+    /// Returns how many entries were folded into the base.
     /// Cost: constant time.
     pub fn folded(&self) -> u64
         ensures { result ≡ self.now.folded }
@@ -155,7 +155,7 @@ impl<C: Step> History<C> {
         self.folded
     }
 
-    /// The entries, in their order: each reply is that of the step in the world after the entries
+    /// Returns the entries, in order. Each reply is that of the step in the world after the entries
     /// before it, and so is as the headline says.
     /// Cost: constant time.
     pub fn entries(&self) -> &[Entry]
@@ -164,12 +164,12 @@ impl<C: Step> History<C> {
         ensures legal { IsLegal self.now.base self.now.entries }
         ensures headline { KeepHeadline self.now.base self.now.entries }
     {
-        // For the proof: what the step answers keeps the headline.
+        // For the proof: the reply of the step keeps the headline.
         ele_headline::headline();
         self.entries.as_slice()
     }
 
-    /// The last entry; none where all are folded, or none was made.
+    /// Returns the last entry. None if all entries are folded, or none was made.
     /// Cost: constant time.
     pub fn last(&self) -> Option<&Entry>
         ensures { option_copied result
@@ -178,7 +178,7 @@ impl<C: Step> History<C> {
         self.entries.last()
     }
 
-    /// How many entries were ever made, those that are folded among them.
+    /// Returns how many entries were ever made, with the folded ones.
     /// Cost: constant time.
     pub fn count(&self) -> u64
         ensures value { result ≡ count_of self.now }
@@ -188,7 +188,7 @@ impl<C: Step> History<C> {
         self.folded + self.entries.len() as u64
     }
 
-    /// The core, whose world is the one after all entries.
+    /// Returns the core, whose world is the one after all entries.
     /// Cost: constant time.
     pub fn core(&self) -> &C
         ensures { C.world result.now ≡ world_of self.now }
@@ -196,7 +196,7 @@ impl<C: Step> History<C> {
         &self.core
     }
 
-    // Whether as many entries were made as may ever be.
+    // Whether as many entries were made as the limits allow.
     fn is_full(&self) -> bool
         ensures full { IsTrue result ↔ IsFull self.now }
         ensures room { IsFalse result → HasRoom self.now }
@@ -205,7 +205,7 @@ impl<C: Step> History<C> {
     }
 }
 
-// Lets go of an event that was stopped, outside of `record`, which needs no room for that then.
+// Drops a stopped event. `record` would need stack for that drop if it were there.
 #[inline(never)]
 fn stopped(_event: Event, stop: Stop) -> Stop
     ensures { result ≡ stop }
@@ -213,7 +213,8 @@ fn stopped(_event: Event, stop: Stop) -> Stop
     stop
 }
 
-// The core's answer, with room for its entry. Where memory is refused, the world is as it was.
+// Answers the event, with memory reserved for its entry. If memory is refused, the world is as it
+// was.
 fn ask<C: Step>(core: &mut C, entries: &mut Vec<Entry>, event: &Event) -> Result<Reply, NoMemory>
     ensures event { OnOk result (IsEvent event.now) }
     ensures step { IfOk result

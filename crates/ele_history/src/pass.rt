@@ -10,9 +10,9 @@ use crate::{History, laws};
 use ele_model::{Entry, Event, PassEnd, Reply, Step, Stop};
 
 impl<C: Step> History<C> {
-    /// Takes clean events until nothing is due, or so many versions are removed. Each is an entry,
-    /// also the one that nothing was due. A stop ends it, and what was removed stays removed. Its world
-    /// is that after a core's pass with the same end.
+    /// Repeats clean events until nothing is due, or so many versions are removed. Each is an
+    /// entry, also the last one, which finds nothing due. A stop ends the pass, and removed
+    /// versions stay removed. The world is as after a core's pass with the same end.
     /// Cost: that of a `record` of a clean for each version that is removed, and of one more if
     /// nothing is due.
     pub fn pass(&mut self, budget: u64) -> PassEnd
@@ -25,7 +25,8 @@ impl<C: Step> History<C> {
         self.clean_often(budget)
     }
 
-    // Takes clean events until nothing is due, or so many versions are removed, or one is stopped.
+    // Repeats clean events until nothing is due, so many versions are removed, or an event is
+    // stopped.
     fn clean_often(&mut self, budget: u64) -> PassEnd
         ensures { MayPass self.old budget result self.new }
     {
@@ -39,7 +40,7 @@ impl<C: Step> History<C> {
         PassEnd::Budget(budget)
     }
 
-    // Takes a clean event, and answers whether it removed a version.
+    // Makes a clean event, and returns whether it removed a version.
     fn clean(&mut self) -> Result<bool, Stop>
         ensures { MayClean self.old result self.new }
     {
@@ -48,7 +49,7 @@ impl<C: Step> History<C> {
     }
 }
 
-// Whether the entry tells of a version that was removed.
+// Whether the entry's reply has a removed version.
 fn has_removed(last: Option<&Entry>) -> bool
     ensures { result ≡ has_removed (option_copied last.entry) }
 {

@@ -1,4 +1,4 @@
--- What the field of a log keeps. No public clause cites this module.
+-- The invariant of a log's field. No public clause cites this module.
 use Rattle.ele_inode_log.specs.declared.log.InodeLog.TheInside.{Inside}
 use Rattle.ele_inode_log.specs.Rows.{HeldRows, AreInOrder}
 

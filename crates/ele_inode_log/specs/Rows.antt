@@ -6,7 +6,7 @@ use Rattle.ele_inode_log.specs.declared.row.VersionRow.{VersionRow}
 pub use Rattle.ele_lists.specs.Lists.{AllLater}
 pub use Rattle.ele_lists.specs.Ends.{last_of, update_last}
 
--- the rows by number, and for how many more there is memory
+-- the rows by number, and how many more fit into the reserved memory
 pub record HeldRows : Type 0 where
   pub rows : List VersionRow
   pub spare : ℕ
@@ -31,11 +31,11 @@ is_before number row = nat_lt row.number number
 abbrev pub has_closed_by : ℕ → VersionRow → Bool
 has_closed_by moment row = nat_le row.closed moment
 
--- it ended after that moment; no end counts as later than all
+-- the version ended after that moment, or has no end
 abbrev pub ends_after : ℕ → VersionRow → Bool
 ends_after moment row = option_map_or (λ ended. nat_lt moment ended) row.ended true
 
--- the moment lies in the version's life
+-- the moment is in the version's life
 abbrev pub lives_at : ℕ → VersionRow → Bool
 lives_at moment row = has_closed_by moment row && ends_after moment row
 

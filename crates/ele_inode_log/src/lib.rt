@@ -1,5 +1,5 @@
-//! The held versions of one file, read by number and by moment, with a count of the rows read.
-//! A contract sees them as the list of their rows by number, with the room for more beside it.
+//! The held versions of one file, read by number and by moment, with a count of the rows read. A
+//! contract sees the list of their rows by number, and the reserved capacity.
 #![tactic(auto)]
 
 mod log;

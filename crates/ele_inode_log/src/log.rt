@@ -1,5 +1,5 @@
 //! The held versions of one file.
-//! A contract sees the list of their rows by number, and for how many more there is memory.
+//! A contract sees the list of their rows by number, and the reserved capacity.
 ghost use Rattle.std.specs.Prelude.{◌≡◌, ◌<◌, ◌≤◌, ◌+◌, ◌==◌, ◌^◌, [], ◌∷◌, ◌++◌, OnOk, OnErr, IfErr, IsOk, IsTrue, ◌↔◌, All, IsSomeAnd, find, filter, length, reverse, slice_get, is_some, if◌then◌else◌};
 ghost use Rattle.std.specs.Option.{ForSome, option_copied, option_map};
 ghost use Rattle.std.specs.List.{list_any};
@@ -13,9 +13,10 @@ use ele_rows::{BeforeKey, BehindKey, ChunkRows, Chunks};
 use std::alloc::Global;
 use std::marker::Model;
 
-/// The held versions of one file. Numbers rise, a version has ended when the next one closes, and
-/// only the last may have no end. Each row that a call finds and reads or removes adds one to the
-/// call's meter, and no call without a meter finds one; `rows` goes over all. On its way a search compares numbers or
+/// The held versions of one file. Numbers rise, each version has ended when the next one closes,
+/// and only the last may have no end. Each row that a call reads or removes adds one to the call's
+/// meter; `rows` reads all rows without a meter. A meter doesn't count the rows whose number or
+/// closing a search compares.
 /// closings of rows, which no meter counts.
 #[derive(Debug, Drop)]
 pub struct InodeLog {
@@ -35,7 +36,7 @@ impl Model for InodeLog {
 }
 
 impl InodeLog {
-    /// A log without rows; this takes no memory.
+    /// Makes an empty log. It takes no memory.
     pub fn new(alloc: Global) -> InodeLog
         ensures { result.rows ≡ [] }
     {
@@ -44,7 +45,7 @@ impl InodeLog {
         }
     }
 
-    /// How many rows are held.
+    /// Returns the number of rows.
     pub fn len(&self) -> usize
         ensures count { result ≡ length self.now.rows }
         ensures order { AreInOrder self.now.rows }
@@ -52,22 +53,21 @@ impl InodeLog {
         self.rows.len()
     }
 
-    /// Whether no row is held.
+    /// Returns whether there is no row.
     pub fn is_empty(&self) -> bool
         ensures { IsTrue result ↔ (self.now.rows ≡ []) }
     {
         self.len() == 0
     }
 
-    /// All rows by number, for what is told of a whole file; no meter counts them.
+    /// Returns all rows by number, for answers about a whole file; no meter counts them.
     pub fn rows(&self) -> ChunkRows<'_, VersionRow>
         ensures { result ≡ self.now.rows }
     {
         self.rows.iter()
     }
 
-    /// Takes the memory for one more row at least, if it isn't there. Where memory is refused, the
-    /// rows stay.
+    /// Reserves memory for one more row at least. If memory is refused, the rows stay as they were.
     pub fn reserve(&mut self) -> Result<(), NoMemory>
         ensures ok { OnOk result (1 ≤ self.new.spare) }
         ensures ready { 1 ≤ self.old.spare → IsOk result }
@@ -77,8 +77,8 @@ impl InodeLog {
         Ok(())
     }
 
-    /// Adds a row behind all others. Where memory is refused, which it isn't after `reserve`, the
-    /// row comes back and the rows stay.
+    /// Adds a row at the end. After `reserve` this always succeeds. If memory is refused, the
+    /// caller gets the row back and the rows stay as they were.
     pub fn append(&mut self, row: VersionRow) -> Result<(), (VersionRow, NoMemory)>
         requires last { ForSome (last_of self.old.rows) (λ last. Precedes last row) }
         requires ends { EndsInTime row }
@@ -104,7 +104,7 @@ impl InodeLog {
         self.rows.change_last(&EndsAt(moment));
     }
 
-    /// The row of that number.
+    /// Returns the row of that number.
     #[tactic(auto, using(crate::proofs::Order::numbers_rise))]
     pub fn get(&self, number: VersionNo, meter: &mut Meter) -> Option<&VersionRow>
         requires { meter.old < 2 ^ 63 }
@@ -114,7 +114,7 @@ impl InodeLog {
         counted(self.rows.get(number.0), meter)
     }
 
-    /// The first row with a greater number.
+    /// Returns the first row with a greater number.
     pub fn next_held(&self, number: VersionNo, meter: &mut Meter) -> Option<&VersionRow>
         requires { meter.old < 2 ^ 63 }
         ensures row { option_copied result ≡ find (is_after number) self.now.rows }
@@ -123,7 +123,7 @@ impl InodeLog {
         counted(self.rows.first_behind(&BehindKey(number.0)), meter)
     }
 
-    /// The last row with a lesser number.
+    /// Returns the last row with a lesser number.
     #[tactic(auto, using(crate::proofs::Order::last_reversed))]
     pub fn prev_held(&self, number: VersionNo, meter: &mut Meter) -> Option<&VersionRow>
         requires { meter.old < 2 ^ 63 }
@@ -133,8 +133,7 @@ impl InodeLog {
         counted(self.rows.last_before(&BeforeKey(number.0)), meter)
     }
 
-    /// The row that has so many newer ones. What it takes to find it grows with these, and not with
-    /// the rows that are held.
+    /// Returns the row with so many newer ones. Its time grows with these, and not with all rows.
     #[tactic(auto, using(std::proofs::lemmas::Bool::Decides::nat_tests))]
     pub fn with_newer(&self, newer: u64, meter: &mut Meter) -> Option<&VersionRow>
         requires { meter.old < 2 ^ 63 }
@@ -144,7 +143,7 @@ impl InodeLog {
         counted(self.rows.from_end(newer as usize), meter)
     }
 
-    /// Takes out the row of that number.
+    /// Removes and returns the row of that number.
     #[tactic(auto, using(crate::proofs::Order::numbers_rise, crate::proofs::Order::in_order_removed, crate::proofs::Order::remove_first_key))]
     pub fn remove(&mut self, number: VersionNo, meter: &mut Meter) -> Option<VersionRow>
         requires { meter.old < 2 ^ 63 }
@@ -158,8 +157,8 @@ impl InodeLog {
         Some(row)
     }
 
-    /// The last row of a version that had closed by the moment. If any version lives at the moment,
-    /// it is this one.
+    /// Returns the last row of a version that had closed by the moment. If any version lives at the
+    /// moment, it is this one.
     #[tactic(auto, using(crate::proofs::Order::last_reversed, crate::proofs::Order::lives_is_last))]
     pub fn closed_by(&self, moment: Moment, meter: &mut Meter) -> Option<&VersionRow>
         requires { meter.old < 2 ^ 63 }
@@ -173,9 +172,9 @@ impl InodeLog {
         counted(self.rows.last_before(&ClosedBy(moment)), meter)
     }
 
-    /// The number of the version in whose life the moment lies: it had closed by then, and ended
-    /// after that or not at all. No two versions live at one moment. A row is read where one had
-    /// closed.
+    /// Returns the number of the version that lives at the moment: it had closed by then, and ended
+    /// later or not at all. At most one version does. The call reads a row if any version had
+    /// closed by then.
     #[tactic(auto, using(crate::proofs::Order::last_is_some, crate::proofs::Order::is_some_copied, crate::proofs::Order::lives_alone, crate::proofs::Order::all_place))]
     pub fn at(&self, moment: Moment, meter: &mut Meter) -> Option<VersionNo>
         requires { meter.old < 2 ^ 63 }
@@ -202,7 +201,7 @@ fn number_at(row: Option<&VersionRow>, moment: Moment) -> Option<VersionNo>
     }
 }
 
-// The row, if there is one, counted as read.
+// Counts the row as read, if there is one.
 fn counted<'a>(row: Option<&'a VersionRow>, meter: &mut Meter) -> Option<&'a VersionRow>
     requires { meter.old < 2 ^ 63 }
     ensures row { option_copied result ≡ option_copied row.entry }

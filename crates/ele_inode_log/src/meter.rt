@@ -4,7 +4,7 @@ ghost use Rattle.std.specs.Prelude.{◌≡◌, ◌<◌, ◌+◌, ◌^◌};
 
 use std::marker::Model;
 
-/// How many rows the calls that were given this meter have read or removed.
+/// How many rows were read or removed by the calls that got this meter.
 #[derive(Debug, Drop)]
 pub struct Meter {
     rows: u64,
@@ -19,14 +19,14 @@ impl Model for Meter {
 }
 
 impl Meter {
-    /// A meter that has counted nothing.
+    /// Makes a meter at 0.
     pub fn new() -> Meter
         ensures { result ≡ 0 }
     {
         Meter { rows: 0 }
     }
 
-    /// How many rows were read or removed.
+    /// Returns how many rows were read or removed.
     pub fn rows(&self) -> u64
         ensures { result ≡ self.now }
     {

@@ -1,13 +1,13 @@
-//! The row of a held version, where a search by closing cuts such rows, and how a version ends.
+//! The row of a held version, the cut of a search by closing, and the end of a version.
 //! A contract sees its fields, the cells as the layout of their block map.
 use ele_blocks::BlockMap;
 use ele_lists::Keyed;
 use ele_moment::{Moment, VersionNo};
 use ele_rows::{Change, Cut};
 
-/// A version of a file: its number, when its writers opened it, when the last of them closed it,
-/// when it ended if it has, and its content. The content's blocks stand in a store of which the row
-/// owns a share: whoever takes the row out of a log gives up its cells there.
+/// A version of a file: its number, the moments at which it was opened, closed and ended, if it has
+/// ended, and its content. A store holds the content's blocks, and the row owns a share of them.
+/// Who takes the row out of a log has to give up its cells there.
 #[derive(Debug, Drop)]
 pub struct VersionRow {
     pub number: VersionNo,
@@ -25,7 +25,7 @@ impl Keyed for VersionRow {
     }
 }
 
-/// The cut behind a moment: rows of versions that had closed by then stand before it.
+/// The cut after a moment: rows of versions that had closed by then are before it.
 #[derive(Clone, Copy, Debug)]
 pub struct ClosedBy(pub Moment);
 

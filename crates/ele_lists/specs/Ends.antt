@@ -7,7 +7,7 @@ last_of [] = None
 last_of (x ∷ []) = Some x
 last_of (x ∷ y ∷ xs) = last_of (y ∷ xs)
 
--- with f of the last element in its place
+-- the list with f applied to its last element
 abbrev pub update_last : {X : Type 0} → (X → X) → List X → List X
 update_last f [] = []
 update_last f (x ∷ []) = f x ∷ []

@@ -1,14 +1,14 @@
-//! A row by its numeric key.
+//! Rows that have a numeric key.
 //! A contract sees the key.
 ghost use Rattle.std.specs.Prelude.{◌≡◌};
 
-/// A row that stands by a number.
+/// A row that a list orders and finds by a number.
 pub trait Keyed {
     ghost use Rattle.std.specs.Prelude.{ℕ};
 
     ghost key: { Self → ℕ };
 
-    /// The number that the row stands by.
+    /// Returns the row's number.
     fn key(&self) -> u64
         ensures { result ≡ key self.now };
 }

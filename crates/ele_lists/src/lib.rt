@@ -1,4 +1,4 @@
-//! Lists and what a change at one place makes of them, and rows by a rising key.
+//! Lists, the result of a change at one place, and rows by a rising key.
 //! A contract sees a list as its items.
 #![tactic(auto)]
 

@@ -1,4 +1,4 @@
--- The fresh world is well formed, every event leaves a well-formed world so, and thus each world of a run is.
+-- The fresh world is well formed, every event leaves a well-formed world well formed, and thus each world of a run is.
 use Rattle.std.specs.Prelude.{List}
 use Rattle.std.specs.List.{AllByRecursion}
 use Rattle.ele_model.specs.declared.event.Event.{Event}

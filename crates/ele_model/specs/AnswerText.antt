@@ -1,4 +1,4 @@
--- Refusals, stops and the ends of passes in text.
+-- The text of refusals, stops and the ends of passes.
 use Rattle.std.specs.Prelude.{ℕ, List, [], ◌∷◌, codes, Some, None}
 use Rattle.std.specs.Fmt.{decimal}
 use Rattle.std.specs.List.{join_with_byte}
@@ -13,14 +13,14 @@ use Rattle.ele_model.specs.declared.refusal.Stop.{Stop}
 abbrev pub words_text : List (List ℕ) → List ℕ
 words_text words = join_with_byte 32 words
 
--- what follows the name of a refusal
+-- the words after the name of a refusal
 abbrev pub refusal_details : Refusal → List (List ℕ)
 refusal_details (Forgotten (Some before)) = decimal before ∷ []
 refusal_details (Forgotten None) = codes "-" ∷ []
 refusal_details (Full which) = which_word which ∷ []
 refusal_details other = []
 
--- the words of a refusal: its number, its name, and what follows
+-- the words of a refusal: its number, its name, and the details
 abbrev pub refusal_words : Refusal → List (List ℕ)
 refusal_words why = decimal (refusal_number why) ∷ refusal_name why ∷ refusal_details why
 

@@ -1,4 +1,4 @@
--- The number and the name of each answer that is no success.
+-- The number and the name of each refusal and stop.
 use Rattle.std.specs.Prelude.{ℕ, List, codes}
 use Rattle.ele_model.specs.declared.refusal.Which.{Which}
 use Rattle.ele_model.specs.declared.refusal.Which.TheVariants as which
@@ -51,7 +51,7 @@ refusal_number refusal = (refusal_answer refusal).0
 abbrev pub refusal_name : Refusal → List ℕ
 refusal_name refusal = (refusal_answer refusal).1
 
--- what a limit counts, as it is printed
+-- the word of a kind of thing that has a limit
 abbrev pub which_word : Which → List ℕ
 which_word which.Files = codes "files"
 which_word which.Directories = codes "directories"

@@ -1,4 +1,4 @@
--- The changes that a world can undergo, and what each makes of its rows; each leaves a well-formed world.
+-- The changes of a world, and the rows after each; each change leaves a well-formed world.
 use Rattle.std.specs.Prelude.{ℕ, ◌+◌, ◌-◌, ◌==◌, ◌&&◌, not, true, false, Bool, List, [], ◌∷◌, ◌++◌, length, filter, Some, None, unwrap_or, if◌then◌else◌}
 use Rattle.std.specs.List.{list_any}
 use Rattle.std.specs.Option.{option_map_or}
@@ -66,26 +66,26 @@ with_file w id policy = record w {
   made = record w.made { files = id };
 }
 
--- the file has that policy, with all its versions
+-- the file with that policy, for all its versions
 abbrev pub set_policy : Policy → FileRow → FileRow
 set_policy policy row = record row { policy = policy }
 
--- a name of the target, from now on
+-- the world with a name of the target, from now on
 abbrev pub with_name : World → ℕ → List ℕ → Target → World
 with_name w directory name target = record w {
   names = w.names ++ born_row directory name target w.now ∷ [];
   made = record w.made { names = w.made.names + 1 };
 }
 
--- the live name dies now
+-- the world in which the live name dies now
 abbrev pub without_name : World → ℕ → List ℕ → World
 without_name w directory name = record w { names = update_first (is_live_name directory name) (dies w.now) w.names }
 
--- nothing is left of the file: no live name, no held version and no draft
+-- the file has no live name, no held version and no draft
 abbrev pub is_idle : World → ℕ → Bool
 is_idle w file = not (is_live w file) && (not (list_any (is_version_of file) w.versions) && not (has_draft w file))
 
--- the file goes, and its dead names with it, and leaves its groups
+-- the world without the file, its dead names and its memberships in groups
 abbrev pub without_file : World → ℕ → World
 without_file w file = record w {
   files = remove_first (is_file file) w.files;
@@ -95,22 +95,22 @@ without_file w file = record w {
 
 -- ---- versions
 
--- it ends then, unless it has ended
+-- the version ends then, unless it has ended
 abbrev pub ended_at : ℕ → VersionRow → VersionRow
 ended_at at row = record row { ended = Some (unwrap_or row.ended at) }
 
--- the versions, where the one before the file's next has an end
+-- the versions, in which the one before the file's next has an end
 abbrev pub with_end : World → ℕ → List VersionRow
 with_end w file = update_first (is_version file (next_of w.files file - 1)) (ended_at w.now) w.versions
 
--- where the file has no live name, that version has an end
+-- that version has an end if the file has no live name
 abbrev pub ended_if_nameless : World → ℕ → World
 ended_if_nameless w file = record w { versions = if is_live w file then w.versions else with_end w file }
 
 abbrev pub numbered_on : FileRow → FileRow
 numbered_on row = record row { next = row.next + 1 }
 
--- the file's next version, which closes now; without a live name it ends at once
+-- the file's next version, which closes now; without a live name it also ends now
 abbrev pub next_version : World → ℕ → ℕ → List Cell → VersionRow
 next_version w file opened cells = record {
   file = file;
@@ -121,7 +121,7 @@ next_version w file opened cells = record {
   cells = cells;
 }
 
--- the file has it, at its place, and the version before it ends
+-- the world with that version at its place, in which the version before it has ended
 abbrev pub with_version : World → ℕ → ℕ → List Cell → World
 with_version w file opened cells = record w {
   files = update_first (is_file file) numbered_on w.files;
@@ -131,7 +131,8 @@ with_version w file opened cells = record w {
 
 -- ---- drafts
 
--- the cells of the file's current version, which is held wherever a draft begins or a file comes back; so that of none never shows
+-- the cells of the file's current version, which is held whenever a draft begins or a file is restored; so the case of no version never
+-- occurs
 abbrev pub current_cells : World → ℕ → List Cell
 current_cells w file = option_map_or (λ row. row.cells) (current_of w file) []
 
@@ -139,11 +140,11 @@ current_cells w file = option_map_or (λ row. row.cells) (current_of w file) []
 abbrev pub new_draft : World → ℕ → DraftRow
 new_draft w file = record { file = file; opened = w.now; cells = current_cells w file; changed = false }
 
--- the draft with the bytes written into it, by the version that it is to be
+-- the draft with the bytes written into it, under the number of the version that it is to be
 abbrev pub changed_by : ℕ → ℕ → List ℕ → DraftRow → DraftRow
 changed_by number offset bytes draft = record draft { cells = cells_after_write number offset bytes draft.cells; changed = true }
 
--- the draft with so many bytes, by the version that it is to be; one that has so many stays
+-- the draft with so many bytes, under the number of the version that it is to be; a draft of that length stays
 abbrev pub fitted_by : ℕ → ℕ → DraftRow → DraftRow
 fitted_by number size draft =
     if length (content_of draft.cells) == size then draft
@@ -158,13 +159,13 @@ after_change w (SetDirectoryDefault directory policy) = record w { directories =
 after_change w (MakeDirectory directory name id policy) = with_name (with_directory w id policy) directory name (Directory id)
 -- a directory's live name dies now
 after_change w (EndName directory name) = without_name w directory name
--- a name more of what is there
+-- another name of a target that is there
 after_change w (AddName directory name target) = with_name w directory name target
--- the live name dies now, and what it stood for has another one
+-- the live name dies now, and its target has another one
 after_change w (MoveName from old to new target) = with_name (without_name w from old) to new target
--- a file's live name dies now, and with its last one the current version ends
+-- a file's live name dies now, and with the last one the current version ends
 after_change w (EndFileName directory name file) = ended_if_nameless (without_name w directory name) file
--- a file without a live name has one, and a version more with the cells of its last one
+-- a file without a live name has one, and a new version with the cells of its last one
 after_change w (Revive directory name file) = with_version (with_name w directory name (File file)) file w.now (current_cells w file)
 -- a new file, its name, and its first version, which is empty
 after_change w (MakeFile directory name id policy) = with_version (with_name (with_file w id policy) directory name (File id)) id w.now []
@@ -180,7 +181,7 @@ after_change w (OpenHandle number reads) = record w {
   made = record w.made { handles = number };
 }
 after_change w (ShutHandle number) = record w { handles = remove_first (is_handle number) w.handles }
--- the file goes if nothing is left of it
+-- the file is dropped if it has no live name, no held version and no draft
 after_change w (DropIdle file) = if is_idle w file then without_file w file else w
 after_change w (MakeGroup name) = record w { groups = with_group name w.groups; made = record w.made { groups = w.made.groups + 1 } }
 after_change w (DropGroup name) = record w { groups = without_group name w.groups }

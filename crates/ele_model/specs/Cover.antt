@@ -1,4 +1,4 @@
--- For how long marks keep what was current from one moment until another, or still is.
+-- How long marks hold what was current from one moment until another, or still is.
 use Rattle.std.specs.Prelude.{ℕ, nat_le, nat_lt, max, Bool, true, false, List, [], ◌∷◌, Option, Some, None, if◌then◌else◌}
 use Rattle.ele_moment.specs.Last.{last_moment}
 use Rattle.ele_model.specs.declared.cover.Cover.{Cover}
@@ -7,13 +7,13 @@ use Rattle.ele_model.specs.declared.rows.GroupRow.{GroupRow}
 use Rattle.ele_model.specs.declared.rows.MarkRow.{MarkRow}
 use Rattle.ele_model.specs.GroupRows.{covers_moment, marks_over}
 
--- what is so covered is kept at the moment
+-- the cover lasts past the moment
 abbrev pub lasts : Cover → ℕ → Bool
 lasts Free at = false
 lasts (Until end) at = nat_lt at end
 lasts Always at = true
 
--- for how long a mark keeps what it covers, by its end
+-- how long a mark holds what it covers, by its end
 abbrev pub cover_until : Option ℕ → Cover
 cover_until None = Always
 cover_until (Some end) = Until end
@@ -26,18 +26,18 @@ longer (Until end) (Until other) = Until (max end other)
 longer (Until end) Always = Always
 longer Always other = Always
 
--- the longest of the marks that cover
+-- the longest of the marks that cover that time
 abbrev pub cover_by : ℕ → Option ℕ → List MarkRow → Cover
 cover_by closed ended [] = Free
 cover_by closed ended (mark ∷ marks) =
     if covers_moment closed ended mark.at then longer (cover_until mark.until) (cover_by closed ended marks) else cover_by closed ended marks
 
--- and of those of groups that have the file
+-- the longest of the marks that cover that time, of groups that have the file
 abbrev pub cover_of : List GroupRow → ℕ → ℕ → Option ℕ → Cover
 cover_of rows file closed ended = cover_by closed ended (marks_over rows file)
 
--- when a version ripens that its policy lets go from the moment on: the later of that moment and of the latest end, if it isn't
--- past the last moment
+-- when a version ripens whose policy lets it go from the moment on: the later of that moment and of the end of the cover; none past the
+-- last moment
 abbrev pub ripe_past : Cover → ℕ → Option ℕ
 ripe_past Free ripe = Some ripe
 ripe_past (Until end) ripe = if nat_le (max end ripe) last_moment then Some (max end ripe) else None

@@ -5,7 +5,7 @@ use Rattle.ele_model.specs.declared.rows.VersionRow.{VersionRow}
 use Rattle.ele_model.specs.FileView.{file_view, due_in, ripe_in}
 use Rattle.ele_model.specs.World.{World, is_version}
 
--- the version is due at that moment, as its file stands now
+-- the version is due at that moment, in the world as it is
 unfoldable pub is_due_at : World → VersionRow → ℕ → Bool
 is_due_at w row at = due_in (file_view w row.file) row at
 
@@ -13,7 +13,7 @@ is_due_at w row at = due_in (file_view w row.file) row at
 unfoldable pub is_due : World → ℕ → ℕ → Bool
 is_due w file number = option_map_or (λ row. is_due_at w row w.now) (find (is_version file number) w.versions) false
 
--- the version's ripe moment, as its file stands now
+-- the version's ripe moment, in the world as it is
 unfoldable pub ripe_of : World → VersionRow → Option ℕ
 ripe_of w row = ripe_in (file_view w row.file) row
 

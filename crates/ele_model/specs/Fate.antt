@@ -18,8 +18,8 @@ use Rattle.ele_model.specs.World.{World, is_open, is_version}
 
 -- ---- why it is marked
 
--- of the file's version that closed and ended then, at the moment: the mark is the first that covers and is in force, of the first
--- group that has the file and a mark that does, in order of making
+-- for a version of the file that closed and ended then: the group is the first one, in order of making, that has the file and a mark that
+-- covers the version and is in force at the moment. The mark is the first of these
 pub record IsMarkedBy (groups : List GroupRow) (file closed : ℕ) (ended : Option ℕ) (at : ℕ) (name : List ℕ) (mark : MarkRow) : Type 0 where
   pub group : GroupRow
   pub first_group : find (λ g. is_member file g && has_covering closed ended at g) groups ≡ Some group
@@ -28,7 +28,7 @@ pub record IsMarkedBy (groups : List GroupRow) (file closed : ℕ) (ended : Opti
 
 -- ---- why it is kept
 
--- the level of the ladder that it has reached at the moment; no other policy has levels
+-- the level of the ladder that the version has reached at the moment; no other policy has levels
 abbrev pub level_reached : Option Policy → Option ℕ → ℕ → Option ℕ
 level_reached (Some (Landmarks rungs)) (Some ended) at = Some (level_of rungs (at - ended))
 level_reached policy ended at = None
@@ -42,7 +42,7 @@ newer_version row = record { number = row.number; closed = row.closed }
 abbrev pub newer_versions : FileView → VersionRow → List Newer
 newer_versions v row = map newer_version (filter (is_newer row) v.rows)
 
--- this is why the file's policy lets the version go at the moment, beside its newer ones
+-- the cause is why the file's policy lets the version go at the moment, beside its newer ones
 pub record HasCause (v : FileView) (row : VersionRow) (at : ℕ) (cause : Cause) : Type 0 where
   pub policy : Policy
   pub policy_is : v.policy ≡ Some policy
@@ -52,7 +52,7 @@ pub record HasCause (v : FileView) (row : VersionRow) (at : ℕ) (cause : Cause)
 
 -- ---- what becomes of it
 
--- it has ended, is neither open nor marked, and isn't due now; it is from then on, if ever
+-- the version has ended, is neither open nor marked, and isn't due now; it is due from `until` on, or never
 pub record IsKept (w : World) (row : VersionRow) (until level : Option ℕ) : Type 0 where
   pub has_ended : IsSome row.ended
   pub unprotected : is_protected (file_view w row.file) row w.now ≡ false
@@ -73,7 +73,7 @@ IsFate w row (Marked group mark) = IsSome row.ended × (is_open w.handles row.fi
 IsFate w row (Kept until level) = IsKept w row until level
 IsFate w row (Due since cause) = IsDueSince w row since cause
 
--- the file's version with that number is held, and this becomes of it
+-- the file's version with that number is held, and has this fate
 pub record HasFate (w : World) (file number : ℕ) (fate : Fate) : Type 0 where
   pub row : VersionRow
   pub held : find (is_version file number) w.versions ≡ Some row

@@ -1,5 +1,5 @@
--- What a change of policy moves from one kind to another. No public clause that a reader of the core needs cites this module:
--- `ele_files` answers it.
+-- The usage that a change of policy moves from one kind to another. No public clause that a reader of the core needs cites this module:
+-- `ele_files` uses it.
 use Rattle.std.specs.Prelude.{ℕ, ◌==◌, List, length, filter}
 use Rattle.ele_usage.specs.declared.usage.Usage.{Usage}
 use Rattle.ele_content.specs.Place.{is_place, different}

@@ -1,4 +1,4 @@
--- One file as its policy sees it: all that the fate of its versions depends on.
+-- One file as its policy sees it: all that the fates of its versions depend on.
 use Rattle.std.specs.Prelude.{ℕ, ◌==◌, nat_lt, Bool, false, not, ◌&&◌, ◌||◌, ◌++◌, List, Option, Some, None, filter, map, option_and_then, if◌then◌else◌}
 use Rattle.std.specs.List.{list_any, filter_map}
 use Rattle.std.specs.Option.{option_map_or}
@@ -12,8 +12,8 @@ use Rattle.ele_model.specs.declared.rows.MarkRow.{MarkRow}
 use Rattle.ele_model.specs.GroupRows.{covers_moment, keeps_at, marks_over}
 use Rattle.ele_model.specs.World.{World, policy_of, is_live}
 
--- its policy, if the file is there; its held versions by number; whether it is live; the numbers of the versions that handles
--- read; and the marks of groups that have it
+-- its policy, if the file is there; its held versions by number; whether it is live; the numbers of the versions that handles read; and the
+-- marks of groups that have it
 pub record FileView : Type 0 where
   pub policy : Option Policy
   pub rows : List VersionRow
@@ -24,7 +24,7 @@ pub record FileView : Type 0 where
 abbrev pub is_version_of : ℕ → VersionRow → Bool
 is_version_of file row = row.file == file
 
--- the number of the file's version that is read, if one is
+-- the number of the file's version that the handle reads, if it reads one
 abbrev pub number_read : ℕ → Reads → Option ℕ
 number_read file (Draft written) = None
 number_read file (Version read number) = if read == file then Some number else None
@@ -48,7 +48,7 @@ is_newer row other = nat_lt row.number other.number
 abbrev pub closings : List VersionRow → List ℕ
 closings rows = map (λ row. row.closed) rows
 
--- what stands beside a version of the file
+-- what the policy sees beside a version of the file
 abbrev pub beside : FileView → VersionRow → Beside
 beside v row = record { newer = closings (filter (is_newer row) v.rows); live = v.live }
 
@@ -56,18 +56,18 @@ beside v row = record { newer = closings (filter (is_newer row) v.rows); live = 
 abbrev pub is_protected : FileView → VersionRow → ℕ → Bool
 is_protected v row at = list_any (λ number. number == row.number) v.pinned || list_any (keeps_at row.closed row.ended at) v.marks
 
--- the version has ended at that moment or before it, isn't protected then, and the file's policy lets it go
+-- the version has ended by that moment, isn't protected then, and the file's policy lets it go
 abbrev pub due_in : FileView → VersionRow → ℕ → Bool
 due_in v row at =
     not (is_protected v row at)
     && option_map_or (λ policy. option_map_or (λ ended. is_due_by policy row.closed (beside v row) ended at) row.ended false) v.policy false
 
--- when those of the marks end that cover, if they do
+-- the ends of the marks that cover that time, of those that have an end
 abbrev pub ends_over : ℕ → Option ℕ → List MarkRow → List ℕ
 ends_over closed ended marks = filter_map (λ mark. mark.until) (filter (λ mark. covers_moment closed ended mark.at) marks)
 
--- the earliest of the moments that the policy names and of the ends of marks that cover, none past the last moment, at which the
--- version is due
+-- the earliest moment at which the version is due, among those that the policy names and the ends of marks that cover it; none past the
+-- last moment
 abbrev pub ripe_in : FileView → VersionRow → Option ℕ
 ripe_in v row =
     option_and_then (λ policy. option_and_then (λ ended. earliest_of (due_in v row) (candidates policy ended ++ ends_over row.closed row.ended v.marks)) row.ended) v.policy

@@ -1,4 +1,4 @@
--- What rows of groups say of a name, a file or a moment, and what changes of groups make of them.
+-- What rows of groups say of a name, a file or a moment, and changes of groups.
 use Rattle.std.specs.Prelude.{ℕ, ◌==◌, ◌&&◌, nat_le, nat_lt, not, Bool, true, false, List, [], ◌∷◌, ◌++◌, Option, find, filter, map}
 use Rattle.std.specs.List.{flat_map, list_any}
 use Rattle.std.specs.Option.{option_map_or}
@@ -63,7 +63,7 @@ marks mark row = record row { marks = row.marks ++ mark ∷ [] }
 abbrev pub unmarks : ℕ → GroupRow → GroupRow
 unmarks moment row = record row { marks = remove_first (is_mark moment) row.marks }
 
--- with a new group behind the others
+-- with a new group after the others
 abbrev pub with_group : List ℕ → List GroupRow → List GroupRow
 with_group name rows = rows ++ new_group name ∷ []
 
@@ -87,7 +87,7 @@ with_mark name mark rows = update_first (is_group name) (marks mark) rows
 abbrev pub without_mark : List ℕ → ℕ → List GroupRow → List GroupRow
 without_mark name moment rows = update_first (is_group name) (unmarks moment) rows
 
--- the group without the file, wherever it stands
+-- the group without the file, if it has it
 abbrev pub forgets : ℕ → GroupRow → GroupRow
 forgets file row = record row { members = filter (λ member. not (member == file)) row.members }
 
@@ -95,23 +95,23 @@ forgets file row = record row { members = filter (λ member. not (member == file
 abbrev pub forgotten : ℕ → List GroupRow → List GroupRow
 forgotten file rows = map (forgets file) rows
 
--- what was current from the one moment until the other, or still is, was current at the mark
+-- a version that was current from the one moment until the other, or still is, was current at the mark
 abbrev pub covers_moment : ℕ → Option ℕ → ℕ → Bool
 covers_moment closed ended mark = nat_le closed mark && option_map_or (λ end. nat_lt mark end) ended true
 
--- the mark is in force at the moment: its end, if it has one, has not come
+-- the mark is in force at the moment: it has no end, or a later one
 abbrev pub is_in_force : ℕ → MarkRow → Bool
 is_in_force at mark = option_map_or (λ until. nat_lt at until) mark.until true
 
--- the mark covers, and is in force at the moment
+-- the mark covers that time, and is in force at the moment
 abbrev pub keeps_at : ℕ → Option ℕ → ℕ → MarkRow → Bool
 keeps_at closed ended at mark = covers_moment closed ended mark.at && is_in_force at mark
 
--- at the moment some mark of the group that covers is in force
+-- some mark of the group that covers that time is in force at the moment
 abbrev pub has_covering : ℕ → Option ℕ → ℕ → GroupRow → Bool
 has_covering closed ended at row = list_any (keeps_at closed ended at) row.marks
 
--- at the moment some mark that covers, of a group that has the file, is in force
+-- some mark that covers that time, of a group that has the file, is in force at the moment
 abbrev pub is_marked : List GroupRow → ℕ → ℕ → Option ℕ → ℕ → Bool
 is_marked rows file closed ended at = list_any (λ row. is_member file row && has_covering closed ended at row) rows
 

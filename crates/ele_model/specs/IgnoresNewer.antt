@@ -1,9 +1,9 @@
--- Which policies look at nothing beside a version. No public clause cites this module.
+-- Which policies look at the version alone. No public clause cites this module.
 use Rattle.std.specs.Prelude.{◌==◌, Bool, true, false, not, ◌||◌}
 use Rattle.ele_policy.specs.declared.policy.Policy.{Policy}
 use Rattle.ele_policy.specs.declared.policy.Policy.TheVariants.{One, All, Safe, Landmarks}
 
--- in a file that is live or not
+-- the policy does so in a file that is live or not
 abbrev pub ignores_newer : Policy → Bool → Bool
 ignores_newer One live = true
 ignores_newer All live = true

@@ -1,4 +1,4 @@
--- Nine numbers as limits, and the limit of one table.
+-- Nine numbers as limits, and the limit of one kind.
 use Rattle.std.specs.Prelude.{ℕ, List, slice_index}
 use Rattle.ele_model.specs.declared.refusal.Which.{Which}
 use Rattle.ele_model.specs.declared.refusal.Which.TheVariants.{Files, Directories, Names, Versions, Handles, Groups, Members, Marks}
@@ -18,7 +18,7 @@ bounds_of ns = record {
   marks = slice_index ns 8;
 }
 
--- the limit of what a refusal may name as full
+-- the limit of a kind that a refusal names as full
 abbrev pub limit_of : Bounds → Which → ℕ
 limit_of b Files = b.files
 limit_of b Directories = b.directories

@@ -1,4 +1,4 @@
--- What each change needs, so that it leaves a well-formed world.
+-- What each change requires, so that it leaves a well-formed world.
 use Rattle.std.specs.Prelude.{◌≡◌, ℕ, ◌+◌, ◌<◌, ◌≤◌, nat_le, true, false, List, length, Some, is_some, is_none, find}
 use Rattle.std.specs.List.{list_any}
 use Rattle.std.specs.Option.{option_map_or}
@@ -19,7 +19,7 @@ use Rattle.ele_model.specs.Walk.{live_target}
 use Rattle.ele_model.specs.WellFormed.{IsThere, IsDirectoryThere, has_directory, is_reached, IsContent, AreWrittenBy, IsReadable, IsHeldRead}
 use Rattle.ele_model.specs.World.{World, next_of, is_version, is_live, current_of, is_open, has_draft, is_writer}
 
--- a version more may be made
+-- the limit of versions allows another one
 abbrev pub MayMakeVersion : World → Type 0
 MayMakeVersion w = w.made.versions + length w.drafts < w.limits.versions
 
@@ -42,7 +42,7 @@ pub record MayEnd (w : World) (directory : ℕ) (name : List ℕ) : Type 0 where
   pub stands : live_target w.names directory name ≡ Some (Directory id)
   pub empty : list_any (is_live_in id) w.names ≡ false
 
--- a file that has a live name, or a directory that has none
+-- the target is a file that has a live name, or a directory that has none
 abbrev pub MayHaveMore : World → Target → Type 0
 MayHaveMore w (File file) = is_live w file ≡ true
 MayHaveMore w (Directory id) = list_any (is_live_directory id) w.names ≡ false
@@ -53,7 +53,7 @@ pub record MayAdd (w : World) (directory : ℕ) (name : List ℕ) (target : Targ
   pub housed : IsDirectoryThere w.directories target
   pub more : MayHaveMore w target
 
--- the old name stands for what is moved
+-- the old name means the target that is moved
 pub record MayMove (w : World) (from : ℕ) (old : List ℕ) (to : ℕ) (new : List ℕ) (target : Target) : Type 0 where
   pub stands : live_target w.names from old ≡ Some target
   pub named : MayName w to new
@@ -107,14 +107,14 @@ pub record MayJoin (w : World) (name : List ℕ) (file : ℕ) : Type 0 where
   pub room : w.made.members < w.limits.members
   pub free : has_member w.groups name file ≡ false
 
--- the mark's moment has passed, and the group isn't marked at it yet; its end is to come, if it has one
+-- the mark's moment is before now, and the group has no mark at it; its end is after now, if it has one
 pub record MayMark (w : World) (name : List ℕ) (mark : MarkRow) : Type 0 where
   pub past : mark.at < w.now
   pub ahead : option_map_or (λ end. nat_le end w.now) mark.until false ≡ false
   pub room : w.made.marks < w.limits.marks
   pub free : is_marked_at w.groups name mark.at ≡ false
 
--- the change
+-- the requirement of each change
 abbrev pub May : World → Change → Type 0
 May w (Time to) = (w.now ≤ to) × (to ≤ last_moment)
 May w (SetDirectoryDefault directory policy) = IsPolicy policy

@@ -17,7 +17,7 @@ born_row directory name target birth = record {
   death = None;
 }
 
--- the row, dead from the moment on
+-- the row with a death at the moment
 abbrev pub dies : ℕ → NameRow → NameRow
 dies moment row = record row { death = Some moment }
 
@@ -25,25 +25,25 @@ dies moment row = record row { death = Some moment }
 abbrev pub is_named : ℕ → List ℕ → NameRow → Bool
 is_named directory name row = (row.directory == directory) && bytes_eq row.name name
 
--- the row has no death up to the moment
+-- the row has no death, or one after the moment
 abbrev pub lives_past : ℕ → NameRow → Bool
 lives_past moment row = option_map_or (λ death. nat_lt moment death) row.death true
 
--- the row covers the moment: it was born by then and not dead
+-- the row covers the moment: it was born by then, and was not dead then
 abbrev pub covers : ℕ → NameRow → Bool
 covers moment row = nat_le row.birth moment && lives_past moment row
 
--- what the name in the directory stood for at the moment
+-- what the name in the directory meant at the moment
 abbrev pub target_at : List NameRow → ℕ → ℕ → List ℕ → Option Target
 target_at rows moment directory name =
     option_map (λ row. row.target) (find (λ row. is_named directory name row && covers moment row) rows)
 
--- what the newest row of the name stands for, if that row is dead
+-- the target of the name's newest row, if that row is dead
 abbrev pub last_dead : List NameRow → ℕ → List ℕ → Option Target
 last_dead rows directory name =
     option_map (λ row. row.target) (passing (λ row. is_some row.death) (last_passing (is_named directory name) rows))
 
--- a live name in the directory, whatever it is
+-- the row is a live name in the directory
 abbrev pub is_live_in : ℕ → NameRow → Bool
 is_live_in directory row = (row.directory == directory) && is_none row.death
 

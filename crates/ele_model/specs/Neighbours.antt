@@ -1,5 +1,5 @@
--- The held versions next to one of a file, and the ripe moment that they tell. No public clause that a reader of the core needs
--- cites this module: `ele_files` finds such neighbours.
+-- The held versions next to one of a file, and the ripe moment that follows from them. No public clause that a reader of the core needs
+-- cites this module: `ele_files` finds such versions.
 use Rattle.std.specs.Prelude.{ℕ, ◌==◌, nat_lt, nat_le, Bool, false, ◌&&◌, List, Option, Some, find, option_and_then}
 use Rattle.std.specs.List.{count_by}
 use Rattle.std.specs.Option.{option_map, option_map_or}
@@ -37,7 +37,7 @@ with_newer versions file newer = find (λ row. is_version_of file row && (newer_
 abbrev pub newest_of : List VersionRow → ℕ → Option VersionRow
 newest_of versions file = last_passing (is_version_of file) versions
 
--- the file's policy as it is in force now, if the file is there
+-- the policy in force in the file now, if the file is there
 abbrev pub rule_of : World → ℕ → Option Rule
 rule_of w file = option_map (λ policy. rule_in policy (is_live w file)) (policy_of w.files file)
 
@@ -46,16 +46,16 @@ abbrev pub case_in : Rule → List VersionRow → ℕ → ℕ → ℕ → Case
 case_in rule versions file number closed =
     case_of rule.policy closed (next_closing versions file number) (nat_le rule.newer (newer_held versions file number))
 
--- when a version of that case ripens which ended then and which no handle reads: not before the end of the cover, which is asked for
--- what was current from its closing until its end
+-- when a version of that case ripens if no handle reads it and it ended then: not before the end of the cover of the time from its closing
+-- until its end
 abbrev pub case_moment : (ℕ → Option ℕ → Cover) → Case → ℕ → Option ℕ
 case_moment cover case ended = option_and_then (ripe_past (cover case.closed (Some ended))) (ripe_case case ended)
 
--- the same of the file's version with that number under the rule, if it is held and has ended
+-- when the file's version with that number ripens under the rule, if it is held and has ended
 abbrev pub moment_under : (ℕ → Option ℕ → Cover) → Rule → List VersionRow → ℕ → ℕ → Option ℕ
 moment_under cover rule versions file number =
     option_and_then (λ row. option_and_then (case_moment cover (case_in rule versions file number row.closed)) row.ended) (find (is_version file number) versions)
 
--- and under the rule that it has
+-- when it ripens under the file's own rule
 abbrev pub free_moment : World → (ℕ → Option ℕ → Cover) → ℕ → ℕ → Option ℕ
 free_moment w cover file number = option_and_then (λ rule. moment_under cover rule w.versions file number) (rule_of w file)

@@ -1,4 +1,4 @@
--- In every run each file that is there has something left: a live name, a held version or a draft.
+-- In every run each file that is there has a live name, a held version or a draft.
 use Rattle.std.specs.Prelude.{◌≡◌, false, List}
 use Rattle.std.specs.List.{AllByRecursion}
 use Rattle.ele_model.specs.Bounds.{Bounds, AreBounds}

@@ -1,4 +1,4 @@
--- An event that is refused changes nothing, and neither does one that only asks.
+-- An event that is refused changes nothing, and an event that only asks changes nothing.
 use Rattle.std.specs.Prelude.{◌≡◌, Bool, true, false}
 use Rattle.ele_model.specs.declared.event.Event.{Event}
 use Rattle.ele_model.specs.declared.event.Event.TheVariants.{Read, Stat, Versions, List, Restorable, Due, UsageAll, GroupsAll}

@@ -1,4 +1,4 @@
--- The time never goes back, no limit changes, no count and no file's next number falls, and a new file's number was never given.
+-- The time never goes back, limits stay, no count and no file's next number falls, and a new file gets an unused number.
 use Rattle.std.specs.Prelude.{◌≡◌, ◌⊎◌, ℕ, ◌<◌, ◌≤◌, true, false}
 use Rattle.std.specs.List.{list_any}
 use Rattle.ele_model.specs.declared.event.Event.{Event}
@@ -17,7 +17,7 @@ pub record CountsOn (before after : Counts) : Type 0 where
   pub members : before.members ≤ after.members
   pub marks : before.marks ≤ after.marks
 
--- a file of before numbers on or has gone, and any other is new
+-- each file of before has the same next number or a greater one, or was dropped; any other file is new
 pub record GoesOn (before after : World) : Type 0 where
   pub now : before.now ≤ after.now
   pub made : CountsOn before.made after.made

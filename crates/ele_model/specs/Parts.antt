@@ -1,8 +1,8 @@
--- A well-formed world by parts, as proofs here and in the crates above take it. No public clause cites this module.
+-- A well-formed world in parts, for proofs here and in the crates above. No public clause cites this module.
 --
--- `HasParts w` is `IsWellFormed w` with the law that all policies are lawful, which `ele_policy` proves: `in_parts law w k` makes
--- it of the two, and `well_formed w k` gives `IsWellFormed w` back (both in `proofs/Formed`). A law whose premise is
--- `IsWellFormed w` is proved from `HasParts w`, and its function calls `policies_are_lawful` for what else that takes.
+-- `HasParts w` is `IsWellFormed w` with the law that all policies are lawful, which `ele_policy` proves. `in_parts law w k` makes it of the
+-- two, and `well_formed w k` turns it into `IsWellFormed w` again (both in `proofs/Formed`). A law whose premise is `IsWellFormed w` is
+-- proved from `HasParts w`, and its function calls `policies_are_lawful` for the rest.
 use Rattle.std.specs.Prelude.{◌≤◌, length}
 use Rattle.ele_lists.specs.Lists.{AllLater}
 use Rattle.ele_moment.specs.Last.{last_moment}
@@ -29,7 +29,7 @@ pub data Part : Type 0 where
   Groups : Part
   Law : Part
 
--- the law of policies, shut, so that no search looks into it
+-- the law of policies, under a name of its own, so that no search looks into it
 unfoldable pub PolicyLaw : Type 0
 PolicyLaw = PoliciesAreLawful
 

@@ -17,18 +17,18 @@ pub record IsCleaned (w : World) (removed : ℕ) (after : World) : Type 0 where
   pub each : (k : ℕ) → k < removed → IsSome (first_due (after_cleans k w))
   pub after_is : after ≡ after_cleans removed w
 
--- a pass: clean events in a row until the reply that nothing is due
+-- a pass: clean events in a row, until the reply that nothing is due
 pub record IsPass (w : World) (removed : ℕ) (after : World) : Type 0 where
   pub cleaned : IsCleaned w removed after
   pub last : first_due after ≡ None
 
--- so many versions have gone, each of which was due as the pass began: those that weren't due are as they were
+-- so many versions were removed, each of which was due as the pass began; those that weren't due are as they were
 pub record HasRemoved (w : World) (removed : ℕ) (after : World) : Type 0 where
   pub cleaned : IsCleaned w removed after
   pub count : length after.versions + removed ≡ length w.versions
   pub kept : kept_rows after ≡ kept_rows w
 
--- nothing is due any more, before the budget is used up: what was due is removed, and what wasn't is kept
+-- nothing is due any more, before the budget is used up: all that was due is removed, and the rest is kept
 pub record IsFinished (w : World) (budget removed : ℕ) (after : World) : Type 0 where
   pub pass : IsPass w removed after
   pub below : removed < budget

@@ -1,4 +1,4 @@
--- What an event does: checks in their order, then a reply, and changes or none.
+-- What an event does: checks in order, then a reply, and changes or none.
 use Rattle.std.specs.Prelude.{Bool, List, Option, Result, Ok, Err, if◌then◌else◌}
 use Rattle.std.specs.Option.{option_map_or}
 use Rattle.ele_model.specs.declared.refusal.Refusal.{Refusal}
@@ -8,17 +8,17 @@ use Rattle.ele_model.specs.Change.{Change, after_changes}
 use Rattle.ele_model.specs.World.{World}
 
 pub data Plan : Type 1 where
-  -- that reply, and nothing changes
+  -- replies, and changes nothing
   Tell : Reply → Plan
-  -- that reply, and these changes one after the other
+  -- replies, and makes these changes in order
   Make : Reply → List Change → Plan
-  -- refused where the test holds
+  -- refuses if the test holds, and else follows the plan
   Unless : (test : Bool) → Refusal → Plan → Plan
-  -- the one where the test holds, and else the other
+  -- follows the first plan if the test holds, and else the second
   When : (test : Bool) → Plan → Plan → Plan
-  -- refused where the look-up is, and else by what it found
+  -- refuses as the look-up does, or else follows the plan for its result
   Need : {X : Type 0} → Result X Refusal → (X → Plan) → Plan
-  -- the one where there is nothing, and else by what there is
+  -- follows the first plan if there is no value, and else the plan for the value
   IfFound : {X : Type 0} → Option X → Plan → (X → Plan) → Plan
 
 -- a refusal changes nothing
@@ -29,7 +29,7 @@ abbrev pub found_outcome : {X : Type 0} → World → Result X Refusal → (X �
 found_outcome w (Err refusal) go = refused w refusal
 found_outcome w (Ok x) go = go x
 
--- what is replied, and the world after it
+-- the reply, and the world after it
 abbrev pub outcome : World → Plan → Reply × World
 outcome w (Tell reply) = (reply, w)
 outcome w (Make reply changes) = (reply, after_changes w changes)

@@ -6,7 +6,7 @@ use Rattle.ele_model.specs.declared.reply.Reply.TheVariants.{Bytes, FileStat, Di
 use Rattle.ele_model.specs.Step.{step}
 use Rattle.ele_model.specs.World.{World}
 
--- the reply holds a list or a value apart, which a copy wants memory for
+-- the reply holds a list or a boxed value, and a copy of it takes memory
 abbrev pub needs_memory : Reply → Bool
 needs_memory (Bytes bytes) = true
 needs_memory (FileStat stat) = true

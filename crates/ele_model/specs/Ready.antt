@@ -1,4 +1,4 @@
--- Which events take no memory, so that they are always answered.
+-- Which events take no memory, so that they are never stopped for want of it.
 use Rattle.std.specs.Prelude.{Bool, true, false}
 use Rattle.ele_model.specs.declared.event.Event.{Event}
 use Rattle.ele_model.specs.declared.event.Event.TheVariants.{Clock, Tick, RemoveDir, SetDefault, CleanOne}

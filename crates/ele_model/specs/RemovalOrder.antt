@@ -1,4 +1,4 @@
--- In whichever order due versions are removed: to remove one of them leaves the others due, and makes no other due.
+-- Due versions may be removed in any order: the removal of one leaves the others due, and makes no other due.
 use Rattle.std.specs.Prelude.{◌≡◌, true, List, ◌∷◌, ◌++◌}
 use Rattle.ele_model.specs.declared.rows.VersionRow.{VersionRow}
 use Rattle.ele_model.specs.Due.{is_due_at, kept_rows}
@@ -13,7 +13,7 @@ pub record IsWithout (row : VersionRow) (all rest : List VersionRow) : Type 0 wh
   pub whole : all ≡ before ++ row ∷ behind
   pub left : rest ≡ before ++ behind
 
--- after a due row has gone, the due rows are those before without it, and the kept rows those before
+-- after the removal of a due row, the due rows are those before without it, and the kept rows those before
 pub record LeavesDue (w : World) (row : VersionRow) (after : World) : Type 0 where
   pub due : IsWithout row (due_rows w) (due_rows after)
   pub kept : kept_rows after ≡ kept_rows w

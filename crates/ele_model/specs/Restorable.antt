@@ -1,4 +1,4 @@
--- Which names may come back.
+-- Which names are restorable.
 use Rattle.std.specs.Prelude.{ℕ, ◌-◌, Bool, not, List, [], fold, Option, Some, None, is_some, Result, Ok, Err, if◌then◌else◌}
 use Rattle.std.specs.BTreeMap.{insert_entry}
 use Rattle.std.specs.Cmp.Lexicographic.{slice_cmp}
@@ -15,12 +15,12 @@ use Rattle.ele_model.specs.declared.rows.Target.TheVariants.{File, Directory}
 use Rattle.ele_model.specs.NameRows.{is_live_directory, last_dead}
 use Rattle.ele_model.specs.World.{World, next_of, is_held, is_live}
 
--- it may have a name again: a directory that has none, or a file whose last version is held
+-- the target may have a name again: a directory that has none, or a file whose last version is held
 abbrev pub may_return : World → Target → Bool
 may_return w (File file) = is_held w file (next_of w.files file - 1)
 may_return w (Directory id) = not (list_any (is_live_directory id) w.names)
 
--- what the dead name last stood for
+-- what the dead name last meant
 abbrev pub last_target : List NameRow → ℕ → List ℕ → Result Target Refusal
 last_target rows directory name = option_map_or Ok (last_dead rows directory name) (Err NoEntry)
 
@@ -37,7 +37,7 @@ name_cmp a b = ordering_then (nat_cmp a.0 b.0) (slice_cmp nat_cmp a.1 b.1)
 abbrev pub newest_rows : List NameRow → List ((ℕ × List ℕ) × NameRow)
 newest_rows rows = fold (λ newest row. insert_entry name_cmp newest (row.directory, row.name) row) [] rows
 
--- the dead name, if what it last stood for may have a name again
+-- the dead name, if its last target may have a name again
 abbrev pub returning_name : World → ℕ × List ℕ × Target → Option DeadName
 returning_name w lost = if may_return w lost.2 then Some (record { directory = lost.0; name = lost.1; target = lost.2 }) else None
 
@@ -45,10 +45,10 @@ returning_name w lost = if may_return w lost.2 then Some (record { directory = l
 abbrev pub returning : World → NameRow → Option DeadName
 returning w row = if is_some row.death then returning_name w (row.directory, row.name, row.target) else None
 
--- the names that may come back
+-- the restorable names
 unfoldable pub restorable : World → List DeadName
 restorable w = filter_map (λ (entry : (ℕ × List ℕ) × NameRow). returning w entry.1) (newest_rows w.names)
 
--- a dead name as a triple of its directory, its name and what it last stood for
+-- a dead name as a triple of its directory, its name and what it last meant
 abbrev pub triple_of : DeadName → ℕ × List ℕ × Target
 triple_of row = (row.directory, row.name, row.target)

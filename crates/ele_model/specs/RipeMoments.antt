@@ -1,4 +1,4 @@
--- What the ripe moment of a held version is: the moment from which on it is due, and what `ripe` of `ele_policy` answers.
+-- The ripe moment of a held version: the moment from which it is due, and the answer of `ripe` of `ele_policy`.
 use Rattle.std.specs.Prelude.{◌≡◌, ℕ, ◌≤◌, nat_le, false, Option, Some}
 use Rattle.std.specs.List.{AllByRecursion}
 use Rattle.std.specs.Option.{option_map_or}
@@ -11,15 +11,15 @@ use Rattle.ele_model.specs.FileView.{file_view, beside, is_protected}
 use Rattle.ele_model.specs.WellFormed.{IsWellFormed}
 use Rattle.ele_model.specs.World.{World}
 
--- the version is due from its ripe moment on, and never where it has none
+-- the version is due from its ripe moment on, and never if it has none
 abbrev pub IsDueFromRipe : World → VersionRow → Type 0
 IsDueFromRipe w row = (at : ℕ) → at ≤ last_moment → is_due_at w row at ≡ option_map_or (λ ripe. nat_le ripe at) (ripe_of w row) false
 
 abbrev pub DueFromRipe : Type 0
 DueFromRipe = (w : World) → IsWellFormed w → AllByRecursion (IsDueFromRipe w) w.versions
 
--- of a version that has ended and isn't protected: what `ripe` answers of its end and of its case, as its file's policy sees it beside
--- the newer held ones, is its ripe moment
+-- a version that has ended and isn't protected: its ripe moment is the answer of `ripe` for its end and its case. The case is what its
+-- file's policy sees beside the newer held ones
 abbrev pub RipeIsAnswer : World → VersionRow → Type 0
 RipeIsAnswer w row =
     let v = file_view w row.file in

@@ -8,7 +8,7 @@ use Rattle.ele_model.specs.Due.{is_due_at}
 abbrev pub is_numbered : ℕ → VersionRow → Bool
 is_numbered number row = row.number == number
 
--- that moment of the version with the number, if it is held
+-- the ripe moment of the version with the number, if the version is held
 unfoldable pub ripe_numbered : FileView → ℕ → Option ℕ
 ripe_numbered v number = option_and_then (ripe_in v) (find (is_numbered number) v.rows)
 

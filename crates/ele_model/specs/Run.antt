@@ -7,12 +7,12 @@ use Rattle.ele_model.specs.Step.{step}
 use Rattle.ele_policy.specs.Policy.{IsPolicy}
 use Rattle.ele_model.specs.World.{World}
 
--- the world after the events that were answered; an event that was stopped leaves the world, so it stands in no run
+-- the world after the answered events; an event that was stopped leaves the world as it was, so it is in no run
 abbrev pub run_of : World → List Event → World
 run_of w [] = w
 run_of w (event ∷ events) = run_of ((step w event).1) events
 
--- what the types of an event say of it
+-- what the types of an event say of its values
 abbrev pub IsEvent : Event → Type 0
 IsEvent (Clock to) = to ≤ last_moment
 IsEvent (SetPolicy path policy) = IsPolicy policy

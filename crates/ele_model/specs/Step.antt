@@ -1,4 +1,4 @@
--- What each event answers, and the world that it leaves: its checks in their order, then its reply, and its changes.
+-- The reply to each event, and the world after it: its checks in order, then its reply and its changes.
 use Rattle.std.specs.Prelude.{ℕ, ◌+◌, ◌==◌, nat_lt, nat_le, Bool, false, not, List, [], ◌∷◌, Option, Some, None, is_some, find, filter, map, length}
 use Rattle.std.specs.List.{list_any}
 use Rattle.std.specs.Option.{option_map_or}
@@ -30,7 +30,7 @@ use Rattle.ele_model.specs.Usage.{usages}
 use Rattle.ele_model.specs.Walk.{live_target, walk_now, file_at, file_now, directory_in, directory_now, parent_now, stands_in}
 use Rattle.ele_model.specs.World.{World, default_of, next_of, has_draft, is_draft, is_version, is_handle, is_writer, file_by, reads_by}
 
--- versions ever made, and drafts open now
+-- versions ever made, and open drafts
 abbrev pub versions_made : World → ℕ
 versions_made w = w.made.versions + length w.drafts
 
@@ -38,31 +38,31 @@ versions_made w = w.made.versions + length w.drafts
 abbrev pub has_other_writer : World → ℕ → ℕ → Bool
 has_other_writer w handle file = list_any (is_writer file) (remove_first (is_handle handle) w.handles)
 
--- the cells of the file's draft; it is there wherever a handle writes it, so that of none never shows
+-- the cells of the file's draft; a handle that writes it has one, so the case of no draft never occurs
 abbrev pub draft_cells : World → ℕ → List Cell
 draft_cells w file = option_map_or (λ row. row.cells) (find (is_draft file) w.drafts) []
 
--- the cells of the version, which is held wherever a handle reads it; so that of none never shows
+-- the cells of the version; a handle that reads it holds it, so the case of no version never occurs
 abbrev pub version_cells : World → ℕ → ℕ → List Cell
 version_cells w file number = option_map_or (λ row. row.cells) (find (is_version file number) w.versions) []
 
--- the cells of what is read
+-- the cells that the handle reads
 abbrev pub cells_read : World → Reads → List Cell
 cells_read w (reads.Draft file) = draft_cells w file
 cells_read w (reads.Version file number) = version_cells w file number
 
--- the file whose draft is read, if one is
+-- the file whose draft the handle reads, if it reads one
 abbrev pub draft_read : Reads → Option ℕ
 draft_read (reads.Draft file) = Some file
 draft_read (reads.Version file number) = None
 
 abbrev pub plan : World → Event → Plan
--- the time goes on to a moment
+-- the clock moves to a moment
 plan w (Clock to) = Unless (nat_lt to w.now) ClockBack (Make (Now to) (Time to ∷ []))
--- the time goes on by seconds
+-- the clock moves forward by seconds
 plan w (Tick seconds) =
     let to = w.now + seconds in Unless (nat_lt last_moment to) ClockEnd (Make (Now to) (Time to ∷ []))
--- a directory with the policy of the one that it stands in, and its name
+-- a directory with the default policy of its parent, and its name
 plan w (MakeDir path) =
     let id = w.made.directories + 1 in
     Need (parent_now w.names path) (λ at.
@@ -76,7 +76,7 @@ plan w (RemoveDir path) =
     Need (directory_now w.names path) (λ directory.
     Unless (list_any (is_live_in directory) w.names) NotEmpty
     (Make Done (EndName at.0 at.1 ∷ []))))
--- a file with the directory's policy, its name, and an empty first version
+-- a file with the directory's default policy, its name, and an empty first version
 plan w (Create path) =
     let id = w.made.files + 1 in
     Need (parent_now w.names path) (λ at.
@@ -85,7 +85,7 @@ plan w (Create path) =
     (Unless (nat_le w.limits.names w.made.names) (Full which.Names)
     (Unless (nat_le w.limits.versions (versions_made w)) (Full which.Versions)
     (Make (File id) (MakeFile at.0 at.1 id (default_of w.directories at.0) ∷ []))))))
--- the file has a name more
+-- the file has another name
 plan w (Link from to) =
     Need (file_now w.names from) (λ file.
     Need (parent_now w.names to) (λ at.
@@ -97,7 +97,7 @@ plan w (Unlink path) =
     Need (parent_now w.names path) (λ at.
     Need (file_now w.names path) (λ file.
     Make Done (EndFileName at.0 at.1 file ∷ [])))
--- what has the name gets another one in its place; a directory can't come to stand in itself
+-- the target of the name gets another one in its place; a directory can't move into itself
 plan w (Rename from to) =
     Need (parent_now w.names from) (λ old.
     Need (walk_now w.names from) (λ moved.
@@ -106,7 +106,7 @@ plan w (Rename from to) =
     (Unless (is_some (live_target w.names at.0 at.1)) Exists
     (Unless (nat_le w.limits.names w.made.names) (Full which.Names)
     (Make Done (MoveName old.0 old.1 at.0 at.1 moved ∷ [])))))))
--- what the dead name last stood for has it again; a file without a live name gets a version like its last one
+-- the target of the dead name has it again; a file without a live name gets a version like its last one
 plan w (Undelete path) =
     Need (parent_now w.names path) (λ at.
     Unless (is_some (live_target w.names at.0 at.1)) Exists
@@ -120,7 +120,7 @@ plan w (Undelete path) =
     (Unless (nat_le w.limits.names w.made.names) (Full which.Names)
     (Unless (nat_le w.limits.versions (versions_made w)) (Full which.Versions)
     (Make (Version (next_of w.files file)) (Revive at.0 at.1 file ∷ [])))))))))
--- a handle that writes the file's draft, which is begun for the first one
+-- a handle that writes the file's draft, which begins with the first one
 plan w (OpenWrite path) =
     let number = w.made.handles + 1 in
     Need (file_now w.names path) (λ file.
@@ -128,13 +128,13 @@ plan w (OpenWrite path) =
     (When (has_draft w file) (Make (Handle number) (OpenHandle number (reads.Draft file) ∷ []))
     (Unless (nat_le w.limits.versions (versions_made w)) (Full which.Versions)
     (Make (Handle number) (StartDraft file ∷ OpenHandle number (reads.Draft file) ∷ [])))))
--- a handle that reads the version, for as long as it is open
+-- a handle that reads the version, as long as it is open
 plan w (OpenRead tagged) =
     let number = w.made.handles + 1 in
     Need (version_at w tagged) (λ row.
     Unless (nat_le w.limits.handles w.made.handles) (Full which.Handles)
     (Make (Handle number) (OpenHandle number (reads.Version row.file row.number) ∷ [])))
--- bytes are laid over the draft's content; no bytes change nothing
+-- the bytes are written over the draft's content; an empty write changes nothing
 plan w (Write handle offset bytes) =
     Need (file_by w.handles handle) (λ file.
     When (length bytes == 0) (Tell Done)
@@ -145,8 +145,8 @@ plan w (Truncate handle size) =
     Need (file_by w.handles handle) (λ file.
     Unless (nat_lt longest_content size) TooBig
     (Make Done (TruncateDraft file size ∷ [])))
--- the handle goes; with a file's last writer a changed draft becomes the next version, and any other vanishes, and with it a
--- file of which nothing else is left; a writer's draft is there, so the answer without one is never given
+-- the handle closes. With a file's last writer a changed draft becomes the next version. Any other draft is removed, and a file without
+-- live name, version and draft with it. A writer has a draft, so the reply for the case of none is never given
 plan w (Close handle) =
     Need (reads_by w.handles handle) (λ read.
     IfFound (draft_read read) (Make (Closed None) (ShutHandle handle ∷ [])) (λ file.
@@ -155,17 +155,17 @@ plan w (Close handle) =
     When draft.changed
     (Make (Closed (Some (next_of w.files file))) (ShutHandle handle ∷ EndDraft file ∷ Append file draft.opened draft.cells ∷ []))
     (Make (Closed None) (ShutHandle handle ∷ EndDraft file ∷ DropIdle file ∷ []))))))
--- the file has a version more, with the cells of the one with that number
+-- the file has a new version, with the cells of the version of that number
 plan w (Revert path number) =
     Need (file_now w.names path) (λ file.
     Need (version_meant w.files w.versions file (tag.Number number)) (λ row.
     Unless (has_draft w file) Drafting
     (Unless (nat_le w.limits.versions (versions_made w)) (Full which.Versions)
     (Make (Version (next_of w.files file)) (Append file w.now row.cells ∷ [])))))
--- the file has the policy from now on, with all its versions
+-- the file has the policy from now on, for all its versions
 plan w (SetPolicy path policy) =
     Need (file_now w.names path) (λ file. Make Done (SetFilePolicy file policy ∷ []))
--- files that are made in the directory from now on get the policy
+-- files that are made in the directory from now on have the policy
 plan w (SetDefault path policy) =
     Need (directory_now w.names path) (λ directory. Make Done (SetDirectoryDefault directory policy ∷ []))
 -- a group of that name
@@ -173,7 +173,7 @@ plan w (GroupMake name) =
     Unless (has_group w.groups name) GroupExists
     (Unless (nat_le w.limits.groups w.made.groups) (Full which.Groups)
     (Make Done (MakeGroup name ∷ [])))
--- the group goes with its marks
+-- the group is removed with its marks
 plan w (GroupDrop name) = Unless (not (has_group w.groups name)) NoGroup (Make Done (DropGroup name ∷ []))
 -- the group has the file, also for the marks that it has
 plan w (GroupAdd name path) =
@@ -182,13 +182,13 @@ plan w (GroupAdd name path) =
     Unless (has_member w.groups name file) AlreadyMember
     (Unless (nat_le w.limits.members w.made.members) (Full which.Members)
     (Make Done (AddMember name file ∷ [])))))
--- the group has the file no longer
+-- the group no longer has the file
 plan w (GroupRemove name path) =
     Unless (not (has_group w.groups name)) NoGroup
     (Need (file_now w.names path) (λ file.
     Unless (not (has_member w.groups name file)) NotMember
     (Make Done (RemoveMember name file ∷ []))))
--- the group is marked at a moment that has passed, until one that is to come, if an end is named
+-- the group has a mark at a moment before now, for good or until a moment after now
 plan w (Mark name mark until) =
     Unless (not (has_group w.groups name)) NoGroup
     (Unless (nat_le w.now mark) NotPast
@@ -196,24 +196,24 @@ plan w (Mark name mark until) =
     (Unless (is_marked_at w.groups name mark) MarkExists
     (Unless (nat_le w.limits.marks w.made.marks) (Full which.Marks)
     (Make Done (AddMark name (record { at = mark; until = until }) ∷ []))))))
--- the group is marked no longer at the moment
+-- the group no longer has the mark at the moment
 plan w (Unmark name mark) =
     Unless (not (has_group w.groups name)) NoGroup
     (Unless (not (is_marked_at w.groups name mark)) NoMark
     (Make Done (RemoveMark name mark ∷ [])))
--- the first version of the scan goes, and with it a file of which nothing else is left
+-- the first version of the scan is removed, and a file without live name, version and draft with it
 plan w CleanOne =
     IfFound (first_due w) (Tell Nothing) (λ key. Make (Removed key) (Take key.file key.number ∷ DropIdle key.file ∷ []))
--- the content of what the handle reads
+-- the content that the handle reads
 plan w (Read (Of handle)) = Need (reads_by w.handles handle) (λ read. Tell (Bytes (content_of (cells_read w read))))
--- the content of the version that is meant, and of no other
+-- the content of the version that the tagged path means, and of no other
 plan w (Read (Tagged tagged)) = Need (version_at w tagged) (λ row. Tell (Bytes (content_of row.cells)))
 -- what the path leads to: a version with its moments and its file's policy, or a directory with its own
 plan w (Stat tagged) = Need (walk_meant w tagged.path tagged.tag) (λ target. Need (stat_of w target tagged.tag) Tell)
--- the versions that are held of the file that the path named
+-- the held versions of the file that the path named
 plan w (Versions at) =
     Need (file_at (walk_then w at)) (λ file. Tell (Rows (map info_of (filter (is_version_of file) w.versions))))
--- the names that stood in the directory that the path named
+-- the names that were in the directory that the path named
 plan w (ListNames at) =
     Need (directory_in (walk_then w at)) (λ directory. Tell (NameList (listing w.names directory (moment_of w at))))
 plan w Restorable = Tell (RestoreList (restorable w))

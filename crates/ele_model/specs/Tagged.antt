@@ -17,7 +17,7 @@ use Rattle.ele_model.specs.Walk.{walk_now, file_at}
 use Rattle.ele_model.specs.WalkAt.{walk_at}
 use Rattle.ele_model.specs.World.{World, next_of, is_version}
 
--- the moment lies in the version's life: it had closed by then, and ended later or not at all
+-- the moment is in the version's life: it had closed by then, and ended later or not at all
 abbrev pub lives_at : ℕ → VersionRow → Bool
 lives_at moment row = covers_moment row.closed row.ended moment
 
@@ -33,11 +33,11 @@ had_closed file moment row = is_version_of file row && nat_le row.closed moment
 abbrev pub had_life : ℕ → ℕ → VersionRow → Bool
 had_life file moment row = is_version_of file row && lives_at moment row
 
--- the number of the last version that passes: they stand by number, so it is the greatest
+-- the number of the last version that passes the test: versions are ordered by number, so it is the greatest
 abbrev pub last_number : (VersionRow → Bool) → List VersionRow → Option ℕ
 last_number passes versions = option_map (λ row. row.number) (last_passing passes versions)
 
--- the version, or where it isn't held any more, the greatest number that is held from before it
+-- the version, or if it isn't held any more, the greatest held number before it
 abbrev pub held_or_forgotten : Option VersionRow → Option ℕ → Result VersionRow Refusal
 held_or_forgotten found before = option_map_or Ok found (Err (Forgotten before))
 
@@ -58,7 +58,7 @@ version_meant files versions file (tag.At moment) = version_living versions file
 version_meant files versions file (tag.Number number) =
     if nat_lt 0 number && nat_lt number (next_of files file) then version_numbered versions file number else Err NoVersion
 
--- where the path leads by the names of the tag's moment; for a number by those of now
+-- where the path leads by the names of the tag's moment; for a number by the names of now
 abbrev pub walk_meant : World → List (List ℕ) → Tag → Result Target Refusal
 walk_meant w path tag.Now = walk_now w.names path
 walk_meant w path (tag.At moment) = walk_at w.names moment w.now path
@@ -73,7 +73,7 @@ version_found w (Ok file) tag = version_meant w.files w.versions file tag
 abbrev pub version_at : World → TaggedPath → Result VersionRow Refusal
 version_at w tagged = version_found w (file_at (walk_meant w tagged.path tagged.tag)) tagged.tag
 
--- where the path led at its moment, or leads now
+-- what the path led to at its moment, or leads to now
 abbrev pub walk_then : World → PathAt → Result Target Refusal
 walk_then w at = option_map_or (λ moment. walk_at w.names moment w.now at.path) at.moment (walk_now w.names at.path)
 

@@ -1,4 +1,4 @@
--- What is told of versions, files, directories and names where somebody asks.
+-- The replies of questions about versions, files, directories and names.
 use Rattle.std.specs.Prelude.{ℕ, ◌==◌, ◌&&◌, Bool, List, [], fold, filter, length, Result, Ok, Err}
 use Rattle.std.specs.BTreeMap.{insert_entry}
 use Rattle.std.specs.Cmp.Lexicographic.{slice_cmp}
@@ -19,7 +19,7 @@ use Rattle.ele_model.specs.NameRows.{covers}
 use Rattle.ele_model.specs.Tagged.{version_meant}
 use Rattle.ele_model.specs.World.{World, default_of, policy_for}
 
--- a version's number, its moments, and how many bytes it has
+-- a version's number, its moments, and its length in bytes
 abbrev pub info_of : VersionRow → VersionInfo
 info_of row = record {
   number = row.number;
@@ -34,17 +34,17 @@ abbrev pub file_stat : World → Result VersionRow Refusal → Result Reply Refu
 file_stat w (Err refusal) = Err refusal
 file_stat w (Ok row) = Ok (FileStat (record { file = row.file; info = info_of row; policy = policy_for w.files row.file }))
 
--- the directory, and the policy that it gives now; a directory has no numbered versions
+-- the directory, and its default policy now; a directory has no numbered versions
 abbrev pub stat_of : World → Target → Tag → Result Reply Refusal
 stat_of w (Directory id) (tag.Number number) = Err IsDirectory
 stat_of w (Directory id) other = Ok (DirStat (record { id = id; default = default_of w.directories id }))
 stat_of w (File file) tag = file_stat w (version_meant w.files w.versions file tag)
 
--- a name that stood in the directory at the moment
+-- a name that was in the directory at the moment
 abbrev pub stood_in : ℕ → ℕ → NameRow → Bool
 stood_in directory moment row = (row.directory == directory) && covers moment row
 
--- what the names that stood in the directory at the moment stood for, by the bytes of the names
+-- the names that were in the directory at the moment, and what they meant, by the bytes of the names
 unfoldable pub listing : List NameRow → (directory moment : ℕ) → List (List ℕ × Target)
 listing rows directory moment =
     fold (λ listed row. insert_entry (slice_cmp nat_cmp) listed row.name row.target) [] (filter (stood_in directory moment) rows)

@@ -21,7 +21,7 @@ is_of k row = is_kind k (kind_of row.policy)
 abbrev pub is_file_of : List FileRow → Kind → ℕ → Bool
 is_file_of files k id = option_map_or (λ policy. is_kind k (kind_of policy)) (policy_of files id) false
 
--- each slot of a file with the version that wrote it, where the first of the cells has this slot
+-- each slot of a file with the version that wrote it; the first of the cells is this slot
 abbrev pub places_from : ℕ → ℕ → List Cell → List Place
 places_from file slot [] = []
 places_from file slot (cell ∷ cells) = record { file = file; slot = slot; writer = cell.writer } ∷ places_from file (slot + 1) cells
@@ -31,12 +31,12 @@ abbrev pub places : List VersionRow → List DraftRow → List Place
 places versions drafts =
     flat_map (λ row. places_from row.file 0 row.cells) versions ++ flat_map (λ row. places_from row.file 0 row.cells) drafts
 
--- how many bytes the versions have, each counted whole
+-- how many bytes the versions have; each version counts as a whole
 abbrev pub bytes_in : List VersionRow → ℕ
 bytes_in versions = sum (map (λ row. length (content_of row.cells)) versions)
 
--- the files of the kind, their versions, the bytes of these, and how many different blocks they and the drafts have: a slot
--- that several have from one writer is one block
+-- the files of the kind, their versions, the bytes of these, and how many different blocks they and the drafts have. A slot that several
+-- have from one writer is one block
 unfoldable pub usage_of : World → Kind → Usage
 usage_of w k =
     let versions = filter (λ row. is_file_of w.files k row.file) w.versions in

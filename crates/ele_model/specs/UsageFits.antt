@@ -1,4 +1,4 @@
--- What the files of each kind use in a well-formed world fits in 64 bits, so `Flat::usage` may be asked of it.
+-- In a well-formed world what the files of each kind use fits in 64 bits, so `Flat::usage` may be called.
 use Rattle.std.specs.List.{AllByRecursion}
 use Rattle.ele_usage.specs.Sums.{Fits}
 use Rattle.ele_model.specs.Usage.{usages}

@@ -14,23 +14,23 @@ use Rattle.ele_model.specs.World.{root}
 abbrev pub is_live_name : ℕ → List ℕ → NameRow → Bool
 is_live_name directory name row = (row.directory == directory) && (bytes_eq row.name name && is_none row.death)
 
--- what the live name in the directory stands for
+-- what the live name in the directory means
 abbrev pub live_target : List NameRow → ℕ → List ℕ → Option Target
 live_target rows directory name = option_map (λ row. row.target) (find (is_live_name directory name) rows)
 
--- from a place along the names, where that is what a name in a directory leads to: one that leads nowhere is NoEntry, one behind a file
--- NotDirectory
+-- the walk along the names from a target, with a function for what a name in a directory means. A name without a target is NoEntry, and one
+-- after a file is NotDirectory
 abbrev pub walk_by : (ℕ → List ℕ → Option Target) → Target → List (List ℕ) → Result Target Refusal
 walk_by leads at [] = Ok at
 walk_by leads (File file) (name ∷ names) = Err NotDirectory
 walk_by leads (Directory directory) (name ∷ names) =
     option_map_or (λ target. walk_by leads target names) (leads directory name) (Err NoEntry)
 
--- along live names
+-- the walk along live names
 abbrev pub walk : List NameRow → Target → List (List ℕ) → Result Target Refusal
 walk rows at names = walk_by (live_target rows) at names
 
--- from the root
+-- the walk from the root
 abbrev pub walk_now : List NameRow → List (List ℕ) → Result Target Refusal
 walk_now rows path = walk rows (Directory root) path
 
@@ -57,19 +57,19 @@ directory_at name (Ok (Directory directory)) = Ok (directory, name)
 directory_at name (Ok (File file)) = Err NotDirectory
 directory_at name (Err refusal) = Err refusal
 
--- the directory that the path's last name stands in, and that name; the root stands in none
+-- the directory of the path's last name, and that name; the root has neither
 abbrev pub parent_now : List NameRow → List (List ℕ) → Result (ℕ × List ℕ) Refusal
 parent_now rows path =
     option_map_or (λ name. directory_at name (walk_now rows (take (length path - 1) path))) (slice_get path (length path - 1)) (Err IsRoot)
 
--- from a place along the names the walk comes to the directory
+-- the walk along the names from a target passes through the directory
 abbrev pub comes_through : List NameRow → ℕ → Target → List (List ℕ) → Bool
 comes_through rows id at [] = is_target_directory id at
 comes_through rows id (File file) (name ∷ names) = false
 comes_through rows id (Directory directory) (name ∷ names) =
     (directory == id) || option_map_or (λ target. comes_through rows id target names) (live_target rows directory name) false
 
--- the path's last name stands in what is moved, or below it
+-- the path's last name is in the target that is moved, or below it
 abbrev pub stands_in : List NameRow → Target → List (List ℕ) → Bool
 stands_in rows (File file) path = false
 stands_in rows (Directory id) path = comes_through rows id (Directory root) (take (length path - 1) path)

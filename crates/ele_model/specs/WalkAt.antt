@@ -1,4 +1,4 @@
--- Where a path led at an earlier moment.
+-- What a path led to at an earlier moment.
 use Rattle.std.specs.Prelude.{ℕ, nat_lt, List, Result, Err, if◌then◌else◌}
 use Rattle.ele_model.specs.declared.refusal.Refusal.{Refusal}
 use Rattle.ele_model.specs.declared.refusal.Refusal.TheVariants.{Future}
@@ -9,10 +9,10 @@ use Rattle.ele_model.specs.NameRows.{target_at}
 use Rattle.ele_model.specs.Walk.{walk_by}
 use Rattle.ele_model.specs.World.{root}
 
--- along names that covered the moment
+-- the walk along names that covered the moment
 abbrev pub walk_covering : List NameRow → ℕ → Target → List (List ℕ) → Result Target Refusal
 walk_covering rows moment at names = walk_by (target_at rows moment) at names
 
--- from the root; what is later than now is Future
+-- the walk from the root; a moment after now is Future
 abbrev pub walk_at : List NameRow → (moment now : ℕ) → List (List ℕ) → Result Target Refusal
 walk_at rows moment now path = if nat_lt now moment then Err Future else walk_covering rows moment (Directory root) path

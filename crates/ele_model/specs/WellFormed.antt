@@ -1,4 +1,4 @@
--- What is true of every world of a run: its fifteen parts, each of only what it speaks of, and at the end all together.
+-- What is true of every world of a run: fifteen parts, each about only the rows that it takes, and at the end all together.
 use Rattle.std.specs.Prelude.{◌≡◌, ℕ, ◌+◌, ◌==◌, ◌<◌, ◌≤◌, ◌&&◌, ◌||◌, Bool, true, false, List, length, IfSome, Some, None, is_none}
 use Rattle.std.specs.List.{list_any, AllByRecursion}
 use Rattle.std.specs.Str.{bytes_eq}
@@ -23,7 +23,7 @@ use Rattle.ele_model.specs.declared.rows.VersionRow.{VersionRow}
 use Rattle.ele_model.specs.NameRows.{is_name_of_directory, is_live_directory}
 use Rattle.ele_model.specs.World.{World, root, is_directory, next_of, is_live_name_of, is_live, is_version, is_draft, is_version_after}
 
--- no count is above its limit, and each of so many rows and drafts was counted
+-- no count is above its limit, and the counts include all the rows and drafts that there are
 pub record AreCounted (made : Counts) (limits : Bounds) (files names versions drafts : ℕ) : Type 0 where
   pub files_made : made.files ≤ limits.files
   pub names_made : made.names ≤ limits.names
@@ -36,7 +36,7 @@ pub record AreCounted (made : Counts) (limits : Bounds) (files names versions dr
   pub name_rows : names ≤ made.names
   pub version_rows : versions ≤ made.versions
 
--- the root is there, and each directory has a policy that can be given; their numbers rise, and were given; they are counted but for the root
+-- the root is there, and each directory has a policy that can be made; their numbers rise, and were given; all but the root are counted
 pub record AreDirectories (made limit : ℕ) (rows : List DirectoryRow) : Type 0 where
   pub rooted : list_any (is_directory root) rows ≡ true
   pub policies : AllByRecursion (λ row. IsPolicy row.default) rows
@@ -45,7 +45,7 @@ pub record AreDirectories (made limit : ℕ) (rows : List DirectoryRow) : Type 0
   pub counted : length rows ≤ made + 1
   pub few : made ≤ limit
 
--- the file's number was given, its next version's is from 2 on and not past so many versions made, and its policy can be given
+-- the file's number was given; its next version's number is at least 2 and at most one more than the versions made; its policy can be made
 pub record IsFile (files versions : ℕ) (row : FileRow) : Type 0 where
   pub numbered : 1 ≤ row.id
   pub given : row.id ≤ files
@@ -57,7 +57,7 @@ pub record AreFiles (files versions : ℕ) (rows : List FileRow) : Type 0 where
   pub each : AllByRecursion (IsFile files versions) rows
   pub placed : AllLater (λ earlier later. earlier.id < later.id) rows
 
--- a file that is there; that a directory is there `homes` says
+-- the target's file is there; `homes` says that a directory is there
 abbrev pub IsThere : List FileRow → Target → Type 0
 IsThere files (File file) = 0 < next_of files file
 IsThere files (Directory directory) = Unit {0}
@@ -68,7 +68,7 @@ pub record IsNameRow (files : List FileRow) (now : ℕ) (row : NameRow) : Type 0
   pub born : row.birth ≤ now
   pub dead : IfSome row.death (λ death. (row.birth ≤ death) × (death ≤ now))
 
--- of two rows of one directory and name the earlier is dead by the birth of the later
+-- of two rows of one directory and name the earlier was dead by the birth of the later
 abbrev pub AreApart : NameRow → NameRow → Type 0
 AreApart earlier later =
     earlier.directory ≡ later.directory → earlier.name ≡ later.name → (death : ℕ) × (earlier.death ≡ Some death) × (death ≤ later.birth)
@@ -84,28 +84,28 @@ has_directory rows id = list_any (is_directory id) rows
 abbrev pub is_reached : List NameRow → ℕ → Bool
 is_reached names id = (id == root) || list_any (is_live_directory id) names
 
--- a directory that is there; that a file is there `names` says
+-- the target's directory is there; `names` says that a file is there
 abbrev pub IsDirectoryThere : List DirectoryRow → Target → Type 0
 IsDirectoryThere directories (File file) = Unit {0}
 IsDirectoryThere directories (Directory directory) = has_directory directories directory ≡ true
 
--- the directory that the name stands in is there, and so is one that it stands for; a live name stands in the root or in a
--- directory that has a live name
+-- the directory of the name is there, and so is a directory that it means. A live name is in the root or in a directory that has a live
+-- name
 pub record IsHoused (directories : List DirectoryRow) (names : List NameRow) (row : NameRow) : Type 0 where
   pub home : has_directory directories row.directory ≡ true
   pub there : IsDirectoryThere directories row.target
   pub reached : row.death ≡ None → is_reached names row.directory ≡ true
 
--- each name is so, and each directory but the root has a name, live or dead
+-- each name is housed, and each directory but the root has a name, live or dead
 pub record AreHoused (directories : List DirectoryRow) (names : List NameRow) : Type 0 where
   pub each : AllByRecursion (IsHoused directories names) names
   pub named : AllByRecursion (λ row. ((row.id == root) || list_any (is_name_of_directory row.id) names) ≡ true) directories
 
--- two live names of directories are of two directories
+-- two live names of directories mean two directories
 abbrev pub AreOthers : NameRow → NameRow → Type 0
 AreOthers earlier later = (id : ℕ) → is_live_directory id earlier ≡ true → is_live_directory id later ≡ false
 
--- the cells are those of a content: its slots in a row, each of 512 bytes but for the last, which has 1 to 512
+-- the cells are those of a content: its slots in order, each of 512 bytes except the last, which has 1 to 512
 pub record IsContent (cells : List Cell) : Type 0 where
   pub short : length (content_of cells) ≤ longest_content
   pub slots : fill_slots (length (content_of cells)) cells ≡ true
@@ -114,8 +114,8 @@ pub record IsContent (cells : List Cell) : Type 0 where
 abbrev pub AreWrittenBy : ℕ → List Cell → Type 0
 AreWrittenBy number cells = AllByRecursion (λ cell. cell.writer ≤ number) cells
 
--- a held version's file is there and numbers on behind it; it closed by now, and if it has ended it ended by now and not
--- before it closed; only the version before the next one may have no end
+-- a held version's file is there, and its next number is greater. The version closed by now, and if it has ended it ended by now and not
+-- before it closed. Only the version before the next one may have no end
 pub record IsVersion (files : List FileRow) (now : ℕ) (row : VersionRow) : Type 0 where
   pub first : 1 ≤ row.number
   pub numbered : row.number < next_of files row.file
@@ -136,7 +136,7 @@ pub record AreVersions (files : List FileRow) (now : ℕ) (rows : List VersionRo
   pub each : AllByRecursion (IsVersion files now) rows
   pub placed : AllLater ArePlaced rows
 
--- a draft's file is there, and it was opened by now; it is to be the file's next version
+-- a draft's file is there, and the draft was opened by now; its number is that of the file's next version
 pub record IsDraft (files : List FileRow) (now : ℕ) (row : DraftRow) : Type 0 where
   pub there : 0 < next_of files row.file
   pub opened : row.opened ≤ now
@@ -147,17 +147,17 @@ pub record AreDrafts (files : List FileRow) (now : ℕ) (rows : List DraftRow) :
   pub each : AllByRecursion (IsDraft files now) rows
   pub placed : AllLater (λ earlier later. earlier.file < later.file) rows
 
--- a draft that is read is there; that a version that is read is held `readers` says
+-- a draft that a handle reads is there; `readers` says that a version that one reads is held
 abbrev pub IsReadable : List DraftRow → Reads → Type 0
 IsReadable drafts (Draft file) = list_any (is_draft file) drafts ≡ true
 IsReadable drafts (Version file number) = Unit {0}
 
--- a version that is read is held; that a draft that is read is there `handles` says
+-- a version that a handle reads is held; `handles` says that a draft that one reads is there
 abbrev pub IsHeldRead : List VersionRow → Reads → Type 0
 IsHeldRead versions (Draft file) = Unit {0}
 IsHeldRead versions (Version file number) = list_any (is_version file number) versions ≡ true
 
--- so are all that handles read
+-- all versions that handles read are held
 abbrev pub AreHeldRead : List VersionRow → List HandleRow → Type 0
 AreHeldRead versions rows = AllByRecursion (λ row. IsHeldRead versions row.reads) rows
 
@@ -175,7 +175,7 @@ pub record AreHandles (made : ℕ) (drafts : List DraftRow) (rows : List HandleR
 abbrev pub is_current : ℕ → ℕ → VersionRow → Bool
 is_current file next row = (row.file == file) && ((row.number + 1 == next) && is_none row.ended)
 
--- a live file's last version is held, and has no end
+-- each live file's last version is held, and has no end
 abbrev pub HaveCurrent : World → Type 0
 HaveCurrent w = (file : ℕ) → is_live w file ≡ true → list_any (is_current file (next_of w.files file)) w.versions ≡ true
 
@@ -183,12 +183,12 @@ HaveCurrent w = (file : ℕ) → is_live w file ≡ true → list_any (is_curren
 abbrev pub IsOfLive : List NameRow → VersionRow → Type 0
 IsOfLive names row = row.ended ≡ None → list_any (is_live_name_of row.file) names ≡ true
 
--- so without a live name all versions of a file have ended
+-- so all versions of a file without a live name have ended
 abbrev pub HaveEnded : World → Type 0
 HaveEnded w = AllByRecursion (IsOfLive w.names) w.versions
 
--- a group's files are there, and none is in it twice; its marks' moments have passed, each before the
--- mark's end, and none stands twice
+-- a group's files are there, and it has each once. Its marks' moments are before now and before the mark's end, and it has at most one mark
+-- at a moment
 pub record IsGroup (files : List FileRow) (now : ℕ) (row : GroupRow) : Type 0 where
   pub there : AllByRecursion (λ member. 0 < next_of files member) row.members
   pub apart : AllLater (λ earlier later. (earlier == later) ≡ false) row.members

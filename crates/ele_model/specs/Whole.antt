@@ -16,7 +16,7 @@ whole w = record {
   blocks = different is_place (places w.versions w.drafts);
 }
 
--- what of it a file of that kind has in a world, by the kind that it has in the first one
+-- what a file of that kind has of it in a world, by its kind in the first world
 abbrev pub part : World → ℕ → Kind → World → Usage
 part first file k w = if is_file_of first.files k file then whole w else nothing
 

@@ -1,4 +1,4 @@
--- Why the version that a tagged path means is held or may go, and which versions will be due.
+-- Why the version that a tagged path means is held or due, and which versions will be due.
 use Rattle.std.specs.Prelude.{◌≡◌, ℕ, ◌<◌, ◌≤◌, List, Result, Ok, Err}
 use Rattle.ele_due.specs.declared.key.Key.{Key}
 use Rattle.ele_path.specs.declared.tagged.TaggedPath.{TaggedPath}
@@ -12,18 +12,18 @@ use Rattle.ele_model.specs.Scan.{scan}
 use Rattle.ele_model.specs.Tagged.{version_at}
 use Rattle.ele_model.specs.World.{World}
 
--- the tagged path means a version, and this becomes of that one
+-- the tagged path means a version, and that version has this fate
 pub record MeansFate (w : World) (tagged : TaggedPath) (fate : Fate) : Type 0 where
   pub row : VersionRow
   pub means : version_at w tagged ≡ Ok row
   pub has : HasFate w row.file row.number fate
 
--- what becomes of the version that is meant, or why none is
+-- the fate of the version that the tagged path means, or why it means none
 abbrev pub IsWhy : World → TaggedPath → Result Fate Refusal → Type 0
 IsWhy w tagged (Ok fate) = MeansFate w tagged fate
 IsWhy w tagged (Err refusal) = version_at w tagged ≡ Err refusal
 
--- the scan of the world as it is at the moment if until then nothing comes but the clock; a moment that has passed is refused
+-- the scan of the world at the moment, if only the clock moves until then; a moment before now is refused
 abbrev pub IsAhead : World → ℕ → Result (List Key) Refusal → Type 0
 IsAhead w moment (Ok keys) = (w.now ≤ moment) × (keys ≡ scan (after_change w (Time moment)))
 IsAhead w moment (Err refusal) = (moment < w.now) × (refusal ≡ NotAhead)

@@ -27,7 +27,7 @@ World = Flat
 abbrev pub root : ℕ
 root = 0
 
--- at first there is the root alone, whose files are kept safe for a day, with no floor
+-- the first world has only the root, whose files are kept safe for a day, with no floor
 abbrev pub fresh_world : Bounds → World
 fresh_world limits = record {
   now = 0;
@@ -45,8 +45,7 @@ fresh_world limits = record {
 abbrev pub is_directory : ℕ → DirectoryRow → Bool
 is_directory id row = row.id == id
 
--- the policy that files get that are made in the directory; a well-formed world asks it of directories that are there alone, so
--- that of none never shows
+-- the default policy of the directory; in a well-formed world the directory is always there, so the case of none never occurs
 abbrev pub default_of : List DirectoryRow → ℕ → Policy
 default_of rows id = option_map_or (λ row. row.default) (find (is_directory id) rows) (Safe 86400 0)
 
@@ -56,11 +55,11 @@ is_file id row = row.id == id
 abbrev pub policy_of : List FileRow → ℕ → Option Policy
 policy_of rows id = option_map (λ row. row.policy) (find (is_file id) rows)
 
--- the policy that governs the file; likewise
+-- the policy that governs the file; the case of no file never occurs either
 abbrev pub policy_for : List FileRow → ℕ → Policy
 policy_for rows id = option_map_or (λ row. row.policy) (find (is_file id) rows) (Safe 86400 0)
 
--- the number that the file's next version gets; 0 says that there is no such file, and no path leads to one
+-- the number that the file's next version gets, or 0 if there is no such file, and no path leads to one
 abbrev pub next_of : List FileRow → ℕ → ℕ
 next_of rows id = option_map_or (λ row. row.next) (find (is_file id) rows) 0
 
@@ -96,7 +95,7 @@ has_draft w file = list_any (is_draft file) w.drafts
 abbrev pub is_handle : ℕ → HandleRow → Bool
 is_handle number row = row.number == number
 
--- a handle that reads this writes the file
+-- the handle that reads this writes the file
 abbrev pub writes : ℕ → Reads → Bool
 writes file (Draft written) = written == file
 writes file (Version read number) = false
@@ -104,7 +103,7 @@ writes file (Version read number) = false
 abbrev pub is_writer : ℕ → HandleRow → Bool
 is_writer file row = writes file row.reads
 
--- a handle that reads this reads the file's version with that number
+-- the handle that reads this reads the file's version with that number
 abbrev pub reads_version : ℕ → ℕ → Reads → Bool
 reads_version file number (Draft written) = false
 reads_version file number (Version read other) = (read == file) && (other == number)
@@ -113,21 +112,21 @@ reads_version file number (Version read other) = (read == file) && (other == num
 abbrev pub is_open : List HandleRow → ℕ → ℕ → Bool
 is_open rows file number = list_any (λ row. reads_version file number row.reads) rows
 
--- what is read through the handle, or why nothing is
+-- what the handle reads, or why it reads nothing
 abbrev pub reads_by : List HandleRow → ℕ → Result Reads Refusal
 reads_by rows number = option_map_or (λ row. Ok row.reads) (find (is_handle number) rows) (Err NoHandle)
 
--- the file that a handle writes that reads this, or why it writes none
+-- the file that the handle writes, or why it writes none
 abbrev pub file_written : Result Reads Refusal → Result ℕ Refusal
 file_written (Err refusal) = Err refusal
 file_written (Ok (Draft file)) = Ok file
 file_written (Ok (Version file number)) = Err NotWriter
 
--- the file that is written through the handle, or why there is none
+-- the file that the handle with the number writes, or why there is none
 abbrev pub file_by : List HandleRow → ℕ → Result ℕ Refusal
 file_by rows number = file_written (reads_by rows number)
 
--- the version stands later: its file's number is greater, or the file is the same and its own number is
+-- the version is ordered after: its file's number is greater, or the file is the same and its own number is
 abbrev pub is_version_after : ℕ → ℕ → VersionRow → Bool
 is_version_after file number row = nat_lt file row.file || ((row.file == file) && nat_lt number row.number)
 

@@ -1,4 +1,5 @@
-//! What steps and tells what is due, restorable and used, without a look at all rows perhaps.
+//! Worlds that an audit can check: they return what is due, restorable and used, perhaps without a
+//! look at all rows.
 ghost use Rattle.std.specs.Prelude.{◌≡◌, IfOk};
 
 use crate::list::{DeadNameList, KeyList};
@@ -12,19 +13,19 @@ pub trait Audit: Step {
     ghost use Rattle.ele_model.specs.Scan.{scan};
     ghost use Rattle.ele_model.specs.Usage.{usages};
 
-    /// The keys of the versions that are due now, in the order in which they are removed.
+    /// Returns the keys of the versions that are due now, in order of removal.
     ///
-    /// `NoMemory` where memory is refused.
+    /// `NoMemory` if memory is refused.
     fn due_keys(&self) -> Result<KeyList, NoMemory>
         ensures { IfOk result (λ keys. keys ≡ scan (Self.world self.now)) };
 
-    /// The names that may come back, by directory and then by the bytes of the name.
+    /// Returns the restorable names, by directory and then by the bytes of the name.
     ///
-    /// `NoMemory` where memory is refused.
+    /// `NoMemory` if memory is refused.
     fn dead_names(&self) -> Result<DeadNameList, NoMemory>
         ensures { IfOk result (λ names. names ≡ restorable (Self.world self.now)) };
 
-    /// What the files of each kind of policy use, in the order of `Kind`.
+    /// Returns what the files of each kind of policy use, in the order of `Kind`.
     fn usage(&self) -> [Usage; 4]
         ensures { result ≡ usages (Self.world self.now) };
 }

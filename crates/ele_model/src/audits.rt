@@ -1,4 +1,4 @@
-//! An audit: whether answers are what the scans of plain rows give.
+//! An audit: a comparison of answers with the scans of plain rows.
 ghost use Rattle.std.specs.Prelude.{◌≡◌, ◌↔◌, IfOk, IsTrue};
 ghost use Rattle.std.specs.List.{AllByRecursion};
 ghost use Rattle.ele_usage.specs.Sums.{Fits};
@@ -12,32 +12,31 @@ use ele_due::Key;
 use ele_moment::NoMemory;
 use ele_usage::Usage;
 
-// Whether both are the same keys.
+// Whether both lists have the same keys.
 fn are_same_keys(keys: &[Key], others: &[Key]) -> bool
     ensures { IsTrue result ↔ (keys.now ≡ others.now) }
 {
     keys == others
 }
 
-// Whether both are the same names.
+// Whether both lists have the same names.
 fn are_same_names(names: &[DeadName], others: &[DeadName]) -> bool
     ensures { IsTrue result ↔ (names.now ≡ others.now) }
 {
     names == others
 }
 
-// Whether both use the same.
+// Whether all sums are the same.
 fn are_same_sums(sums: &[Usage; 4], others: &[Usage; 4]) -> bool
     ensures { IsTrue result ↔ (sums.now ≡ others.now) }
 {
     sums == others
 }
 
-/// Whether these are the keys of the versions that are due, the names that may come back and the
-/// usage of each kind of policy, as the three scans of the world tell them. The caller knows that
-/// the sums of usage are within 64 bits.
+/// Returns whether these due keys, restorable names and sums of usage are those of the three scans
+/// of the world. The caller knows that the sums are within 64 bits.
 ///
-/// `NoMemory` where memory for a scan is refused.
+/// `NoMemory` if memory for a scan is refused.
 /// Cost: that of the three scans of `Flat`, which are `due_keys`, `dead_names` and `usage`, and of
 /// a comparison with each answer.
 pub fn audit(

@@ -1,4 +1,4 @@
-//! A value that lies apart, so that what holds it stays small.
+//! A value in an allocation of its own, so that what holds it stays small.
 //! A contract sees the value.
 ghost use Rattle.std.specs.Prelude.{◌≡◌, IfOk};
 ghost use Rattle.std.specs.Cmp.{on_per, on_equiv};
@@ -7,7 +7,7 @@ use ele_moment::NoMemory;
 use std::alloc::Global;
 use std::marker::Model;
 
-/// A value in memory of its own.
+/// A value in an allocation of its own.
 #[derive(Debug, Drop)]
 pub struct Boxed<T> {
     value: Box<T>,
@@ -20,9 +20,9 @@ impl<T> Model for Boxed<T> {
 }
 
 impl<T: Drop> Boxed<T> {
-    /// The value in memory of its own.
+    /// Moves the value into an allocation of its own.
     ///
-    /// `NoMemory` where memory is refused, and then the value is dropped.
+    /// `NoMemory` if memory is refused, and then the value is dropped.
     /// Cost: constant time; takes memory for the value.
     pub fn new(alloc: Global, value: T) -> Result<Boxed<T>, NoMemory>
         ensures { IfOk result (λ boxed. boxed ≡ value) }
@@ -31,7 +31,7 @@ impl<T: Drop> Boxed<T> {
         Ok(Boxed { value })
     }
 
-    /// The value.
+    /// Returns the value.
     /// Cost: constant time.
     pub fn get(&self) -> &T
         ensures { result.now ≡ self.now }
@@ -41,9 +41,9 @@ impl<T: Drop> Boxed<T> {
 }
 
 impl<T: Copy + Drop> Boxed<T> {
-    /// A copy of the value in memory of its own.
+    /// Copies the value into an allocation of its own.
     ///
-    /// `NoMemory` where memory is refused.
+    /// `NoMemory` if memory is refused.
     /// Cost: constant time; takes memory for the value.
     pub fn copy(&self, alloc: Global) -> Result<Boxed<T>, NoMemory>
         ensures { IfOk result (λ boxed. boxed ≡ self.now) }

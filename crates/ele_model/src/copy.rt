@@ -39,9 +39,9 @@ fn copy_groups(alloc: Global, groups: &GroupList) -> Result<GroupList, NoMemory>
 }
 
 impl Reply {
-    /// A copy of the reply.
+    /// Returns a copy of the reply.
     ///
-    /// `NoMemory` where memory is refused. A reply without a list or a value apart takes none.
+    /// `NoMemory` if memory is refused. Only replies with a list or a boxed value take memory.
     /// Cost: grows with the list or the bytes of the reply, which it copies; constant time for all
     /// other replies.
     pub fn copy(&self, alloc: Global) -> Result<Reply, NoMemory>

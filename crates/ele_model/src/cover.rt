@@ -1,22 +1,22 @@
-//! For how long marks keep a version. A contract sees plain data.
+//! How long marks hold a version. A contract sees plain data.
 ghost use Rattle.std.specs.Prelude.{◌≡◌};
 ghost use Rattle.ele_model.specs.Cover.{cover_until, lasts, longer, ripe_past};
 
 use ele_moment::Moment;
 
-/// For how long the marks that cover a version keep it.
+/// How long the marks that cover a version hold it.
 #[derive(Clone, Copy, Debug, PartialEq, Eq)]
 pub enum Cover {
-    /// Not at all: none covers it.
+    /// Not at all: no mark covers it.
     Free,
-    /// Until that moment, the latest of their ends, which may have passed.
+    /// Until that moment, the latest end of these marks, which may have passed.
     Until(Moment),
-    /// For ever: one of them has no end.
+    /// Forever: one of these marks has no end.
     Always,
 }
 
 impl Cover {
-    /// For how long a mark keeps what it covers that ends then, or never.
+    /// Returns how long a mark with that end, or without one, holds what it covers.
     /// Cost: constant time.
     pub fn until(end: Option<Moment>) -> Cover
         ensures { result ≡ cover_until end }
@@ -27,7 +27,7 @@ impl Cover {
         }
     }
 
-    /// The longer of both.
+    /// Returns the longer of both.
     /// Cost: constant time.
     pub fn longer(self, other: Cover) -> Cover
         ensures { result ≡ longer self other }
@@ -43,7 +43,7 @@ impl Cover {
         }
     }
 
-    /// Whether it keeps still at the moment.
+    /// Returns whether the marks still hold at the moment.
     /// Cost: constant time.
     pub fn lasts(self, at: Moment) -> bool
         ensures { result ≡ lasts self at }
@@ -55,8 +55,8 @@ impl Cover {
         }
     }
 
-    /// When a version ripens that its policy lets go from the moment on: then, or once it is kept no
-    /// longer. None for what is kept for ever.
+    /// Returns when a version ripens if its policy lets it go from `ripe` on: then, or at the end
+    /// of the cover if that is later. None for a cover without an end.
     /// Cost: constant time.
     pub fn ripe_past(self, ripe: Moment) -> Option<Moment>
         ensures { result ≡ ripe_past self ripe }

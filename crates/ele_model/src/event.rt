@@ -1,86 +1,87 @@
-//! Events: the commands that a world takes. Policies and the names of groups lie apart, so that an event stays small.
+//! Events: the commands of a world. Policies and names of groups are boxed, so that an event stays
+//! small.
 use crate::boxed::Boxed;
 use ele_lists::ByteList;
 use ele_moment::{Handle, Moment, Name, VersionNo};
 use ele_path::{Path, PathAt, TaggedPath};
 use ele_policy::Policy;
 
-/// What is read.
+/// What a read returns.
 #[derive(Debug, Drop, PartialEq, Eq)]
 pub enum Source {
     /// The version that the path and its tag mean.
     Tagged(TaggedPath),
-    /// What the handle reads: a version, or, where it writes, its file's draft.
+    /// The version that the handle reads, or the draft that it writes.
     Of(Handle),
 }
 
 /// A command.
 #[derive(Debug, Drop, PartialEq, Eq)]
 pub enum Event {
-    /// The clock goes to the moment.
+    /// Moves the clock to the moment.
     Clock(Moment),
-    /// The clock goes on by so many seconds.
+    /// Moves the clock forward by so many seconds.
     Tick(u64),
-    /// A directory is made at the path, with the policy of the one that it stands in.
+    /// Makes a directory at the path, with the default policy of its parent.
     MakeDir(Path),
-    /// The name of the directory at the path dies; the directory has no live name in it.
+    /// Removes the name of the directory at the path, which has no live name in it.
     RemoveDir(Path),
-    /// A file is made at the path, with an empty first version.
+    /// Makes a file at the path, with an empty first version.
     Create(Path),
-    /// The file at the first path gets the second path as another name.
+    /// Gives the file at the first path the second path as another name.
     Link(Path, Path),
-    /// The name of the file at the path dies; with the last one its current version ends.
+    /// Removes the name of the file at the path; with the last name the current version ends.
     Unlink(Path),
-    /// What stands at the first path has the second path as its name from now on, in place of the first.
+    /// Moves the file or directory at the first path to the second path.
     Rename(Path, Path),
-    /// The dead name at the path stands again for what it last stood for; a file that had no live name gets a version with
-    /// the content of its last one.
+    /// Restores the dead name at the path, with the file or directory that it last had. A file
+    /// without a live name gets a version with the content of its last one.
     Undelete(Path),
-    /// A handle is opened by which the file at the path is written.
+    /// Opens a handle that writes the file at the path.
     OpenWrite(Path),
-    /// A handle is opened by which the version is read that the path and its tag mean.
+    /// Opens a handle that reads the version that the path and its tag mean.
     OpenRead(TaggedPath),
-    /// The bytes are written through the handle, from that offset on.
+    /// Writes the bytes into the handle's draft, from that offset in bytes on.
     Write(Handle, u64, ByteList),
-    /// The draft under the handle gets so many bytes.
+    /// Sets the length of the handle's draft to so many bytes.
     Truncate(Handle, u64),
-    /// The handle is closed; the last one of a changed draft makes it a version.
+    /// Closes the handle; the last writer of a changed draft makes it a version.
     Close(Handle),
-    /// The file at the path gets a version more, with the content of the one with that number.
+    /// Makes a new version of the file at the path, with the content of the version of that number.
     Revert(Path, VersionNo),
-    /// The file at the path has that policy from now on.
+    /// Sets the policy of the file at the path.
     SetPolicy(Path, Boxed<Policy>),
-    /// Files that are made in the directory at the path from now on get that policy.
+    /// Sets the policy that later files and directories in the directory at the path get.
     SetDefault(Path, Boxed<Policy>),
-    /// A group of that name is made, without files and marks.
+    /// Makes a group of that name, without files and marks.
     GroupMake(Boxed<Name>),
-    /// The group goes, and its marks with it.
+    /// Removes the group and its marks.
     GroupDrop(Boxed<Name>),
-    /// The group gets the file at the path.
+    /// Adds the file at the path to the group.
     GroupAdd(Boxed<Name>, Path),
-    /// The group loses the file at the path.
+    /// Removes the file at the path from the group.
     GroupRemove(Boxed<Name>, Path),
-    /// The group is marked at the moment, which has passed: what was current then of its files isn't removed before the mark
-    /// ends, which it does at the second moment, if there is one.
+    /// Marks the group at the first moment, which is before now. No clean removes what was current
+    /// then of its files, before the mark ends. It ends at the second moment, if there is one.
     Mark(Boxed<Name>, Moment, Option<Moment>),
-    /// The group loses the mark.
+    /// Removes the group's mark at the moment.
     Unmark(Boxed<Name>, Moment),
-    /// The first due version is removed.
+    /// Removes the first due version.
     CleanOne,
-    /// Asks for bytes.
+    /// Asks for the bytes of a version or a draft.
     Read(Source),
-    /// Asks of what version or directory the path and its tag mean when it was made, how long it is, and for its policy.
+    /// Asks what the path and its tag mean, when it was made, how long it is, and for its policy.
     Stat(TaggedPath),
-    /// Asks which versions are held of the file that the path names, or named at its moment.
+    /// Asks for the held versions of the file that the path names, or named at its moment.
     Versions(PathAt),
-    /// Asks which names stand in the directory that the path names, or stood there at its moment.
+    /// Asks for the names in the directory that the path names, or named at its moment.
     List(PathAt),
-    /// Asks which names may come back.
+    /// Asks for the restorable names.
     Restorable,
-    /// Asks which versions are due.
+    /// Asks for the keys of the due versions.
     Due,
     /// Asks what the files of each kind of policy use.
     UsageAll,
-    /// Asks which groups there are, with their files and marks.
+    /// Asks for all groups, with their files and marks.
     GroupsAll,
 }

@@ -8,22 +8,24 @@ use ele_moment::{Moment, Name};
 use ele_policy::Cause;
 use std::fmt;
 
-/// What becomes of a version that is held: why it stays, or from when on it may be removed. The first line that fits is the
-/// answer. It is displayed in the words of `why`, as `kept until 60 level 1` or `due 60 by age 55`.
+/// What becomes of a held version: why it stays, or since when a clean may remove it. The first
+/// variant that fits is the answer. It is displayed in the words of `why`, as `kept until 60 level 1`
+/// or `due 60 by age 55`.
 #[derive(Clone, Copy, Debug, PartialEq, Eq)]
 pub enum Fate {
     /// It has no end.
     Current,
     /// A handle reads it.
     Open,
-    /// It was current at that mark of that group, which has its file, and the mark is in force: of all such groups the one that
-    /// was made first, and of its marks that cover the version and are in force the one that was made first.
+    /// It was current at that mark of that group, which has its file, and the mark is in force. If
+    /// several groups or marks hold the version, this is the group made first, and its mark made
+    /// first.
     Marked {
         group: Name,
         mark: MarkRow,
     },
-    /// Its policy keeps it: until the moment, if nothing but the clock comes; without one, to the last moment. Under a ladder
-    /// with the level that its age has reached, 0 before the first.
+    /// Its policy keeps it until the moment, if only the clock moves, or without a moment for good.
+    /// Under a ladder `level` is the level of its age; it is 0 before the first age.
     Kept {
         until: Option<Moment>,
         level: Option<usize>,

@@ -1,4 +1,4 @@
-//! The world as flat rows, which is what contracts speak of.
+//! The world as flat rows, as contracts describe it.
 ghost use Rattle.std.specs.Prelude.{◌≡◌, IfOk, map};
 ghost use Rattle.std.specs.List.{AllByRecursion};
 ghost use Rattle.ele_usage.specs.Sums.{Fits};
@@ -18,8 +18,9 @@ use ele_moment::{DirId, Moment, Name, NoMemory};
 use ele_policy::Kind;
 use ele_usage::Usage;
 
-/// All rows and counts of a world. Directories and files stand by id, names and groups in order of making, versions by
-/// file and then by number, drafts by file, handles by number.
+/// All rows and counts of a world. Directories and files are in order of ids, names and groups in
+/// order of making. Versions are in order of files and then of numbers, drafts in order of files,
+/// and handles in order of numbers.
 #[derive(Debug, Drop, PartialEq, Eq)]
 pub struct Flat {
     pub now: Moment,
@@ -35,7 +36,7 @@ pub struct Flat {
 }
 
 impl Flat {
-    /// The keys of the versions that are due now, in order.
+    /// Returns the keys of the versions that are due now, in order.
     ///
     /// `NoMemory` if memory is refused.
     /// Cost: grows with the versions times all rows of files, handles, names, versions and groups,
@@ -46,7 +47,7 @@ impl Flat {
         Ok(self.due_keys()?.into_vec())
     }
 
-    /// The keys that `due` returns, as the list that a reply holds.
+    /// Returns the keys of `due`, as the list that a reply holds.
     ///
     /// `NoMemory` if memory is refused.
     /// Cost: grows with the versions times all rows of files, handles, names, versions and groups,
@@ -57,8 +58,8 @@ impl Flat {
         scan::due(self)
     }
 
-    /// The names that may come back, by directory and then by the bytes of the name: of each its
-    /// directory, the name and what it last meant.
+    /// Returns the restorable names, each with its directory and what it last meant. They are in
+    /// order of directory and then of the bytes of the name.
     ///
     /// `NoMemory` if memory is refused.
     /// Cost: that of `dead_names`, and a second copy of the names.
@@ -68,7 +69,7 @@ impl Flat {
         triples_of(&self.dead_names()?)
     }
 
-    /// The names that `restorable` returns, as the list that a reply holds.
+    /// Returns the names of `restorable`, as the list that a reply holds.
     ///
     /// `NoMemory` if memory is refused.
     /// Cost: grows with a sort of all names, which takes memory, and with the dead ones times all
@@ -79,9 +80,10 @@ impl Flat {
         returning::restorable(self)
     }
 
-    /// What the files of each kind of policy use, in the order of `Kind`: how many they are, their versions, the bytes of
-    /// these, and how many different blocks they and the drafts have. The caller knows that each number is within 64
-    /// bits. It takes no memory, and looks at all rows for each slot.
+    /// Returns what the files of each kind of policy use, in the order of `Kind`. The four sums are
+    /// the files, their versions, the bytes of these, and the different blocks of versions and
+    /// drafts. The caller knows that each sum is within 64 bits. It takes no memory, and looks at
+    /// all rows for each slot.
     pub fn usage(&self) -> [Usage; 4]
         requires { AllByRecursion Fits (usages self.now) }
         ensures { result ≡ usages self.entry.now }

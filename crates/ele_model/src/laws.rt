@@ -1,4 +1,5 @@
-//! The laws that crates of the program call, each the contract of a function that does nothing: the others stand in `ele_world`.
+//! The laws that crates of the program call. Each is the contract of a function that does nothing;
+//! the other laws are in `ele_world`.
 ghost use Rattle.ele_model.specs.AlwaysWellFormed.{FreshIsWellFormed, StepKeepsWellFormed, AlwaysWellFormed};
 ghost use Rattle.ele_model.specs.NumbersRise.{NumbersRise};
 ghost use Rattle.ele_model.specs.ReadersStay.{ReadersStay};
@@ -34,7 +35,7 @@ pub fn readers_stay()
     ensures { ReadersStay }
 {}
 
-/// The time never goes back, and no number is given twice.
+/// The time never goes back, and no number is used twice.
 pub fn numbers_rise()
     ensures { NumbersRise }
 {

@@ -1,5 +1,5 @@
-//! The definitions: events, replies, the world that they change, and what is true of every run. All of it is plain data, and
-//! a contract sees the world as the flat rows of `Flat`.
+//! The definitions: events, replies, the world that they change, and what is true of every run. All
+//! of them are plain data, and a contract sees the world as the flat rows of `Flat`.
 #![tactic(auto)]
 
 mod auditing;

@@ -1,4 +1,5 @@
-//! How much may ever be made. A contract sees limits as their numbers.
+//! Limits: how many files, names and other things may ever be made. A contract sees limits as their
+//! numbers.
 ghost use Rattle.std.specs.Prelude.{◌≡◌, ◌≤◌, ◌↔◌, IsSome, IsTrue, IfSome};
 ghost use Rattle.ele_model.specs.Bounds.{AreBounds, largest_bounds};
 ghost use Rattle.ele_model.specs.LimitsOf.{bounds_of, limit_of};
@@ -6,32 +7,32 @@ ghost use Rattle.ele_model.specs.LimitsOf.{bounds_of, limit_of};
 use crate::refusal::Which;
 use std::marker::Model;
 
-/// The numbers of limits by their names, of which `Limits::of` makes limits. None of the kinds of things gives its number back
-/// when it goes.
+/// The numbers of limits by their names; `Limits::of` makes limits of them. A removal lowers no
+/// count.
 #[derive(Clone, Copy, Debug, PartialEq, Eq)]
 pub struct LimitNumbers {
-    /// How many replies may ever be given, of which a history keeps each: at most 1,000,000,000.
+    /// Replies ever given, each of which a history keeps: at most 1,000,000,000.
     pub events: u64,
-    /// How many files may ever be made: at most 100,000.
+    /// Files ever made: at most 100,000.
     pub files: u64,
-    /// How many directories may ever be made, without the root: at most 10,000.
+    /// Directories ever made, without the root: at most 10,000.
     pub directories: u64,
-    /// How many names may ever be given, by each event that makes one, revives one or renames: at most 200,000.
+    /// Names ever given, by each event that makes, restores or renames one: at most 200,000.
     pub names: u64,
-    /// How many versions may ever be made, with the drafts that are open: at most 1,000,000.
+    /// Versions ever made, with the open drafts: at most 1,000,000.
     pub versions: u64,
-    /// How many handles may ever be opened: at most 1,000,000.
+    /// Handles ever opened: at most 1,000,000.
     pub handles: u64,
-    /// How many groups may ever be made: at most 1,000.
+    /// Groups ever made: at most 1,000.
     pub groups: u64,
-    /// How many times files may ever be added to groups: at most 100,000.
+    /// Additions of files to groups, ever: at most 100,000.
     pub members: u64,
-    /// How many marks may ever be made: at most 10,000.
+    /// Marks ever made: at most 10,000.
     pub marks: u64,
 }
 
 impl LimitNumbers {
-    /// The largest of each.
+    /// The largest limits.
     /// Cost: constant time.
     pub const LARGEST: LimitNumbers = LimitNumbers {
         events: 1_000_000_000,
@@ -45,7 +46,7 @@ impl LimitNumbers {
         marks: 10_000,
     };
 
-    // Whether none is above its largest.
+    // Whether no number is above its largest.
     fn is_within_largest(&self) -> bool
         ensures { IsTrue result ↔ AreBounds self.now }
     {
@@ -62,7 +63,7 @@ impl LimitNumbers {
     }
 }
 
-/// How much may ever be made, each number at most its largest.
+/// The limits of a world, each at most its largest.
 #[derive(Clone, Copy, Debug, PartialEq, Eq)]
 pub struct Limits {
     numbers: LimitNumbers,
@@ -81,7 +82,7 @@ impl Model for Limits {
     ghost inverse = { λ numbers. record { numbers = numbers } };
 }
 
-/// How much was ever made.
+/// How many of each kind were ever made.
 #[derive(Clone, Copy, Debug, PartialEq, Eq)]
 pub struct Counts {
     pub files: u64,
@@ -90,16 +91,16 @@ pub struct Counts {
     pub versions: u64,
     pub handles: u64,
     pub groups: u64,
-    /// Files added to groups, over all groups.
+    /// Additions of files to groups, over all groups.
     pub members: u64,
     /// Marks, over all groups.
     pub marks: u64,
 }
 
 impl Limits {
-    /// The limits of events, files, directories, names, versions, handles, groups, members and marks, in this order; none
-    /// where one is above its largest: 1,000,000,000 events, 100,000 files, 10,000 directories, 200,000 names, 1,000,000
-    /// versions, 1,000,000 handles, 1,000 groups, 100,000 members and 10,000 marks.
+    /// Makes limits of nine numbers: events, files, directories, names, versions, handles, groups,
+    /// members and marks. `LimitNumbers` has the largest of each. None if a number is above its
+    /// largest.
     /// Cost: constant time.
     pub fn new(numbers: [u64; 9]) -> Option<Limits>
         ensures valid { IsSome result ↔ AreBounds (bounds_of numbers) }
@@ -129,7 +130,7 @@ impl Limits {
         })
     }
 
-    /// The limits of these numbers; none where one is above its largest.
+    /// Makes limits of these numbers. None if a number is above its largest.
     /// Cost: constant time.
     pub fn of(numbers: LimitNumbers) -> Option<Limits>
         ensures valid { IsSome result ↔ AreBounds numbers }
@@ -141,7 +142,7 @@ impl Limits {
         Some(Limits { numbers })
     }
 
-    /// The largest limits.
+    /// Returns the largest limits.
     /// Cost: constant time.
     pub fn largest() -> Limits
         ensures { result ≡ largest_bounds }
@@ -151,8 +152,8 @@ impl Limits {
         }
     }
 
-    /// The largest limits, but for how many replies may ever be given; none where these are more
-    /// than 1,000,000,000.
+    /// Returns the largest limits, with another limit of events. None if it is more than
+    /// 1,000,000,000.
     /// Cost: constant time.
     pub fn with_events(events: u64) -> Option<Limits>
         ensures found { IsSome result ↔ (events ≤ largest_bounds.events) }
@@ -170,14 +171,14 @@ impl Limits {
         })
     }
 
-    /// Says that no limit is above its largest, and changes nothing.
+    /// Brings a proof the fact that no limit is above its largest.
     pub fn lemma_within(&self)
         ensures { AreBounds self.now }
     {
         let _numbers = self.numbers;
     }
 
-    /// How many replies may ever be given.
+    /// Returns how many replies may ever be given.
     /// Cost: constant time.
     pub fn events(&self) -> u64
         ensures value { result ≡ self.now.events }
@@ -186,7 +187,7 @@ impl Limits {
         self.numbers.events
     }
 
-    /// How many of these may ever be made.
+    /// Returns how many of that kind may ever be made.
     /// Cost: constant time.
     pub fn limit(&self, which: Which) -> u64
         ensures value { result ≡ limit_of self.now which }

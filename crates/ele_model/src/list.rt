@@ -10,22 +10,22 @@ use ele_moment::{DirId, Name, NoMemory};
 /// Keys of versions, in order.
 pub type KeyList = ListOf<Key>;
 
-/// Names that may come back, by directory and then by the bytes of the name.
+/// Restorable names, by directory and then by the bytes of the name.
 pub type DeadNameList = ListOf<DeadName>;
 
 /// Versions of one file, by number.
 pub type StampsList = ListOf<VersionInfo>;
 
-/// The same, by the name of the reply that holds it.
+/// The same list, by the name of the reply that holds it.
 pub type Rows = StampsList;
 
 /// Groups in order of making.
 pub type GroupList = ListOf<GroupRow>;
 
-/// What the names of a directory stand for, by the bytes of the names.
+/// The names of a directory and what they mean, by the bytes of the names.
 pub type NameList = ListOf<(Name, Target)>;
 
-/// The names as triples of a directory, a name in it and what that name last meant.
+/// Returns the names as triples of a directory, a name in it and what that name last meant.
 ///
 /// `NoMemory` if memory is refused.
 /// Cost: grows with the names, which it copies.

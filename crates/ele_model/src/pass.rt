@@ -5,15 +5,15 @@ ghost use Rattle.ele_model.specs.AnswerText.{words_text, pass_words};
 use crate::refusal::Stop;
 use std::fmt;
 
-/// How a pass over the due versions ended, and how many it removed. It is displayed as scripts print it: `ok pass finished 4`,
-/// `ok pass budget 2`, `stop 1 NoMemory removed 3`.
+/// How a pass over the due versions ended, and how many it removed. It is displayed as scripts
+/// print it: `ok pass finished 4`, `ok pass budget 2`, `stop 1 NoMemory removed 3`.
 #[derive(Clone, Copy, Debug, PartialEq, Eq)]
 pub enum PassEnd {
     /// Nothing is due any more.
     Finished(u64),
-    /// As many were removed as the budget allows.
+    /// The pass removed as many as its budget allows.
     Budget(u64),
-    /// A clean event was stopped; what was removed before stays removed.
+    /// A clean event was stopped; removed versions stay removed.
     Stopped(Stop, u64),
 }
 

@@ -7,7 +7,7 @@ use ele_moment::VersionNo;
 use std::error::Error;
 use std::fmt;
 
-/// What a limit counts. It is displayed as its word in scripts, `files`.
+/// A kind of thing that has a limit. It is displayed as its word in scripts, `files`.
 #[derive(Clone, Copy, Debug, PartialEq, Eq)]
 pub enum Which {
     Files,
@@ -21,7 +21,7 @@ pub enum Which {
 }
 
 impl Which {
-    /// The word for it.
+    /// Returns its word.
     /// Cost: constant time.
     pub fn word(self) -> &'static str
         ensures { result.now ≡ which_word self }
@@ -39,37 +39,37 @@ impl Which {
     }
 }
 
-/// Why a command was refused. The reply stands in the history, and nothing else has changed. It is displayed as scripts print
-/// it behind `no`: `5 NoEntry`, `13 Forgotten 2`, `27 Full files`.
+/// Why a command was refused. The history keeps the reply, and nothing else has changed. It is
+/// displayed as scripts print it after `no`: `5 NoEntry`, `13 Forgotten 2`, `27 Full files`.
 #[derive(Clone, Copy, Debug, PartialEq, Eq)]
 pub enum Refusal {
-    /// The moment is earlier than now.
+    /// The moment is before now.
     ClockBack,
-    /// The moment would be past the last one.
+    /// The moment would be after the last one.
     ClockEnd,
     /// No such name.
     NoEntry,
-    /// A file stands where a directory is wanted.
+    /// The path has a file in place of a directory.
     NotDirectory,
-    /// A directory stands where a file is wanted.
+    /// The path has a directory in place of a file.
     IsDirectory,
     /// The name is taken.
     Exists,
     /// The directory has names.
     NotEmpty,
-    /// The directory would come to lie in itself.
+    /// The directory would be in itself.
     IntoItself,
     /// The root has no name.
     IsRoot,
-    /// The moment is later than now.
+    /// The moment is after now.
     Future,
-    /// The version was removed; the greatest held number before it, if there is one.
+    /// The version was removed. The value is the greatest held number before it, if there is one.
     Forgotten(Option<VersionNo>),
     /// The file never had that version.
     NoVersion,
     /// No such handle.
     NoHandle,
-    /// The handle is one for reading.
+    /// The handle is for reading.
     NotWriter,
     /// The content would be longer than 1,048,576 bytes.
     TooBig,
@@ -79,26 +79,26 @@ pub enum Refusal {
     NotRestorable,
     /// No such group.
     NoGroup,
-    /// The group is there.
+    /// The group exists.
     GroupExists,
     /// The group has no such mark.
     NoMark,
-    /// The group has the mark.
+    /// The group has the mark already.
     MarkExists,
-    /// The moment is not earlier than now.
+    /// The moment is not before now.
     NotPast,
-    /// The file is in the group.
+    /// The group has the file already.
     AlreadyMember,
-    /// The file is not in the group.
+    /// The group doesn't have the file.
     NotMember,
     /// A limit is reached.
     Full(Which),
-    /// A mark is to end now or earlier, or `ahead` asks of a moment earlier than now.
+    /// The end of a mark is not after now, or `ahead` asks for a moment before now.
     NotAhead,
 }
 
-/// Why a command was not run: it stands in no history, and nothing has changed. It is displayed as scripts print it behind
-/// `stop`: `1 NoMemory`.
+/// Why a command was not run. No history keeps it, and nothing has changed. It is displayed as
+/// scripts print it after `stop`: `1 NoMemory`.
 #[derive(Clone, Copy, Debug, PartialEq, Eq)]
 pub enum Stop {
     NoMemory,
@@ -106,7 +106,7 @@ pub enum Stop {
 }
 
 impl Refusal {
-    /// Its number.
+    /// Returns its number.
     /// Cost: constant time.
     pub fn number(self) -> u8
         ensures { result ≡ refusal_number self }
@@ -141,7 +141,7 @@ impl Refusal {
         }
     }
 
-    /// Its name.
+    /// Returns its name.
     /// Cost: constant time.
     pub fn name(self) -> &'static str
         ensures { result.now ≡ refusal_name self }
@@ -178,7 +178,7 @@ impl Refusal {
 }
 
 impl Stop {
-    /// Its number.
+    /// Returns its number.
     /// Cost: constant time.
     pub fn number(self) -> u8
         ensures { result ≡ stop_number self }
@@ -189,7 +189,7 @@ impl Stop {
         }
     }
 
-    /// Its name.
+    /// Returns its name.
     /// Cost: constant time.
     pub fn name(self) -> &'static str
         ensures { result.now ≡ stop_name self }

@@ -1,4 +1,4 @@
-//! Replies: what a command answers. What a question tells of one thing lies apart, so that a reply stays small.
+//! Replies to commands. Large values are boxed, so that a reply stays small.
 use crate::boxed::Boxed;
 use crate::list::{DeadNameList, GroupList, KeyList, NameList, StampsList};
 use crate::refusal::Refusal;
@@ -8,7 +8,7 @@ use ele_lists::ByteList;
 use ele_moment::{DirId, FileId, Handle, Moment, VersionNo};
 use ele_usage::Usage;
 
-/// The answer to a command.
+/// The reply to a command.
 #[derive(Debug, Drop, PartialEq, Eq)]
 pub enum Reply {
     Done,
@@ -19,19 +19,19 @@ pub enum Reply {
     File(FileId),
     Handle(Handle),
     Version(VersionNo),
-    /// The handle is closed, and the version that it made, if it made one.
+    /// The handle is closed. The value is the number of the version that it made, if it made one.
     Closed(Option<VersionNo>),
     Removed(Key),
     Bytes(ByteList),
     /// A version, and the policy that governs its file.
     FileStat(Boxed<FileStat>),
-    /// A directory, and the policy that it gives.
+    /// A directory, and the default policy of its files.
     DirStat(Boxed<DirectoryRow>),
     /// Versions of one file, by number.
     Rows(StampsList),
-    /// What names stand for, or stood for, by the bytes of the names.
+    /// The names of a directory and what they mean, or meant, by the bytes of the names.
     NameList(NameList),
-    /// The names that may come back.
+    /// The restorable names.
     RestoreList(DeadNameList),
     DueList(KeyList),
     /// What the files of each kind of policy use, in the order of `Kind`.

@@ -1,4 +1,4 @@
-//! The names that may come back, found by a look at every row.
+//! The restorable names, by a scan of all rows.
 ghost use Rattle.std.specs.Prelude.{◌≡◌, IfOk, find};
 ghost use Rattle.std.specs.List.{list_any};
 ghost use Rattle.std.specs.Option.{option_map};
@@ -21,7 +21,7 @@ fn next_if_there(files: &[FileRow], file: FileId) -> Option<VersionNo>
     files.iter().find(|row| row.id == file).map(|row| row.next)
 }
 
-/// The number that the file's next version gets; 0 of a file that isn't there.
+/// The number that the file's next version gets, or 0 if the file isn't there.
 #[tactic(auto, using(crate::proofs::Newest::next_is))]
 fn next_of(files: &[FileRow], file: FileId) -> VersionNo
     ensures { result ≡ next_of files.now file }
@@ -55,7 +55,7 @@ fn is_live_directory(names: &[NameRow], id: DirId) -> bool
     names.iter().any(|row| names_directory(row, id))
 }
 
-/// Whether it may have a name again.
+/// Whether a name of the target can be restored.
 fn may_return(world: &Flat, target: Target) -> bool
     ensures { result ≡ may_return world.entry.now target }
 {
@@ -68,7 +68,7 @@ fn may_return(world: &Flat, target: Target) -> bool
     }
 }
 
-/// The name, if its newest row is dead and what it stood for may have a name again.
+/// The name, if its newest row is dead and its target may have a name again.
 fn returning(world: &Flat, row: &NameRow) -> Option<DeadName>
     ensures { result ≡ returning world.entry.now row.now }
 {
@@ -96,7 +96,7 @@ fn newest_rows(
     Ok(newest)
 }
 
-/// The names that may come back, by directory and then by the bytes of the name.
+/// The restorable names, by directory and then by the bytes of the name.
 pub fn restorable(world: &Flat) -> Result<DeadNameList, NoMemory>
     ensures { IfOk result (λ names. names ≡ restorable world.entry.now) }
 {

@@ -1,4 +1,4 @@
-//! The rows of a world: what stands in it of each file, name, version, draft and handle.
+//! The rows of a world: its files, directories, names, versions, drafts, handles and groups.
 ghost use Rattle.std.specs.Prelude.{Some};
 ghost use Rattle.ele_model.specs.FateText.{mark_word};
 
@@ -16,7 +16,7 @@ pub struct FileRow {
     pub next: VersionNo,
 }
 
-/// A directory, and the policy that files get that are made in it.
+/// A directory, and the default policy of files that are made in it.
 #[derive(Clone, Copy, Debug, PartialEq, Eq)]
 pub struct DirectoryRow {
     pub id: DirId,
@@ -31,14 +31,14 @@ impl Keyed for DirectoryRow {
     }
 }
 
-/// What a name stands for.
+/// The file or directory of a name.
 #[derive(Clone, Copy, Debug, PartialEq, Eq, PartialOrd, Ord, Hash)]
 pub enum Target {
     File(FileId),
     Directory(DirId),
 }
 
-/// A name in a directory, from its birth on until its death; without a death it is live.
+/// A name in a directory, from its birth until its death; without a death it is live.
 #[derive(Clone, Copy, Debug, PartialEq, Eq)]
 pub struct NameRow {
     pub directory: DirId,
@@ -48,7 +48,7 @@ pub struct NameRow {
     pub death: Option<Moment>,
 }
 
-/// A name whose newest row is dead, and what that row stood for.
+/// A name whose newest row is dead, and the target of that row.
 #[derive(Clone, Copy, Debug, PartialEq, Eq)]
 pub struct DeadName {
     pub directory: DirId,
@@ -56,7 +56,8 @@ pub struct DeadName {
     pub target: Target,
 }
 
-/// A held version of a file: when its session opened it, when it closed, and when it ended, if it has.
+/// A held version of a file: the moments at which it was opened, closed and, if it has an end,
+/// ended.
 #[derive(Debug, Drop, PartialEq, Eq)]
 pub struct VersionRow {
     pub file: FileId,
@@ -67,7 +68,7 @@ pub struct VersionRow {
     pub cells: ListOf<Cell>,
 }
 
-/// A version's number, its moments, and how many bytes it has.
+/// A version's number, its moments, and its length in bytes.
 #[derive(Clone, Copy, Debug, PartialEq, Eq)]
 pub struct VersionInfo {
     pub number: VersionNo,
@@ -85,7 +86,7 @@ pub struct FileStat {
     pub policy: Policy,
 }
 
-/// The version that the writers of a file are making.
+/// The draft of a file.
 #[derive(Debug, Drop, PartialEq, Eq)]
 pub struct DraftRow {
     pub file: FileId,
@@ -94,16 +95,16 @@ pub struct DraftRow {
     pub changed: bool,
 }
 
-/// What is read through a handle.
+/// What a handle reads.
 #[derive(Clone, Copy, Debug, PartialEq, Eq, Hash)]
 pub enum Reads {
-    /// The file's draft, which the handle writes too.
+    /// The file's draft, which the handle also writes.
     Draft(FileId),
     /// The file's version with that number.
     Version(FileId, VersionNo),
 }
 
-/// An open handle, and what is read through it.
+/// An open handle, and what it reads.
 #[derive(Clone, Copy, Debug, PartialEq, Eq)]
 pub struct HandleRow {
     pub number: Handle,
@@ -118,8 +119,9 @@ impl Keyed for HandleRow {
     }
 }
 
-/// A mark of a group: the moment at which it was marked, and the moment at which the mark ends, if it does. It is in force
-/// before that one, and stays listed when it has ended. It is displayed as scripts print it, `5` or `5/60`.
+/// A mark of a group: the moment that it marks, and its end, if it has one. It is in force before
+/// its end, and stays listed after it. It is displayed as scripts print it, `5` or
+/// `5/60`.
 #[derive(Clone, Copy, Debug, PartialEq, Eq)]
 pub struct MarkRow {
     pub at: Moment,

@@ -1,4 +1,4 @@
-//! The scan: the keys of the versions that are due, found by a look at every row.
+//! The keys of the due versions, by a scan of all rows.
 ghost use Rattle.std.specs.Prelude.{◌≡◌, if◌then◌else◌, IfOk, OnOk, OnErr, filter, fold, [], ◌∷◌};
 ghost use Rattle.std.specs.List.{cons_option, list_any};
 ghost use Rattle.std.specs.BTreeSet.{insert_key};
@@ -58,14 +58,15 @@ fn is_member(group: &GroupRow, file: FileId) -> bool
     group.members.as_slice().contains(&file)
 }
 
-/// Whether what was current from the one moment until the other, or still is, was so at the mark.
+/// Whether a version with these moments was current at the mark. Without an end it still is
+/// current.
 fn covers_moment(closed: Moment, ended: Option<Moment>, mark: Moment) -> bool
     ensures { result ≡ covers_moment closed ended mark }
 {
     closed <= mark && ended.is_none_or(|end| mark < end)
 }
 
-/// For how long the mark keeps what it covers.
+/// How long the mark holds a version with these moments, if it covers it.
 fn mark_cover(mark: &MarkRow, closed: Moment, ended: &Option<Moment>) -> Cover
     ensures { result ≡ cover_by closed ended.now (mark.now ∷ []) }
 {
@@ -76,7 +77,7 @@ fn mark_cover(mark: &MarkRow, closed: Moment, ended: &Option<Moment>) -> Cover
     }
 }
 
-/// For how long the group's marks keep.
+/// How long the group's marks hold it.
 #[tactic(auto, using(crate::proofs::Covers::cover_more))]
 fn group_cover(group: &GroupRow, closed: Moment, ended: &Option<Moment>) -> Cover
     ensures { result ≡ cover_by closed ended.now group.now.marks }
@@ -88,7 +89,7 @@ fn group_cover(group: &GroupRow, closed: Moment, ended: &Option<Moment>) -> Cove
     cover
 }
 
-/// For how long the group's marks keep, if it has the file.
+/// How long the group's marks hold it, if the group has the file.
 fn member_cover(group: &GroupRow, file: FileId, closed: Moment, ended: &Option<Moment>) -> Cover
     ensures { result
         ≡ (if is_member file group.now then cover_by closed ended.now group.now.marks else Free) }
@@ -100,7 +101,7 @@ fn member_cover(group: &GroupRow, file: FileId, closed: Moment, ended: &Option<M
     }
 }
 
-/// For how long marks of groups that have the file keep.
+/// How long the marks of all groups that have the file hold it.
 #[tactic(auto, using(crate::proofs::Covers::cover_of_more))]
 fn cover_of(groups: &[GroupRow], file: FileId, closed: Moment, ended: &Option<Moment>) -> Cover
     ensures { result ≡ cover_of groups.now file closed ended.now }
@@ -137,14 +138,14 @@ fn newer_closings(
     )
 }
 
-/// Whether a name of the file has no death.
+/// Whether the file has a live name.
 fn is_live(names: &[NameRow], file: FileId) -> bool
     ensures { result ≡ list_any (is_live_name_of file) names.now }
 {
     names.iter().any(|row| row.death.is_none() && row.target == Target::File(file))
 }
 
-/// Whether the policy looks at nothing beside a version of a file that is live or not.
+/// Whether the policy looks at nothing but the version itself, in a file that is live or not.
 fn ignores_newer(policy: &Policy, is_live: bool) -> bool
     ensures { result ≡ ignores_newer policy.now is_live }
 {
@@ -155,8 +156,8 @@ fn ignores_newer(policy: &Policy, is_live: bool) -> bool
     }
 }
 
-/// When the policy lets the version go that ended then. In plain rows, which nobody checked, any
-/// newer one may tell.
+/// When the policy lets go a version that ended then. The rows are plain and unchecked, so any
+/// newer version may decide.
 #[tactic(auto, using(crate::proofs::DueKeys::looks_away_tells))]
 fn ripe_by(
     policy: &Policy,

@@ -1,5 +1,5 @@
-//! What keeps a world and takes events. Rooms that needn't know how a world is kept, as a run or a
-//! history, are generic over it. A contract sees it as its flat world.
+//! Worlds that take events. Crates that needn't know how a world is stored, as those of runs and
+//! histories, are generic over them. A contract sees one as its flat world.
 ghost use Rattle.std.specs.Prelude.{◌≡◌, true, IfOk, OnErr, IsOk};
 
 use crate::event::Event;
@@ -21,15 +21,15 @@ pub trait Step: Drop {
 
     ghost world: { Self → World };
 
-    /// The fresh world of these limits.
+    /// Makes the fresh world with these limits.
     ///
-    /// `NoMemory` where memory is refused.
+    /// `NoMemory` if memory is refused.
     fn fresh(alloc: Global, limits: Limits) -> Result<Self, NoMemory>
         ensures { IfOk result (λ core. world core ≡ fresh_world limits) };
 
-    /// Takes the event: answers it, and makes its change.
+    /// Answers the event, and makes its change.
     ///
-    /// `NoMemory` where memory is refused, and then the world is as it was. `takes_no_memory` tells
+    /// `NoMemory` if memory is refused, and then the world is as it was. `takes_no_memory` says
     /// which events take none.
     fn apply(&mut self, event: &Event) -> Result<Reply, NoMemory>
         ensures step { IfOk result
@@ -38,14 +38,15 @@ pub trait Step: Drop {
         ensures ready { takes_no_memory event.now ≡ true → IsOk result }
         ensures event { IsEvent event.now };
 
-    /// A plain copy of all rows and counts.
+    /// Returns a plain copy of all rows and counts.
     ///
-    /// `NoMemory` where memory is refused.
+    /// `NoMemory` if memory is refused.
     fn flat(&self) -> Result<Flat, NoMemory>
         ensures { IfOk result (λ flat. flat ≡ world self.now) };
 
-    /// The moment that it is. The world is well formed, its limits are within theirs, and it has
-    /// no file of which nothing is left, so the laws of this crate hold.
+    /// Returns the current moment. Its contract also says that the world is well formed, and that
+    /// its limits are allowed. Each file has a live name, a held version or a draft. So the laws of
+    /// this crate hold.
     fn now(&self) -> Moment
         ensures value { result ≡ (world self.now).now }
         ensures formed { IsWellFormed (world self.now) }

@@ -1,4 +1,4 @@
-//! What each kind of policy uses, summed by a look at every row.
+//! What the files of each kind of policy use, by a scan of all rows.
 ghost use Rattle.std.specs.Prelude.{◌≡◌, ◌<◌, ◌^◌, ◌==◌, ◌&&◌, length, filter, []};
 ghost use Rattle.std.specs.List.{list_any};
 ghost use Rattle.ele_policy.specs.Policy.{is_kind};
@@ -22,7 +22,7 @@ fn is_kind(kind: Kind, other: Kind) -> bool
     kind == other
 }
 
-/// Whether the file is there with a policy of the kind.
+/// Whether the file exists and has a policy of the kind.
 fn is_file_of(files: &[FileRow], kind: Kind, file: FileId) -> bool
     ensures { result ≡ is_file_of files.now kind file }
 {
@@ -124,7 +124,7 @@ fn is_among(
     is_in_versions(versions, file, slot, writer) || is_in_drafts(drafts, file, slot, writer)
 }
 
-/// How many of the slots of a file no version and no draft has.
+/// How many slots of a file are in no version and no draft.
 #[tactic(auto, using(crate::proofs::SlotPlaces::cell_places, std::proofs::lemmas::List::drop_all))]
 fn new_slots(file: FileId, cells: &[Cell], versions: &[VersionRow], drafts: &[DraftRow]) -> u64
     ensures { result ≡ new_places (places versions.now drafts.now) (places_from file 0 cells.now) }

@@ -18,7 +18,7 @@ const SECONDS_PER_DAY: u64 = 86400;
 pub struct BadMoment;
 
 /// A whole number of seconds since 1970-01-01T00:00:00Z, from 0 to 253402300799, which is
-/// 9999-12-31T23:59:59Z. It is displayed as that number; `text` has the date.
+/// 9999-12-31T23:59:59Z. It is displayed as that number; `text` returns the date.
 #[derive(Clone, Copy, Debug, PartialEq, Eq, PartialOrd, Ord, Hash)]
 pub struct Moment {
     seconds: u64,
@@ -38,13 +38,13 @@ impl Model for Moment {
 }
 
 impl Moment {
-    /// 1970-01-01T00:00:00Z, where every clock starts.
+    /// 1970-01-01T00:00:00Z, at which every clock starts.
     /// Cost: constant time.
     pub const START: Moment = Moment { seconds: 0 };
 
     const LAST: u64 = 253402300799;
 
-    /// The moment of that many seconds. None past the last moment.
+    /// Returns the moment of that many seconds. None past the last moment.
     /// Cost: constant time.
     pub fn new(seconds: u64) -> Option<Moment>
         ensures some { IsSome result ↔ (seconds ≤ last_moment) }
@@ -57,7 +57,7 @@ impl Moment {
         }
     }
 
-    /// The seconds since 1970-01-01T00:00:00Z.
+    /// Returns the seconds since 1970-01-01T00:00:00Z.
     /// Cost: constant time.
     pub fn seconds(self) -> u64
         ensures value { result ≡ self }
@@ -71,7 +71,7 @@ impl Moment {
         ensures { self ≤ last_moment }
     {}
 
-    /// The moment that many seconds later. None past the last moment.
+    /// Returns the moment that many seconds later. None past the last moment.
     /// Cost: constant time.
     pub fn plus(self, seconds: u64) -> Option<Moment>
         ensures some { IsSome result ↔ (self + seconds ≤ last_moment) }
@@ -80,9 +80,9 @@ impl Moment {
         Moment::new(self.seconds.checked_add(seconds)?)
     }
 
-    /// The moment that a word spells: its seconds in decimal digits with no zero in front, or
-    /// `YYYY-MM-DDTHH:MM:SSZ` with a date of the calendar from 1970 to 9999. `BadMoment` for every
-    /// other word. It takes no memory.
+    /// Returns the moment that a word spells: its seconds in decimal digits without leading zeros,
+    /// or `YYYY-MM-DDTHH:MM:SSZ` with a date of the calendar from 1970 to 9999. `BadMoment` for
+    /// every other word. It takes no memory.
     /// Cost: constant time; it looks at no more than 21 bytes.
     pub fn read(word: &[u8]) -> Result<Moment, BadMoment>
         ensures found { IfOk result (SpellsMoment word.now) }
@@ -97,7 +97,7 @@ impl Moment {
         }
     }
 
-    /// The moment in the form `YYYY-MM-DDTHH:MM:SSZ`. It takes no memory.
+    /// Returns the moment in the form `YYYY-MM-DDTHH:MM:SSZ`. It takes no memory.
     /// Cost: constant time.
     pub fn text(self) -> [u8; 20]
         ensures spells { SpellsTimestamp result self }
@@ -116,7 +116,7 @@ impl Moment {
         })
     }
 
-    /// What reading the text of a moment gives. It is a law more than a call: always the moment.
+    /// Reads the moment's own text again. Its contract is the law that this returns the moment.
     /// Cost: constant time.
     pub fn read_back(self) -> Result<Moment, BadMoment>
         ensures { result ≡ Ok self }

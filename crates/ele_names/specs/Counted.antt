@@ -1,4 +1,4 @@
--- Which rows the live rows and their counts are of. No public clause cites this module.
+-- Which rows the live rows and their counts describe. No public clause cites this module.
 use Rattle.std.specs.Prelude.{◌≡◌, ℕ, ◌+◌, true, false, List, Option, Some, None, cond}
 use Rattle.std.specs.HashMap.{HashMap, get}
 use Rattle.std.specs.List.{count_by}
@@ -20,7 +20,7 @@ live_row by_name d n = option_and_then (λ live. live) (get name_eq by_name (d, 
 abbrev pub live_at : LiveNames → ℕ → List ℕ → Option (Live Target)
 live_at live_names = live_row live_names.by_name
 
--- the live rows are those, and so is the count of each directory
+-- the table has exactly the live rows, and the count of each directory
 pub record AreCounted (rows : List NameRow) (live_names : LiveNames) : Type 0 where
   pub named : (d : ℕ) (n : List ℕ) → option_map (λ live. live.target) (live_at live_names d n) ≡ live_target rows d n
   pub in_directory : (d : ℕ) → live_in live_names.in_directory d ≡ count_by (is_live_in d) rows
@@ -29,7 +29,7 @@ pub record AreCounted (rows : List NameRow) (live_names : LiveNames) : Type 0 wh
 pub record AreNumbered (at : ℕ → Option NameRow) (live_names : LiveNames) : Type 0 where
   pub each : (d : ℕ) (n : List ℕ) (live : Live Target) → live_at live_names d n ≡ Some live → option_map_or (is_live_name d n) (at live.serial) false ≡ true
 
--- the second list has the live rows of the first but the row, if that is live
+-- the second list has the live rows of the first, without the row if that is live
 pub record Leaves (row : NameRow) (was now : List NameRow) : Type 0 where
   pub named : (d : ℕ) (n : List ℕ) → live_target now d n ≡ cond (is_live_name d n row) None (live_target was d n)
   pub its : (d : ℕ) (n : List ℕ) → is_live_name d n row ≡ true → live_target was d n ≡ Some row.target

@@ -1,4 +1,4 @@
--- What the fields of `Names` are to each other. No public clause cites this module.
+-- The invariant of the fields of `Names`. No public clause cites this module.
 use Rattle.std.specs.Prelude.{◌≡◌, ℕ, ◌≤◌, ◌<◌, ◌^◌, ◌&&◌, nat_le, Bool, List, length}
 use Rattle.std.specs.List.{count_by, AllByRecursion}
 use Rattle.std.specs.List.Sorted.{IsStrictlySortedBy}
@@ -25,7 +25,7 @@ rows_of table = values_of table.rows.entries
 abbrev pub is_born_by : ℕ → List ℕ → ℕ → NameRow → Bool
 is_born_by directory name moment row = is_named directory name row && nat_le row.birth moment
 
--- the rows stand at their places, and those of one name follow each other
+-- the rows are at their places, and those of one name follow each other in time
 pub record IsTable (names : List (ℕ × List ℕ)) (table : Table) : Type 0 where
   pub rising : IsStrictlySortedBy nat_cmp (keys_of table.rows.entries)
   pub short : AllByRecursion (λ serial. serial < 2 ^ 64) (keys_of table.rows.entries)
@@ -34,7 +34,7 @@ pub record IsTable (names : List (ℕ × List ℕ)) (table : Table) : Type 0 whe
   pub known : AllByRecursion (λ row. number_in names row < length names) (rows_of table)
   pub placed : AreIndexed names (value_at table.rows.entries) table.places
 
--- and the live rows are known and counted
+-- and the live rows are in the table and counted
 pub record IsKept (table : Table) (live_names : LiveNames) : Type 0 where
   pub is_table : IsTable (names_of live_names) table
   pub listed : AreListed live_names

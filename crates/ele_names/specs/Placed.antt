@@ -1,4 +1,4 @@
--- The numbers of names, and which rows stand at their places. No public clause cites this module.
+-- The numbers of names, and the places of rows. No public clause cites this module.
 use Rattle.std.specs.Prelude.{◌≡◌, ℕ, ◌<◌, ◌^◌, ◌&&◌, Bool, List, Option, length, slice_get}
 use Rattle.std.specs.Bool.{nat_eq}
 use Rattle.std.specs.HashMap.{keys}
@@ -14,7 +14,7 @@ use Rattle.ele_names.specs.declared.places.Places.{Places}
 use Rattle.ele_names.specs.BirthIndex.{AreBirthsOf}
 use Rattle.ele_names.specs.Chained.{AreChained, live_in}
 
--- the two directories and names are one
+-- the two directories and names are equal
 abbrev pub name_eq : ℕ × List ℕ → ℕ × List ℕ → Bool
 name_eq a b = nat_eq a.0 b.0 && bytes_eq a.1 b.1
 
@@ -22,7 +22,7 @@ name_eq a b = nat_eq a.0 b.0 && bytes_eq a.1 b.1
 abbrev pub names_of : LiveNames → List (ℕ × List ℕ)
 names_of live_names = keys live_names.by_name
 
--- the number of the name, or how many names there are where it isn't one of them
+-- the number of the name, or how many names there are if it isn't one of them
 abbrev pub place_in : List (ℕ × List ℕ) → ℕ → List ℕ → ℕ
 place_in names d n = position_or_len (name_eq (d, n)) names
 
@@ -42,12 +42,12 @@ pub record AreListed (live_names : LiveNames) : Type 0 where
 abbrev pub is_of : ℕ → NameRow → Bool
 is_of file row = is_target_file file row.target
 
--- how many live rows of the target are counted
+-- the count of the target's live rows
 abbrev pub live_of : Places → Target → ℕ
 live_of places (File file) = live_in places.of_file file
 live_of places (Directory directory) = counted nat_eq places.of_directory directory
 
--- the rows of each name are found by their births, and those of each file are a chain
+-- the index finds the rows of each name by their births, and those of each file as a chain
 pub record AreIndexed (names : List (ℕ × List ℕ)) (at : ℕ → Option NameRow) (places : Places) : Type 0 where
   pub named : AreBirthsOf (number_in names) (λ row. row.birth) at places.by_name
   pub chained : AreChained is_of at places.of_file

@@ -1,4 +1,4 @@
--- A path whose names but the last lead to a directory.
+-- A path whose names before the last lead to a directory.
 use Rattle.std.specs.Prelude.{◌≡◌, ℕ, List, Ok, Err}
 use Rattle.ele_model.specs.declared.refusal.Refusal.{Refusal}
 use Rattle.ele_model.specs.declared.rows.NameRow.{NameRow}

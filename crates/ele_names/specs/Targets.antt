@@ -4,7 +4,7 @@ use Rattle.ele_model.specs.declared.rows.NameRow.{NameRow}
 use Rattle.ele_model.specs.declared.rows.Target.{Target}
 use Rattle.ele_model.specs.contracts.rows.TargetPartialEq.TheImpl.{eq-value}
 
--- the two are one
+-- the two are equal
 abbrev pub target_eq : Target → Target → Bool
 target_eq = eq-value.it
 

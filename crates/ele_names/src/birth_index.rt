@@ -1,5 +1,5 @@
-//! Where the rows of each name stand, by birth.
-//! A contract sees a test: whether a serial number stands at the number of a name and a birth.
+//! The rows of each name, by birth.
+//! A contract sees a test: whether a serial number is under the number of a name and a birth.
 ghost use Rattle.std.specs.Prelude.{◌≡◌, ℕ, ◌≤◌, ◌<◌, ◌^◌, cond, true, false, None, length, OnOk, OnErr, IfSome, IfNone};
 ghost use Rattle.std.specs.Bool.{nat_eq};
 ghost use Rattle.std.specs.Ordering.{nat_cmp};
@@ -10,7 +10,7 @@ use ele_moment::NoMemory;
 use ele_rows::Index;
 use std::alloc::Global;
 
-/// When a row was born, in seconds, and its serial number.
+/// The birth of a row, in seconds, and its serial number.
 #[derive(Clone, Copy, Debug)]
 pub struct Born {
     pub birth: u64,
@@ -18,7 +18,7 @@ pub struct Born {
 }
 
 impl Born {
-    // Whether it comes no later than the other.
+    // Whether this row is the other one or comes before it.
     fn is_up_to(self, other: Born) -> bool
         ensures { result ≡ is_up_to self.birth self.serial other }
     {
@@ -26,8 +26,8 @@ impl Born {
     }
 }
 
-/// The newest row of each name at the place of the name's number, and those before it in a search
-/// tree: most names have one row alone, and most calls ask for the newest.
+/// The newest row of each name at the place of the name's number, and the older ones in a search
+/// tree. Most names have only one row, and most calls ask for the newest.
 #[derive(Drop)]
 pub struct BirthIndex {
     pub newest: Vec<Option<Born>>,
@@ -35,7 +35,7 @@ pub struct BirthIndex {
 }
 
 impl BirthIndex {
-    /// No rows. It takes no memory.
+    /// Makes an empty index. It takes no memory.
     pub fn new(alloc: Global) -> BirthIndex
         ensures none { (q r s : ℕ) → has_birth result q r s ≡ false }
         ensures below { AreBelow result }
@@ -53,7 +53,7 @@ impl BirthIndex {
         *self.newest.get(number as usize)?
     }
 
-    // Finds a place for the name. `NoMemory` where there is no room for it.
+    // Makes a place for the name. `NoMemory` if memory is refused.
     fn know(&mut self, number: u64) -> Result<(), NoMemory>
         ensures newest { (q : ℕ) → newest_of self.new q ≡ newest_of self.old q }
         ensures older { self.new.older ≡ self.old.older }
@@ -76,7 +76,7 @@ impl BirthIndex {
         self.newest[number as usize] = newest;
     }
 
-    /// Puts in a row. `NoMemory` where there is no room for it; the rows then stand as they did.
+    /// Adds a row. `NoMemory` if memory is refused; the rows are then as they were.
     pub fn insert(&mut self, number: u64, birth: u64, serial: u64) -> Result<(), NoMemory>
         ensures ok { OnOk result ((q r s : ℕ) → has_birth self.new q r s
             ≡ cond (is_entry nat_cmp number birth serial q r s) true (has_birth self.old q r s)) }
@@ -97,7 +97,7 @@ impl BirthIndex {
         Ok(())
     }
 
-    /// Takes out a row, if it is there. It takes no memory.
+    /// Removes a row, if it is there. It takes no memory.
     pub fn remove(&mut self, number: u64, birth: u64, serial: u64)
         ensures removed { (q r s : ℕ) → has_birth self.new q r s
             ≡ cond (is_entry nat_cmp number birth serial q r s) false (has_birth self.old q r s) }
@@ -112,7 +112,7 @@ impl BirthIndex {
         }
     }
 
-    // Puts the last row of the name in the tree, if there is one, in the place of the newest.
+    // Moves the name's last row from the tree, if there is one, to the place of the newest.
     fn renew(&mut self, number: u64)
         requires { number < length self.old.newest.items }
         ensures left { (q r s : ℕ) → has_birth self.new q r s
@@ -127,8 +127,8 @@ impl BirthIndex {
         self.set(number, Some(Born { birth, serial }));
     }
 
-    /// The last row of the name that was born by that many seconds, as its birth and its serial
-    /// number.
+    /// Returns the last row of the name that was born by that many seconds: its birth and its
+    /// serial number.
     pub fn last(&self, number: u64, birth: u64) -> Option<(u64, u64)>
         requires { AreBelow self.now }
         ensures some { IfSome result (λ e. IsLastOf (has_birth self.now number) birth e.0 e.1) }

@@ -1,13 +1,12 @@
-//! A live name that was found.
-//! A contract sees what it stands for.
+//! The result of a look-up of a live name.
+//! A contract sees the name's target.
 ghost use Rattle.std.specs.Prelude.{◌≡◌};
 
 use ele_model::Target;
 use std::marker::Model;
 
-/// What a live name stands for, with the number at which the name was found, so that a change of
-/// the name needn't look for it again. The number is a hint: with another one the change is the
-/// same, and takes longer.
+/// The target of a live name, with the number of the name, so that a change of the name saves a
+/// look-up. The number is a hint: with a wrong one the change is the same, and takes longer.
 #[derive(Drop)]
 pub struct Found {
     pub(crate) target: Target,
@@ -23,7 +22,7 @@ impl Model for Found {
 }
 
 impl Found {
-    /// What the name stands for.
+    /// Returns the name's target.
     pub fn target(&self) -> Target
         ensures { result ≡ self.now }
     {

@@ -1,5 +1,5 @@
-//! Name rows, which name stood for what in which directory, from when until when, and where paths
-//! led. A contract sees the rows as their list in order of making, and how many were ever made.
+//! Name rows: which name meant what in which directory, from when until when, and where paths led.
+//! A contract sees the rows as their list in order of making, and how many were ever made.
 #![tactic(auto)]
 
 mod birth_index;

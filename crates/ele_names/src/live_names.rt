@@ -1,5 +1,6 @@
-//! The names ever given, their live rows, and how many of these each directory has. A contract sees
-//! the names by number, and what the rest is of: a list of rows, and the row of each serial number.
+//! All names ever given, their live rows, and the number of live names in each directory. A
+//! contract sees the names by number, and what the rest describes: a list of rows, and the row of
+//! each serial number.
 ghost use Rattle.std.specs.Prelude.{◌≡◌, ℕ, ◌<◌, ◌+◌, ◌^◌, true, false, [], List, Option, Some, None, cond, length, slice_get, IfSome, IfNone, IfOk, IsTrue, is_none};
 ghost use Rattle.std.specs.Option.{option_map};
 ghost use Rattle.std.specs.Ordering.{nat_cmp};
@@ -17,15 +18,15 @@ use ele_moment::{DirId, Name, NoMemory};
 use indexmap::IndexMap;
 use std::alloc::Global;
 
-/// A live row: its serial number, and what its name stands for.
+/// A live row: its serial number, and the name's target.
 #[derive(Clone, Copy, Debug)]
 pub struct Live<T> {
     pub serial: u64,
     pub target: T,
 }
 
-/// The names, hashed: a walk along a path looks for each of its names here. A name keeps its
-/// number, which is its place among them, for good.
+/// The names in a hash table, in which a walk along a path looks up each of its names. A name keeps
+/// its number for good, which is its place in the table.
 #[derive(Drop)]
 pub struct LiveNames {
     pub by_name: IndexMap<(DirId, Name), Option<Live<Target>>>,
@@ -33,7 +34,7 @@ pub struct LiveNames {
 }
 
 impl LiveNames {
-    /// No name.
+    /// Makes an empty table.
     #[tactic(auto, using(crate::proofs::Given::listed_none))]
     pub fn new(alloc: Global) -> LiveNames
         ensures names { names_of result ≡ [] }
@@ -47,7 +48,7 @@ impl LiveNames {
         }
     }
 
-    /// The number of the name, if it was ever given.
+    /// Returns the number of the name, if it was ever given.
     #[tactic(auto, using(crate::proofs::Numbers::unnumbered))]
     pub fn number(&self, directory: DirId, name: &Name) -> Option<u64>
         ensures some { IfSome result (λ number.
@@ -60,8 +61,8 @@ impl LiveNames {
         Some(number as u64)
     }
 
-    /// The number of the name, as `number` tells it. It looks first whether the name has the number
-    /// that is hinted at.
+    /// Returns the number of the name, as `number` does. It first checks whether the hint is the
+    /// number.
     pub fn number_by(&self, hint: u64, directory: DirId, name: &Name) -> Option<u64>
         ensures some { IfSome result (λ number.
             (number ≡ place_in (names_of self.now) directory name.now)
@@ -75,7 +76,7 @@ impl LiveNames {
         self.number(directory, name)
     }
 
-    // Whether the number is that of the name.
+    // Whether the name has that number.
     fn has(&self, number: u64, directory: DirId, name: &Name) -> bool
         ensures { IsTrue result → (number ≡ place_in (names_of self.now) directory name.now)
             × (number < length (names_of self.now)) }
@@ -87,7 +88,7 @@ impl LiveNames {
         }
     }
 
-    /// The live row of the name, with the name's number.
+    /// Returns the target of the name's live row, with the name's number.
     pub fn find(&self, directory: DirId, name: &Name) -> Option<Found>
         ensures { result ≡ option_map (λ live. live.target)
             (live_at self.now directory name.now) }
@@ -100,7 +101,7 @@ impl LiveNames {
         })
     }
 
-    /// The name of that number.
+    /// Returns the name of that number.
     pub fn name(&self, number: u64) -> Option<(DirId, Name)>
         ensures { result ≡ slice_get (names_of self.now) number }
     {
@@ -108,7 +109,8 @@ impl LiveNames {
         Some(*name)
     }
 
-    /// The number of the name, which isn't live; one that was never given gets the next.
+    /// Returns the number of the name, which isn't live. A name that was never given gets the next
+    /// number.
     #[tactic(auto, using(crate::proofs::Words::nat_tests, crate::proofs::Given::listed_told))]
     pub fn number_or_next(&mut self, directory: DirId, name: Name) -> Result<u64, NoMemory>
         requires { live_at self.old directory name ≡ None }
@@ -135,14 +137,14 @@ impl LiveNames {
         Ok(next)
     }
 
-    /// The live row of the name.
+    /// Returns the live row of the name.
     pub fn live(&self, directory: DirId, name: &Name) -> Option<Live<Target>>
         ensures { result ≡ live_at self.now directory name.now }
     {
         *self.by_name.get(&(directory, *name))?
     }
 
-    /// The live row of the name of that number.
+    /// Returns the live row of the name of that number.
     pub fn live_of(&self, number: u64) -> Option<Live<Target>>
         requires { number < length (names_of self.now) }
         ensures { (d : ℕ) (n : List ℕ) → place_in (names_of self.now) d n ≡ number
@@ -163,7 +165,7 @@ impl LiveNames {
         self.by_name[number as usize] = live;
     }
 
-    /// Takes in a live row of that serial number, of the name of that number.
+    /// Adds a live row with that serial number, for the name of that number.
     #[tactic(auto, using(crate::proofs::Words::nat_tests, crate::proofs::Given::listed_told, crate::proofs::Given::has_names, crate::proofs::Live::live_one, crate::proofs::Live::entered))]
     pub fn enter(&mut self, number: u64, row: &NameRow, serial: u64)
         requires its { number_in (names_of self.old) row.now ≡ number }
@@ -186,7 +188,7 @@ impl LiveNames {
         self.in_directory.add(number_of(row.directory));
     }
 
-    /// Takes out a row of the name of that number, if it was live. It takes no memory.
+    /// Removes a row of the name of that number, if it is live. It takes no memory.
     #[tactic(auto, using(crate::proofs::Words::nat_tests, crate::proofs::Apart::named_live, crate::proofs::Live::own_name))]
     pub fn leave(&mut self, number: u64, row: &NameRow)
         requires its { number_in (names_of self.old) row.now ≡ number }
@@ -204,8 +206,7 @@ impl LiveNames {
         }
     }
 
-    /// Takes out the live row of the name of that number, which stands in the directory. It takes
-    /// no memory.
+    /// Removes the live row of the name of that number in the directory. It takes no memory.
     #[tactic(auto, using(crate::proofs::Words::nat_tests, crate::proofs::Given::listed_told, crate::proofs::Apart::named_and_live, crate::proofs::Live::live_one, crate::proofs::Live::left))]
     pub fn end(&mut self, number: u64, directory: DirId)
         requires { number < length (names_of self.old) }
@@ -225,7 +226,7 @@ impl LiveNames {
     }
 }
 
-// The number of a directory, which its chain has.
+// The number of a directory, under which its count is kept.
 fn number_of(directory: DirId) -> u64
     ensures { result ≡ directory }
 {

@@ -29,7 +29,7 @@ use std::cmp::Ordering;
 use std::collections::BTreeMap;
 use std::marker::Model;
 
-// No name has this number.
+// A hint that is never right: no name has this number.
 const NO_HINT: u64 = u64::MAX;
 
 /// All name rows, each with a serial number in order of making.
@@ -53,7 +53,7 @@ impl Model for Names {
 }
 
 impl Names {
-    /// No rows. It takes no memory; later calls take theirs from `alloc`.
+    /// Makes an empty list of names. It takes no memory; later calls take theirs from `alloc`.
     pub fn new(alloc: Global) -> Names
         ensures { result ≡ [] }
     {
@@ -64,8 +64,9 @@ impl Names {
         }
     }
 
-    /// Makes a live name. The caller knows that no name of this kind is live, and that those there
-    /// were are over. `NoMemory` where there is no room for it; the rows are as they were.
+    /// Makes a live name. The caller knows that the directory has no such live name, and that
+    /// earlier rows of the name have ended. `NoMemory` if memory is refused; the rows are as they
+    /// were.
     pub fn add(
         &mut self,
         directory: DirId,
@@ -97,8 +98,8 @@ impl Names {
         Ok(())
     }
 
-    /// Takes out the last row in order of making: right behind `add` the one that it made. It takes
-    /// no memory.
+    /// Removes the last row in order of making: just after `add`, the row that it made. It takes no
+    /// memory.
     #[tactic(auto, using(crate::proofs::Words::nat_tests, crate::proofs::Gone::last_gone))]
     pub fn take_back(&mut self)
         requires { 0 < length self.old }
@@ -115,8 +116,8 @@ impl Names {
         self.live_names.leave(number, &row);
     }
 
-    /// Ends the live name at the moment: its row has that death, and no other row changes. It takes
-    /// no memory.
+    /// Ends the live name at the moment: its row gets that death, and no other row changes. It
+    /// takes no memory.
     pub fn kill(&mut self, directory: DirId, name: &Name, moment: Moment)
         requires { IsSome (live_target self.old directory name.now) }
         ensures { self.new
@@ -128,7 +129,7 @@ impl Names {
         self.kill_found(directory, name, &found, moment);
     }
 
-    /// The same of a name that was found before, which spares a look-up. It takes no memory.
+    /// Ends a live name that was found before, which saves a look-up. It takes no memory.
     #[tactic(auto, using(crate::proofs::Words::nat_tests, crate::proofs::Gone::found_known))]
     pub fn kill_found(&mut self, directory: DirId, name: &Name, found: &Found, moment: Moment)
         requires { IsSome (live_target self.old directory name.now) }
@@ -146,7 +147,7 @@ impl Names {
         self.live_names.end(number, directory);
     }
 
-    /// Takes out all rows of the file, live ones too. It takes no memory.
+    /// Removes all rows of the file, also live ones. It takes no memory.
     pub fn drop_file(&mut self, file: FileId)
         ensures { self.new
             ≡ filter (λ row. not (is_target_file file row.target)) self.old }
@@ -154,7 +155,7 @@ impl Names {
         while self.drop_one(file) {}
     }
 
-    // Takes out one row of the file, if there is one, and answers whether there was.
+    // Removes one row of the file, if there is one, and returns whether there was.
     #[tactic(auto, using(crate::proofs::Words::nat_tests, crate::proofs::Gone::fewer, crate::proofs::Apart::row_known))]
     fn drop_one(&mut self, file: FileId) -> bool
         ensures others { filter (λ row. not (is_of file row)) self.new
@@ -176,21 +177,21 @@ impl Names {
         true
     }
 
-    /// What the live name stands for.
+    /// Returns the target of the live name.
     pub fn live(&self, directory: DirId, name: &Name) -> Option<Target>
         ensures { result ≡ live_target self.now directory name.now }
     {
         target_of(self.live_names.live(directory, name))
     }
 
-    /// What the live name stands for, to be ended.
+    /// Returns the live name's target and number, for a change of the name.
     pub fn find(&self, directory: DirId, name: &Name) -> Option<Found>
         ensures { result ≡ live_target self.now directory name.now }
     {
         self.live_names.find(directory, name)
     }
 
-    /// What the newest row of the name stands for, if that row is dead. The name is not live then.
+    /// Returns the target of the name's newest row, if that row is dead. The name is not live then.
     pub fn last_dead(&self, directory: DirId, name: &Name) -> Option<Target>
         ensures value { result ≡ last_dead self.now directory name.now }
         ensures free { IfSome result (λ _. live_target self.now directory name.now ≡ None) }
@@ -198,7 +199,7 @@ impl Names {
         self.last_dead_by(NO_HINT, directory, name)
     }
 
-    // The same, where the name may have the number that is hinted at.
+    // Does the same with a hint of the name's number.
     #[tactic(auto, using(crate::proofs::Words::nat_tests, crate::proofs::Apart::dead_by_newest))]
     fn last_dead_by(&self, hint: u64, directory: DirId, name: &Name) -> Option<Target>
         ensures value { result ≡ last_dead self.now directory name.now }
@@ -234,14 +235,14 @@ impl Names {
         self.table.rows.get(serial).copied()
     }
 
-    /// What the name stood for at the moment.
+    /// Returns the target that the name had at the moment.
     pub fn at(&self, directory: DirId, name: &Name, moment: Moment) -> Option<Target>
         ensures { result ≡ target_at self.now moment directory name.now }
     {
         self.at_by(NO_HINT, directory, name, moment)
     }
 
-    // The same, where the name may have the number that is hinted at.
+    // Does the same with a hint of the name's number.
     #[tactic(auto, using(crate::proofs::Apart::covering_is_newest))]
     fn at_by(&self, hint: u64, directory: DirId, name: &Name, moment: Moment) -> Option<Target>
         ensures { result ≡ target_at self.now moment directory name.now }
@@ -254,7 +255,7 @@ impl Names {
         }
     }
 
-    /// What the names of the directory stood for at the moment, by their bytes.
+    /// Returns the directory's names at the moment with their targets, by their bytes.
     pub fn list(&self, directory: DirId, moment: Moment) -> Result<Vec<(Name, Target)>, NoMemory>
         ensures sorted { IfOk result
             (λ items. IsStrictlySortedBy (slice_cmp nat_cmp) (keys_of items.items)) }
@@ -275,7 +276,7 @@ impl Names {
         Ok(found.into_iter().collect(self.alloc)?)
     }
 
-    /// The names whose newest row is dead, with what that row stands for, by directory and bytes.
+    /// Returns the names whose newest row is dead, with that row's target, by directory and bytes.
     pub fn dead(&self) -> Result<Vec<(DirId, Name, Target)>, NoMemory>
         ensures sorted { IfOk result
             (λ items. IsStrictlySortedBy name_cmp (keys_of (map by_name items.items))) }
@@ -288,7 +289,7 @@ impl Names {
         Ok(found)
     }
 
-    // The same, in no order.
+    // Returns the same names in any order.
     fn dead_unsorted(&self) -> Result<Vec<(DirId, Name, Target)>, NoMemory>
         ensures apart { IfOk result
             (λ items. IsDistinct (eq_by_cmp name_cmp) (keys_of (map by_name items.items))) }
@@ -297,7 +298,7 @@ impl Names {
             ≡ last_dead self.now directory name) }
     {
         let mut found = Vec::new(self.alloc);
-        // The keys stand by number.
+        // The names are numbered from 0.
         let mut number: u64 = 0;
         for (directory, name) in self.live_names.by_name.keys() {
             let target = self.last_dead_by(number, *directory, name);
@@ -307,7 +308,7 @@ impl Names {
         Ok(found)
     }
 
-    /// Whether no name in the directory is live.
+    /// Returns whether the directory has no live name.
     #[tactic(auto, using(crate::proofs::Live::none_counted, crate::proofs::Words::is_live_in, crate::proofs::Words::rows_of))]
     pub fn is_empty(&self, directory: DirId) -> bool
         ensures { result ≡ not (list_any (is_live_in directory) self.now) }
@@ -315,7 +316,7 @@ impl Names {
         self.live_names.in_directory.live(directory.0) == 0
     }
 
-    /// Whether the directory has a live name.
+    /// Returns whether the directory itself has a live name.
     #[tactic(auto, using(crate::proofs::Words::any_count, crate::proofs::Live::directory_names))]
     pub fn dir_live(&self, directory: DirId) -> bool
         ensures { result ≡ list_any (is_live_directory directory) self.now }
@@ -323,7 +324,7 @@ impl Names {
         self.table.places.live(Target::Directory(directory)) > 0
     }
 
-    /// Whether the file has a live name.
+    /// Returns whether the file has a live name.
     #[tactic(auto, using(crate::proofs::Words::any_count, crate::proofs::Words::is_live_name_of))]
     pub fn is_live(&self, file: FileId) -> bool
         ensures { result ≡ list_any (is_live_name_of file) self.now }
@@ -331,7 +332,7 @@ impl Names {
         self.names_of(file) > 0
     }
 
-    /// How many live names the file has.
+    /// Returns how many live names the file has.
     #[tactic(auto, using(crate::proofs::Live::file_names))]
     pub fn names_of(&self, file: FileId) -> u64
         ensures { result ≡ count_by (is_live_name_of file) self.now }
@@ -339,14 +340,14 @@ impl Names {
         self.table.places.live(Target::File(file))
     }
 
-    /// The row at that place in order of making. It passes over the rows before it.
+    /// Returns the row at that place in order of making. It passes over the rows before it.
     pub fn row(&self, place: usize) -> Option<NameRow>
         ensures { result ≡ slice_get self.now place }
     {
         self.table.rows.nth(place)
     }
 
-    /// A copy of all rows, in order of making.
+    /// Returns a copy of all rows, in order of making.
     pub fn rows(&self) -> Result<Vec<NameRow>, NoMemory>
         ensures { IfOk result (λ rows. rows.items ≡ self.now) }
     {
@@ -354,7 +355,7 @@ impl Names {
     }
 }
 
-// What the live row's name stands for.
+// The target of the live row.
 fn target_of(found: Option<Live<Target>>) -> Option<Target>
     ensures { result ≡ option_map (λ live. live.target) found }
 {
@@ -364,7 +365,7 @@ fn target_of(found: Option<Live<Target>>) -> Option<Target>
     }
 }
 
-// Puts the target under the key, if there is one.
+// Adds the target under the key, if there is one.
 fn put_some<K: Ord + Drop>(
     found: &mut BTreeMap<K, Target>,
     key: K,
@@ -395,7 +396,7 @@ fn push_some(
     Ok(())
 }
 
-// Puts names, each of which stands there once, in order.
+// Sorts names, each of which is there once.
 fn sort_by_name(found: &mut Vec<(DirId, Name, Target)>)
     requires { IsDistinct (eq_by_cmp name_cmp) (keys_of (map by_name found.old.items)) }
     ensures sorted { IsStrictlySortedBy name_cmp (keys_of (map by_name found.new.items)) }

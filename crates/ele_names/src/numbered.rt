@@ -1,5 +1,5 @@
 //! Rows by serial number.
-//! A contract sees the entries, each a serial number with its row, and how many numbers are given.
+//! A contract sees the entries, each a serial number with its row, and how many numbers were given.
 ghost use Rattle.std.specs.Prelude.{◌≡◌, ◌+◌, ◌≤◌, ◌<◌, ◌^◌, ◌++◌, ◌∷◌, [], Some, IsSome, IfSome, IfOk, OnOk, OnErr, IfNone, length, slice_get};
 ghost use Rattle.std.specs.BTreeMap.{is_at, insert_entry};
 ghost use Rattle.std.specs.List.{AllByRecursion};
@@ -15,8 +15,8 @@ use ele_moment::{Moment, NoMemory};
 use std::alloc::Global;
 use std::marker::Model;
 
-/// Rows by serial number, each at the place of its number. A row that leaves leaves its place
-/// empty; only `pop` gives empty places back.
+/// Rows by serial number, each at the place of its number. A removed row leaves its place empty;
+/// only `pop` frees empty places.
 #[derive(Drop)]
 pub struct Numbered {
     places: Vec<Option<NameRow>>,
@@ -32,7 +32,7 @@ impl Model for Numbered {
 }
 
 impl Numbered {
-    /// No rows.
+    /// Makes an empty list.
     pub fn new(alloc: Global) -> Numbered
         ensures { result.entries ≡ [] }
     {
@@ -41,7 +41,7 @@ impl Numbered {
         }
     }
 
-    /// The serial number that the next row gets.
+    /// Returns the serial number that the next row gets.
     #[tactic(auto, using(crate::proofs::Numbering::from_below, crate::proofs::Numbering::from_few))]
     pub fn next_serial(&self) -> u64
         ensures next { result ≡ self.now.made }
@@ -52,7 +52,7 @@ impl Numbered {
         self.places.len() as u64
     }
 
-    /// The row of the serial number.
+    /// Returns the row of the serial number.
     #[tactic(auto, using(crate::proofs::Words::nat_tests, crate::proofs::Numbering::at_place, crate::proofs::Words::option_and_then, crate::proofs::Words::slice_get_past, crate::proofs::Words::slice_get, crate::proofs::Words::slice_get_read))]
     pub fn get(&self, serial: u64) -> Option<&NameRow>
         ensures { option_copied result ≡ value_at self.now.entries serial }
@@ -60,7 +60,7 @@ impl Numbered {
         self.places.get(serial as usize)?.as_ref()
     }
 
-    /// Adds a row behind all others. `NoMemory` where there is no room; all is as it was.
+    /// Adds a row at the end. `NoMemory` if memory is refused; the list is then as it was.
     #[tactic(auto, using(crate::proofs::Numbering::place_pushed, crate::proofs::Numbering::from_below, crate::proofs::Words::pushed))]
     pub fn push(&mut self, row: NameRow) -> Result<(), NoMemory>
         ensures ok { OnOk result
@@ -83,7 +83,7 @@ impl Numbered {
         }
     }
 
-    /// Takes out the row of the serial number.
+    /// Removes and returns the row of the serial number.
     #[tactic(auto, using(crate::proofs::Words::nat_tests, crate::proofs::Numbering::placed_within, crate::proofs::Numbering::at_place, crate::proofs::Numbering::place_cleared, crate::proofs::Words::slice_got, crate::proofs::Words::option_and_then))]
     pub fn take(&mut self, serial: u64) -> Option<NameRow>
         requires { IsSome (value_at self.old.entries serial) }
@@ -94,7 +94,7 @@ impl Numbered {
         self.places[serial as usize].take()
     }
 
-    /// Takes out the last row, with its serial number, and the empty places behind it.
+    /// Removes and returns the last row, with its serial number, and the empty places after it.
     #[tactic(auto, using(crate::proofs::Words::nat_tests, crate::proofs::Numbering::from_none, crate::proofs::Numbering::place_pushed, crate::proofs::Numbering::from_below, crate::proofs::Numbering::none_taken, crate::proofs::Words::option_to_list))]
     pub fn pop(&mut self) -> Option<(u64, NameRow)>
         ensures some { IfSome result (λ e. self.old.entries ≡ self.new.entries ++ e ∷ []) }
@@ -110,14 +110,14 @@ impl Numbered {
         None
     }
 
-    /// The row at that place in order of serial numbers. It passes over the rows before it.
+    /// Returns the row at that place in order of serial numbers. It passes over the rows before it.
     pub fn nth(&self, place: usize) -> Option<NameRow>
         ensures { result ≡ slice_get (values_of self.now.entries) place }
     {
         self.places.iter().filter_map(|row| *row).nth(place)
     }
 
-    /// A copy of all rows.
+    /// Returns a copy of all rows.
     pub fn rows(&self, alloc: Global) -> Result<Vec<NameRow>, NoMemory>
         ensures { IfOk result (λ rows. rows.items ≡ values_of self.now.entries) }
     {

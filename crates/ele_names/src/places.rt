@@ -1,6 +1,6 @@
-//! Where each row stands, by the number of its name and among those of its file, and how many live
-//! rows each file and directory has. A contract sees what the places are of, a row for each serial
-//! number that has one, and the counts.
+//! The place of each row, by the number of its name and among the rows of its file. Also the number
+//! of live rows of each file and directory. A contract sees a row for each serial number that has a
+//! place, and the counts.
 ghost use Rattle.std.specs.Prelude.{◌≡◌, ◌≤◌, ◌<◌, ◌+◌, ◌-◌, ◌^◌, ℕ, List, Option, cond, Some, None, OnOk, OnErr, false, true, is_none};
 ghost use Rattle.std.specs.Ordering.{nat_cmp};
 ghost use Rattle.std.specs.BTreeMap.{is_at};
@@ -18,8 +18,8 @@ use ele_moment::{DirId, NoMemory};
 use ele_rows::Tally;
 use std::alloc::Global;
 
-/// The rows of one name by birth, those of one file from the newest back with a count of the live
-/// ones, and the count of those of one directory.
+/// The rows of each name by birth, and those of each file from the newest back with a count of the
+/// live ones. Also the count of live rows of each directory.
 #[derive(Drop)]
 pub struct Places {
     pub by_name: BirthIndex,
@@ -28,7 +28,7 @@ pub struct Places {
 }
 
 impl Places {
-    /// No row anywhere.
+    /// Makes an index without rows.
     #[tactic(auto, using(crate::proofs::Added::live_none))]
     pub fn new(alloc: Global) -> Places
         ensures placed { (names : List (ℕ × List ℕ)) → AreIndexed names (λ _. None) result }
@@ -41,7 +41,7 @@ impl Places {
         }
     }
 
-    /// How many live rows the target has.
+    /// Returns how many live rows the target has.
     pub fn live(&self, target: Target) -> u64
         ensures { result ≡ live_of self.now target }
     {
@@ -51,8 +51,8 @@ impl Places {
         }
     }
 
-    /// Puts a live row, newer than all others, at its places, by the number of its name, and counts
-    /// it. `NoMemory` where there is no room; it then stands at none.
+    /// Adds a live row, newer than all others, at its places by the number of its name, and counts
+    /// it. `NoMemory` if memory is refused; the row then has no place.
     #[tactic(auto, using(crate::proofs::Words::nat_tests, crate::proofs::Indexed::births_same, crate::proofs::Indexed::births_undo))]
     pub fn enter(&mut self, number: u64, row: &NameRow, serial: u64) -> Result<(), NoMemory>
         requires { live_of self.old row.now.target + 1 < 2 ^ 64 }
@@ -79,7 +79,7 @@ impl Places {
         Ok(())
     }
 
-    // Puts a live row of the target in front of those of its file, and counts it.
+    // Adds a live row of the target to those of its file as the newest, and counts it.
     #[tactic(auto, using(crate::proofs::Words::nat_tests, crate::proofs::Chained::chained_kept))]
     fn enter_target(&mut self, target: Target, serial: u64) -> Result<(), NoMemory>
         requires { live_of self.old target + 1 < 2 ^ 64 }
@@ -109,7 +109,7 @@ impl Places {
         Ok(())
     }
 
-    /// Takes the newest row of its target from its places, and counts it no more.
+    /// Removes the newest row of its target from its places and from the count.
     pub fn leave(&mut self, number: u64, row: &NameRow, serial: u64)
         ensures placed { (names : List (ℕ × List ℕ)) (at : ℕ → Option NameRow)
             → number_in names row.now ≡ number → at serial ≡ Some row.now
@@ -126,7 +126,7 @@ impl Places {
         }
     }
 
-    // Takes the newest row of the target from those of its file, if it stands for one.
+    // Removes the target's newest row from those of its file, if the target is a file.
     fn leave_file(&mut self, target: Target, serial: u64)
         ensures named { self.new.by_name ≡ self.old.by_name }
         ensures chained { (at : ℕ → Option NameRow) (row : NameRow)
@@ -141,7 +141,7 @@ impl Places {
         }
     }
 
-    /// Counts one live row of the target less.
+    /// Takes one from the count of the target's live rows.
     pub fn end(&mut self, target: Target)
         ensures named { self.new.by_name ≡ self.old.by_name }
         ensures chained { (at : ℕ → Option NameRow)
@@ -156,7 +156,7 @@ impl Places {
     }
 }
 
-// The seconds of a row's birth.
+// The seconds of the row's birth.
 fn birth_of(row: &NameRow) -> u64
     ensures value { result ≡ row.now.birth }
     ensures bound { result ≤ last_moment }

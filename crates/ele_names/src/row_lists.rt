@@ -8,7 +8,7 @@ ghost use Rattle.ele_names.specs.Chained.{Gains, Keeps, Loses, AreSame, live_in,
 use ele_moment::NoMemory;
 use std::alloc::Global;
 
-/// What is known of a group: the number of its newest member, and how many of its members are live.
+/// A group's newest member, by number, and how many of its members are live.
 #[derive(Clone, Copy, Debug)]
 pub struct Members {
     pub newest: Option<u64>,
@@ -20,9 +20,9 @@ const NO_MEMBERS: Members = Members {
     live: 0,
 };
 
-/// The groups, each at the place of its number, and at the number of each member that of the one
-/// before it. Groups are numbered in order of making. Only the newest member of a group leaves, so
-/// none between others has to be taken out.
+/// The groups by number, and for each member the number of the one before it. Groups are numbered
+/// in order of making. Only the newest member of a group is removed, so the list needs no removal
+/// between others.
 #[derive(Drop)]
 pub struct RowLists {
     pub groups: Vec<Members>,
@@ -30,7 +30,7 @@ pub struct RowLists {
 }
 
 impl RowLists {
-    /// No members. It takes no memory.
+    /// Makes an empty list. It takes no memory.
     pub fn new(alloc: Global) -> RowLists
         ensures newest { (g : ℕ) → newest_in result g ≡ None }
         ensures live { (g : ℕ) → live_in result g ≡ 0 }
@@ -41,14 +41,14 @@ impl RowLists {
         }
     }
 
-    /// The number of the group's newest member.
+    /// Returns the number of the group's newest member.
     pub fn newest(&self, group: u64) -> Option<u64>
         ensures { result ≡ newest_in self.now group }
     {
         self.groups.get(group as usize)?.newest
     }
 
-    /// How many of the group's members are live.
+    /// Returns how many of the group's members are live.
     pub fn live(&self, group: u64) -> u64
         ensures { result ≡ live_in self.now group }
     {
@@ -58,14 +58,14 @@ impl RowLists {
         }
     }
 
-    /// The number of the member before that of the number.
+    /// Returns the number of the member before the one with the number.
     pub fn older(&self, number: u64) -> Option<u64>
         ensures { result ≡ option_and_then (λ o. o) (slice_get self.now.older.items number) }
     {
         *self.older.get(number as usize)?
     }
 
-    // Finds a place for the group. `NoMemory` where there is no room for it.
+    // Makes a place for the group. `NoMemory` if memory is refused.
     fn know(&mut self, group: u64) -> Result<(), NoMemory>
         ensures same { AreSame self.old self.new }
         ensures known { OnOk result (group < length self.new.groups.items) }
@@ -77,8 +77,8 @@ impl RowLists {
         Ok(())
     }
 
-    /// Puts a member in front of those of its group, with a number above all others, and counts it
-    /// no more than before. `NoMemory` where there is no room; it then stands nowhere.
+    /// Adds a newest member to its group, with a number above all others, and leaves the count.
+    /// `NoMemory` if memory is refused; the member then isn't there.
     pub fn enter(&mut self, group: u64, number: u64) -> Result<(), NoMemory>
         ensures ok { OnOk result (Gains group number self.old self.new) }
         ensures err { OnErr result (Keeps number self.old self.new) }
@@ -91,7 +91,7 @@ impl RowLists {
         Ok(())
     }
 
-    /// Takes out the newest member of its group. The count stays. It takes no memory.
+    /// Removes the newest member of its group. The count stays. It takes no memory.
     pub fn leave(&mut self, group: u64, number: u64)
         ensures lost { IsSome (newest_in self.old group) → Loses group number self.old self.new }
         ensures live { (g : ℕ) → live_in self.new g ≡ live_in self.old g }
@@ -101,7 +101,7 @@ impl RowLists {
         }
     }
 
-    /// Counts one more live member.
+    /// Adds one to the group's count of live members.
     pub fn add(&mut self, group: u64)
         requires member { IsSome (newest_in self.old group) }
         requires fits { live_in self.old group + 1 < 2 ^ 64 }
@@ -113,7 +113,7 @@ impl RowLists {
         self.groups[group as usize].live += 1;
     }
 
-    /// Counts one live member less; a group that has none stays so. It takes no memory.
+    /// Takes one from the group's count of live members; a count of 0 stays. It takes no memory.
     pub fn take(&mut self, group: u64)
         ensures newest { (g : ℕ) → newest_in self.new g ≡ newest_in self.old g }
         ensures older { self.new.older ≡ self.old.older }

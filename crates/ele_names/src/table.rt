@@ -12,7 +12,7 @@ use ele_model::NameRow;
 use ele_moment::Moment;
 use std::alloc::Global;
 
-/// The rows by serial number, and the indexes by which they are found.
+/// The rows by serial number, and the indexes that find them.
 #[derive(Drop)]
 pub struct Table {
     pub rows: Numbered,
@@ -20,7 +20,7 @@ pub struct Table {
 }
 
 impl Table {
-    /// No rows.
+    /// Makes an empty table.
     pub fn new(alloc: Global) -> Table
         ensures is { (names : List (ℕ × List ℕ)) → IsTable names result }
         ensures rows { result.rows.entries ≡ [] }
@@ -33,7 +33,7 @@ impl Table {
     }
 }
 
-/// Whether the row has no death up to the moment.
+/// Whether the row has no death, or one after the moment.
 pub fn lives_past(row: &NameRow, moment: Moment) -> bool
     ensures { result ≡ lives_past moment row.now }
 {

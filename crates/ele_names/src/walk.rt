@@ -1,5 +1,5 @@
-//! Where a path leads, now or at an earlier moment.
-//! A contract sees the names as their rows, and a walk as the world's words say it.
+//! Walks of paths, now or at an earlier moment.
+//! A contract sees the names as their rows, and a walk as `ele_model` defines it.
 ghost use Rattle.std.specs.Prelude.{◌≡◌, ◌-◌, ◌⊎◌, Ok, Err, IfOk, IfErr, length, take};
 ghost use Rattle.ele_model.specs.Walk.{walk_now, parent_now, comes_through, stands_in};
 ghost use Rattle.ele_model.specs.WalkAt.{walk_at, walk_covering};
@@ -13,18 +13,19 @@ use ele_model::{Refusal, Target};
 use ele_moment::{DirId, Moment, Name};
 use ele_path::Path;
 
-/// The directory from which each path starts.
+/// The directory where each path starts.
 const ROOT: DirId = DirId(0);
 
-/// What the path names. `NoEntry` where a name isn't there, `NotDirectory` where one is behind a
-/// file.
+/// Returns what the path names. `NoEntry` if a name isn't there, `NotDirectory` if one follows the
+/// name of a file.
 pub fn resolve_now(names: &Names, path: &Path) -> Result<Target, Refusal>
     ensures { result ≡ walk_now names.now path.now }
 {
     walk(names, path.names())
 }
 
-/// What the path named at the moment. `Future` where that is later than now, else as `resolve_now`.
+/// Returns what the path named at the moment. `Future` if that is later than now, else as
+/// `resolve_now`.
 pub fn resolve_at(
     names: &Names,
     path: &Path,
@@ -39,8 +40,8 @@ pub fn resolve_at(
     walk_back(names, path.names(), moment)
 }
 
-/// The directory that the path's last name stands in, and that name. `IsRoot` where the path has no
-/// name, else as `resolve_now` of the names before the last, which may not lead to a file.
+/// Returns the directory of the path's last name, and that name. `IsRoot` if the path has no name,
+/// else as `resolve_now` of the names before the last, which may not lead to a file.
 pub fn parent_now(names: &Names, path: &Path) -> Result<(DirId, Name), Refusal>
     ensures { result ≡ parent_now names.now path.now }
 {
@@ -54,9 +55,9 @@ pub fn parent_now(names: &Names, path: &Path) -> Result<(DirId, Name), Refusal>
     }
 }
 
-/// The directory that the path's last name stands in, and that name, as `parent_now` tells them,
-/// where they are known for another path. If the names before the last are the same in both, none
-/// is looked for again.
+/// Returns the directory of the path's last name, and that name, as `parent_now` does, if they are
+/// known for another path. If the names before the last are the same in both, it looks up none of
+/// them again.
 #[tactic(auto, using(crate::proofs::Words::nat_tests, crate::proofs::Leads::beside))]
 pub fn parent_beside(
     names: &Names,
@@ -81,9 +82,8 @@ fn before_last(path: &[Name]) -> &[Name]
     &path[..path.len().saturating_sub(1)]
 }
 
-/// The directory that the path's last name stands in, that name, and what it stands for, by one
-/// walk where `parent_now` and then `resolve_now` take two. It refuses as the first of them that
-/// refuses.
+/// Returns the directory of the path's last name, that name, and its target. One walk does what
+/// `parent_now` and then `resolve_now` do in two. It refuses as the first of them that refuses.
 #[tactic(auto, using(crate::proofs::Leads::leads_to, std::proofs::Common::inr, crate::proofs::Leads::stops_at))]
 pub fn placed_now(names: &Names, path: &Path) -> Result<(DirId, Name, Found), Refusal>
     ensures place { IfOk result (λ found. parent_now names.now path.now ≡ Ok (found.0, found.1)) }
@@ -98,8 +98,8 @@ pub fn placed_now(names: &Names, path: &Path) -> Result<(DirId, Name, Found), Re
     }
 }
 
-/// Whether the path's last name stands in the target or below it: whether the walk of the names
-/// before the last comes through that directory. Nothing stands in a file. It takes no memory.
+/// Whether the path's last name is in the target or below it: whether the walk of the names before
+/// the last passes through that directory. No name is in a file. It takes no memory.
 pub fn stands_in(names: &Names, target: Target, path: &Path) -> bool
     ensures { result ≡ stands_in names.now target path.now }
 {
@@ -110,7 +110,7 @@ pub fn stands_in(names: &Names, target: Target, path: &Path) -> bool
     comes_through(names, directory, &path[..path.len().saturating_sub(1)])
 }
 
-// Whether the walk of the live names from the root comes to the directory.
+// Whether the walk of the live names from the root passes through the directory.
 fn comes_through(names: &Names, id: DirId, path: &[Name]) -> bool
     ensures { result ≡ comes_through names.now id (Directory root) path.now }
 {
@@ -130,7 +130,7 @@ fn comes_through(names: &Names, id: DirId, path: &[Name]) -> bool
     at == Target::Directory(id)
 }
 
-// Along live names from the root.
+// Walks along live names from the root.
 fn walk(names: &Names, path: &[Name]) -> Result<Target, Refusal>
     ensures { result ≡ walk_now names.now path.now }
 {
@@ -147,7 +147,7 @@ fn walk(names: &Names, path: &[Name]) -> Result<Target, Refusal>
     Ok(at)
 }
 
-// Along names that covered the moment, from the root.
+// Walks along names that covered the moment, from the root.
 fn walk_back(names: &Names, path: &[Name], moment: Moment) -> Result<Target, Refusal>
     ensures { result ≡ walk_covering names.now moment (Directory root) path.now }
 {

@@ -1,17 +1,17 @@
--- What a writer took, and what is held for it.
+-- What a writer took, and what its buffer holds.
 use Rattle.std.specs.Prelude.{◌≡◌, ℕ, Bool, true, false, List, [], ◌++◌, Option, Result, Ok, Err}
 use Rattle.std.specs.Borrow.{GName}
 use Rattle.std.specs.Io.KnownBytes.{Appends}
 
--- which writer it is, the bytes that it is known to hold, those that stand behind them and are not yet handed to it, and whether it
--- failed, after which nothing more is handed to it
+-- which writer it is, the bytes that it is known to hold, the bytes in the buffer after them, and whether the writer failed, after which it
+-- gets no more
 pub record Outlet : Type 0 where
   pub writer : GName
   pub known : Option (List ℕ)
   pub held : List ℕ
   pub has_failed : Bool
 
--- these bytes were put behind the others: the writer took the first of all, and the rest is held, or lost if the writer failed
+-- these bytes were printed after the others: the writer took a prefix of all, and the rest is in the buffer, or lost if the writer failed
 pub record Puts (old new : Outlet) (bytes : List ℕ) : Type 0 where
   pub same : new.writer ≡ old.writer
   pub sent : List ℕ
@@ -21,16 +21,16 @@ pub record Puts (old new : Outlet) (bytes : List ℕ) : Type 0 where
   pub stays : old.has_failed ≡ true → (sent ≡ []) × (new.has_failed ≡ true)
   pub holds : new.has_failed ≡ false → rest ≡ new.held
 
--- nothing is held, and the writer has not failed
+-- the buffer is empty, and the writer has not failed
 abbrev pub IsHandedOver : Outlet → Type 0
 IsHandedOver o = (o.held ≡ []) × (o.has_failed ≡ false)
 
--- these bytes were put and all was handed over, or the writer failed
+-- these bytes were printed and the buffer was written, or the writer failed
 abbrev pub HandsOver : {A E : Type 0} → Outlet → Outlet → List ℕ → Result A E → Type 0
 HandsOver old new bytes (Ok _) = Puts old new bytes × IsHandedOver new
 HandsOver old new bytes (Err _) = Puts old new bytes
 
--- bytes were handed to a writer, or a front of them where it failed, or none of them where it had failed before
+-- bytes were written to a writer, or a prefix of them if it failed, or none of them if it had failed before
 pub record Sends (old new : Option (List ℕ)) (bytes : List ℕ) (had_failed has_failed : Bool) : Type 0 where
   pub sent : List ℕ
   pub rest : List ℕ

@@ -1,5 +1,5 @@
-//! Output that is held and handed to a writer many bytes at a time. A contract sees a writer as the
-//! bytes that it is known to hold, and a printer as an outlet.
+//! Buffered output to a writer. A contract sees a writer as the bytes that it is known to hold, and
+//! a printer as an outlet.
 #![tactic(auto)]
 
 mod fault;

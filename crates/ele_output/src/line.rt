@@ -7,7 +7,7 @@ ghost use Rattle.ele_output.specs.Prints.{Prints};
 use crate::printer::Printer;
 use std::io::Write;
 
-/// Puts words with a space between each two, and a line feed.
+/// Prints words with a space between each two, and a line feed.
 pub fn put_line<W: Write>(first: &[u8], words: &[&[u8]], printer: &mut Printer<'_, W>)
     ensures { Prints W.contents printer.old printer.new
         (line_text (first.now ∷ map (λ word. word.now) words.now)) }
@@ -16,7 +16,7 @@ pub fn put_line<W: Write>(first: &[u8], words: &[&[u8]], printer: &mut Printer<'
     printer.put_byte(b'\n');
 }
 
-/// Puts words with a space between each two.
+/// Prints words with a space between each two.
 pub fn put_words<W: Write>(first: &[u8], words: &[&[u8]], printer: &mut Printer<'_, W>)
     ensures { Prints W.contents printer.old printer.new
         (join_with_byte 32 (first.now ∷ map (λ word. word.now) words.now)) }
@@ -27,7 +27,7 @@ pub fn put_words<W: Write>(first: &[u8], words: &[&[u8]], printer: &mut Printer<
     }
 }
 
-/// Puts a space and a word.
+/// Prints a space and a word.
 pub fn put_word<W: Write>(word: &[u8], printer: &mut Printer<'_, W>)
     ensures { Prints W.contents printer.old printer.new (32 ∷ word.now) }
 {

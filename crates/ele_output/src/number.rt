@@ -6,12 +6,12 @@ use crate::printer::Printer;
 use itoa::Buffer;
 use std::io::Write;
 
-/// Puts a number.
+/// Prints a number.
 #[tactic(auto, using(std::proofs::lemmas::Fmt::decimal_digit))]
 pub fn put_number<W: Write>(number: u64, printer: &mut Printer<'_, W>)
     ensures { Prints W.contents printer.old printer.new (decimal number) }
 {
-    // Many numbers that are told are small.
+    // Many printed numbers are small.
     if number < 10 {
         printer.put_byte(b'0' + number as u8);
         return;
@@ -20,7 +20,7 @@ pub fn put_number<W: Write>(number: u64, printer: &mut Printer<'_, W>)
     printer.put(digits.format(number).as_bytes());
 }
 
-/// Puts what stands before a number, and the number.
+/// Prints a prefix and then a number.
 pub fn put_with_number<W: Write>(before: &[u8], number: u64, printer: &mut Printer<'_, W>)
     ensures { Prints W.contents printer.old printer.new (before.now ++ decimal number) }
 {

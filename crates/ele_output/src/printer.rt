@@ -1,4 +1,4 @@
-//! A writer that is given bytes many at a time, and that remembers whether it failed.
+//! A buffered writer, which remembers whether it failed.
 ghost use Rattle.std.specs.Prelude.{◌≡◌, ◌∷◌, [], false};
 ghost use Rattle.std.specs.Result.{is_err};
 ghost use Rattle.ele_output.specs.Front.{WritesText};
@@ -9,11 +9,12 @@ use crate::fault::WriteFault;
 use arrayvec::ArrayVec;
 use std::io::{ErrorKind, Write};
 
-/// So many bytes are held at most.
+/// The size of the buffer, in bytes.
 const ROOM: usize = 8192;
 
-/// A writer, and bytes that stand behind those that it took, which are handed to it many at a time. Once the writer has failed it is
-/// given nothing more, and what is put is lost; `hand_over` tells so. What is held when a printer goes is lost too.
+/// A writer and a buffer. Once the writer has failed it gets no more bytes, and later output is
+/// lost; `hand_over` returns the fault. Output that is still in the buffer when a printer is
+/// dropped is lost too.
 #[derive(Drop)]
 pub struct Printer<'w, W: Write> {
     held: ArrayVec<u8, ROOM>,
@@ -22,7 +23,7 @@ pub struct Printer<'w, W: Write> {
 }
 
 impl<'w, W: Write> Printer<'w, W> {
-    /// A printer that holds no bytes.
+    /// Makes a printer with an empty buffer.
     pub fn new(writer: &'w mut W) -> Printer<'w, W>
         ensures writer { result.writer.ghost_name ≡ writer.entry.ghost_name }
         ensures known { W.contents result.writer.now ≡ W.contents writer.old }
@@ -36,7 +37,7 @@ impl<'w, W: Write> Printer<'w, W> {
         }
     }
 
-    /// It is a fault if the writer has failed.
+    /// Returns a fault if the writer has failed.
     pub fn check(&self) -> Result<(), WriteFault>
         ensures { is_err result ≡ self.now.has_failed }
     {
@@ -47,7 +48,8 @@ impl<'w, W: Write> Printer<'w, W> {
         }
     }
 
-    /// Hands all bytes to the writer. It is a fault if the writer fails, or has failed before: then it took a front of all that was put.
+    /// Writes the buffer to the writer. Returns a fault if the writer fails, or has failed before:
+    /// then it took a prefix of all output.
     pub fn hand_over(&mut self) -> Result<(), WriteFault>
         ensures { HandsOver (outlet W.contents self.old) (outlet W.contents self.new) [] result }
     {
@@ -55,7 +57,7 @@ impl<'w, W: Write> Printer<'w, W> {
         self.check()
     }
 
-    /// Puts bytes behind the others.
+    /// Prints bytes after the others.
     pub fn put(&mut self, bytes: &[u8])
         ensures { Prints W.contents self.old self.new bytes.now }
     {
@@ -64,7 +66,7 @@ impl<'w, W: Write> Printer<'w, W> {
         }
     }
 
-    /// Puts a byte behind the others.
+    /// Prints a byte after the others.
     pub fn put_byte(&mut self, byte: u8)
         ensures { Prints W.contents self.old self.new (byte ∷ []) }
     {
@@ -75,7 +77,7 @@ impl<'w, W: Write> Printer<'w, W> {
         }
     }
 
-    // Hands the bytes over before it puts others, which it holds if there is room for them.
+    // Writes the buffer first, and then prints the bytes, into the buffer if they fit.
     #[inline(never)]
     fn put_behind(&mut self, bytes: &[u8])
         ensures { Prints W.contents self.old self.new bytes.now }
@@ -87,7 +89,7 @@ impl<'w, W: Write> Printer<'w, W> {
         }
     }
 
-    // Hands what is held to the writer. Then nothing is held.
+    // Writes the buffer to the writer, and empties it.
     fn send_held(&mut self)
         ensures sent { Prints W.contents self.old self.new [] }
         ensures none { self.new.held.items ≡ [] }
@@ -97,14 +99,14 @@ impl<'w, W: Write> Printer<'w, W> {
     }
 }
 
-// Hands bytes to a writer that has not failed, and tells whether it has failed now.
+// Writes bytes to a writer that has not failed, and returns whether it has failed now.
 fn send<W: Write>(writer: &mut W, bytes: &[u8], has_failed: bool) -> bool
     ensures { Sends (W.contents writer.old) (W.contents writer.new) bytes.now has_failed result }
 {
     has_failed || write_all(writer, bytes).is_err()
 }
 
-/// Writes all of the bytes. At a fault the writer took a front of them.
+/// Writes all of the bytes. At a fault the writer took a prefix of them.
 pub fn write_all<W: Write>(writer: &mut W, bytes: &[u8]) -> Result<(), WriteFault>
     ensures { WritesText bytes.now (W.contents writer.old) (W.contents writer.new) result }
 {

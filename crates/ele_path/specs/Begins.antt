@@ -1,4 +1,4 @@
--- Where a tag may begin. No public clause cites this module.
+-- The texts of tags. No public clause cites this module.
 use Rattle.std.specs.Prelude.{ℕ, Bool, true, List, [], ◌∷◌}
 use Rattle.ele_path.specs.Tagged.{is_mark}
 

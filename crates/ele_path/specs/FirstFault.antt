@@ -12,17 +12,17 @@ abbrev pub is_name : List ℕ → Bool
 is_name bytes =
     nat_lt 0 (length bytes) && nat_le (length bytes) 64 && list_all is_name_byte bytes && not (bytes_eq bytes (codes ".")) && not (bytes_eq bytes (codes ".."))
 
--- what is wrong with a piece that stands behind so many others
+-- the fault of a piece after so many others
 abbrev pub piece_fault : ℕ → List ℕ → Option PathFault
 piece_fault before [] = Some BadPath
 piece_fault before (byte ∷ bytes) =
     if nat_le 32 before then Some BadPath else if is_name (byte ∷ bytes) then None else Some BadName
 
--- what is wrong with the pieces, from the left
+-- the faults of the pieces, from the left
 abbrev pub piece_faults : List (List ℕ) → List PathFault
 piece_faults pieces = filter_map (λ (before, piece). piece_fault before piece) (enumerate_from 0 pieces)
 
--- what is wrong with the word first, from the left: a first byte that is no slash, or a piece behind it
+-- the first fault of the word, from the left: a first byte that is no slash, or a piece after it
 abbrev pub path_fault : List ℕ → Option PathFault
 path_fault [] = Some BadPath
 path_fault (byte ∷ []) = if byte == 47 then None else Some BadPath

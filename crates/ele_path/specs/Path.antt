@@ -8,15 +8,15 @@ pub record IsPath (names : List (List ℕ)) : Type 0 where
   pub short : length names ≤ 32
   pub named : All IsName names
 
--- the names, each with a slash in front
+-- the names, each with a slash before it
 abbrev pub path_text : List (List ℕ) → List ℕ
 path_text names = flat_map (λ name. 47 ∷ name) names
 
--- the word is a slash alone, for the root, or the names, each with a slash in front
+-- the word is a slash alone, for the root, or the names, each with a slash before it
 pub record SpellsPath (word : List ℕ) (names : List (List ℕ)) : Type 0 where
   pub is : IsPath names
   pub form : ((word ≡ codes "/") × (names ≡ [])) ⊎ ((0 < length names) × (word ≡ path_text names))
 
--- what stands between the slashes of a text
+-- the pieces between the slashes of a text
 abbrev pub pieces_of : List ℕ → List (List ℕ)
 pieces_of text = slice_split (λ byte. byte == 47) text

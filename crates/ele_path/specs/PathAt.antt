@@ -9,28 +9,28 @@ use Rattle.ele_path.specs.declared.path_at.PathAt.{PathAt}
 use Rattle.ele_path.specs.declared.tagged.Tag.{Tag}
 use Rattle.ele_path.specs.declared.tagged.Tag.TheVariants.{Now, At}
 
--- the tag that says the same
+-- the tag with the same meaning
 abbrev pub tag_at : Option ℕ → Tag
 tag_at None = Now
 tag_at (Some moment) = At moment
 
--- the word is a path, and behind it nothing for now, or `@` and a moment
+-- the word is a path, followed by nothing for now, or by `@` and a moment
 abbrev pub SpellsPathAt : List ℕ → PathAt → Type 0
 SpellsPathAt word value = SpellsTaggedPath word (record { path = value.path; tag = tag_at value.moment })
 
--- the word is a path, and behind it stands `#` (35)
+-- the word is a path, followed by `#` (35)
 pub record IsNumbered (word : List ℕ) : Type 0 where
   pub names : List (List ℕ)
   pub rest : List ℕ
   pub path : SpellsPath (path_part word) names
   pub tag : tag_part word ≡ 35 ∷ rest
 
--- what is wrong with the text of a tag: it begins with `#`, or behind `@` (64) there is no moment
+-- the fault of the text of a tag: it begins with `#`, or no moment follows `@` (64)
 abbrev pub IsMomentFault : List ℕ → PathAtFault → Type 0
 IsMomentFault text Numbered = (rest : List ℕ) × (text ≡ 35 ∷ rest)
 IsMomentFault text (Path fault) = (rest : List ℕ) × (text ≡ 64 ∷ rest) × IsTagFault text fault
 
--- a `#` stands behind a path, or none does, and this is wrong with the word as a path with a tag
+-- `#` follows a path; or it doesn't, and the fault is that of the word as a path with a tag
 abbrev pub IsPathAtFault : List ℕ → PathAtFault → Type 0
 IsPathAtFault word Numbered = IsNumbered word
 IsPathAtFault word (Path fault) = IsTaggedFault word fault × ¬ IsNumbered word

@@ -9,20 +9,20 @@ use Rattle.ele_path.specs.Tagged.{is_mark}
 use Rattle.ele_path.specs.declared.fault.PathFault.{PathFault}
 use Rattle.ele_path.specs.declared.fault.PathFault.TheVariants.{BadMoment, BadPath}
 
--- what stands before the first mark of a tag, or all
+-- the text before the first mark of a tag, or all
 abbrev pub path_part : List ℕ → List ℕ
 path_part word = before_first is_mark word
 
--- the first mark of a tag, and what stands behind it, or nothing
+-- the first mark of a tag, and the text after it, or nothing
 abbrev pub tag_part : List ℕ → List ℕ
 tag_part word = drop (position_or_len is_mark word) word
 
--- what is wrong with the text of a tag: behind `@` (64) there is no moment, behind `#` (35) no number
+-- the fault of the text of a tag: no moment follows `@` (64), or no number `#` (35)
 pub data IsTagFault (text : List ℕ) (fault : PathFault) : Type 0 where
   no_moment : (rest : List ℕ) → text ≡ 64 ∷ rest → ((moment : ℕ) → ¬ SpellsMoment rest moment) → fault ≡ BadMoment → IsTagFault text fault
   no_number : (rest : List ℕ) → text ≡ 35 ∷ rest → ((number : ℕ) → ¬ SpellsNumber rest number) → fault ≡ BadPath → IsTagFault text fault
 
--- what is wrong with the word first: its path, and behind a path its tag
+-- the first fault of the word: that of its path, or else that of its tag
 pub data IsTaggedFault (word : List ℕ) (fault : PathFault) : Type 0 where
   of_path : path_fault (path_part word) ≡ Some fault → IsTaggedFault word fault
   of_tag : (names : List (List ℕ)) → SpellsPath (path_part word) names → IsTagFault (tag_part word) fault → IsTaggedFault word fault

@@ -12,11 +12,11 @@ pub enum PathFault {
     /// A piece between the slashes is no name.
     #[error("not a name")]
     BadName,
-    /// The word does not begin with a slash, has an empty piece, or has more than 32 pieces; or
-    /// what stands behind `#` is no number.
+    /// The word does not begin with a slash, has an empty piece, or has more than 32 pieces; or no
+    /// number follows `#`.
     #[error("not a path")]
     BadPath,
-    /// What stands behind `@` is no moment.
+    /// No moment follows `@`.
     #[error("not a moment")]
     BadMoment,
     /// There was no memory for the names.
@@ -43,10 +43,10 @@ impl From<AllocError> for PathFault {
 /// Why a word was not read as a path at a moment.
 #[derive(Clone, Copy, Debug, PartialEq, Eq, Error)]
 pub enum PathAtFault {
-    /// It is no path, or no path with a tag.
+    /// The word is no path with or without a tag.
     #[error("not a path at a moment")]
     Path(PathFault),
-    /// `#` stands behind the path.
+    /// `#` follows the path.
     #[error("a number behind a path")]
     Numbered,
 }

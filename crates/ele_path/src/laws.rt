@@ -1,9 +1,9 @@
-//! What is true of every word. A law is the contract of a function that does nothing.
+//! Laws of every word. A law is the contract of a function that does nothing.
 ghost use Rattle.ele_path.specs.OneMeaning.{OneMeaning};
 
-/// No word spells two paths. One that spells a path with a tag is cut at its first mark, into a
-/// word of the path and the text of the tag. A word that spells a path, with a tag, at a moment or
-/// with neither, has no fault as such, and none has two.
+/// No word spells two paths. If a word spells a path with a tag, its first mark cuts it into a word
+/// of the path and the text of the tag. If a word spells a path of any of the three kinds, it has
+/// no fault as that kind. No word has two faults.
 #[tactic(auto, using(crate::proofs::PathsAt::one_meaning))]
 pub fn one_meaning()
     ensures { OneMeaning }

@@ -1,4 +1,4 @@
-//! Names behind one another, from the root. A contract sees a path as the list of its names.
+//! Paths: names from the root on. A contract sees a path as the list of its names.
 ghost use Rattle.std.specs.Prelude.{◌≡◌, ◌≤◌, ◌⊎◌, ◌↔◌, ◌++◌, ◌∷◌, [], ℕ, List, All, length, nat_eq, slice_get, Some, Ok, Err, IfOk, IfErr, OnOk, IsOk, IsErrOf, ◌<◌};
 ghost use Rattle.std.specs.Cmp.{on_per, on_equiv, partial_equiv_from_equiv};
 ghost use Rattle.std.specs.Cmp.Lexicographic.{pointwise, lists_per, lists_equiv, nat_list_eq_equiv};
@@ -13,8 +13,8 @@ use std::alloc::{AllocError, Global};
 use std::fmt;
 use std::marker::Model;
 
-/// A way from the root: at most 32 names, and none for the root itself. It is displayed as `/`, or as its names with a
-/// slash in front of each.
+/// A path from the root: at most 32 names; the root itself has none. It is displayed as `/`, or as
+/// its names with a slash before each.
 #[derive(Debug, Drop)]
 pub struct Path {
     names: Vec<Name>,
@@ -35,8 +35,9 @@ impl Path {
     /// The most names of a path.
     const MOST_NAMES: usize = 32;
 
-    /// The path of these names, from the root on. `BadPath` for more than 32. It takes no memory.
-    /// Cost: grows with the names, at most 32, each of which it looks at.
+    /// Returns the path of these names, from the root on. `BadPath` for more than 32. It takes no
+    /// memory.
+    /// Cost: grows with the names, at most 32.
     pub fn new(names: Vec<Name>) -> Result<Path, PathFault>
         ensures valid { IsOk result ↔ (length names.items ≤ 32) }
         ensures value { IfOk result (λ path. path ≡ names.items) }
@@ -49,11 +50,11 @@ impl Path {
         Ok(Path { names })
     }
 
-    /// The path that a word spells: `/`, or names with a slash in front of each.
+    /// Reads the path that a word spells: `/`, or names with a slash before each.
     ///
-    /// The word is read from the left. It is `BadPath` where it does not begin with a slash, where
-    /// a piece between slashes is empty, and at the 33rd piece, whatever that is; `BadName` where a
-    /// piece is no name. `NoMemory` may come in place of any other answer.
+    /// It checks the word from the left. `BadPath` if the word does not begin with a slash, if a
+    /// piece between slashes is empty, or at the 33rd piece, whatever that is. `BadName` if a piece
+    /// is no name. `NoMemory` is possible in place of any other answer.
     /// Cost: grows with the bytes of the word; takes memory for the names, 72 bytes each.
     pub fn read(alloc: Global, word: &[u8]) -> Result<Path, PathFault>
         ensures found { IfOk result (SpellsPath word.now) }
@@ -73,7 +74,7 @@ impl Path {
         }
     }
 
-    /// The path of the root. It takes no memory.
+    /// Returns the path of the root. It takes no memory.
     /// Cost: constant time.
     pub fn root(alloc: Global) -> Path
         ensures { result ≡ [] }
@@ -83,7 +84,8 @@ impl Path {
         }
     }
 
-    /// The path of that name in the directory at this path. `BadPath` behind 32 names.
+    /// Returns the path of that name in the directory at this path. `BadPath` if this path has 32
+    /// names.
     /// Cost: grows with the names, at most 32, which it copies into memory with spare places.
     pub fn join(&self, name: Name) -> Result<Path, PathFault>
         ensures found { IfOk result (λ path. path ≡ self.now ++ name ∷ []) }
@@ -99,7 +101,7 @@ impl Path {
         Ok(path)
     }
 
-    /// The names, from the root on.
+    /// Returns the names, from the root on.
     /// Cost: constant time.
     pub fn names(&self) -> &[Name]
         ensures names { result.now ≡ self.now }
@@ -110,7 +112,7 @@ impl Path {
     }
 }
 
-// Brings a proof the fact that each of the names is one.
+// Says to a proof that each of the names is valid.
 fn lemma_named(names: &[Name])
     ensures { All IsName names.now }
 {
@@ -120,7 +122,7 @@ fn lemma_named(names: &[Name])
     }
 }
 
-// Room for just the names that a text has between its slashes, since a history keeps each path.
+// Reserves memory for exactly the names of a text, since a history keeps each path.
 fn room_for(alloc: Global, text: &[u8]) -> Result<Vec<Name>, AllocError>
     ensures { IfOk result (λ names. names.items ≡ []) }
 {
@@ -128,7 +130,7 @@ fn room_for(alloc: Global, text: &[u8]) -> Result<Vec<Name>, AllocError>
     Vec::with_capacity(alloc, slashes.min(Path::MOST_NAMES - 1) + 1)
 }
 
-// The names that a text has between its slashes.
+// The names between the slashes of a text.
 fn read_names(alloc: Global, text: &[u8]) -> Result<Vec<Name>, PathFault>
     ensures found { IfOk result (λ names. names.items ≡ pieces_of text.now) }
     ensures are { IfOk result (λ names. IsPath names.items) }
@@ -143,7 +145,7 @@ fn read_names(alloc: Global, text: &[u8]) -> Result<Vec<Name>, PathFault>
     Ok(names)
 }
 
-// The name that a piece is, behind so many others.
+// The name of a piece, with so many names before it.
 fn read_piece(before: usize, piece: &[u8]) -> Result<Name, PathFault>
     ensures found { IfOk result (λ name. name ≡ piece.now) }
     ensures is { OnOk result (IsName piece.now) }

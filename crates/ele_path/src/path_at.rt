@@ -14,7 +14,8 @@ use ele_moment::{BadMoment, Moment};
 use std::alloc::Global;
 use std::fmt;
 
-/// A path, and the moment at which it is meant, if that isn't now. It is displayed as its word, `/f` or `/f@12`.
+/// A path, and the moment at which it is meant, or none for now. It is displayed as its word,
+/// `/f` or `/f@12`.
 #[derive(Debug, Drop, PartialEq, Eq)]
 pub struct PathAt {
     pub path: Path,
@@ -22,7 +23,7 @@ pub struct PathAt {
 }
 
 impl PathAt {
-    /// The path at the moment, or now if there is none.
+    /// Returns the path at the moment, or now if there is none.
     /// Cost: constant time.
     pub fn new(path: Path, moment: Option<Moment>) -> PathAt
         ensures path { result.path ≡ path }
@@ -31,12 +32,12 @@ impl PathAt {
         PathAt { path, moment }
     }
 
-    /// The path and the moment that a word spells: a path, then nothing for now, or `@` and a
+    /// Reads the path and the moment that a word spells: a path, then nothing for now, or `@` and a
     /// moment.
     ///
-    /// The word is cut at its first `@` or `#`. A fault of the path is told first, as `Path::read`
-    /// tells it. Behind a path it is `BadMoment` where no moment stands behind `@`, and `Numbered`
-    /// where `#` stands, whatever is behind that. `NoMemory` may come in place of any other answer.
+    /// It cuts the word at its first `@` or `#`. It reports a fault of the path first, as
+    /// `Path::read` does. After a path, `BadMoment` if no moment follows `@`, and `Numbered` if `#`
+    /// follows, whatever is after that. `NoMemory` is possible in place of any other answer.
     /// Cost: grows with the bytes of the word; takes memory for the names, 72 bytes each.
     pub fn read(alloc: Global, word: &[u8]) -> Result<PathAt, PathAtFault>
         ensures found { IfOk result (SpellsPathAt word.now) }
@@ -64,7 +65,7 @@ impl fmt::Display for PathAt {
     }
 }
 
-// The moment that a text spells, which is empty or begins with a mark.
+// The moment of a text that is empty or begins with a mark.
 fn read_moment(text: &[u8]) -> Result<Option<Moment>, PathAtFault>
     requires { IsTrue (is_tag_text text.now) }
     ensures found { IfOk result (λ moment. SpellsTag text.now (tag_at moment)) }

@@ -14,18 +14,18 @@ use ele_moment::{BadMoment, Moment, VersionNo, read_number};
 use std::alloc::Global;
 use std::fmt;
 
-/// Which version is meant. It is displayed as it stands behind a path: not at all, `@12` or `#3`.
+/// Which version is meant. It is displayed as in a word, after the path: nothing, `@12` or `#3`.
 #[derive(Clone, Copy, Debug, PartialEq, Eq)]
 pub enum Tag {
-    /// What stands there now.
+    /// The current one.
     Now,
-    /// What stood there at the moment.
+    /// The one that was current at the moment.
     At(Moment),
     /// The version with that number.
     Number(VersionNo),
 }
 
-/// A path, and which version of what it names is meant. It is displayed as both, `/f@12`.
+/// A path, and which version of its target is meant. It is displayed as both, `/f@12`.
 #[derive(Debug, Drop, PartialEq, Eq)]
 pub struct TaggedPath {
     path: Path,
@@ -33,7 +33,7 @@ pub struct TaggedPath {
 }
 
 impl TaggedPath {
-    /// The path with the tag.
+    /// Makes a path with a tag.
     /// Cost: constant time.
     pub fn new(path: Path, tag: Tag) -> TaggedPath
         ensures path { result.path ≡ path }
@@ -42,12 +42,12 @@ impl TaggedPath {
         TaggedPath { path, tag }
     }
 
-    /// The path and the tag that a word spells: a path, then nothing for now, `@` and a moment, or
-    /// `#` and the number of a version.
+    /// Reads the path and the tag that a word spells: a path, then nothing for now, `@` and a
+    /// moment, or `#` and the number of a version.
     ///
-    /// The word is cut at its first `@` or `#`. A fault of the path is told first, as `Path::read`
-    /// tells it. It is `BadMoment` where no moment stands behind `@`, and `BadPath` where no number
-    /// stands behind `#`. `NoMemory` may come in place of any other answer.
+    /// It cuts the word at its first `@` or `#`. It reports a fault of the path first, as
+    /// `Path::read` does. `BadMoment` if no moment follows `@`, and `BadPath` if no number follows
+    /// `#`. `NoMemory` is possible in place of any other answer.
     /// Cost: grows with the bytes of the word; takes memory for the names, 72 bytes each.
     pub fn read(alloc: Global, word: &[u8]) -> Result<TaggedPath, PathFault>
         ensures found { IfOk result (SpellsTaggedPath word.now) }
@@ -62,7 +62,7 @@ impl TaggedPath {
         Ok(TaggedPath { path, tag })
     }
 
-    /// The path.
+    /// Returns the path.
     /// Cost: constant time.
     pub fn path(&self) -> &Path
         ensures { result.now ≡ self.now.path }
@@ -70,7 +70,7 @@ impl TaggedPath {
         &self.path
     }
 
-    /// The tag.
+    /// Returns the tag.
     /// Cost: constant time.
     pub fn tag(&self) -> Tag
         ensures { result ≡ self.now.tag }
@@ -100,7 +100,7 @@ impl fmt::Display for TaggedPath {
     }
 }
 
-// How many bytes stand before the first mark of a tag, or in all.
+// Returns how many bytes are before the first mark of a tag, or in all.
 pub(crate) fn path_length(word: &[u8]) -> usize
     ensures { result ≡ position_or_len is_mark word.now }
 {
@@ -110,14 +110,14 @@ pub(crate) fn path_length(word: &[u8]) -> usize
     }
 }
 
-// Where the first mark of a tag stands.
+// The place of the first mark of a tag.
 fn mark_in(word: &[u8]) -> Option<usize>
     ensures { result ≡ position is_mark word.now }
 {
     word.iter().position(|byte| *byte == b'@' || *byte == b'#')
 }
 
-// The tag that a text spells, which is empty or begins with a mark.
+// The tag of a text that is empty or begins with a mark.
 fn read_tag(text: &[u8]) -> Result<Tag, PathFault>
     requires { IsTrue (is_tag_text text.now) }
     ensures found { IfOk result (SpellsTag text.now) }

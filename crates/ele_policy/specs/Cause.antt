@@ -12,7 +12,7 @@ use Rattle.ele_policy.specs.Ladder.{Rung, level_of, rung_at, shares}
 abbrev pub displacing : List Newer → ℕ → Rung → Option ℕ
 displacing newer closed rung = option_map (λ other. other.number) (find (λ other. shares closed other.closed rung) newer)
 
--- at the moment its age has reached the level of the ladder, and in its span of that level that version displaces it
+-- at the moment the version's age has reached the level of the ladder, and in its span of that level the newer version displaces it
 pub record IsDisplaced (policy : Policy) (closed ended : ℕ) (newer : List Newer) (at level by : ℕ) : Type 0 where
   pub rungs : List Rung
   pub ladder : policy ≡ Landmarks rungs
@@ -26,7 +26,7 @@ pub record IsSafeFor (policy : Policy) (seconds : ℕ) : Type 0 where
   pub floor : ℕ
   pub safe : policy ≡ Safe seconds floor
 
--- this is why the policy lets a version go at the moment that closed and ended then, with these newer held ones, in order
+-- the cause is why the policy lets a version go at the moment; the version closed and ended then, with these newer held ones, in order
 abbrev pub IsCause : Policy → ℕ → ℕ → List Newer → ℕ → Cause → Type 0
 IsCause policy closed ended newer at AtOnce = policy ≡ One
 IsCause policy closed ended newer at (Age seconds) = IsSafeFor policy seconds

@@ -7,7 +7,7 @@ use Rattle.ele_moment.specs.Last.{last_moment}
 abbrev pub Rung : Type 0
 Rung = ℕ × ℕ
 
--- what stands below each ladder: age 0, and spans of a second
+-- the rung below each ladder: age 0, and spans of a second
 abbrev pub ground : Rung
 ground = (0, 1)
 
@@ -36,10 +36,10 @@ abbrev pub rung_at : List Rung → ℕ → Option Rung
 rung_at rungs zero = None
 rung_at rungs (suc place) = slice_get rungs place
 
--- the number of the rung's span in which the moment lies
+-- the number of the rung's span that has the moment
 abbrev pub span_of : Rung → ℕ → ℕ
 span_of rung moment = moment / rung.1
 
--- both moments lie in one span of the rung
+-- both moments are in one span of the rung
 abbrev pub shares : ℕ → ℕ → Rung → Bool
 shares a b rung = span_of rung a == span_of rung b

@@ -1,4 +1,4 @@
--- A policy lets a version go from one age on, or never, and what stands beside the version tells which age by its case alone.
+-- A policy lets a version go from one age on, or never. That age depends on the version's case alone, whatever else is beside it.
 use Rattle.std.specs.Prelude.{◌≡◌, ℕ, nat_le, false, Option}
 use Rattle.std.specs.Option.{option_map_or}
 use Rattle.ele_policy.specs.declared.rule.Case.{Case}

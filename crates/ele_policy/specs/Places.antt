@@ -1,4 +1,4 @@
--- No public clause cites this module: it says how a ladder lies in its fields.
+-- How a ladder is stored in its fields. No public clause cites this module.
 use Rattle.std.specs.Prelude.{◌≡◌, ℕ, ◌-◌, ◌≤◌, List, ◌++◌, take, length, replicate}
 use Rattle.std.proofs.Common.{ap, sym, subst, ◌∙◌}
 use Rattle.std.proofs.lemmas.List.{length-take-le}
@@ -8,22 +8,22 @@ use Rattle.ele_policy.specs.declared.ladder.Ladder.TheInside.{Inside}
 abbrev pub unused : ℕ → List Rung
 unused n = replicate n (0, 0)
 
--- the rungs in front, as many as the ladder has
+-- the first rungs, as many as the ladder has
 abbrev pub rungs_of : Inside → List Rung
 rungs_of ladder = take ladder.count ladder.rungs
 
--- the rungs with unused places behind them up to 8, and how many they are
+-- the rungs, followed by unused places up to 8, and how many they are
 abbrev pub fields_of : List Rung → Inside
 fields_of rungs = record { rungs = rungs ++ unused (8 - length rungs); count = length rungs }
 
--- a ladder in front, and unused places behind it
+-- a ladder, followed by unused places
 pub record IsFilled (ladder : Inside) : Type 0 where
   pub short : ladder.count ≤ 8
   pub whole : length ladder.rungs ≡ 8
   pub rest : ladder.rungs ≡ rungs_of ladder ++ unused (8 - ladder.count)
   pub climbs : IsLadder (rungs_of ladder)
 
--- the rungs of a ladder give its fields back
+-- the fields are those of the ladder's rungs
 pub fields_of-rungs_of : (ladder : Inside) → IsFilled ladder → fields_of (rungs_of ladder) ≡ ladder
 fields_of-rungs_of ladder filled =
     let IsWithin : ℕ → Type 0 = λ m. ladder.count ≤ m in

@@ -1,4 +1,4 @@
--- Policies and their kinds in text.
+-- The text of policies and their kinds.
 use Rattle.std.specs.Prelude.{ℕ, zero, suc, List, [], ◌∷◌, ◌++◌, map, codes}
 use Rattle.std.specs.Fmt.{decimal}
 use Rattle.std.specs.List.{join_with_byte}
@@ -16,7 +16,7 @@ pair_word pair = decimal pair.0 ++ 47 ∷ decimal pair.1
 abbrev pub ladder_word : List Rung → List ℕ
 ladder_word rungs = join_with_byte 44 (map pair_word rungs)
 
--- a floor behind the seconds, with a slash between them; none is left out
+-- a floor after the seconds, with a slash between them; a floor of 0 has no text
 abbrev pub floor_word : ℕ → List ℕ
 floor_word zero = []
 floor_word (suc n) = 47 ∷ decimal (suc n)

@@ -3,7 +3,7 @@ use Rattle.std.specs.Prelude.{◌≡◌, ℕ, ◌≤◌, true, false, List}
 use Rattle.std.specs.Option.{option_map_or}
 use Rattle.ele_policy.specs.Ladder.{Rung, IsLadder, rung_at, shares}
 
--- they lie in one span at that level
+-- they are in one span at that level
 abbrev pub SharesAt : List Rung → ℕ → ℕ → ℕ → Type 0
 SharesAt rungs level a b = option_map_or (shares a b) (rung_at rungs level) false ≡ true
 

@@ -13,7 +13,7 @@ use Rattle.ele_policy.specs.Ripe.{Beside}
 abbrev pub has_newer : ℕ → List ℕ → Rung → Bool
 has_newer closed newer rung = list_any (λ n. shares closed n rung) newer
 
--- how long after its end a version is let go that closed then
+-- how long after its end the policy lets go a version that closed then
 abbrev pub wait : Policy → ℕ → Beside → Option ℕ
 wait One closed beside = Some 0
 wait All closed beside = None
@@ -24,6 +24,6 @@ wait (Landmarks rungs) closed beside = option_map (λ rung. rung.0) (find (has_n
 abbrev pub in_time : ℕ → Option ℕ
 in_time at = if nat_le at last_moment then Some at else None
 
--- so the ripe moment comes so long after the end
+-- the ripe moment: so long after the end
 abbrev pub ripe_after : Policy → ℕ → ℕ → Beside → Option ℕ
 ripe_after policy closed ended beside = option_and_then (λ age. in_time (ended + age)) (wait policy closed beside)

@@ -16,11 +16,11 @@ use std::fmt;
 pub enum Cause {
     /// It keeps no version that has ended.
     AtOnce,
-    /// The version has been ended for that long, beside as many newer ones as the floor asks for.
+    /// The version ended that long ago, and as many newer ones are held as the floor asks for.
     Age(Interval),
-    /// At that level of the ladder, the first of which is 1, that newer version closed in the same
-    /// span: the nearest held one that did. The level is the one that the version had reached as it
-    /// became due.
+    /// A newer version closed in the same span, at that level of the ladder. Levels count from 1,
+    /// and this is the level that the version had reached as it became due. `by` is the nearest
+    /// newer held version that closed in the span.
     Displaced { level: usize, by: VersionNo },
 }
 
@@ -31,9 +31,9 @@ pub struct Newer {
     pub closed: Moment,
 }
 
-/// Why the policy lets a version go at the moment that closed and ended at those. `nearest` is the
-/// nearest newer held version, if there is one, and the policy lets the version go beside it alone.
-/// Other newer versions change nothing: whichever are held, the cause is the same.
+/// Returns why the policy lets the version go at the moment. `closed` and `ended` are the version's
+/// moments, and `nearest` is the nearest newer held version, if there is one. The policy lets the
+/// version go beside that one alone. Other newer versions don't change the cause.
 /// Cost: constant time; a ladder has at most eight pairs.
 pub fn cause_of(
     policy: &Policy,

@@ -1,4 +1,4 @@
-//! How many newer versions a live file keeps beside one that its policy lets go.
+//! How many newer versions a live file must hold before its policy lets one go.
 //! A contract sees a floor as that number.
 ghost use Rattle.std.specs.Prelude.{◌≡◌, ◌↔◌, IsOk, IfOk};
 ghost use Rattle.ele_policy.specs.Floor.{IsFloor};
@@ -26,13 +26,13 @@ impl Model for Floor {
 }
 
 impl Floor {
-    /// No floor.
+    /// The floor of 0 versions.
     /// Cost: constant time.
     pub const NONE: Floor = Floor { versions: 0 };
 
     const MOST_VERSIONS: u64 = 16;
 
-    /// The floor of that many versions. `BadLadder` for more than 16.
+    /// Returns the floor of that many versions. `BadLadder` for more than 16.
     /// Cost: constant time.
     pub fn new(versions: u64) -> Result<Floor, BadLadder>
         ensures valid { IsOk result ↔ IsFloor versions }
@@ -44,7 +44,7 @@ impl Floor {
         Ok(Floor { versions })
     }
 
-    /// How many versions it is.
+    /// Returns the number of versions.
     /// Cost: constant time.
     pub fn number(self) -> u64
         ensures value { result ≡ self }

@@ -6,12 +6,12 @@ ghost use Rattle.ele_policy.specs.Interval.{IsInterval};
 use std::marker::Model;
 use thiserror::Error;
 
-/// No policy has these numbers.
+/// Numbers that no policy may have.
 #[derive(Clone, Copy, Debug, PartialEq, Eq, Hash, Error)]
 #[error("not the numbers of a policy")]
 pub struct BadLadder;
 
-/// A length of time, from 1 second to 253402300799, which lead from the first moment to the last.
+/// A length of time, from 1 second to 253402300799, the seconds from the first moment to the last.
 #[derive(Clone, Copy, Debug, PartialEq, Eq, PartialOrd, Ord, Hash)]
 pub struct Interval {
     seconds: u64,
@@ -37,7 +37,7 @@ impl Interval {
 
     const MOST_SECONDS: u64 = 253402300799;
 
-    /// The interval of that many seconds. `BadLadder` for 0 and for more than 253402300799.
+    /// Returns the interval of that many seconds. `BadLadder` for 0 and for more than 253402300799.
     /// Cost: constant time.
     pub fn new(seconds: u64) -> Result<Interval, BadLadder>
         ensures valid { IsOk result ↔ IsInterval seconds }
@@ -49,7 +49,7 @@ impl Interval {
         Ok(Interval { seconds })
     }
 
-    /// The seconds of the interval.
+    /// Returns the seconds of the interval.
     /// Cost: constant time.
     pub fn seconds(self) -> u64
         ensures value { result ≡ self }

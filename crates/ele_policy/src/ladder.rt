@@ -1,4 +1,4 @@
-//! Ladders: how much less is kept of versions the longer ago they ended.
+//! Ladders: the older the versions, the fewer of them a file keeps.
 //! A contract sees a ladder as the list of its pairs of an age and a width.
 ghost use Rattle.std.specs.Prelude.{◌≡◌, ◌↔◌, ◌+◌, ◌<◌, ◌≤◌, ◌&&◌, ◌∷◌, [], IsOk, IfOk, Some, find, length, nat_eq, position};
 ghost use Rattle.std.specs.Option.{option_map};
@@ -14,9 +14,9 @@ use std::fmt;
 use std::marker::Model;
 
 /// One to eight pairs of an age and a width, in seconds. The ages rise from at least 1, each width
-/// is at least 1 and divides the next, and no number exceeds 253402300799. From an age on, one
-/// version is kept of each span of the width beside it. It is kept in place, so that it takes no
-/// memory, and displayed as its pairs, `A/W,A/W`.
+/// is at least 1 and divides the next, and no number exceeds 253402300799. From an age on, the
+/// ladder keeps one version of each span of that pair's width. It is stored inline, so it takes no
+/// memory of its own, and is displayed as its pairs, `A/W,A/W`.
 #[derive(Clone, Copy, Debug)]
 pub struct Ladder {
     rungs: [(u64, u64); Ladder::MOST_PAIRS],
@@ -39,7 +39,7 @@ impl Model for Ladder {
     ghost inverse_ok = { fields_of-rungs_of };
 }
 
-// Whether the second rung may stand next above the first one.
+// Whether the second rung may follow the first one.
 fn is_above(low: (u64, u64), high: (u64, u64)) -> bool
     requires { 0 < low.1 }
     ensures { result ≡ is_above low high }
@@ -53,7 +53,7 @@ fn is_above(low: (u64, u64), high: (u64, u64)) -> bool
         && width.is_multiple_of(low_width)
 }
 
-// Whether each rung may stand next above the one before it, and the first above the ground.
+// Whether each rung may follow the one before it, and the first is a valid lowest one.
 fn climbs(rungs: &[(u64, u64)]) -> bool
     ensures { result ≡ climbs ground rungs.now }
 {
@@ -67,28 +67,28 @@ fn climbs(rungs: &[(u64, u64)]) -> bool
     true
 }
 
-// The number of the rung's span in which the moment lies; no ladder has a width of 0.
+// The number of the rung's span that has the moment; no ladder has a width of 0.
 fn span_of(rung: &(u64, u64), moment: Moment) -> u64
     ensures { result ≡ span_of rung.now moment }
 {
     moment.seconds().checked_div(rung.1).unwrap_or(0)
 }
 
-// Whether both moments lie in one span of the rung.
+// Whether both moments are in one span of the rung.
 fn shares(rung: &(u64, u64), a: Moment, b: Moment) -> bool
     ensures { result ≡ shares a b rung.now }
 {
     span_of(rung, a) == span_of(rung, b)
 }
 
-// Whether one of the newer closings lies in the span of the closing.
+// Whether one of the newer closings is in the span of the closing.
 fn has_newer(rung: &(u64, u64), closed: Moment, newer: &[Moment]) -> bool
     ensures { result ≡ has_newer closed newer.now rung.now }
 {
     newer.iter().any(|other| shares(rung, closed, *other))
 }
 
-// The place of the lowest rung of which both moments lie in one span.
+// The place of the lowest rung that has both moments in one span.
 fn place_shared(rungs: &[(u64, u64)], a: Moment, b: Moment) -> Option<usize>
     ensures { result ≡ position (shares a b) rungs.now }
 {
@@ -96,12 +96,13 @@ fn place_shared(rungs: &[(u64, u64)], a: Moment, b: Moment) -> Option<usize>
 }
 
 impl Ladder {
-    // Rungs of the longest ladder.
+    // The number of rungs of the longest ladder.
     const MOST_PAIRS: usize = 8;
 
     const LAST: u64 = 253402300799;
 
-    /// The ladder of these pairs of an age and a width. `BadLadder` where they are no ladder.
+    /// Returns the ladder of these pairs of an age and a width, in seconds. `BadLadder` if they are
+    /// no ladder.
     /// Cost: constant time; it looks at no more than eight pairs.
     pub fn new(pairs: &[(u64, u64)]) -> Result<Ladder, BadLadder>
         ensures valid { IsOk result ↔ IsLadder pairs.now }
@@ -118,7 +119,8 @@ impl Ladder {
         })
     }
 
-    /// One version an hour from a day on, one a day from a week on, and one a week from 30 days on.
+    /// Returns the standard ladder: one version an hour from a day on, one a day from a week on,
+    /// and one a week from 30 days on.
     /// Cost: constant time.
     pub fn standard() -> Ladder
         ensures { result ≡ (86400, 3600) ∷ (604800, 86400) ∷ (2592000, 604800) ∷ [] }
@@ -130,7 +132,7 @@ impl Ladder {
         Ladder { rungs, count: 3 }
     }
 
-    /// The pairs of an age and a width, lowest first.
+    /// Returns the pairs of an age and a width, in seconds, lowest first.
     /// Cost: constant time.
     pub fn pairs(&self) -> &[(u64, u64)]
         ensures value { result.now ≡ self.now }
@@ -139,7 +141,7 @@ impl Ladder {
         &self.rungs[..self.count]
     }
 
-    /// The level of an age in seconds: how many ages of the ladder it has reached.
+    /// Returns the level of an age in seconds: how many ages of the ladder it has reached.
     /// Cost: constant time; a ladder has at most eight pairs.
     pub fn level(&self, age: u64) -> usize
         ensures { result ≡ level_of self.now age }
@@ -147,7 +149,8 @@ impl Ladder {
         self.pairs().iter().filter(|rung| rung.0 <= age).count()
     }
 
-    /// The number of the span of that level in which a version closed; the first level is 1.
+    /// Returns the number of the span of that level in which a version closed; the first level is
+    /// 1.
     /// Cost: constant time.
     pub fn span(&self, level: usize, closed: Moment) -> u64
         requires first { 1 ≤ level }
@@ -157,7 +160,8 @@ impl Ladder {
         span_of(&self.pairs()[level - 1], closed)
     }
 
-    /// The lowest level, from 1 on, at which both moments lie in one span.
+    /// Returns the lowest level, from 1 on, that has both moments in one span. None if no level
+    /// has.
     /// Cost: constant time; a ladder has at most eight pairs.
     pub fn shared_level(&self, a: Moment, b: Moment) -> Option<usize>
         ensures { result ≡ option_map (λ place. place + 1) (position (shares a b) self.now) }
@@ -166,7 +170,7 @@ impl Ladder {
         Some(place + 1)
     }
 
-    /// The age of the lowest rung of which some newer closing lies in the span of the closing.
+    /// Returns the age of the lowest rung that has the closing and some newer closing in one span.
     pub(crate) fn shared_age(&self, closed: Moment, newer: &[Moment]) -> Option<u64>
         ensures { result
             ≡ option_map (λ rung. rung.0) (find (has_newer closed newer.now) self.now) }

@@ -1,5 +1,5 @@
-//! When a version may be forgotten: the policies that a file can have. A contract sees a policy as
-//! plain data, an interval as its seconds, and a ladder as the list of its pairs.
+//! Policies: when a version of a file becomes due. A contract sees a policy as plain data, an
+//! interval as its seconds, and a ladder as the list of its pairs.
 #![tactic(auto)]
 
 mod cause;

@@ -11,7 +11,8 @@ use crate::interval::Interval;
 use crate::ladder::Ladder;
 use std::fmt;
 
-/// The four kinds of policy, in the order in which usage is told. Each is displayed as its word in scripts.
+/// The four kinds of policy, in the order of the sums of usage. Each is displayed as its word in
+/// scripts.
 #[derive(Clone, Copy, Debug, PartialEq, Eq, Hash)]
 pub enum Kind {
     /// Keep the current version alone.
@@ -24,22 +25,22 @@ pub enum Kind {
     Landmarks,
 }
 
-/// Which versions of a file that have ended are due, and from when on. It is displayed as its word in scripts.
+/// Which ended versions of a file are due, and since when. It is displayed as its word in scripts.
 #[derive(Clone, Copy, Debug, PartialEq, Eq)]
 pub enum Policy {
-    /// Each is due as soon as it has ended.
+    /// An ended version is due at once.
     One,
-    /// None is ever due.
+    /// No version is ever due.
     All,
-    /// Each is due once it has been ended for the interval; while the file is live, only if at least as many newer versions are
-    /// held as the floor says.
+    /// A version is due once the interval has passed since its end. While the file is live, it is
+    /// due only if the file holds at least as many newer versions as the floor says.
     Safe(Interval, Floor),
-    /// One is due once, at the level of its age, a newer one lies in its span.
+    /// A version is due once a newer one is in its span, at the level of its age.
     Landmarks(Ladder),
 }
 
 impl Policy {
-    /// The kind of the policy.
+    /// Returns the kind of the policy.
     /// Cost: constant time.
     pub fn kind(&self) -> Kind
         ensures { result ≡ kind_of self.now }
@@ -52,7 +53,8 @@ impl Policy {
         }
     }
 
-    /// The policy's floor: how many newer versions a live file keeps beside one that goes. Only `Safe` has one.
+    /// Returns the policy's floor: how many newer versions a live file must hold before one goes.
+    /// It is 0 for all kinds but `Safe`.
     /// Cost: constant time.
     pub fn floor(&self) -> Floor
         ensures { result ≡ floor_of self.now }
@@ -63,7 +65,7 @@ impl Policy {
         }
     }
 
-    // Brings a proof the fact that the numbers of the policy are such as can be given.
+    // Brings a proof the fact that the policy's numbers are allowed.
     fn lemma_policy(&self)
         ensures { IsPolicy self.now }
     {
@@ -79,7 +81,7 @@ impl Policy {
         }
     }
 
-    /// Says of the policy that its numbers are such as can be given, and that it is lawful.
+    /// Brings a proof the facts that the policy's numbers are allowed, and that it is lawful.
     #[tactic(auto, using(crate::proofs::Waits::policies_are_lawful))]
     pub fn lemma_valid(&self)
         ensures given { IsPolicy self.now }

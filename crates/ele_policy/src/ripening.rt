@@ -12,7 +12,7 @@ use crate::policy::Policy;
 use crate::rule::Case;
 use ele_moment::Moment;
 
-// How many seconds after its end the policy lets a version go that closed then.
+// How many seconds after its end the policy lets go a version that closed at that moment.
 fn wait(policy: &Policy, closed: Moment, newer: &[Moment], is_live: bool) -> Option<u64>
     ensures { result
         ≡ wait policy.now closed (record { newer = newer.now; live = is_live }) }
@@ -30,7 +30,7 @@ fn wait(policy: &Policy, closed: Moment, newer: &[Moment], is_live: bool) -> Opt
     }
 }
 
-// The moment that comes so long after the end.
+// The moment that many seconds after the end.
 fn ripe_after(
     policy: &Policy,
     closed: Moment,
@@ -46,10 +46,10 @@ fn ripe_after(
     ended.plus(wait(policy, closed, newer, is_live)?)
 }
 
-/// The first moment at which the policy lets a version go that closed and ended at these moments,
-/// beside newer held versions of its file, which is live or not, that closed at those, in any order.
-/// None where that would be past the last moment. `Landmarks` alone looks at closings, and `Safe`
-/// at how many they are.
+/// Returns the first moment at which the policy lets the version go. `closed` and `ended` are the
+/// version's moments; `newer` are the closings of the newer held versions of its file, in any
+/// order. None if that would be past the last moment, or never. Only `Landmarks` looks at the
+/// closings, and only `Safe` at how many they are.
 /// Cost: constant time; under a ladder it grows with the newer versions, for each of at most eight
 /// pairs.
 pub fn ripe_beside(
@@ -68,9 +68,10 @@ pub fn ripe_beside(
     ripe_after(policy, closed, ended, newer, is_live)
 }
 
-/// The same of a version's case: told by the closing of the next held version of the file, if there is one, which isn't before the
-/// version's own, and by whether the floor is met. Whatever else stands beside the version, the answer is the same. `Safe` alone
-/// looks at the floor.
+/// Returns the first moment at which the policy lets a version go, by the version's case. The case
+/// is the closing of the next held version, if there is one, and whether the floor is met. That
+/// closing isn't before the version's own. Other newer versions don't change the answer, and only
+/// `Safe` looks at the floor.
 /// Cost: constant time; a ladder has at most eight pairs.
 pub fn ripe(
     policy: &Policy,

@@ -1,4 +1,4 @@
-//! A policy as it is in force in a file, and an ended version as it sees it.
+//! A policy in force in a file, and what it sees of an ended version.
 //! A contract sees both as plain data.
 ghost use Rattle.std.specs.Prelude.{◌≡◌, ◌≤◌, ℕ, false, nat_le, IfSome, IfNone};
 ghost use Rattle.ele_moment.specs.Last.{last_moment};
@@ -9,16 +9,16 @@ use crate::policy::Policy;
 use crate::ripening::ripe_beside;
 use ele_moment::Moment;
 
-/// A file's policy as it is in force now.
+/// A file's policy in force now.
 #[derive(Clone, Copy, Debug, PartialEq, Eq)]
 pub struct Rule {
     pub policy: Policy,
-    /// How many newer held versions have to stand beside one that goes.
+    /// How many newer versions the file must hold before one goes.
     pub newer: u64,
 }
 
 impl Policy {
-    /// The policy as it is in force in a file that is live or not: without a live name it keeps no floor.
+    /// Returns the policy in force in a file: without a live name it has no floor.
     /// Cost: constant time.
     pub fn rule_in(self, is_live: bool) -> Rule
         ensures { result ≡ rule_in self is_live }
@@ -31,19 +31,20 @@ impl Policy {
     }
 }
 
-/// A version that has ended, as the rule of its file sees it.
+/// What the rule of a file sees of one of its ended versions.
 #[derive(Clone, Copy, Debug, PartialEq, Eq)]
 pub struct Case {
     pub policy: Policy,
     pub closed: Moment,
-    /// When the next held version of the file closed, if there is one, which isn't before.
+    /// When the next held version of the file closed, if there is one. That isn't before this
+    /// version closed.
     pub next_closed: Option<Moment>,
-    /// Whether enough newer ones are held.
+    /// Whether the file holds enough newer versions.
     pub enough: bool,
 }
 
 impl Case {
-    // The ripe moment with enough newer ones.
+    // The ripe moment if the file holds enough newer versions.
     fn ripe_with_enough(&self, ended: Moment) -> Option<Moment>
         ensures { result ≡ ripe_by self.now.policy self.now.closed (alone self.now.next_closed) ended }
     {
@@ -53,7 +54,7 @@ impl Case {
         }
     }
 
-    // By the policy's kind: `Safe` alone asks how many newer ones are held.
+    // Decides by the policy's kind: only `Safe` asks how many newer versions are held.
     fn ripe_if_enough(&self, ended: Moment) -> Option<Moment>
         ensures { result ≡ ripe_case self.now ended }
     {
@@ -63,8 +64,9 @@ impl Case {
         }
     }
 
-    /// The first moment at which the policy lets a version of this case go that ended then: whatever else stands beside it, the
-    /// answer is the same. None where that would be past the last moment, or is never.
+    /// Returns the first moment at which the policy lets go a version of this case that ended at
+    /// `ended`. Other newer versions don't change the answer. None if that would be past the last
+    /// moment, or never.
     /// Cost: constant time; a ladder has at most eight pairs.
     #[tactic(auto, using(crate::proofs::Waits::is_ripe, crate::proofs::Waits::ripe_from, crate::proofs::Waits::ripe_never))]
     pub fn ripe(&self, ended: Moment) -> Option<Moment>

@@ -19,7 +19,7 @@ module _ {G : Type 0} (cmp : G → G → Ordering) where
   abbrev pub has : Index G → G → ℕ → ℕ → Bool
   has index q r s = contains entry_cmp index.entries (q, r, s)
 
--- of what passes the test up to a rank, the last is s at r
+-- of all entries up to a rank that pass the test, the last is s at r
 pub record IsLastOf (has_at : ℕ → ℕ → Bool) (rank r s : ℕ) : Type 0 where
   pub there : IsTrue (has_at r s)
   pub up_to : r ≤ rank

@@ -8,6 +8,6 @@ use Rattle.ele_rows.specs.declared.tally.Tally.{Tally}
 abbrev pub counted : {K : Type 0} → (K → K → Bool) → Tally K → K → ℕ
 counted eq t k = unwrap_or (get eq t.counts k) 0
 
--- how many new keys can be counted without memory
+-- how many new keys can be counted without more memory
 abbrev pub room : {K : Type 0} → Tally K → ℕ
 room t = spare t.counts

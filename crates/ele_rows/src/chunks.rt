@@ -1,5 +1,5 @@
-//! A list in chunks, with room behind it that can be taken in advance.
-//! A contract sees its rows, and for how many more there is room.
+//! A list in chunks, whose memory can be reserved before rows are added.
+//! A contract sees its rows, and for how many more it has memory.
 ghost use Rattle.std.specs.Prelude.{◌≡◌, ◌<◌, ◌≤◌, ◌/◌, [], ◌∷◌, ◌++◌, OnOk, IsOk, not, find, reverse, length, slice_get, max, min};
 ghost use Rattle.std.specs.Option.{option_copied};
 ghost use Rattle.ele_lists.specs.Lists.{remove_first, AllLater};
@@ -17,23 +17,23 @@ use ele_lists::Keyed;
 use std::alloc::{AllocError, Global};
 use std::marker::Model;
 
-/// How many rows a chunk has room for at most: enough that a million rows make few chunks, and few
-/// enough that a removal moves little.
+/// The largest capacity of a chunk, in rows. It is so large that a million rows make few chunks,
+/// and so small that a removal moves few rows.
 pub(crate) const LONGEST_CHUNK: usize = 64;
 
-/// And at least: most lists stay short, and each takes no more than it needs.
+/// The smallest capacity of a chunk, in rows. Most lists stay short, and each takes no more memory
+/// than it needs.
 const SHORTEST_CHUNK: usize = 4;
 
-// How many rows the next chunk has room for where there are so many: an eighth of them, within the
-// bounds.
+// The capacity of the next chunk: an eighth of the rows, within the two bounds.
 fn next_room(count: usize) -> usize
     ensures { result ≡ max 4 (min 64 (count / 8)) }
 {
     (count / 8).clamp(SHORTEST_CHUNK, LONGEST_CHUNK)
 }
 
-/// Rows in chunks, each chunk in a block of memory of its own: a removal moves the rows of one
-/// chunk. A chunk without rows is kept beside them for the next.
+/// Rows in chunks, each chunk in an allocation of its own, so that a removal moves the rows of one
+/// chunk only. An empty chunk is kept as a spare for later rows.
 #[derive(Debug, Drop)]
 pub struct Chunks<T> {
     chunks: Vec<Vec<T>>,
@@ -53,7 +53,7 @@ impl<T> Model for Chunks<T> {
 }
 
 impl<T: Drop> Chunks<T> {
-    /// No rows; this takes no memory.
+    /// Makes an empty list. It takes no memory.
     pub fn new(alloc: Global) -> Chunks<T>
         ensures { result.rows ≡ [] }
     {
@@ -65,15 +65,15 @@ impl<T: Drop> Chunks<T> {
         }
     }
 
-    /// How many rows there are.
+    /// Returns the number of rows.
     pub fn len(&self) -> usize
         ensures { result ≡ length self.now.rows }
     {
         self.count
     }
 
-    /// Makes room for one row at least, and where there was none for 64 at most. Where memory is
-    /// refused, the rows stay.
+    /// Reserves memory for one row at least; if it allocates, for at most 64. If memory is refused,
+    /// the rows stay as they were.
     pub fn reserve(&mut self) -> Result<(), AllocError>
         ensures ok { OnOk result (1 ≤ self.new.spare) }
         ensures few { self.old.spare ≡ 0 → self.new.spare ≤ 64 }
@@ -95,7 +95,7 @@ impl<T: Drop> Chunks<T> {
         Ok(())
     }
 
-    /// Adds a row behind all others.
+    /// Adds a row at the end.
     pub fn push(&mut self, row: T)
         requires { 1 ≤ self.old.spare }
         ensures { self.new.rows ≡ self.old.rows ++ row ∷ [] }
@@ -111,7 +111,7 @@ impl<T: Drop> Chunks<T> {
         }
     }
 
-    /// All rows, one after the other.
+    /// Iterates over all rows, in order.
     pub fn iter(&self) -> ChunkRows<'_, T>
         ensures { result ≡ self.now.rows }
     {
@@ -121,15 +121,15 @@ impl<T: Drop> Chunks<T> {
         }
     }
 
-    /// The last row.
+    /// Returns the last row.
     pub fn last(&self) -> Option<&T>
         ensures { option_copied result ≡ last_of self.now.rows }
     {
         last_row(&self.chunks)
     }
 
-    /// The row that has so many rows behind it. It goes back from the last chunk, at most over as
-    /// many chunks as those rows are and one.
+    /// Returns the row with so many rows after it. It goes back from the last chunk, over as many
+    /// chunks as there are such rows, plus one, at most.
     pub fn from_end(&self, behind: usize) -> Option<&T>
         ensures { option_copied result ≡ slice_get (reverse self.now.rows) behind }
     {
@@ -145,7 +145,7 @@ impl<T: Drop> Chunks<T> {
         change_last(&mut self.chunks, change);
     }
 
-    /// The first row behind the cut.
+    /// Returns the first row after the cut.
     pub fn first_behind<C: Cut<T>>(&self, cut: &C) -> Option<&T>
         requires { AllLater (Sinks (C.before cut.now)) self.now.rows }
         ensures { option_copied result ≡ find (λ row. not (C.before cut.now row)) self.now.rows }
@@ -154,7 +154,7 @@ impl<T: Drop> Chunks<T> {
         row_at(&self.chunks, chunk, place)
     }
 
-    /// The last row before the cut.
+    /// Returns the last row before the cut.
     #[tactic(auto, using(crate::proofs::Steps::last_before_steps))]
     pub fn last_before<C: Cut<T>>(&self, cut: &C) -> Option<&T>
         requires { AllLater (Sinks (C.before cut.now)) self.now.rows }
@@ -166,7 +166,7 @@ impl<T: Drop> Chunks<T> {
         }
     }
 
-    // The last row before the cut, by a search.
+    // Finds the last row before the cut by a search.
     fn last_at_seam<C: Cut<T>>(&self, cut: &C) -> Option<&T>
         requires { AllLater (Sinks (C.before cut.now)) self.now.rows }
         ensures { option_copied result ≡ find (C.before cut.now) (reverse self.now.rows) }
@@ -177,7 +177,7 @@ impl<T: Drop> Chunks<T> {
 }
 
 impl<T: Keyed + Drop> Chunks<T> {
-    /// The row of that key.
+    /// Returns the row with that key.
     pub fn get(&self, key: u64) -> Option<&T>
         requires { Rises T.key self.now.rows }
         ensures { option_copied result ≡ find (stands_by T.key key) self.now.rows }
@@ -186,7 +186,7 @@ impl<T: Keyed + Drop> Chunks<T> {
         row_at(&self.chunks, chunk, place)
     }
 
-    /// Takes out the row of that key. There is room for as many rows as before, or more.
+    /// Removes and returns the row with that key. The memory for its place stays.
     pub fn remove(&mut self, key: u64) -> Option<T>
         requires { Rises T.key self.old.rows }
         ensures row { result ≡ find (stands_by T.key key) self.old.rows }

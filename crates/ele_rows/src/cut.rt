@@ -1,14 +1,14 @@
-//! What a search asks of a row, and what becomes of one row, for lists that hide where rows stand.
+//! Traits for a search and for a change of one row, for lists that hide the places of their rows.
 //! A contract sees the test of a row, and the row after its change.
 
-/// A cut of a list in two. The lists that it is used on have no row before the cut behind one that
-/// isn't, so a binary search finds where the cut lies.
+/// A cut of a list in two parts: no row before the cut follows a row after it. A binary search
+/// finds the cut.
 pub trait Cut<T> {
     ghost use Rattle.std.specs.Prelude.{◌≡◌, Bool};
 
     ghost before: { Self → T → Bool };
 
-    /// Whether the row stands before the cut.
+    /// Whether the row is before the cut.
     fn is_behind(&self, row: &T) -> bool
         ensures { result ≡ before self.now row.now };
 }

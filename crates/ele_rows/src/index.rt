@@ -8,15 +8,15 @@ use std::alloc::{AllocError, Global};
 use std::collections::BTreeSet;
 use std::collections::btree_set::Range;
 
-/// Serial numbers of rows that stand elsewhere, each at the group and the rank of its row. Every
-/// call looks at a logarithm of them.
+/// Serial numbers of rows that another list holds, each under the group and the rank of its row.
+/// Each call takes time that grows with their logarithm.
 #[derive(Drop)]
 pub struct Index<G: Ord> {
     entries: BTreeSet<(G, u64, u64)>,
 }
 
 impl<G: Ord + Copy> Index<G> {
-    /// No serial numbers. It takes no memory.
+    /// Makes an empty index. It takes no memory.
     pub fn new(alloc: Global) -> Index<G>
         ensures { (q : G) (r : ℕ) (s : ℕ) → has G.cmp result q r s ≡ false }
     {
@@ -25,8 +25,8 @@ impl<G: Ord + Copy> Index<G> {
         }
     }
 
-    /// Puts a serial number at the group and the rank. `AllocError` where there is no room for it;
-    /// the index then has what it had.
+    /// Adds a serial number under the group and the rank. `AllocError` if memory is refused; the
+    /// index is then as it was.
     pub fn insert(&mut self, group: G, rank: u64, serial: u64) -> Result<(), AllocError>
         ensures ok { OnOk result ((q : G) (r : ℕ) (s : ℕ) → has G.cmp self.new q r s
             ≡ cond (is_entry G.cmp group rank serial q r s) true (has G.cmp self.old q r s)) }
@@ -37,7 +37,7 @@ impl<G: Ord + Copy> Index<G> {
         Ok(())
     }
 
-    /// Takes a serial number from the group and the rank, if it is there.
+    /// Removes a serial number from the group and the rank, if it is there.
     pub fn remove(&mut self, group: G, rank: u64, serial: u64)
         ensures { (q : G) (r : ℕ) (s : ℕ) → has G.cmp self.new q r s
             ≡ cond (is_entry G.cmp group rank serial q r s) false (has G.cmp self.old q r s) }
@@ -45,7 +45,7 @@ impl<G: Ord + Copy> Index<G> {
         let _was = self.entries.remove(&(group, rank, serial));
     }
 
-    /// The last entry of the group up to the rank: its rank and its serial number.
+    /// Returns the group's last entry up to the rank: its rank and its serial number.
     pub fn last(&self, group: G, rank: u64) -> Option<(u64, u64)>
         ensures some { IfSome result (λ e. IsLastOf (has G.cmp self.now group) rank e.0 e.1) }
         ensures none { IfNone result ((r : ℕ) (s : ℕ) → r ≤ rank → s < 2 ^ 64
@@ -58,7 +58,7 @@ impl<G: Ord + Copy> Index<G> {
         Some((*rank, *serial))
     }
 
-    /// The entries of the group, by rank and then by serial number.
+    /// Returns the group's entries, by rank and then by serial number.
     #[tactic(auto, using(crate::proofs::Steps::of_steps))]
     pub fn of(&self, group: G) -> Range<'_, (G, u64, u64)>
         ensures each { AllByRecursion (λ e. has G.cmp self.now group e.1 e.2 ≡ true) result }

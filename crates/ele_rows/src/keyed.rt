@@ -8,8 +8,8 @@ ghost use Rattle.ele_lists.specs.Keys.{Rises, stands_by, is_behind};
 use crate::cut::Cut;
 use ele_lists::Keyed;
 
-/// The place of the row of that key, or else the place where one would stand: before the first row
-/// of a greater key, or at the end where there is none.
+/// Returns the place of the row with that key, or else the place to insert one. That is before the
+/// first row of a greater key, or at the end.
 pub fn place_of<T: Keyed>(rows: &[T], key: u64) -> Result<usize, usize>
     requires { Rises T.key rows.now }
     ensures found { IfOk result (λ at. position (stands_by T.key key) rows.now ≡ Some at) }
@@ -27,9 +27,8 @@ pub fn place_of<T: Keyed>(rows: &[T], key: u64) -> Result<usize, usize>
     }
 }
 
-/// The place of the row of that key, if no number between the first row's key and this one is
-/// missing. Rows that are numbered as they are made stand so until one leaves, and this look spares
-/// the search.
+/// The place of the row with that key, if the keys from the first row to this one have no gap. Rows
+/// get their numbers in order, so this holds until one is removed, and it saves the search.
 fn place_if_dense<T: Keyed>(rows: &[T], key: u64) -> Option<usize>
     requires { Rises T.key rows.now }
     ensures { IfSome result (λ at. position (stands_by T.key key) rows.now ≡ Some at) }
@@ -42,8 +41,8 @@ fn place_if_dense<T: Keyed>(rows: &[T], key: u64) -> Option<usize>
     }
 }
 
-/// The place of the row of that key, if no number between this one and the last row's key is
-/// missing. The oldest rows leave first where rows leave, and those behind them stand so.
+/// The place of the row with that key, if the keys from this one to the last row have no gap. Old
+/// rows are removed first, so the newer ones often have none.
 pub(crate) fn place_if_dense_behind<T: Keyed>(rows: &[T], key: u64) -> Option<usize>
     requires { Rises T.key rows.now }
     ensures { IfSome result (λ at. position (stands_by T.key key) rows.now ≡ Some at) }
@@ -56,11 +55,11 @@ pub(crate) fn place_if_dense_behind<T: Keyed>(rows: &[T], key: u64) -> Option<us
     }
 }
 
-/// The cut before a key: rows of lesser keys stand before it.
+/// The cut before a key: rows with lesser keys are before it.
 #[derive(Clone, Copy, Debug)]
 pub struct BeforeKey(pub u64);
 
-/// The cut behind a key: rows of keys up to it stand before it.
+/// The cut after a key: rows with that key or a lesser one are before it.
 #[derive(Clone, Copy, Debug)]
 pub struct BehindKey(pub u64);
 

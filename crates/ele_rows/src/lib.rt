@@ -1,4 +1,4 @@
-//! Where rows are kept: by a rising key, in chunks, counted, and in indexes.
+//! Lists of rows: in chunks by a rising key, counted by key, and indexed.
 //! A contract sees chunks as the list of their rows, a tally as counts, and an index as a test.
 #![tactic(auto)]
 

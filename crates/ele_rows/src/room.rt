@@ -1,9 +1,9 @@
-//! A change of a vector where there is room, so that it can't be refused.
-//! A contract sees a vector as its items, its length and the room behind it.
+//! An insertion into a vector with spare capacity, which can't fail.
+//! A contract sees a vector as its items, its length and its capacity.
 ghost use Rattle.std.specs.Prelude.{◌≡◌, ◌<◌, ◌≤◌, vec_len, vec_capacity};
 ghost use Rattle.std.specs.List.{insert};
 
-/// Adds an item at a place, where there is room.
+/// Inserts an item at a place, if the vector has spare capacity.
 pub fn put_at<T>(items: &mut Vec<T>, at: usize, item: T)
     requires place { at ≤ vec_len items.old }
     requires room { vec_len items.old < vec_capacity items.old }

@@ -1,16 +1,16 @@
-//! The rows of a list in chunks, one after the other.
-//! A contract sees those that are left.
+//! The iterator over the rows of a list in chunks.
+//! A contract sees the rows that are still to come.
 ghost use Rattle.std.specs.Iterator.{YieldsFirstRef, item_count};
 
 use std::iter::FusedIterator;
 use std::marker::Model;
 
-/// Goes over the rows of a list in chunks.
+/// Iterates over the rows of a list in chunks.
 #[derive(Drop)]
 pub struct ChunkRows<'a, T> {
-    /// What is left of the chunk in hand.
+    /// The rest of the current chunk.
     pub(crate) rows: &'a [T],
-    /// The chunks behind it.
+    /// The chunks after it.
     pub(crate) chunks: &'a [Vec<T>],
 }
 

@@ -1,4 +1,4 @@
-//! Chunks that follow one another, each with rows, as one list of rows.
+//! A sequence of chunks, none of them empty, as one list of rows.
 //! A contract sees that list, and a place in it as the number of a chunk and a place in the chunk.
 ghost use Rattle.std.specs.Prelude.{◌≡◌, ◌<◌, ◌≤◌, ◌+◌, ◌++◌, Some, false, IsTrue, OnSome, IfNone, IfSome, [], ◌∷◌, ◌↔◌, length, reverse, vec_len, vec_capacity, suc, slice_get};
 ghost use Rattle.std.specs.Option.{option_copied};
@@ -13,7 +13,7 @@ use crate::cut::{Change, Cut};
 use crate::keyed::{BeforeKey, place_if_dense_behind};
 use ele_lists::Keyed;
 
-/// Whether the last chunk has room for one row more.
+/// Whether the last chunk has spare capacity.
 #[tactic(auto, using(crate::proofs::Steps::last_has_room_steps))]
 pub fn last_has_room<T>(chunks: &[Vec<T>]) -> bool
     ensures { IsTrue result ↔ (1 ≤ last_room chunks.now) }
@@ -38,7 +38,7 @@ pub fn push_last<T>(chunks: &mut [Vec<T>], row: T)
     chunks[last].push_reserved(row);
 }
 
-/// The last row.
+/// Returns the last row.
 #[tactic(auto, using(crate::proofs::Steps::last_row_steps))]
 pub fn last_row<T>(chunks: &[Vec<T>]) -> Option<&T>
     requires { AreFilled chunks.now }
@@ -76,14 +76,14 @@ pub fn change_last<T, C: Change<T>>(chunks: &mut [Vec<T>], change: &C)
     change_end(&mut chunks[last], change);
 }
 
-/// The row at the place in the chunk.
+/// Returns the row at the place in the chunk.
 pub fn row_at<T>(chunks: &[Vec<T>], chunk: usize, place: usize) -> Option<&T>
     ensures { option_copied result ≡ slice_get (rows_at chunks.now chunk) place }
 {
     chunks.get(chunk)?.get(place)
 }
 
-/// The row before the place.
+/// Returns the row before the place.
 #[tactic(auto, using(crate::proofs::Steps::row_before_steps))]
 pub fn row_before<T>(chunks: &[Vec<T>], chunk: usize, place: usize) -> Option<&T>
     requires filled { AreFilled chunks.now }
@@ -98,7 +98,7 @@ pub fn row_before<T>(chunks: &[Vec<T>], chunk: usize, place: usize) -> Option<&T
     }
 }
 
-/// The row that has so many rows behind it.
+/// Returns the row with so many rows after it.
 #[tactic(auto, using(crate::proofs::Steps::row_from_end_steps))]
 pub fn row_from_end<T>(chunks: &[Vec<T>], behind: usize) -> Option<&T>
     ensures { option_copied result ≡ slice_get (reverse (flat chunks.now)) behind }
@@ -114,7 +114,7 @@ pub fn row_from_end<T>(chunks: &[Vec<T>], behind: usize) -> Option<&T>
     None
 }
 
-// Whether all rows of the chunk come before the cut.
+// Whether all rows of the chunk are before the cut.
 #[tactic(auto, using(crate::proofs::Steps::ends_before_steps))]
 fn ends_before<T, C: Cut<T>>(chunk: &[T], cut: &C) -> bool
     ensures { result ≡ ends_before (C.before cut.now) chunk.now }
@@ -125,8 +125,8 @@ fn ends_before<T, C: Cut<T>>(chunk: &[T], cut: &C) -> bool
     }
 }
 
-/// The place of the first row behind the cut: its chunk, and its place there. If there is none, it
-/// is the start of the chunk that would come next.
+/// Returns the place of the first row after the cut: its chunk, and its place there. If there is
+/// none, the place is the start of a chunk after the last.
 pub fn seek<T, C: Cut<T>>(chunks: &[Vec<T>], cut: &C) -> (usize, usize)
     requires filled { AreFilled chunks.now }
     requires sinks { AllLater (Sinks (C.before cut.now)) (flat chunks.now) }
@@ -139,7 +139,7 @@ pub fn seek<T, C: Cut<T>>(chunks: &[Vec<T>], cut: &C) -> (usize, usize)
     }
 }
 
-/// The place of the row of that key: its chunk, and its place there.
+/// Returns the place of the row with that key: its chunk, and its place there.
 pub fn find_key<T: Keyed>(chunks: &[Vec<T>], key: u64) -> Option<(usize, usize)>
     requires filled { AreFilled chunks.now }
     requires rises { Rises T.key (flat chunks.now) }
@@ -159,8 +159,8 @@ pub fn find_key<T: Keyed>(chunks: &[Vec<T>], key: u64) -> Option<(usize, usize)>
     }
 }
 
-// The place of the row of that key, if one look finds it: rows that are numbered as they are made
-// stand where their numbers tell until one behind them leaves.
+// The place of the row with that key, if one look finds it. Rows get their numbers in order, so a
+// row's number gives its place until a later row is removed.
 fn find_dense<T: Keyed>(chunks: &[Vec<T>], key: u64) -> Option<(usize, usize)>
     requires { Rises T.key (flat chunks.now) }
     ensures { IfSome result (λ at. IsPlaceOf (stands_by T.key key) chunks.now at.0 at.1) }
@@ -170,9 +170,9 @@ fn find_dense<T: Keyed>(chunks: &[Vec<T>], key: u64) -> Option<(usize, usize)>
     Some((chunk, place))
 }
 
-// The last chunk, if the key is in it where none is missing behind it: most calls ask for one of the
-// last rows. Else the first chunk, if the key is in it, or the one that the key tells if the chunks
-// between have as many rows as they may.
+// The chunk that probably has the key. It is the last one if its keys from there on have no gap, as
+// most calls ask for one of the last rows. Otherwise it is the first chunk if that has the key, or
+// the chunk that the key would have if the chunks between were full.
 fn likely_chunk<T: Keyed>(chunks: &[Vec<T>], key: u64) -> Option<usize> {
     let last = chunks.len().checked_sub(1)?;
     let rows = chunks[last].len() as u64;
@@ -187,7 +187,7 @@ fn likely_chunk<T: Keyed>(chunks: &[Vec<T>], key: u64) -> Option<usize> {
     last.checked_sub(between)?.checked_sub(1)
 }
 
-/// Takes out the row at the place, and hands back its chunk if that was the last row there.
+/// Removes the row at the place, and returns its chunk if that was the chunk's last row.
 #[tactic(auto, using(crate::proofs::Steps::take_out_steps))]
 pub fn take_out<T>(chunks: &mut Vec<Vec<T>>, chunk: usize, place: usize) -> (T, Option<Vec<T>>)
     requires place { place < length (rows_at chunks.old.items chunk) }

@@ -7,14 +7,14 @@ use std::alloc::{AllocError, Global};
 use std::collections::HashMap;
 use std::hash::Hash;
 
-/// How often each key was counted; one that never was has 0, and takes no room.
+/// How often each key was counted. A key that never was has the count 0, and takes no memory.
 #[derive(Drop)]
 pub struct Tally<K: Eq + Hash> {
     counts: HashMap<K, u64>,
 }
 
 impl<K: Eq + Hash + Copy> Tally<K> {
-    /// Nothing counted. It takes no memory.
+    /// Makes an empty tally. It takes no memory.
     pub fn new(alloc: Global) -> Tally<K>
         ensures { (k : K) → counted K.eq result k ≡ 0 }
     {
@@ -23,7 +23,7 @@ impl<K: Eq + Hash + Copy> Tally<K> {
         }
     }
 
-    /// Finds room to count one more key. `AllocError` where there is none; no count changes.
+    /// Reserves memory to count one more key. `AllocError` if memory is refused; no count changes.
     pub fn reserve(&mut self) -> Result<(), AllocError>
         ensures same { (k : K) → counted K.eq self.new k ≡ counted K.eq self.old k }
         ensures ok { OnOk result (0 < room self.new) }
@@ -32,18 +32,18 @@ impl<K: Eq + Hash + Copy> Tally<K> {
         Ok(())
     }
 
-    /// How often the key was counted.
+    /// Returns how often the key was counted.
     pub fn count(&self, key: K) -> u64
         ensures { result ≡ counted K.eq self.now key }
     {
         if self.counts.is_empty() {
-            // No key has to be hashed.
+            // An empty tally needn't hash the key.
             return 0;
         }
         self.counts.get(&key).copied().unwrap_or(0)
     }
 
-    /// Counts the key once more, in reserved room.
+    /// Adds one to the count of the key, in reserved memory.
     pub fn add(&mut self, key: K)
         requires room { 0 < room self.old }
         requires fits { counted K.eq self.old key + 1 < 2 ^ 64 }
@@ -57,7 +57,7 @@ impl<K: Eq + Hash + Copy> Tally<K> {
         }
     }
 
-    /// Counts the key once less; one that isn't counted stays so. It takes no memory.
+    /// Takes one from the count of the key; a count of 0 stays. It takes no memory.
     pub fn take(&mut self, key: K)
         ensures { (k : K) → counted K.eq self.new k
             ≡ counted K.eq self.old k - (if K.eq key k then 1 else 0) }

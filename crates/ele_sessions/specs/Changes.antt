@@ -1,4 +1,4 @@
--- What writes and truncates answer, and what they make of a draft.
+-- The replies to writes and truncates, and the drafts after them.
 use Rattle.std.specs.Prelude.{◌≡◌, ℕ, ◌+◌, ◌==◌, nat_lt, true, false, Bool, MatchBool, List, [], ◌∷◌, length, Option, Some, None, Result, Ok, Err, find, if◌then◌else◌}
 use Rattle.std.specs.Option.{IsSomeAnd, option_map_or}
 use Rattle.ele_content.specs.Content.{longest_content}
@@ -30,11 +30,11 @@ truncate_refusal_of (Ok file) size = if nat_lt longest_content size then Some To
 abbrev pub truncate_refusal : List HandleRow → ℕ → ℕ → Option Refusal
 truncate_refusal handles handle size = truncate_refusal_of (file_by handles handle) size
 
--- the draft with another map, and changed
+-- the draft with another map, marked as changed
 abbrev pub rewritten_by : Layout → Draft → Draft
 rewritten_by layout draft = record draft { layout = layout; changed = true }
 
--- the file's draft has another map, which is made like that, and the other drafts are as they were
+-- the file's draft has another map, which is made in that way, and the other drafts are as they were
 pub record RewritesDraft (old new : List Draft) (file : ℕ) (Made : Draft → Layout → Type 0) : Type 0 where
   pub was : Draft
   pub layout : Layout
@@ -42,7 +42,7 @@ pub record RewritesDraft (old new : List Draft) (file : ℕ) (Made : Draft → L
   pub made : new ≡ update_first (is_draft file) (rewritten_by layout) old
   pub how : Made was layout
 
--- and handles are as they were
+-- and the handles are as they were
 abbrev pub Redrafts : AllSessions → AllSessions → ℕ → (Draft → Layout → Type 0) → Type 0
 Redrafts old new file Made = (new ≡ record old { drafts = new.drafts }) × RewritesDraft old.drafts new.drafts file Made
 
@@ -51,13 +51,13 @@ pub record Stays (s t : Store) (old new : AllSessions) : Type 0 where
   pub sessions : new ≡ old
   pub store : t ≡ s
 
--- a write of no bytes changes nothing, and each other is in the draft under the handle, which is then changed
+-- an empty write changes nothing; any other write is in the handle's draft, which is then changed
 abbrev pub Writes : Store → Store → AllSessions → AllSessions → ℕ → ℕ → List ℕ → Type 0
 Writes s t old new handle offset [] = Stays s t old new
 Writes s t old new handle offset (byte ∷ bytes) =
     IsSomeAnd (handle_file old.handles handle) (λ file. Redrafts old new file (λ was. IsWritten s t was.number offset (byte ∷ bytes) was.layout))
 
--- whether it is a draft of that many bytes
+-- the draft is there and has that many bytes
 abbrev pub has_length : ℕ → Option Draft → Bool
 has_length size draft = option_map_or (λ d. d.layout.size == size) draft false
 
@@ -71,6 +71,6 @@ abbrev pub Refits : Store → Store → AllSessions → AllSessions → ℕ → 
 Refits s t old new file size =
     MatchBool (has_length size (draft_of old file)) (Stays s t old new) (Redrafts old new file (λ was. IsResized s t was.number size was.layout))
 
--- so does one of the draft under the handle
+-- the same for the handle's draft
 abbrev pub Truncates : Store → Store → AllSessions → AllSessions → ℕ → ℕ → Type 0
 Truncates s t old new handle size = IsSomeAnd (handle_file old.handles handle) (λ file. Refits s t old new file size)

@@ -5,7 +5,7 @@ use Rattle.ele_model.specs.declared.refusal.Refusal.TheVariants as refusal
 use Rattle.ele_sessions.specs.declared.fault.SessionFault.{SessionFault}
 use Rattle.ele_sessions.specs.declared.fault.SessionFault.TheVariants.{NoHandle, NotWriter, TooBig, NoMemory}
 
--- the refusal of the same name; want of memory is none
+-- the refusal of the same name; refused memory is none
 abbrev pub refusal_of : SessionFault → Option Refusal
 refusal_of NoHandle = Some refusal.NoHandle
 refusal_of NotWriter = Some refusal.NotWriter

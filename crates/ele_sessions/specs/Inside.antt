@@ -1,4 +1,4 @@
--- What the fields say of drafts and handles. No public clause cites this module.
+-- The drafts and handles in the fields. No public clause cites this module.
 use Rattle.std.specs.Prelude.{◌≡◌, ℕ, List, Some, None, map, length}
 use Rattle.std.specs.List.{position}
 use Rattle.std.specs.Option.{unwrap_or}
@@ -8,7 +8,7 @@ use Rattle.ele_sessions.specs.declared.entries.Entry.{Entry}
 use Rattle.ele_sessions.specs.Sessions.{Draft}
 use Rattle.ele_model.specs.declared.rows.HandleRow.{HandleRow}
 
--- the file's draft, with what is kept of it
+-- the file's draft, with its fields
 abbrev pub draft_with : ℕ → Fields → Draft
 draft_with file fields = record {
   file = file;
@@ -30,11 +30,11 @@ file_in entry = entry.file
 abbrev pub number_in : HandleRow → ℕ
 number_in handle = handle.number
 
--- the first element of this key stands there
+-- the first element of this key is at the place
 abbrev pub IsAt : {X : Type 0} → (X → ℕ) → ℕ → List X → ℕ → Type 0
 IsAt key this xs i = position (stands_by key this) xs ≡ Some i
 
--- no element has this key, and it would stand at that place
+-- no element has this key, and one would be inserted at that place
 pub record IsGap {X : Type 0} (key : X → ℕ) (this : ℕ) (xs : List X) (i : ℕ) : Type 0 where
   pub missing : position (stands_by key this) xs ≡ None
   pub gap : unwrap_or (position (is_behind key this) xs) (length xs) ≡ i

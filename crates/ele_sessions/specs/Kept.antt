@@ -1,4 +1,4 @@
--- What the fields keep. No public clause cites this module.
+-- The invariant of the fields. No public clause cites this module.
 use Rattle.std.specs.Prelude.{◌≡◌, ℕ, ◌≤◌, Bool, List, length}
 use Rattle.std.specs.List.{count_by}
 use Rattle.ele_rows.specs.declared.tally.Tally.{Tally}
@@ -11,7 +11,7 @@ use Rattle.ele_model.specs.contracts.rows.ReadsPartialEq.TheImpl.{eq-value}
 use Rattle.ele_model.specs.declared.rows.HandleRow.{HandleRow}
 use Rattle.ele_model.specs.declared.rows.Reads.{Reads}
 
--- the two are one
+-- the two are equal
 abbrev pub reads_eq : Reads → Reads → Bool
 reads_eq = eq-value.it
 
@@ -19,7 +19,7 @@ reads_eq = eq-value.it
 abbrev pub reading : Reads → List HandleRow → ℕ
 reading what handles = count_by (λ handle. reads_eq handle.reads what) handles
 
--- drafts and handles are orderly, and what handles read is counted
+-- drafts and handles are orderly, and the counts are those of what handles read
 pub record Keeps (s : AllSessions) (counts : Tally Reads) : Type 0 where
   pub orderly : AreOrderly s
   pub few : length s.handles ≤ s.opened

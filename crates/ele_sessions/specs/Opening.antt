@@ -1,4 +1,4 @@
--- What the opening of a handle makes of the drafts and handles.
+-- The drafts and handles after a handle is opened.
 use Rattle.std.specs.Prelude.{◌≡◌, ℕ, ◌+◌, false, MatchBool, List, [], ◌∷◌, ◌++◌, if◌then◌else◌}
 use Rattle.std.specs.List.{list_any}
 use Rattle.ele_blocks.specs.Layout.{Layout}
@@ -15,16 +15,16 @@ abbrev pub new_draft : ℕ → ℕ → ℕ → Layout → Draft
 new_draft file number at layout =
     record { file = file; number = number; opened = at; layout = layout; changed = false }
 
--- the drafts with one of the file: that which is there, or else the new one
+-- the drafts with one of the file: its own, or else the new one
 abbrev pub with_draft : Draft → List Draft → List Draft
 with_draft new drafts =
     if list_any (is_draft new.file) drafts then drafts else insert_before (is_draft_after new.file) new drafts
 
--- the handles with the next one, by which that is read
+-- the handles with the next one, which reads that
 abbrev pub with_handle : AllSessions → Reads → List HandleRow
 with_handle s what = s.handles ++ record { number = s.opened + 1; reads = what } ∷ []
 
--- one more handle, by which the file of the draft is written
+-- one more handle, which writes the file of the draft
 abbrev pub opened_by : AllSessions → Draft → AllSessions
 opened_by s new = record {
   drafts = with_draft new s.drafts;
@@ -32,11 +32,11 @@ opened_by s new = record {
   opened = s.opened + 1;
 }
 
--- one more handle, by which the version is read
+-- one more handle, which reads the version
 abbrev pub reader_opened : AllSessions → ℕ → ℕ → AllSessions
 reader_opened s file number =
     record s { handles = with_handle s (reads.Version file number); opened = s.opened + 1 }
 
--- a draft that starts owns a copy of the map, and where one is there, the store is as it was
+-- a new draft owns a copy of the map; with an old one the store is as it was
 abbrev pub Opens : Store → Store → List Draft → ℕ → Layout → Type 0
 Opens s t drafts file layout = MatchBool (list_any (is_draft file) drafts) (t ≡ s) (Moves s t [] (layout ∷ []))

@@ -1,4 +1,4 @@
--- What holds between the elements of a list.
+-- Relations between the elements of a list.
 use Rattle.std.specs.Prelude.{ℕ, ◌<◌, List}
 pub use Rattle.ele_lists.specs.Lists.{AllLater}
 

@@ -5,8 +5,7 @@ use Rattle.ele_blocks.specs.Layout.{Layout}
 use Rattle.ele_model.specs.World.{file_by}
 use Rattle.ele_model.specs.declared.rows.HandleRow.{HandleRow}
 
--- a file's coming version: its number, when the draft was opened, the map of its content, and whether
--- it was changed
+-- a file's unsaved content: the number of its version, when the draft was opened, its map, and whether it was changed
 pub record Draft : Type 0 where
   pub file : ℕ
   pub number : ℕ
@@ -27,7 +26,7 @@ is_draft file draft = draft.file == file
 abbrev pub is_draft_after : ℕ → Draft → Bool
 is_draft_after file draft = nat_lt file draft.file
 
--- the file that is written through the handle, if there is one
+-- the file that the handle writes, if it writes one
 abbrev pub handle_file : List HandleRow → ℕ → Option ℕ
 handle_file handles number = result_ok (file_by handles number)
 
@@ -39,6 +38,6 @@ abbrev pub draft_for : AllSessions → Option ℕ → Option Draft
 draft_for s None = None
 draft_for s (Some file) = draft_of s file
 
--- the draft that is written through the handle
+-- the draft that the handle writes
 abbrev pub draft_by : AllSessions → ℕ → Option Draft
 draft_by s number = draft_for s (handle_file s.handles number)

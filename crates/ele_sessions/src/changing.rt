@@ -1,5 +1,5 @@
 //! A change of one draft among those of all files.
-//! A contract sees the list of drafts, in which one has another map and is changed.
+//! A contract sees the list of drafts, in which one is changed and has another map.
 ghost use Rattle.std.specs.Prelude.{◌≡◌, ◌≤◌, ◌+◌, true, OnOk, OnErr, IsOk, IsTrue, length, find};
 ghost use Rattle.std.specs.List.{list_any};
 ghost use Rattle.std.specs.Option.{ForSome};
@@ -15,8 +15,7 @@ use crate::entries::{Entry, place_of};
 use ele_blocks::BlockStore;
 use ele_moment::{FileId, NoMemory};
 
-/// Writes the bytes into the file's draft. Where memory is refused, drafts and store are as they
-/// were.
+/// Writes the bytes into the file's draft. If memory is refused, drafts and store are as they were.
 pub fn write_draft(
     drafts: &mut Vec<Entry>,
     store: &mut BlockStore,
@@ -43,8 +42,8 @@ pub fn write_draft(
     Ok(())
 }
 
-/// Makes the file's draft so many bytes long, if it isn't.
-/// Where memory is refused, drafts and store are as they were.
+/// Sets the length of the file's draft to so many bytes, if it has another. If memory is refused,
+/// drafts and store are as they were.
 pub fn truncate_draft(
     drafts: &mut Vec<Entry>,
     store: &mut BlockStore,

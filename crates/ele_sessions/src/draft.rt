@@ -1,5 +1,5 @@
 //! A file's draft: the map of its content, and whether it was changed.
-//! A contract sees its fields, with the map as its layout.
+//! A contract sees its fields, and the map as its layout.
 ghost use Rattle.std.specs.Prelude.{◌≡◌, ◌≤◌, ◌+◌, true, OnOk, OnErr, length};
 ghost use Rattle.ele_content.specs.Content.{longest_content};
 ghost use Rattle.ele_blocks.specs.Changes.{IsWritten, IsResized};
@@ -8,7 +8,7 @@ ghost use Rattle.ele_blocks.specs.LivesIn.{LivesIn};
 use ele_blocks::{BlockMap, BlockStore};
 use ele_moment::{Moment, NoMemory, VersionNo};
 
-/// The coming version of a file.
+/// The unsaved content of a file.
 #[derive(Debug, Drop)]
 pub struct Draft {
     pub number: VersionNo,
@@ -18,7 +18,7 @@ pub struct Draft {
 }
 
 impl Draft {
-    /// Writes the bytes, and marks the draft. Where memory is refused, draft and store are as they
+    /// Writes the bytes, and sets `changed`. If memory is refused, draft and store are as they
     /// were.
     pub fn write(
         &mut self,
@@ -40,8 +40,8 @@ impl Draft {
         Ok(())
     }
 
-    /// Makes the content so many bytes long, and marks the draft.
-    /// Where memory is refused, draft and store are as they were.
+    /// Sets the length of the content to so many bytes, and sets `changed`. If memory is refused,
+    /// draft and store are as they were.
     pub fn truncate(&mut self, store: &mut BlockStore, size: u64) -> Result<(), NoMemory>
         requires lives { LivesIn store.old self.old.map }
         requires fits { size ≤ longest_content }

@@ -20,7 +20,7 @@ use ele_model::{HandleRow, Reads, Refusal};
 use ele_moment::{FileId, Handle};
 use ele_rows::Tally;
 
-/// A file's draft. It lies apart, so that few bytes move when another draft comes or goes.
+/// A file's draft, boxed, so that few bytes move when another draft is added or removed.
 #[derive(Debug, Drop)]
 pub struct Entry {
     pub file: FileId,
@@ -35,7 +35,7 @@ impl Keyed for Entry {
     }
 }
 
-/// The place of the file's draft, or where it would stand.
+/// The place of the file's draft, or else the place to insert one.
 pub fn place_of(drafts: &[Entry], file: FileId) -> Result<usize, usize>
     requires { Rises file_in drafts.now }
     ensures found { IfOk result (IsAt file_in file drafts.now) }
@@ -44,7 +44,7 @@ pub fn place_of(drafts: &[Entry], file: FileId) -> Result<usize, usize>
     ele_rows::place_of(drafts, file.0)
 }
 
-/// The place of the handle of that number, or where it would stand.
+/// The place of the handle of that number, or else the place to insert one.
 pub fn handle_place(handles: &[HandleRow], number: Handle) -> Result<usize, usize>
     requires { Rises number_in handles.now }
     ensures found { IfOk result (IsAt number_in number handles.now) }
@@ -53,7 +53,7 @@ pub fn handle_place(handles: &[HandleRow], number: Handle) -> Result<usize, usiz
     ele_rows::place_of(handles, number.0)
 }
 
-/// One handle more, in reserved room. It is counted with those that read the same.
+/// Adds a handle, in reserved memory, and counts it with those that read the same.
 pub fn enter(handles: &mut Vec<HandleRow>, counts: &mut Tally<Reads>, handle: &HandleRow)
     requires room { vec_len handles.old < vec_capacity handles.old }
     requires counts_room { 0 < room counts.old }
@@ -66,7 +66,7 @@ pub fn enter(handles: &mut Vec<HandleRow>, counts: &mut Tally<Reads>, handle: &H
     counts.add(handle.reads);
 }
 
-/// The handle that was found there goes. The answer is what was read through it.
+/// Removes the handle that was found, and returns what it read.
 #[tactic(auto, using(crate::proofs::Found::handle_steps))]
 pub fn take_found(handles: &mut Vec<HandleRow>, found: &FoundHandle) -> Reads
     requires { StandsAt handles.old.items found.now }
@@ -78,7 +78,7 @@ pub fn take_found(handles: &mut Vec<HandleRow>, found: &FoundHandle) -> Reads
     row.reads
 }
 
-/// The handle of that number, with its place. Refused: `NoHandle`.
+/// Returns the handle of that number, with its place. Refused: `NoHandle`.
 #[tactic(auto, using(crate::proofs::Found::handle_steps))]
 pub fn handle_by(handles: &[HandleRow], number: Handle) -> Result<FoundHandle, Refusal>
     requires { Rises number_in handles.now }
@@ -96,7 +96,7 @@ pub fn handle_by(handles: &[HandleRow], number: Handle) -> Result<FoundHandle, R
     })
 }
 
-/// What is read through the handle. Refused: `NoHandle`.
+/// Returns what the handle reads. Refused: `NoHandle`.
 pub fn reads_by(handles: &[HandleRow], number: Handle) -> Result<Reads, Refusal>
     requires { Rises number_in handles.now }
     ensures { result ≡ reads_by handles.now number }
@@ -107,7 +107,7 @@ pub fn reads_by(handles: &[HandleRow], number: Handle) -> Result<Reads, Refusal>
     }
 }
 
-// The file that a handle writes that reads this. Refused: `NotWriter`.
+// The file that the handle writes, if it writes one. Refused: `NotWriter`.
 fn file_written(reads: Reads) -> Result<FileId, Refusal>
     ensures { result ≡ file_written (Ok reads) }
 {
@@ -117,7 +117,7 @@ fn file_written(reads: Reads) -> Result<FileId, Refusal>
     }
 }
 
-/// The file that is written through the handle. Refused: `NoHandle`, `NotWriter`.
+/// Returns the file that the handle writes. Refused: `NoHandle`, `NotWriter`.
 pub fn file_by(handles: &[HandleRow], number: Handle) -> Result<FileId, Refusal>
     requires { Rises number_in handles.now }
     ensures { result ≡ file_by handles.now number }
@@ -128,7 +128,7 @@ pub fn file_by(handles: &[HandleRow], number: Handle) -> Result<FileId, Refusal>
     }
 }
 
-/// The file that is written through the handle, or the fault that the refusal is.
+/// Returns the file that the handle writes, or the fault of that refusal.
 pub fn written_by(handles: &[HandleRow], number: Handle) -> Result<FileId, SessionFault>
     requires { Rises number_in handles.now }
     ensures file { IfOk result (λ file. file_by handles.now number ≡ Ok file) }

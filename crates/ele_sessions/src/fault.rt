@@ -12,13 +12,13 @@ pub enum SessionFault {
     /// No open handle has that number.
     #[error("no such handle")]
     NoHandle,
-    /// The handle reads a version.
+    /// The handle is for reading.
     #[error("the handle is one for reading")]
     NotWriter,
     /// The content would be longer than 1,048,576 bytes.
     #[error("the content would be too long")]
     TooBig,
-    /// There is no memory for the change.
+    /// Memory for the change was refused.
     #[error("out of memory")]
     NoMemory,
 }

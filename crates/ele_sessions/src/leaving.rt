@@ -1,4 +1,4 @@
-//! One writer of a file fewer, with whom the draft may go.
+//! One writer of a file closes, and its draft may be removed.
 //! A contract sees the list of drafts.
 ghost use Rattle.std.specs.Prelude.{◌≡◌, true, find, Some};
 ghost use Rattle.std.specs.List.{list_any};
@@ -12,7 +12,7 @@ use crate::entries::{Entry, place_of};
 use ele_blocks::BlockMap;
 use ele_moment::FileId;
 
-// What the draft comes to when its last writer closes.
+// What the close of its last writer does to the draft.
 fn ending(entry: &Entry) -> Closing
     ensures { result ≡ (ending (draft_in entry.now)).0 }
 {
@@ -23,7 +23,8 @@ fn ending(entry: &Entry) -> Closing
     }
 }
 
-/// What it would come to if a writer of the file closed, and others stayed or none.
+/// Returns what the close of a writer of the file would do. `stays` says whether other writers
+/// stay.
 pub fn peek(drafts: &[Entry], file: FileId, stays: bool) -> Closing
     requires rise { Rises file_in drafts.now }
     requires there { list_any (is_draft file) (drafts_of drafts.now) ≡ true }
@@ -38,7 +39,8 @@ pub fn peek(drafts: &[Entry], file: FileId, stays: bool) -> Closing
     ending(&drafts[at])
 }
 
-/// A writer of the file closes: where no other stays the draft goes, and its map comes out.
+/// Closes a writer of the file. If no other writer stays, the draft is removed, and its map
+/// returned.
 pub fn leave(drafts: &mut Vec<Entry>, file: FileId, stays: bool) -> (Closing, Option<BlockMap>)
     requires rise { Rises file_in drafts.old.items }
     requires there { list_any (is_draft file) (drafts_of drafts.old.items) ≡ true }

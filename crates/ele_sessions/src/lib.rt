@@ -1,6 +1,6 @@
-//! The handles that are open, the versions that they read, and the drafts that they write: one for
-//! each file that is written. A contract sees the drafts by file id, the handles by number, and how
-//! many were ever opened.
+//! The open handles, the versions that they read, and the drafts that they write, at most one for
+//! each file. A contract sees the drafts by file id, the handles by number, and how many were ever
+//! opened.
 #![tactic(auto)]
 
 mod changing;

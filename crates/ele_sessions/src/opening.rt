@@ -1,4 +1,4 @@
-//! One more writer of a file, who starts its draft or joins it.
+//! One more writer of a file, which starts its draft or joins it.
 //! A contract sees the list of drafts.
 ghost use Rattle.std.specs.Prelude.{◌≡◌, [], ◌∷◌, OnOk, OnErr};
 ghost use Rattle.ele_blocks.specs.LivesIn.{LivesIn};
@@ -16,7 +16,7 @@ use ele_moment::{FileId, Moment, NoMemory, VersionNo};
 use ele_rows::put_at;
 use std::alloc::Global;
 
-/// The version that a draft is to be, and when the draft is opened.
+/// The version that a draft would make, and when the draft is opened.
 #[derive(Clone, Copy, Debug)]
 pub struct DraftSpec {
     pub file: FileId,
@@ -24,8 +24,8 @@ pub struct DraftSpec {
     pub opened: Moment,
 }
 
-// A draft with a copy of the map, at its place. All memory is had before the copy is made, so that
-// no blocks are lost where some is refused: then drafts and store are as they were.
+// Adds a draft with a copy of the map. It reserves all memory before it copies the map, so that a
+// refusal loses no blocks: drafts and store are then as they were.
 fn start(
     alloc: Global,
     drafts: &mut Vec<Entry>,
@@ -66,8 +66,8 @@ fn start(
     Ok(())
 }
 
-/// One more writes the file: its draft, or else a new one with a copy of the map.
-/// Where memory is refused, drafts and store are as they were.
+/// Adds a writer of the file: to its draft, or to a new one with a copy of the map. If memory is
+/// refused, drafts and store are as they were.
 pub fn join(
     alloc: Global,
     drafts: &mut Vec<Entry>,

@@ -1,4 +1,4 @@
-//! The sessions of all files.
+//! The drafts and handles of all files.
 //! A contract sees them as drafts, handles and the count of handles ever opened.
 ghost use Rattle.std.specs.Prelude.{◌≡◌, ◌<◌, ◌+◌, ◌^◌, [], Some, OnOk, OnErr, IfOk};
 ghost use Rattle.ele_blocks.specs.LivesIn.{LivesIn};
@@ -23,8 +23,8 @@ use ele_rows::Tally;
 use std::alloc::Global;
 use std::marker::Model;
 
-/// Drafts and handles of all files. Whoever ends them closes each handle and keeps or gives up the
-/// map that comes out, or its blocks stay in the store.
+/// Drafts and handles of all files. Before they are dropped, each handle has to be closed, and each
+/// returned map kept or given up, or its blocks stay in the store.
 #[derive(Drop)]
 pub struct Sessions {
     drafts: Vec<Entry>,
@@ -47,7 +47,7 @@ impl Model for Sessions {
 }
 
 impl Sessions {
-    /// No drafts and no handles; this takes no memory.
+    /// Makes an empty list, without drafts and handles. It takes no memory.
     pub fn new(alloc: Global) -> Sessions
         ensures { result ≡ record { drafts = []; handles = []; opened = 0 } }
     {
@@ -60,9 +60,9 @@ impl Sessions {
         }
     }
 
-    /// A handle that writes the file. It joins the file's draft, or where there is none it starts
-    /// one, which is to be the version of that number, is opened at that moment, and has a copy of
-    /// the map. Where memory is refused, sessions and store are as they were.
+    /// Opens a handle that writes the file. It joins the file's draft, or starts one with a copy of
+    /// the map, for the version of that number, opened at that moment. If memory is refused,
+    /// sessions and store are as they were.
     #[tactic(auto, using(crate::proofs::Found::rises_in))]
     pub fn open_write(
         &mut self,
@@ -100,7 +100,7 @@ impl Sessions {
         Ok(number)
     }
 
-    /// A handle that reads the version. Where memory is refused, the sessions are as they were.
+    /// Opens a handle that reads the version. If memory is refused, the sessions are as they were.
     pub fn open_read(&mut self, file: FileId, version: VersionNo) -> Result<Handle, NoMemory>
         requires { self.old.opened < 2 ^ 63 }
         ensures handle { IfOk result (λ handle. handle ≡ self.old.opened + 1) }
@@ -119,9 +119,8 @@ impl Sessions {
         Ok(number)
     }
 
-    /// Closes the handle; none where no open handle has that number. With the last handle of a file
-    /// its draft goes, and its map comes out: whoever takes it gives it up or keeps it. A handle
-    /// that read a version just goes.
+    /// Closes the handle. None if no open handle has that number. With the last writer of a file
+    /// its draft is removed, and its map returned, for the caller to keep or to give up.
     pub fn close(&mut self, handle: Handle) -> Option<(Closing, Option<BlockMap>)>
         ensures answer { result ≡ closing self.old handle }
         ensures sessions { self.new ≡ closed self.old handle }
@@ -133,7 +132,7 @@ impl Sessions {
         Some(self.close_found(&found))
     }
 
-    /// Closes the handle that was found there, as `close` does, without another search for it.
+    /// Closes the handle that was found, as `close` does, without another search for it.
     #[tactic(auto, using(crate::proofs::Found::rises_in))]
     pub fn close_found(&mut self, found: &FoundHandle) -> (Closing, Option<BlockMap>)
         requires { StandsAt self.old.handles found.now }

@@ -1,5 +1,5 @@
-//! A vault that many threads call, each through a seat of its own. What the calls do stands with
-//! `Shared` and `Seat` of `ele_shared_history`, and a contract sees both as it sees those.
+//! A vault that many threads call, each through a seat of its own. `Shared` and `Seat` of
+//! `ele_shared_history` document the calls, and a contract sees both as it sees those.
 #![tactic(auto)]
 
 use ele_core::Core;
@@ -7,8 +7,8 @@ pub use ele_core::{Event, NoMemory, Reply};
 pub use ele_shared_history::{TryStop, TurnHeld};
 pub use ele_vault::{Stop, Vault};
 
-/// A vault for many threads, each of which calls it through a seat of its own.
+/// A vault that many threads call, each through a seat of its own.
 pub type Elephant = ele_shared_history::Shared<Core>;
 
-/// A thread's place at such a vault.
+/// A thread's own handle on the vault.
 pub type Seat = ele_shared_history::Seat<Core>;

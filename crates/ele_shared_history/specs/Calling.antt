@@ -1,4 +1,4 @@
--- What a call leaves its seat.
+-- What a seat knows after a call.
 use Rattle.std.specs.Prelude.{◌≡◌, ℕ, ◌<◌, List, [], ◌∷◌, ◌++◌, true}
 use Rattle.ele_model.specs.declared.event.Event.{Event}
 use Rattle.ele_model.specs.declared.refusal.Stop.{Stop}
@@ -10,7 +10,7 @@ use Rattle.ele_shared_history.specs.declared.stop.TryStop.TheVariants.{NoMemory 
 use Rattle.ele_shared_history.specs.Knowledge.{Knowledge, count_seen}
 use Rattle.ele_shared_history.specs.Running.{call, entry, has}
 
--- one call was made: the view goes on and ends with it, and so do the own calls
+-- one call was made: the view goes on and ends with it, and so do the seat's own calls
 pub record Called (before : Knowledge) (event : Event) (reply : Reply) (after : Knowledge) : Type 0 where
   pub by : ℕ
   pub between : List Call
@@ -25,16 +25,16 @@ pub record Called (before : Knowledge) (event : Event) (reply : Reply) (after : 
 abbrev pub SeesFull : Knowledge → Type 0
 SeesFull k = count_seen k ≡ k.object.opening.base.limits.events
 
--- fewer were
+-- fewer events were published
 abbrev pub SeesRoom : Knowledge → Type 0
 SeesRoom k = count_seen k < k.object.opening.base.limits.events
 
--- after which a call may be stopped by this
+-- what the seat knows if this stopped a call
 abbrev pub StoppedBy : Stop → Knowledge → Type 0
 StoppedBy NoMemory k = SeesRoom k
 StoppedBy HistoryFull k = SeesFull k
 
--- the same of an attempt
+-- the same for an attempt
 abbrev pub TriedBy : TryStop → Knowledge → Type 0
 TriedBy TryNoMemory k = SeesRoom k
 TriedBy TryHistoryFull k = SeesFull k

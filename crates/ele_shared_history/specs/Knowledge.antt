@@ -6,7 +6,7 @@ use Rattle.ele_history.specs.Past.{Past, count_of, world_of}
 use Rattle.ele_shared_history.specs.declared.ledger.Call.{Call}
 use Rattle.ele_shared_history.specs.Running.{entries_of, own_of, StartsWith}
 
--- which object it is, and the history that it was made with
+-- which object it is, and its history at the start
 pub record Object : Type 0 where
   pub name : TableId
   pub opening : Past
@@ -14,23 +14,23 @@ pub record Object : Type 0 where
 pub record Knowledge : Type 0 where
   pub object : Object
   pub numbers : List ℕ
-  -- a beginning of the running history
+  -- a prefix of the shared history
   pub view : List Call
   -- the calls made under these numbers
   pub own : List Call
   -- these numbers, and those of some seats made before it
   pub known : List ℕ
 
--- how many events were published by then
+-- how many events had been published
 abbrev pub count_seen : Knowledge → ℕ
 count_seen k = count_of k.object.opening + length k.view
 
--- what is true of every seat: its view is legal behind the opening history, and under its numbers stand its own calls
+-- what is true of every seat: its view is legal after the history at the start, and has exactly its own calls under its numbers
 pub record IsTrue (k : Knowledge) : Type 0 where
   pub legal : IsLegal (world_of k.object.opening) (entries_of k.view)
   pub own : own_of k.numbers k.view ≡ k.own
 
--- more was seen perhaps, and nothing else changed
+-- the seat may have seen more, and nothing else changed
 pub record Looked (before after : Knowledge) : Type 0 where
   pub object : after.object ≡ before.object
   pub numbers : after.numbers ≡ before.numbers

@@ -1,5 +1,5 @@
--- The rule: the word and the slot are those of one running history, of which each seat has seen a beginning. No public clause
--- cites this module.
+-- The rule: the word and the slot are those of one shared history, and each seat has seen a prefix of it. No public clause cites this
+-- module.
 use Rattle.std.specs.Prelude.{◌≡◌, ℕ, ◌+◌, ◌*◌, ◌<◌, ◌≤◌, Bool, true, false, nat_lt, cond, ◌⊎◌, List, [], ◌∷◌, ◌++◌, length, Option, Some}
 use mathlib.Core.Option.{some, none}
 use lib.ListN.{get_elem?}
@@ -21,7 +21,7 @@ Kind = Option Past
 abbrev pub history_after : Past → List Call → Past
 history_after opening log = continued opening (entries_of log)
 
--- how many events are published then
+-- how many events are published after these calls
 abbrev pub events_after : Past → List Call → ℕ
 events_after opening log = count_of opening + length log
 
@@ -36,7 +36,7 @@ pub record PartFits (log : List Call) (numbers : List ℕ) (p : Part) : Type 0 w
   pub own : own_of p.numbers log ≡ p.own
   pub within : (n : ℕ) → has p.numbers n ≡ true → has numbers n ≡ true
 
--- what a seat knows fits the running history: so many seats were made, and each number has one of them as its owner
+-- what a seat knows fits the shared history: so many seats were made, and each number has one of them as its owner
 pub record Fits (origin : Past) (made : ℕ) (owner : ℕ → ℕ) (log : List Call) (id : ℕ) (v : View) : Type 0 where
   pub opening : v.opening ≡ origin
   pub seen : StartsWith log v.seen
@@ -51,13 +51,13 @@ pub record Fits (origin : Past) (made : ℕ) (owner : ℕ → ℕ) (log : List C
   pub fresh : v.fresh ≡ true
       → (owner id ≡ id) × (own_of (id ∷ []) log ≡ []) × (has v.known id ≡ false) × (v.numbers ≡ [])
 
--- the word is even, the history at home, and no seat has the turn
+-- the word is even, the slot has the history, and no seat has the turn
 pub record Free (origin : Past) (log : List Call) (s : State Kind View) : Type 0 where
   pub word : s.words ≡ 2 * events_after origin log ∷ []
   pub home : s.homes ≡ some (Some (history_after origin log)) ∷ []
   pub none_holds : (id : ℕ) (v : View) → get_elem? s.views id ≡ some v → v.holds ≡ false
 
--- the word is odd, the slot out, and the one seat that has the turn has seen all
+-- the word is odd, the slot is empty, and the one seat that has the turn has seen all
 pub record Taken (origin : Past) (log : List Call) (s : State Kind View) : Type 0 where
   pub holder : ℕ
   pub word : s.words ≡ (2 * events_after origin log + 1) ∷ []
@@ -65,7 +65,7 @@ pub record Taken (origin : Past) (log : List Call) (s : State Kind View) : Type 
   pub one_holds : (id : ℕ) (v : View) → get_elem? s.views id ≡ some v → v.holds ≡ true
       → (id ≡ holder) × (v.seen ≡ log)
 
--- there is one legal running history behind the opening history
+-- there is one legal shared history after the history at the start
 pub record Kept (origin : Past) (s : State Kind View) : Type 0 where
   pub log : List Call
   pub owner : ℕ → ℕ
@@ -102,7 +102,7 @@ first_of (n ∷ ns) = n
 abbrev pub own_call : View → Entry → Call
 own_call v entry = call (first_of v.numbers) entry
 
--- with this entry published under its first number, and the turn given back
+-- the view with this entry published under the seat's first number, and the turn given back
 abbrev pub published : View → Entry → View
 published v entry = record v {
   seen = v.seen ++ own_call v entry ∷ [];
@@ -113,7 +113,7 @@ published v entry = record v {
   right = no_part;
 }
 
--- of a new seat without a number, which has seen what the old one has
+-- the view of a new seat without a number, which has seen what the old one has
 abbrev pub newcomer : View → View
 newcomer v = record v {
   told = [];
@@ -126,7 +126,7 @@ newcomer v = record v {
   right = no_part;
 }
 
--- of the new seat, with its number
+-- the view of the new seat, with its number
 abbrev pub registered : View → ℕ → View
 registered v number = record v {
   told = [];
@@ -140,14 +140,14 @@ registered v number = record v {
   right = no_part;
 }
 
--- of two beginnings of one history the longer and the shorter
+-- the longer of two prefixes of one history
 abbrev pub longer : List Call → List Call → List Call
 longer xs ys = cond (nat_lt (length xs) (length ys)) ys xs
 
 abbrev pub shorter : List Call → List Call → List Call
 shorter xs ys = cond (nat_lt (length xs) (length ys)) xs ys
 
--- of a seat that has seen what both have, with the numbers of both
+-- the view of a seat that has seen what both have, with the numbers of both
 abbrev pub united : View → View → View
 united v w = record {
   opening = v.opening;
@@ -163,6 +163,6 @@ united v w = record {
   right = part w.numbers w.own;
 }
 
--- of a seat that was joined to another: the rule excepts it
+-- the view of a seat that was joined to another: the rule excepts it
 abbrev pub spent_view : View
 spent_view = record (first_view (fresh largest_bounds)) { numbers = []; known = []; spent = true }

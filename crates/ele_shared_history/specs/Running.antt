@@ -1,4 +1,4 @@
--- The running history: who made which entry behind the opening history, in one order.
+-- The shared history: who made which entry after the history at the start, in one order.
 use Rattle.std.specs.Prelude.{◌≡◌, ◌⊎◌, ℕ, Bool, false, ◌==◌, ◌||◌, cond, List, [], ◌∷◌, ◌++◌}
 use Rattle.ele_model.specs.declared.entry.Entry.{Entry}
 use Rattle.ele_model.specs.declared.event.Event.{Event}
@@ -12,12 +12,12 @@ entry event reply = record { event = event; reply = reply }
 abbrev pub call : ℕ → Entry → Call
 call by entry = record { by = by; entry = entry }
 
--- the running history without its numbers
+-- the shared history without its numbers
 abbrev pub entries_of : List Call → List Entry
 entries_of [] = []
 entries_of (call ∷ calls) = call.entry ∷ entries_of calls
 
--- with these entries behind the others
+-- the history with these entries after the others
 abbrev pub continued : Past → List Entry → Past
 continued past entries = record past { entries = past.entries ++ entries }
 

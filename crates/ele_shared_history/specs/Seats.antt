@@ -1,4 +1,4 @@
--- Seats as they are made, split off and joined.
+-- New seats, and seats that are split off and joined.
 use Rattle.std.specs.Prelude.{◌≡◌, ℕ, List, [], ◌∷◌, ◌++◌, true, false}
 use Rattle.ele_shared_history.specs.Knowledge.{Knowledge, Object}
 use Rattle.ele_shared_history.specs.Running.{has, own_of, StartsWith}
@@ -11,30 +11,30 @@ pub record IsFirst (object : Object) (k : Knowledge) : Type 0 where
   pub own : k.own ≡ []
   pub known : k.known ≡ 0 ∷ []
 
--- a seat as it is made, with this number
+-- a new seat with this number
 pub record IsNew (object : Object) (number : ℕ) (k : Knowledge) : Type 0 where
   pub of : k.object ≡ object
   pub numbers : k.numbers ≡ number ∷ []
   pub view : k.view ≡ []
   pub own : k.own ≡ []
 
--- seats as they are made, with these numbers
+-- new seats with these numbers
 abbrev pub AreNew : Object → List ℕ → List Knowledge → Type 0
 AreNew object [] [] = Unit {0}
 AreNew object (n ∷ ns) (k ∷ ks) = IsNew object n k × AreNew object ns ks
 AreNew object [] (k ∷ ks) = ⊥
 AreNew object (n ∷ ns) [] = ⊥
 
--- no number stands twice
+-- the list has each number once
 abbrev pub AreApart : List ℕ → Type 0
 AreApart [] = Unit {0}
 AreApart (n ∷ ns) = (has ns n ≡ false) × AreApart ns
 
--- seats as they are made, each with a number of its own
+-- new seats, each with a number of its own
 abbrev pub AreAllNew : Object → List Knowledge → Type 0
 AreAllNew object ks = (ns : List ℕ) × AreNew object ns ks × AreApart ns
 
--- one seat more as it is made, with a number apart from these, which knows all of them
+-- one more new seat, with a number apart from these, which knows all of them
 pub record IsNext (object : Object) (ns : List ℕ) (k : Knowledge) : Type 0 where
   pub number : ℕ
   pub new : IsNew object number k
@@ -42,7 +42,7 @@ pub record IsNext (object : Object) (ns : List ℕ) (k : Knowledge) : Type 0 whe
   pub itself : has k.known number ≡ true
   pub others : (n : ℕ) → has ns n ≡ true → has k.known n ≡ true
 
--- seats as they are made, and behind them one more
+-- new seats, followed by one more
 abbrev pub AreDealt : Object → List Knowledge → Knowledge → Type 0
 AreDealt object ks last = (ns : List ℕ) × AreNew object ns ks × AreApart ns × IsNext object ns last
 
@@ -56,8 +56,7 @@ pub record SplitOff (old new : Knowledge) : Type 0 where
   pub view : new.view ≡ old.view
   pub own : new.own ≡ []
 
--- a seat has seen what both have, and has the numbers of both, which are apart; under each number stand the calls that stood
--- there
+-- a seat has seen what both have, and has the numbers of both, which are apart; it has the same calls under each number
 pub record Joined (first second both : Knowledge) : Type 0 where
   pub object : both.object ≡ first.object
   pub numbers : both.numbers ≡ first.numbers ++ second.numbers

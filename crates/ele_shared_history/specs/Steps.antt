@@ -1,4 +1,4 @@
--- What each kind of step tells the seat that makes it. No public clause cites this module.
+-- What a seat learns from each kind of step. No public clause cites this module.
 use Rattle.std.specs.Prelude.{◌≡◌, ℕ, ◌/◌, ◌==◌, Bool, true, false, cond, List, [], ◌∷◌, Some}
 use Rattle.atomic_table.specs.Table.{Me, Step}
 use Rattle.atomic_table.specs.Seated.{TableId}
@@ -15,14 +15,14 @@ use Rattle.ele_shared_history.specs.declared.ledger.View.{View}
 use Rattle.ele_shared_history.specs.Rule.{Kind, events_after, first_of, history_after, looking, newcomer, published, registered, united}
 use Rattle.ele_shared_history.specs.Running.{continued, entries_of, entry, has, own_of, StartsWith}
 
--- what a seat learns with the history so far
+-- what a seat learns with the history until now
 pub record IsNews (v : View) (log : List Call) : Type 0 where
   pub seen : StartsWith log v.seen
   pub told : StartsWith log v.told
   pub own : own_of v.numbers log ≡ v.own
   pub legal : IsLegal (world_of v.opening) (entries_of log)
 
--- a seat found this word, and has seen the history so far
+-- a seat found this word, and has seen the history until now
 abbrev pub SeesAll : Me Kind View → ℕ → Me Kind View → Type 0
 SeesAll m word n =
     (log : List Call) × IsNews m.0 log × (word / 2 ≡ events_after m.0.opening log)
@@ -37,11 +37,11 @@ MayTake took m n =
 abbrev pub Looks : Step Kind → Me Kind View → ℕ → Me Kind View → Type 0
 Looks s m found n = SeesAll m found n
 
--- the turn is taken where the word was as expected
+-- the seat takes the turn if the word is as expected
 abbrev pub Takes : Step Kind → Me Kind View → ℕ → Me Kind View → Type 0
 Takes s m found n = MayTake (found == s.first) m n
 
--- a seat with the turn that puts back the history with one entry more has made this call
+-- a seat with the turn that stores the history with one more entry has made this call
 abbrev pub Publishes : Step Kind → Me Kind View → ℕ → Me Kind View → Type 0
 Publishes s m found n =
     (e : Entry) → m.1 ≡ (0, Some (continued (history_after m.0.opening m.0.seen) (e ∷ []))) ∷ []
@@ -55,7 +55,7 @@ abbrev pub Registers : Step Kind → Me Kind View → ℕ → Me Kind View → T
 Registers s m found n =
     (k : ℕ) × (has m.0.known k ≡ false) × (own_of (k ∷ []) m.0.seen ≡ []) × (n ≡ (registered m.0 k, m.1))
 
--- of the two that were joined last, all calls stand in the history so far, under numbers that are apart
+-- of the two that were joined last, all calls are in the history until now, under numbers that are apart
 abbrev pub Meets : Step Kind → Me Kind View → ℕ → Me Kind View → Type 0
 Meets s m found n =
     (log : List Call) × IsNews m.0 log
@@ -94,23 +94,23 @@ HasPublished m event reply n =
     (n ≡ (published m.0 (entry event reply), []))
     × (reply ≡ reply_to (history_after m.0.opening m.0.seen) event)
 
--- or has given it back, since the history was stopped by this
+-- a seat with the turn has given it back, since this stopped the history
 abbrev pub HasGivenBack : Me Kind View → Stop → Me Kind View → Type 0
 HasGivenBack m stop n =
     (n ≡ (looking false m.0 m.0.seen, []))
     × MayStop (history_after m.0.opening m.0.seen) stop (history_after m.0.opening m.0.seen)
 
--- a seat has seen the history so far, and has the turn
+-- a seat has seen the history until now, and has the turn
 abbrev pub TakesTurn : Me Kind View → Me Kind View → Type 0
 TakesTurn m n =
     (log : List Call) × IsNews m.0 log
     × (n ≡ (looking true m.0 log, (0, Some (history_after m.0.opening log)) ∷ []))
 
--- a seat has seen the history so far, and hasn't the turn
+-- a seat has seen the history until now, and doesn't have the turn
 abbrev pub StaysIdle : Me Kind View → Me Kind View → Type 0
 StaysIdle m n = (log : List Call) × IsNews m.0 log × (n ≡ (looking false m.0 log, []))
 
--- a seat has published the event behind the history so far, with the step's reply
+-- a seat has published the event after the history until now, with the step's reply
 abbrev pub RunsEvent : Me Kind View → Event → Reply → Me Kind View → Type 0
 RunsEvent m event reply n =
     (log : List Call) × IsNews m.0 log
@@ -122,7 +122,7 @@ abbrev pub IsForked : View → Me Kind View → Type 0
 IsForked v n =
     (k : ℕ) × (has v.known k ≡ false) × (own_of (k ∷ []) v.seen ≡ []) × (n ≡ (registered (newcomer v) k, []))
 
--- a seat has the numbers of both, and has seen the history so far, with all calls under them
+-- a seat has the numbers of both, and has seen the history until now, with all calls under them
 abbrev pub Unites : View → View → Me Kind View → Type 0
 Unites v w n =
     (log : List Call) × IsNews (united v w) log

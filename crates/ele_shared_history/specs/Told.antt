@@ -1,4 +1,4 @@
--- What is told of a seat. No public clause cites this module.
+-- What a seat knows. No public clause cites this module.
 use Rattle.atomic_table.specs.Seated.{TableId}
 use Rattle.ele_shared_history.specs.declared.ledger.View.{View}
 use Rattle.ele_shared_history.specs.Knowledge.{Knowledge}

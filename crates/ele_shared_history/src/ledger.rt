@@ -1,4 +1,4 @@
-//! The table that holds the history, its rule, and what its seats know.
+//! The table that holds the shared history, its rule, and what its seats know.
 use atomic_table::TableRule;
 use ele_history::History;
 use ele_model::{Entry, Flat, Step};
@@ -7,14 +7,13 @@ use std::collections::LinkedList;
 use std::marker::Model;
 use std::snapshot::Snapshot;
 
-/// An entry of the running history, with the number of the seat that made it. No value of it is
-/// made.
+/// An entry of the shared history, with the number of the seat that made it. Only contracts use it.
 pub struct Call {
     pub by: u64,
     pub entry: Entry,
 }
 
-/// A history as plain data. No value of it is made.
+/// A history as plain data. Only contracts use it.
 pub struct Opening {
     base: Flat,
     folded: u64,
@@ -29,37 +28,37 @@ impl Model for Opening {
     ghost view = { λ o. record { base = o.base; folded = o.folded; entries = o.entries } };
 }
 
-/// Some numbers, and the calls made under them. No value of it is made.
+/// Some numbers, and the calls made under them. Only contracts use it.
 pub struct Part {
     pub numbers: LinkedList<u64>,
     pub own: LinkedList<Call>,
 }
 
-/// What a seat knows. No value of it is made.
+/// What a seat knows. Only contracts use it.
 pub struct View {
-    /// The history that the object was made with.
+    /// The history at the start.
     pub opening: Opening,
-    /// A beginning of the running history.
+    /// A prefix of the shared history.
     pub seen: LinkedList<Call>,
-    /// Another, which a seat that was joined to this one had seen.
+    /// Another prefix, which a seat that was joined to this one had seen.
     pub told: LinkedList<Call>,
     pub numbers: LinkedList<u64>,
     /// The calls made under these numbers.
     pub own: LinkedList<Call>,
-    /// Its own numbers, and those of seats made before it.
+    /// The seat's own numbers, and the numbers of seats made before it.
     pub known: LinkedList<u64>,
-    /// It has no number yet.
+    /// Whether the seat has no number yet.
     pub fresh: bool,
-    /// It has the turn.
+    /// Whether the seat has the turn.
     pub holds: bool,
-    /// It was joined to another.
+    /// Whether the seat was joined to another.
     pub spent: bool,
-    /// The numbers and calls of the two that were joined last.
+    /// The numbers and calls of the two seats that were joined last.
     pub left: Part,
     pub right: Part,
 }
 
-/// The word and the slot are those of one running history.
+/// The rule: the word and the slot are those of one shared history.
 pub struct OneHistory;
 
 impl<C: Step> TableRule<Option<History<C>>, View, Snapshot<History<C>>> for OneHistory {
@@ -78,8 +77,8 @@ pub type Ledger<C> = atomic_table::Shared<
     OneHistory,
 >;
 
-/// One word, which is twice the events that were published, and one more while a call has the
-/// turn; and one slot, where the history is while none has it.
+/// One word and one slot. The word is twice the number of published events, plus one while a call
+/// has the turn. The slot holds the history while no call has the turn.
 pub type Table<C> = atomic_table::Table<
     Option<History<C>>,
     View,
@@ -88,5 +87,5 @@ pub type Table<C> = atomic_table::Table<
     Global,
 >;
 
-/// A place at the table.
+/// A seat's place at the table.
 pub type Place<C> = atomic_table::Seat<Option<History<C>>, View>;

@@ -1,5 +1,5 @@
 //! One history for many threads, over one word and one slot. A contract sees of a seat its numbers,
-//! the beginning of the running history that it has seen, and its own calls.
+//! the prefix of the shared history that it has seen, and its own calls.
 #![tactic(auto)]
 
 ghost use Rattle.std.specs.Prelude.{◌≡◌, ◌+◌, ◌%◌, ◌<◌, ◌≤◌, vec_len, vec_capacity, IfOk, IfErr, IsOk, IsSome, OnErr, [], Some};
@@ -49,10 +49,10 @@ impl<C: Step> Model for Shared<C> {
 }
 
 impl<C: Step> Shared<C> {
-    /// Shares the history among so many seats, from 1 to 64. Each has a number of its own, has seen
-    /// no event and made no call.
+    /// Shares the history among so many seats, from 1 to 64. Each seat has a number of its own, has
+    /// seen no event and has made no call.
     ///
-    /// `NoMemory` where memory is refused, and then the history comes back as it was.
+    /// `NoMemory` if memory is refused, and then the caller gets the history back as it was.
     /// Cost: grows with the seats, at most 64, which take no memory; takes memory for one word and
     /// for one slot, which holds the history.
     pub fn new(
@@ -75,7 +75,7 @@ impl<C: Step> Shared<C> {
         Ok((shared, all))
     }
 
-    // The object and its first seat.
+    // The shared history and its first seat.
     fn alone(
         alloc: Global,
         history: History<C>,
@@ -106,7 +106,7 @@ impl<C: Step> Shared<C> {
         }
     }
 
-    // Puts all seats but the last one made into the row.
+    // Moves all seats except the last one made into the list.
     fn deal(&self, last: &mut Seat<C>, all: &mut Vec<Seat<C>>, seats: u32)
         requires first { IsFirst self.now last.old }
         requires room { (all.old.items ≡ []) × (0 < seats) × (seats ≤ vec_capacity all.old) }
@@ -120,12 +120,12 @@ impl<C: Step> Shared<C> {
         }
     }
 
-    /// Takes the event, as the history takes it after all events that were published before: the
-    /// seat has seen them then, and this one behind them. Waits for the turn, and nothing promises
-    /// that it comes.
+    /// Applies the event to the history after all events that were published before. The seat has
+    /// then seen these, and this event after them. It waits for the turn, and nothing promises that
+    /// the wait ends.
     ///
-    /// `HistoryFull` where as many events were published as the limits allow, and `NoMemory` where
-    /// memory is refused. Each leaves the history, and the turn is given back.
+    /// `HistoryFull` if as many events were published as the limits allow, and `NoMemory` if memory
+    /// is refused. Each error leaves the history as it was, and frees the turn.
     /// Cost: that of the history's `apply`, after a wait for the turn that has no bound; between
     /// two tries it sleeps for 200 microseconds.
     pub fn call<R: Wait>(&self, rt: &R, seat: &mut Seat<C>, event: Event) -> Result<Reply, Stop>
@@ -139,9 +139,10 @@ impl<C: Step> Shared<C> {
         insist(rt, &self.table.shared, &mut seat.place, event)
     }
 
-    /// As `call`, with one attempt at the turn in place of a wait.
+    /// Does what `call` does, with one attempt at the turn in place of a wait.
     ///
-    /// `Busy` where another call had the turn, or took it first, which leaves the history too.
+    /// `Busy` if another call has the turn, or takes it first; this also leaves the history as it
+    /// was.
     /// Cost: that of the history's `apply`, or constant time if another call has the turn.
     pub fn try_call(&self, seat: &mut Seat<C>, event: Event) -> Result<Reply, TryStop>
         requires { seat.old.object ≡ self.now }
@@ -154,8 +155,8 @@ impl<C: Step> Shared<C> {
         attempt(&self.table.shared, &mut seat.place, event)
     }
 
-    /// How many events were ever published, those of the opening history among them. The seat has
-    /// seen them all then. It neither waits nor takes the turn.
+    /// Returns how many events were ever published, with those of the history at the start. The
+    /// seat has then seen them all. It neither waits nor takes the turn.
     /// Cost: constant time, by one atomic load.
     pub fn published(&self, seat: &mut Seat<C>) -> u64
         requires { seat.old.object ≡ self.now }
@@ -167,9 +168,9 @@ impl<C: Step> Shared<C> {
         look(&self.table.shared, &mut seat.place) / 2
     }
 
-    /// A new seat, with a number of its own and no calls, which has seen what this one has.
+    /// Makes a new seat, with a number of its own and no calls, which has seen what this one has.
     ///
-    /// A seat takes no memory, so it is always answered.
+    /// A seat takes no memory, so the call always succeeds.
     /// Cost: constant time, by two atomic loads.
     pub fn split(&self, seat: &mut Seat<C>) -> Result<Seat<C>, NoMemory>
         requires { seat.old.object ≡ self.now }
@@ -180,7 +181,7 @@ impl<C: Step> Shared<C> {
         Ok(self.divide(seat))
     }
 
-    // A new seat, which has seen what this one has.
+    // Makes a new seat, which has seen what this one has.
     fn divide(&self, seat: &mut Seat<C>) -> Seat<C>
         requires { seat.old.object ≡ self.now }
         ensures unchanged { seat.new ≡ seat.old }
@@ -190,7 +191,7 @@ impl<C: Step> Shared<C> {
         Seat { place }
     }
 
-    /// Makes one seat of two: it has seen what both have, and has the numbers and calls of both.
+    /// Joins two seats into one: it has seen what both have, and has the numbers and calls of both.
     /// Cost: constant time, by two atomic loads.
     pub fn join(&self, seat: &mut Seat<C>, other: Seat<C>)
         requires first { seat.old.object ≡ self.now }
@@ -200,8 +201,9 @@ impl<C: Step> Shared<C> {
         unite(&self.table.shared, &mut seat.place, other.place);
     }
 
-    /// Whatever any two seats have seen, one of them has seen all that the other has, in the same order:
-    /// of one history each has seen a beginning. It changes neither seat, and publishes nothing.
+    /// Of any two seats, one has seen all that the other has, in the same order: each has seen a
+    /// prefix of one history. The call brings this fact to a proof; it changes neither seat, and
+    /// publishes nothing.
     /// Cost: constant time, by six atomic loads.
     pub fn agree(&self, seat: &mut Seat<C>, other: &mut Seat<C>)
         requires first { seat.old.object ≡ self.now }
@@ -214,9 +216,9 @@ impl<C: Step> Shared<C> {
         self.join(&mut both, second);
     }
 
-    /// The history after all calls: the opening one, with each published event behind it.
+    /// Returns the history after all calls: that of the start, and then each published event.
     ///
-    /// `TurnHeld` where a call took the turn and never gave it back; the history is gone then.
+    /// `TurnHeld` if a call took the turn and never gave it back; the history is lost then.
     /// Cost: constant time; frees the word and the slot.
     pub fn close(self, seat: Seat<C>) -> Result<History<C>, TurnHeld>
         requires { seat.object ≡ self }
@@ -230,7 +232,7 @@ impl<C: Step> Shared<C> {
     }
 }
 
-// What a closed table had: while the word is even, the history is at home.
+// What a closed table had: if the word is even, the slot has the history.
 fn handed_over<C: Step>(word: u64, slot: Option<History<C>>) -> Result<History<C>, TurnHeld>
     requires { word % 2 ≡ 0 → IsSome slot }
     ensures ok { IfOk result (λ history. (word % 2 ≡ 0) × (slot ≡ Some history)) }

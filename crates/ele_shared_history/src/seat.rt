@@ -1,10 +1,10 @@
-//! A thread's place at the shared object.
+//! A thread's own handle on a shared history.
 use crate::ledger::Place;
 use ele_model::Step;
 use std::marker::Model;
 
-/// A thread's place at the shared object, which it calls through. It takes no memory. A contract
-/// sees its numbers, what it has seen of the running history, and its own calls.
+/// A thread's own handle on a shared history, for its calls. It takes no memory. A contract sees
+/// its numbers, what it has seen of the shared history, and its own calls.
 #[derive(Drop)]
 pub struct Seat<C: Step> {
     pub(crate) place: Place<C>,

@@ -1,4 +1,4 @@
-//! The steps on the word, each of which keeps the rule.
+//! The steps on the word. Each keeps the table's rule.
 ghost use Rattle.std.specs.Prelude.{◌≡◌, ◌%◌, IfOk, IfErr, MatchBool};
 ghost use Rattle.ele_shared_history.specs.Calling.{StoppedBy, TriedBy};
 ghost use Rattle.ele_shared_history.specs.Steps.{HasGivenBack, HasPublished, HasTurn, IsForked, IsIdle, IsOf, IsSame, MayTake, RunsEvent, SeesAll, StaysIdle, TakesTurn, Unites};
@@ -12,11 +12,12 @@ use std::sync::Wait;
 use std::thread::Parker;
 use std::time::Duration;
 
-// For so many microseconds a seat sleeps between two tries. A turn takes one or two, so that others have some dozens meanwhile,
-// and to sleep and to wake takes little of a processor beside them.
+// The microseconds that a seat sleeps between two tries. A turn takes one or two microseconds, so
+// other seats have some dozens of turns meanwhile. Sleeping and waking take little processor time
+// beside them.
 const PAUSE: u64 = 200;
 
-/// Looks at the word, and so at the history so far.
+/// Loads the word, and so sees the history until now.
 pub(crate) fn look<C: Step>(ledger: &Ledger<C>, place: &mut Place<C>) -> u64
     requires { IsOf ledger.now.table_id place.old }
     ensures place { IsSame place.old place.new }
@@ -35,7 +36,7 @@ pub(crate) fn take<C: Step>(ledger: &Ledger<C>, place: &mut Place<C>, word: u64)
     ledger.compare_exchange::<Take>(place, 0, word, word + 1) == word
 }
 
-/// Has the history take the event, and publishes it, or gives the turn back.
+/// Applies the event to the history, and publishes it, or gives the turn back.
 pub(crate) fn run<C: Step>(
     ledger: &Ledger<C>,
     place: &mut Place<C>,
@@ -51,7 +52,7 @@ pub(crate) fn run<C: Step>(
     let Some(mut history) = ledger.exchange(place, 0, None) else {
         unreachable!()
     };
-    // Told for the proof: the word doesn't wrap.
+    // For the proof: the word doesn't wrap.
     history.base().limits.lemma_within();
     let outcome = history.apply(event);
     let _empty = ledger.exchange(place, 0, Some(history));
@@ -62,7 +63,7 @@ pub(crate) fn run<C: Step>(
     outcome
 }
 
-// Looks, and takes the turn if it is free.
+// Loads the word, and takes the turn if it is free.
 fn seize<C: Step>(ledger: &Ledger<C>, place: &mut Place<C>) -> bool
     requires mine { IsOf ledger.now.table_id place.old }
     requires idle { IsIdle place.old.me }
@@ -93,7 +94,7 @@ fn wait<C: Step, R: Wait>(rt: &R, ledger: &Ledger<C>, place: &mut Place<C>)
     unreachable!()
 }
 
-/// Has the history take the event, if the turn is free.
+/// Applies the event to the history, if the turn is free.
 #[tactic(auto, using(crate::proofs::Rests::count_behind))]
 pub(crate) fn attempt<C: Step>(
     ledger: &Ledger<C>,
@@ -117,7 +118,7 @@ pub(crate) fn attempt<C: Step>(
     }
 }
 
-/// Waits for the turn, and has the history take the event.
+/// Waits for the turn, and applies the event to the history.
 #[tactic(auto, using(crate::proofs::Rests::count_behind))]
 pub(crate) fn insist<C: Step, R: Wait>(
     rt: &R,
@@ -136,7 +137,7 @@ pub(crate) fn insist<C: Step, R: Wait>(
     run(ledger, place, event)
 }
 
-/// A new place with a number of its own, which has seen what the old one has.
+/// Makes a place with a number of its own, which has seen what the old one has.
 pub(crate) fn fork<C: Step>(ledger: &Ledger<C>, place: &mut Place<C>) -> Place<C>
     requires mine { IsOf ledger.now.table_id place.old }
     ensures old { IsSame place.old place.new × (place.new.me ≡ place.old.me) }
@@ -148,7 +149,7 @@ pub(crate) fn fork<C: Step>(ledger: &Ledger<C>, place: &mut Place<C>) -> Place<C
     next
 }
 
-/// One place with the numbers of both.
+/// Joins two places into one with the numbers of both.
 pub(crate) fn unite<C: Step>(ledger: &Ledger<C>, place: &mut Place<C>, other: Place<C>)
     requires mine { IsOf ledger.now.table_id place.old × IsOf ledger.now.table_id other }
     requires idle { IsIdle place.old.me × IsIdle other.me }

@@ -1,6 +1,6 @@
-//! Why a call of the shared object is not answered.
+//! Why a call of a shared history fails.
 
-/// Why an attempt was not answered: it stands in no history, and nothing has changed.
+/// Why an attempt fails. The event is in no history, and nothing has changed.
 #[derive(Clone, Copy, Debug, PartialEq, Eq)]
 pub enum TryStop {
     NoMemory,
@@ -9,6 +9,6 @@ pub enum TryStop {
     Busy,
 }
 
-/// A call took the turn and never gave it back, so the history is with none.
+/// A call took the turn and never gave it back, so no slot has the history.
 #[derive(Clone, Copy, Debug, PartialEq, Eq)]
 pub struct TurnHeld;

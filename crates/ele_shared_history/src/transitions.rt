@@ -1,4 +1,4 @@
-//! The kinds of step on the word, and what each tells its seat.
+//! The kinds of step on the word, and what a seat learns from each.
 use crate::ledger::View;
 use atomic_table::{Join, Play, Split};
 use ele_history::History;
@@ -13,7 +13,7 @@ impl<C: Step> Play<Option<History<C>>, View> for Look {
     ghost then = { Looks };
 }
 
-/// An exchange of an even word for the odd one above it.
+/// An exchange of an even word for the next odd one.
 pub struct Take;
 
 impl<C: Step> Play<Option<History<C>>, View> for Take {
@@ -22,7 +22,7 @@ impl<C: Step> Play<Option<History<C>>, View> for Take {
     ghost then = { Takes };
 }
 
-/// One more, by the call that has the turn, with its event in the history.
+/// An addition of one, by the call that has the turn, with its event in the history.
 pub struct Publish;
 
 impl<C: Step> Play<Option<History<C>>, View> for Publish {
@@ -31,7 +31,7 @@ impl<C: Step> Play<Option<History<C>>, View> for Publish {
     ghost then = { Publishes };
 }
 
-/// One less, by the call that has the turn, with the history as it was.
+/// A subtraction of one, by the call that has the turn, with the history as it was.
 pub struct GiveBack;
 
 impl<C: Step> Play<Option<History<C>>, View> for GiveBack {
@@ -49,7 +49,7 @@ impl<C: Step> Play<Option<History<C>>, View> for Register {
     ghost then = { Registers };
 }
 
-/// A load behind a join.
+/// A load after a join.
 pub struct Meet;
 
 impl<C: Step> Play<Option<History<C>>, View> for Meet {

@@ -1,8 +1,8 @@
--- What an audit takes for a name that may come back. No public clause cites this module.
+-- The names that an audit takes. No public clause cites this module.
 use Rattle.std.specs.Prelude.{ℕ, List}
 use Rattle.ele_model.specs.declared.rows.DeadName.{DeadName}
 use Rattle.ele_model.specs.declared.rows.Target.{Target}
 
--- the dead name that a triple tells
+-- the dead name of a triple
 abbrev pub row_of : ℕ × List ℕ × Target → DeadName
 row_of given = record { directory = given.0; name = given.1; target = given.2 }

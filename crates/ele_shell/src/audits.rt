@@ -1,4 +1,4 @@
-//! An audit of answers that are given as plain slices.
+//! An audit of answers that are plain slices.
 //! A contract sees them as lists, a name as a triple.
 ghost use Rattle.std.specs.Prelude.{◌≡◌, ◌↔◌, IfOk, IsTrue, map};
 ghost use Rattle.std.specs.List.{AllByRecursion};
@@ -22,17 +22,17 @@ fn row_of(given: &(DirId, Name, Target)) -> DeadName
     }
 }
 
-// The rows of such names.
+// The rows of names that are given as triples.
 fn rows_of(alloc: Global, names: &[(DirId, Name, Target)]) -> Result<Vec<DeadName>, NoMemory>
     ensures { IfOk result (λ rows. rows.items ≡ map row_of names.now) }
 {
     Ok(names.iter().map(row_of).collect(alloc)?)
 }
 
-/// Whether these are the keys of the versions that are due, the names that may come back, each a
-/// triple of its directory, its name and what it last stood for, and the usage of each kind of
-/// policy, as the three scans of the world give them. The caller knows that the sums of usage are
-/// within 64 bits, as in the world of each core (`laws::usage_fits` of `ele_core`).
+/// Returns whether these due keys, restorable names and sums of usage are those of the three scans
+/// of the world. Each name is a triple of its directory, its name and what it last meant. The usage
+/// has a sum for each kind of policy. The caller knows that the sums fit 64 bits, as they do in the
+/// world of each core (`laws::usage_fits` of `ele_core`).
 ///
 /// `NoMemory` if memory for the scans or for rows of the names is refused.
 pub fn audit(

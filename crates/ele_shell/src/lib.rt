@@ -1,7 +1,6 @@
-//! Running of scripts over a core: bytes in, text out; the audit of its answers; and what many threads call, by its
-//! names over a core.
-//! A contract sees the bytes that the reader gives and those that the writer takes, where these are
-//! known.
+//! Runs scripts over a core, bytes in and text out, and audits its answers. It also exports the
+//! calls for many threads. A contract sees the bytes that the reader gives and those that the
+//! writer takes, if these are known.
 #![tactic(auto)]
 
 ghost use Rattle.std.specs.Prelude.{◌≡◌, None, IfErr, IfOk, IsErrOf};
@@ -22,21 +21,22 @@ pub use ele_storm::{Flags, Meet, MeetEnd, StormFault, StormPlan, storm, work};
 use std::alloc::Global;
 use std::io::{Read, Write};
 
-/// Runs the script that the reader gives: answers each whole line at the writer, and answers how
-/// many lines there were, a last one without its line feed counted. An empty line gets no reply, a
-/// line of more than 8,192 bytes only that it is too long, and a last line without its line feed is
-/// never run. The core stands in `alloc`, and the pieces that are read. The writer is not flushed.
+/// Runs the script that the reader gives. It writes the reply to each whole line, and returns how
+/// many lines there were, with a last one that has no line feed. It writes no reply to an empty
+/// line, and never runs a last line without its line feed. For a line of more than 8,192 bytes the
+/// reply says only that it is too long. The core and the input buffer are in `alloc`. The writer is
+/// not flushed.
 ///
-/// Before it reads on it has handed the answers to all whole lines that it was given to the writer.
+/// Before it reads again, it has written the replies to all whole lines that it got.
 ///
-/// At an error the reader and the writer have got as far as they have:
-/// - NoMemory: there was no memory to begin with, and nothing is read or written. Later want of
-///   memory is told in the line's reply, and the run goes on.
-/// - ReadFault: the reader failed; the replies to the whole lines before are written. What is only
-///   interrupted is read again.
+/// An error leaves the reader and the writer where they are:
+/// - NoMemory: there was no memory to begin with, and nothing is read or written. If memory is
+///   refused later, the line's reply says so, and the run goes on.
+/// - ReadFault: the reader failed; the replies to the whole lines before are written. An
+///   interrupted read is repeated.
 /// - WriteFault: the writer failed, or took no byte of some.
-/// - TooManyLines: a byte stands behind the 1,000,000th line feed, or behind 8,589,934,592 bytes;
-///   the replies to the whole lines before are written.
+/// - TooManyLines: a byte follows the 1,000,000th line feed or the 8,589,934,592th byte; the
+///   replies to the whole lines before are written.
 pub fn run<R: Read, W: Write>(
     alloc: Global,
     reader: &mut R,

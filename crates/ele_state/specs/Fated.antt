@@ -1,4 +1,4 @@
--- What a policy makes of a version that it alone decides about. No public clause cites this module.
+-- The fate of a version that only its policy decides about. No public clause cites this module.
 use Rattle.std.specs.Prelude.{◌≡◌, ℕ, nat_le, true, false, List, Option, Some, find, option_and_then, slice_get}
 use Rattle.std.specs.Option.{option_map_or}
 use Rattle.ele_policy.specs.Cause.{IsCause}
@@ -17,7 +17,8 @@ use Rattle.ele_model.specs.declared.rows.VersionInfo.{VersionInfo}
 use Rattle.ele_model.specs.Fate.{level_reached}
 use Rattle.ele_model.specs.GroupRows.{is_member, keeps_at}
 
--- the group at that place has the file, and this is its name, and its first mark that covers and is in force at the moment
+-- the group at that place has the file; its name is `name`, and its first mark that covers the version and is in force at the moment is
+-- `mark`
 pub record MarksAt (groups : List GroupRow) (place file closed : ℕ) (ended : Option ℕ) (at : ℕ) (name : List ℕ) (mark : MarkRow) : Type 0 where
   pub group : GroupRow
   pub there : slice_get groups place ≡ Some group
@@ -29,11 +30,11 @@ pub record MarksAt (groups : List GroupRow) (place file closed : ℕ) (ended : O
 abbrev pub newer_of : VersionInfo → Newer
 newer_of info = record { number = info.number; closed = info.closed }
 
--- this is the cause, whatever other newer versions are held behind that next one
+-- this is the cause, whatever other newer versions are held after the next one
 abbrev pub IsCauseBy : Policy → ℕ → ℕ → Option Newer → ℕ → Cause → Type 0
 IsCauseBy policy closed ended next since cause = (newer : List Newer) → slice_get newer 0 ≡ next → IsCause policy closed ended newer since cause
 
--- of a version of that case, with that next one, which ended then, at the moment, and with that cover, which doesn't last then
+-- the fate at the moment of a version of that case that ended then, with that next version, and with a cover that doesn't last until then
 abbrev pub IsFreeFate : Cover → Case → Option Newer → ℕ → ℕ → Fate → Type 0
 IsFreeFate cover case next ended now (Kept until level) =
     (until ≡ option_and_then (ripe_past cover) (ripe_case case ended)) × (option_map_or (λ m. nat_le m now) until false ≡ false) × (level ≡ level_reached (Some case.policy) (Some ended) now)

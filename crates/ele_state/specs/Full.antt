@@ -1,4 +1,4 @@
--- Whether as much of a kind was made as may be.
+-- Whether the limit of a kind is reached.
 use Rattle.std.specs.Prelude.{ℕ, nat_le, Bool}
 use Rattle.ele_model.specs.LimitsOf.{limit_of}
 use Rattle.ele_model.specs.declared.refusal.Which.{Which}
@@ -6,7 +6,7 @@ use Rattle.ele_model.specs.declared.refusal.Which.TheVariants.{Files, Directorie
 use Rattle.ele_model.specs.Step.{versions_made}
 use Rattle.ele_model.specs.World.{World}
 
--- how much of it was ever made; with the versions count the drafts that are open
+-- how many were ever made; open drafts count as versions
 abbrev pub made_of : World → Which → ℕ
 made_of w Files = w.made.files
 made_of w Directories = w.made.directories

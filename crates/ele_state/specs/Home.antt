@@ -1,4 +1,4 @@
--- Where a new name may stand, and what it may stand for.
+-- Where a new name may be, and what it may mean.
 use Rattle.std.specs.Prelude.{◌≡◌, ℕ, true}
 use Rattle.ele_model.specs.declared.rows.Target.{Target}
 use Rattle.ele_model.specs.WellFormed.{IsThere, IsDirectoryThere, has_directory, is_reached}

@@ -1,4 +1,4 @@
--- The world behind a state's rows, and what the rows keep. No public clause cites this module.
+-- The world of a state's rows, and the invariant of the rows. No public clause cites this module.
 use Rattle.ele_state.specs.declared.rows.Rows.{Rows}
 use Rattle.ele_state.specs.Shown.{Shown}
 use Rattle.ele_state.specs.Queued.{IsQueued}
@@ -35,7 +35,7 @@ pub record IsSound (rows : Rows) : Type 0 where
   pub formed : HasParts (world_of rows)
   pub tracked : IsTracked rows
 
--- between events they are sound, and no file is there of which nothing is left
+-- between events the rows are sound, and each file has a live name, a held version or a draft
 pub record IsSettled (rows : Rows) : Type 0 where
   pub sound : IsSound rows
   pub none_idle : HasNoIdle (world_of rows)

@@ -28,7 +28,7 @@ abbrev pub appending : Held → ℕ → ℕ → Source → List Change
 appending h now file (Draft handle opened) = finishing h handle.row.number file opened
 appending h now file (Version number) = Append file now (cells_of_version h file number) ∷ []
 
--- the cells that it gets
+-- the cells of the new version
 abbrev pub source_cells : Held → ℕ → Source → List Cell
 source_cells h file (Draft handle opened) = cells_of_draft h file
 source_cells h file (Version number) = cells_of_version h file number
@@ -47,7 +47,7 @@ abbrev pub IsSource : Held → ℕ → Source → Type 0
 IsSource h file (Draft handle opened) = IsLast h file handle opened
 IsSource h file (Version number) = IsHeldAlone h file number
 
--- what the files need to make it, and the sums to have it
+-- the files can make the version, and the sums can take it
 pub record IsReady (h : Held) (now file : ℕ) (source : Source) : Type 0 where
   pub is : IsSource h file source
   pub few : length h.versions + length h.drafts ≤ 2 ^ 50
@@ -56,11 +56,11 @@ pub record IsReady (h : Held) (now file : ℕ) (source : Source) : Type 0 where
   pub short : length (content_of (source_cells h file source)) ≤ longest_content
   pub placed : AllLater ArePlaced h.versions
 
--- there is room for one more, in the counts and in the sums
+-- the limit and the sums have a place for one more
 pub record IsRoomy (made : ℕ) (book : Book) : Type 0 where
   pub versions : made ≤ 1000000
   pub sums : (k : Kind) → IsFew (sums_of book k)
 
--- the keys that come with it under the policy, where the file has a name again or had one
+-- the keys that are added with it under the policy, if the file has a name again or had one
 abbrev pub coming : Rows → Policy → ℕ → Bool → List KeyChange
 coming rows policy file again = new_keys rows.groups rows.files policy (is_live (world_of rows) file) file rows.moment again

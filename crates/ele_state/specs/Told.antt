@@ -1,4 +1,4 @@
--- What answers stand for.
+-- What answers mean.
 use Rattle.std.specs.Prelude.{ℕ, Result, Ok, Err}
 use Rattle.ele_model.specs.declared.refusal.Refusal.{Refusal}
 use Rattle.ele_model.specs.declared.rows.VersionInfo.{VersionInfo}

@@ -27,11 +27,11 @@ blocks_of h = different is_place (places h.versions h.drafts)
 abbrev pub only_blocks : ℕ → Usage
 only_blocks n = record { files = 0; versions = 0; bytes = 0; blocks = n }
 
--- one version of so many bytes, but for its blocks
+-- one version of so many bytes, without its blocks
 abbrev pub one_version : ℕ → Usage
 one_version bytes = record { files = 0; versions = 1; bytes = bytes; blocks = 0 }
 
--- what a kind may use, but for its blocks
+-- what a kind may use, without its blocks
 pub record IsFew (u : Usage) : Type 0 where
   pub files : u.files ≤ 100000
   pub versions : u.versions ≤ 1000000
@@ -44,11 +44,11 @@ of_file h file usage k = if is_file_of h.files k file then usage else nothing
 abbrev pub own : Held → ℕ → ℕ → Kind → Usage
 own h file n k = of_file h file (only_blocks n) k
 
--- the book has what was used when there were so many blocks, and the file alone has changed since
+-- the book has the usage with so many blocks, and only the file has changed since
 abbrev pub IsOwed : Held → Book → ℕ → ℕ → Type 0
 IsOwed h book file before = (k : Kind) → plus (usage_of (held_world h) k) (own h file before k) ≡ plus (sums_of book k) (own h file (blocks_of h) k)
 
--- the same, where a file of the kind has changed
+-- the same, if a file of the kind has changed
 abbrev pub IsOwedBy : Held → Book → Kind → ℕ → Type 0
 IsOwedBy h book kind before =
     (k : Kind) → plus (usage_of (held_world h) k) (only_at kind (only_blocks before) k) ≡ plus (sums_of book k) (only_at kind (only_blocks (blocks_of h)) k)

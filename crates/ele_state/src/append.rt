@@ -1,4 +1,5 @@
-//! A version that a file gets: where its content comes from, the keys that come with it, and what it uses.
+//! A new version of a file: where its content comes from, the keys that are added with it, and what
+//! it uses.
 ghost use Rattle.std.specs.Prelude.{◌≡◌, ◌<◌, ◌-◌, ◌||◌, true, false, Some, None, IfOk, OnOk, OnErr, is_some, length, option_and_then};
 ghost use Rattle.std.specs.Option.{option_map};
 ghost use Rattle.ele_content.specs.Content.{content_of};
@@ -29,15 +30,15 @@ use ele_model::{FileId, Moment, NoMemory, VersionInfo, VersionNo};
 use ele_policy::{Case, Rule};
 use ele_sessions::FoundHandle;
 
-// Where the content of a file's next version comes from: the draft that was opened then, of which the handle is the last one;
-// or the version of that number, which is held.
+// The source of a file's next version: the draft that was opened then, with its last handle, or the
+// held version of that number.
 #[derive(Clone, Copy)]
 pub enum Source {
     Draft(FoundHandle, Moment),
     Version(VersionNo),
 }
 
-// How the file stands, which is there.
+// The head of the file, which exists.
 #[tactic(auto, using(crate::proofs::Words::nat_tests))]
 pub fn head(files: &Files, file: FileId) -> FileHead
     requires { 0 < next_of files.now.files file }
@@ -49,7 +50,8 @@ pub fn head(files: &Files, file: FileId) -> FileHead
     head
 }
 
-// A version of the rule's file that closed then, beside that next one, with enough newer ones or not.
+// A version of the rule's file that closed at `closed`, with the next one's closing, and whether it
+// has enough newer ones.
 fn case_of(rule: &Rule, closed: Moment, next_closed: Option<Moment>, enough: bool) -> Case
     ensures { result ≡ case_of rule.now.policy closed next_closed enough }
 {
@@ -61,7 +63,8 @@ fn case_of(rule: &Rule, closed: Moment, next_closed: Option<Moment>, enough: boo
     }
 }
 
-// Whether a version without a newer one has a ripe moment under the rule, where as few are enough as it asks for but one.
+// Whether a version without a newer one has a ripe moment under the rule, if one newer version
+// fewer than the rule asks for is enough.
 fn ripens_alone(groups: &Groups, file: FileId, rule: &Rule, info: &VersionInfo) -> bool
     ensures { result ≡ is_some (option_and_then (case_moment (cover_of groups.now file)
         (case_of rule.now.policy info.now.closed None (few_enough rule.now))) info.now.ended) }
@@ -75,7 +78,8 @@ fn ripens_alone(groups: &Groups, file: FileId, rule: &Rule, info: &VersionInfo) 
     }
 }
 
-// What is told of the held version with so many newer ones, of a file that stands so, which tells it of the newest.
+// The info of the held version with so many newer ones. The head has the info of the newest
+// version.
 #[tactic(auto, using(crate::proofs::Words::nat_tests, crate::proofs::Questions::newest_told))]
 pub fn with_newer(files: &Files, file: FileId, head: &FileHead, newer: u64) -> Option<VersionInfo>
     requires stands { Stands files.now file head.now }
@@ -88,8 +92,9 @@ pub fn with_newer(files: &Files, file: FileId, head: &FileHead, newer: u64) -> O
     files.with_newer(file, newer)
 }
 
-// The ripe moment that the version gets, of which these are the info, as the next one closes now; none where a handle reads it, or
-// where it keeps the one that it had alone, as it does under every rule that asks for no newer ones and looks at no other version.
+// The ripe moment that the version of `gaining` gets as the next one closes now. None if a handle
+// reads it, or if it keeps the ripe moment that it had. It keeps it under every rule that asks for
+// no newer versions and looks at no other version.
 #[tactic(auto, using(crate::proofs::Questions::former_told, crate::proofs::Words::nat_tests))]
 fn former_moment(rows: &Rows, file: FileId, rule: &Rule, gaining: &VersionInfo) -> Option<Moment>
     requires { option_map info_of (with_newer rows.now.files.versions file (rule.now.newer - 1))
@@ -113,8 +118,9 @@ fn former_moment(rows: &Rows, file: FileId, rule: &Rule, gaining: &VersionInfo) 
     )
 }
 
-// The key that the held version gets that gains as the next one comes; none where the file has a name again whose rule asks for newer
-// ones: that version had its key while none were asked for.
+// The key of the held version that has enough newer ones once the next one closes. None if the file
+// is restored and its rule asks for newer ones: the version got its key while the rule asked for
+// none.
 #[tactic(auto, using(crate::proofs::Words::nat_tests))]
 fn former_key(rows: &Rows, file: FileId, head: &FileHead, rule: &Rule, again: bool) -> KeyChange
     requires stands { Stands rows.now.files file head.now }
@@ -125,7 +131,7 @@ fn former_key(rows: &Rows, file: FileId, head: &FileHead, rule: &Rule, again: bo
     if again && rule.newer != 0 {
         return new_key(file, VersionNo(0), None);
     }
-    // Of a rule that asks for none, the newest gains.
+    // If a rule asks for no newer versions, the newest one gains.
     match &with_newer(&rows.files, file, head, rule.newer.saturating_sub(1)) {
         Some(gaining) => new_key(
             file,
@@ -136,7 +142,7 @@ fn former_key(rows: &Rows, file: FileId, head: &FileHead, rule: &Rule, again: bo
     }
 }
 
-// The key of the file's next version, which closes now, if it ends at once.
+// The key of the file's next version, which closes now, if it also ends now.
 fn own_key(rows: &Rows, file: FileId, head: &FileHead, rule: &Rule, ends: bool) -> KeyChange
     requires { Stands rows.now.files file head.now }
     ensures { result ≡ own_key rows.now.groups rows.now.files rule.now file rows.now.moment ends }
@@ -150,7 +156,7 @@ fn own_key(rows: &Rows, file: FileId, head: &FileHead, rule: &Rule, ends: bool) 
     new_key(file, head.next, moment)
 }
 
-// The file's next version stands in the files. The answer is its number and its length.
+// Adds the file's next version to the files, and returns its number and its length.
 fn put_version(
     files: &mut Files,
     file: FileId,
@@ -172,8 +178,9 @@ fn put_version(
     }
 }
 
-// The file, which stands so, and may have a name again, has its next version, which closes now, and the version before it ends; the
-// keys, none of which was there, come with it. Where memory is refused, all is as it was.
+// Adds the file's next version, which closes now, and ends the version before it. The head
+// describes the file, which may get a name again. It also adds the new keys, none of which was
+// there. If memory is refused, all is as it was.
 #[tactic(auto, using(crate::proofs::Words::nat_tests, crate::proofs::Appended::refused, crate::proofs::Appended::taken_back))]
 pub fn append(
     rows: &mut Rows,
@@ -208,7 +215,7 @@ pub fn append(
         former_key(rows, file, head, rule, again),
         own_key(rows, file, head, rule, !is_live),
     ];
-    // All keys come before the version does, so that one that is refused is still without trace.
+    // All keys are added before the version, so that a refused one leaves no trace.
     put_changed(&mut rows.queue, &changes)?;
     let put = put_version(&mut rows.files, file, source, now, is_live);
     let made = match put {

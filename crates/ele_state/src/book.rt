@@ -1,4 +1,4 @@
-//! How the book of usage follows the files.
+//! The updates of the book of usage.
 ghost use Rattle.std.specs.Prelude.{◌≡◌, ◌<◌, ◌^◌};
 ghost use Rattle.ele_policy.specs.declared.policy.Kind.{Kind};
 ghost use Rattle.ele_usage.specs.Book.{sums_of};
@@ -10,7 +10,7 @@ use ele_model::FileId;
 use ele_policy::Kind;
 use ele_usage::{Usage, UsageBook};
 
-// What so many blocks use.
+// The usage of so many blocks.
 fn only_blocks(blocks: u64) -> Usage
     ensures { result ≡ only_blocks blocks }
 {
@@ -28,15 +28,16 @@ pub fn blocks(files: &Files) -> u64
     files.blocks()
 }
 
-// Says that the blocks are fewer than 2 to the power of 64, and changes nothing.
+// Brings a proof the fact that there are fewer than 2^64 blocks.
 pub fn blocks_fit(files: &Files)
     ensures { blocks_of files.now < 2 ^ 64 }
 {
     let _fits = blocks(files);
 }
 
-// The book follows a change of a file with a policy of that kind, where all files had so many blocks before: one event changes
-// the blocks of one file, so what came or went is this file's.
+// Updates the book after a change of a file with a policy of that kind. `before` counts the blocks
+// of all files before the change. One event changes the blocks of one file only, so the difference
+// is that file's.
 #[tactic(auto, using(crate::proofs::Booked::shift_fits, crate::proofs::Booked::shift_there))]
 pub fn charge_blocks(book: &mut UsageBook, files: &Files, kind: Kind, before: u64)
     requires owed { IsOwedBy files.now book.old kind before }
@@ -51,7 +52,7 @@ pub fn charge_blocks(book: &mut UsageBook, files: &Files, kind: Kind, before: u6
     }
 }
 
-// The same for a file by its number; where it isn't there, nothing came or went.
+// Does the same for a file by its number; if there is none, nothing changes.
 #[tactic(auto, using(crate::proofs::Words::nat_tests, crate::proofs::Booked::owed_by))]
 pub fn follow_blocks(book: &mut UsageBook, files: &Files, file: FileId, before: u64)
     requires owed { IsOwed files.now book.old file before }
@@ -63,7 +64,7 @@ pub fn follow_blocks(book: &mut UsageBook, files: &Files, file: FileId, before: 
     }
 }
 
-// What one version of so many bytes uses, but for its blocks.
+// The usage of one version of so many bytes, without its blocks.
 pub fn one_version(bytes: u64) -> Usage
     ensures { result ≡ one_version bytes }
 {

@@ -1,4 +1,4 @@
-//! Directories, and the policies that they give.
+//! Directories and their default policies.
 ghost use Rattle.std.specs.Prelude.{◌≡◌, ◌<◌, ◌+◌, IfOk, OnErr, find, is_some, position, false};
 ghost use Rattle.std.specs.Option.{option_copied};
 ghost use Rattle.ele_lists.specs.Lists.{update_first, AllLater};
@@ -36,7 +36,7 @@ fn directory_row(directories: &[DirectoryRow], id: DirId) -> Option<&DirectoryRo
     directories.get(at)
 }
 
-// Files that are made in the directory from now on get the policy.
+// Sets the default policy of the directory.
 #[tactic(auto, using(ele_lists::proofs::Places::first_places, crate::proofs::Words::nat_tests, crate::proofs::Words::set_first))]
 fn put_default(directories: &mut Vec<DirectoryRow>, directory: DirId, policy: Policy)
     requires { AllLater (λ x y. x.id < y.id) directories.old.items }
@@ -49,7 +49,7 @@ fn put_default(directories: &mut Vec<DirectoryRow>, directory: DirId, policy: Po
     }
 }
 
-// The policy that files get that are made in the directory; a day's where the directory is missing.
+// The default policy of the directory, or one of a day if there is no such directory.
 pub fn default_in(directories: &[DirectoryRow], id: DirId) -> Policy
     requires { AllLater (λ x y. x.id < y.id) directories.now }
     ensures { result ≡ default_of directories.now id }
@@ -61,7 +61,7 @@ pub fn default_in(directories: &[DirectoryRow], id: DirId) -> Policy
 }
 
 impl State {
-    /// The policy that files get that are made in the directory; a day's where the directory is missing.
+    /// Returns the default policy of the directory, or one of a day if there is no such directory.
     #[tactic(auto, using(crate::proofs::Words::nat_tests, crate::proofs::Bounded::directories_placed))]
     pub fn default_of(&self, id: DirId) -> Policy
         ensures { result ≡ default_of self.now.world.directories id }
@@ -69,7 +69,7 @@ impl State {
         default_in(&self.rows.directories, id)
     }
 
-    /// Files that are made in the directory from now on get the policy.
+    /// Sets the default policy of the directory.
     #[tactic(auto, using(crate::proofs::Words::nat_tests, crate::proofs::Bounded::directories_placed))]
     pub fn set_default(&mut self, directory: DirId, policy: Policy)
         ensures world { self.new.world ≡ after_change self.old.world (SetDirectoryDefault directory policy) }
@@ -79,9 +79,9 @@ impl State {
         put_default(&mut self.rows.directories, directory, policy);
     }
 
-    /// A directory is made in another, with that one's policy, and its name.
+    /// Makes a directory in another, with that one's default policy, and its name.
     ///
-    /// `NoMemory` where memory is refused; the world stays.
+    /// `NoMemory` if memory is refused; the world stays as it was.
     #[tactic(auto, using(crate::proofs::Words::nat_tests, crate::proofs::Bounded::directories_placed))]
     pub fn make_directory(&mut self, directory: DirId, name: Name) -> Result<DirId, NoMemory>
         requires home { IsHome self.old.world directory }
@@ -108,7 +108,7 @@ impl State {
         Ok(id)
     }
 
-    /// The name of a directory dies, in which no name is live.
+    /// Ends the name of a directory that has no live name in it.
     pub fn end_name(&mut self, directory: DirId, name: &Name, found: &Found)
         requires { MayEnd self.old.world directory name.now }
         ensures { self.new.world ≡ after_change self.old.world (EndName directory name.now) }

@@ -18,7 +18,7 @@ fn is_ripe(key: &Key, now: Moment) -> bool
 }
 
 impl State {
-    /// Whether the version is held and due now.
+    /// Returns whether the version is held and due now.
     #[tactic(auto, using(crate::proofs::Words::nat_tests, crate::proofs::Questions::due_by_key, crate::proofs::Questions::ripe_told))]
     pub fn is_due(&self, file: FileId, number: VersionNo) -> bool
         ensures { result ≡ is_due self.now.world file number }
@@ -36,20 +36,20 @@ impl State {
         }
     }
 
-    /// The keys of the versions that are due now, in the order in which they are removed.
+    /// Returns the keys of the versions that are due now, in order of removal.
     ///
-    /// `NoMemory` where memory is refused.
+    /// `NoMemory` if memory is refused.
     pub fn due(&self) -> Result<KeyList, NoMemory>
         ensures { IfOk result (λ keys. keys ≡ scan self.now.world) }
     {
-        // Most often none is.
+        // Usually no version is due.
         if self.due_first().is_none() {
             return Ok(ListOf::new(self.rows.alloc));
         }
         Ok(ListOf::from_vec(self.rows.queue.until(self.rows.moment)?))
     }
 
-    /// The key of the version that is removed next, if one is due now.
+    /// Returns the key of the version that is removed next, if one is due now.
     pub fn due_first(&self) -> Option<Key>
         ensures { result ≡ first_due self.now.world }
     {
@@ -63,7 +63,7 @@ impl State {
         }
     }
 
-    /// What the files of each kind of policy use, in the order of `Kind`.
+    /// Returns what the files of each kind of policy use, in the order of `Kind`.
     pub fn usage(&self) -> [Usage; 4]
         ensures { result ≡ usages self.now.world }
     {

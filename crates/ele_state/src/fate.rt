@@ -24,14 +24,14 @@ use ele_model::{
 };
 use ele_policy::{Case, Newer, cause_of};
 
-// Whether the mark covers what was current from the one moment until the other, and is in force.
+// Whether the mark covers what was current from `closed` until `ended`, and is in force.
 fn keeps_at(closed: Moment, ended: Moment, now: Moment, mark: &MarkRow) -> bool
     ensures { result ≡ keeps_at closed (Some ended) now mark.now }
 {
     closed <= mark.at && mark.at < ended && mark.until.is_none_or(|end| now < end)
 }
 
-// The first of the marks that does.
+// The first of the marks that covers it and is in force.
 fn first_keeping(marks: &[MarkRow], closed: Moment, ended: Moment, now: Moment) -> Option<MarkRow>
     ensures { result ≡ find (keeps_at closed (Some ended) now) marks.now }
 {
@@ -41,7 +41,8 @@ fn first_keeping(marks: &[MarkRow], closed: Moment, ended: Moment, now: Moment) 
         .find(|mark| keeps_at(closed, ended, now, mark))
 }
 
-// The name and the first covering mark of the group at that place, if it has the file and one.
+// The name and the first covering mark of the group at that place, if the group has the file and
+// such a mark.
 fn mark_at(
     groups: &Groups,
     place: usize,
@@ -65,8 +66,8 @@ fn mark_at(
     Some((*name, mark))
 }
 
-// The first group, in order of making, that has the file and a mark that covers and is in force, by its name, and the first such
-// mark; all marks together cover the version so.
+// The first group, in order of making, that has the file and a covering mark in force, by its name,
+// and its first such mark. `cover` is the cover of all marks together.
 #[tactic(auto, using(ele_model::proofs::GroupMarks::marked_lasts))]
 fn first_mark(
     groups: &Groups,
@@ -83,7 +84,7 @@ fn first_mark(
         (λ by. IsMarkedBy groups.now file closed (Some ended) now by.0 by.1) }
     ensures none { IfNone result (is_marked groups.now file closed (Some ended) now ≡ false) }
 {
-    // The cover is of the file's groups alone, and most versions aren't marked.
+    // The cover looks at the file's groups only, and most versions aren't marked.
     if !cover.lasts(now) {
         return None;
     }
@@ -95,7 +96,7 @@ fn first_mark(
     None
 }
 
-// The next held version, by its info, as a newer one of its file.
+// The next held version as a newer one of its file.
 fn newer_of(next: &Option<VersionInfo>) -> Option<Newer>
     ensures { result ≡ option_map newer_of next.now }
 {
@@ -108,7 +109,7 @@ fn newer_of(next: &Option<VersionInfo>) -> Option<Newer>
     }
 }
 
-// When it closed.
+// When the newer version closed.
 fn closing_of(next: &Option<Newer>) -> Option<Moment>
     ensures { result ≡ closing_of next.now }
 {
@@ -118,7 +119,7 @@ fn closing_of(next: &Option<Newer>) -> Option<Moment>
     }
 }
 
-// The level that a version has reached at the moment which ended then; none without a ladder.
+// The level that a version has reached at the moment `at`, by its end. None without a ladder.
 fn level_reached(policy: &Policy, ended: Moment, at: Moment) -> Option<usize>
     ensures { result ≡ level_reached (Some policy.now) (Some ended) at }
 {
@@ -130,14 +131,14 @@ fn level_reached(policy: &Policy, ended: Moment, at: Moment) -> Option<usize>
     }
 }
 
-// The moment, or the end of the cover where that is later.
+// The ripe moment, or the end of the cover if that is later.
 fn ripe_past(cover: Cover, ripe: Option<Moment>) -> Option<Moment>
     ensures { result ≡ option_and_then (ripe_past cover) ripe }
 {
     cover.ripe_past(ripe?)
 }
 
-// What the policy makes at the moment of a version of that case, which ended then, beside that next one, and which marks keep no more.
+// The fate by the policy, for a version that no mark holds any longer.
 #[tactic(auto, using(crate::proofs::Words::nat_tests, crate::proofs::Fated::due_alone))]
 fn free_fate(cover: Cover, case: &Case, next: &Option<Newer>, ended: Moment, now: Moment) -> Fate
     requires { case.now.next_closed ≡ closing_of next.now }
@@ -157,7 +158,7 @@ fn free_fate(cover: Cover, case: &Case, next: &Option<Newer>, ended: Moment, now
     Fate::Kept { until, level }
 }
 
-// What becomes of the file's held version of these info.
+// The fate of the file's held version with this info.
 fn fate_of(rows: &Rows, file: FileId, info: &VersionInfo) -> Fate
     requires sound { IsSound rows.now }
     requires held { IsInfoOf rows.now.files file info.now }
@@ -184,7 +185,7 @@ fn fate_of(rows: &Rows, file: FileId, info: &VersionInfo) -> Fate
 }
 
 impl State {
-    /// What becomes of the version, and why; none where it isn't held. It takes no memory.
+    /// Returns what becomes of the version, and why. None if it isn't held. It takes no memory.
     pub fn fate(&self, file: FileId, number: VersionNo) -> Option<Fate>
         ensures some { IfSome result (HasFate self.now.world file number) }
         ensures none { IfNone result (is_held self.now.world file number ≡ false) }
@@ -193,7 +194,8 @@ impl State {
         Some(fate_of(&self.rows, file, &info))
     }
 
-    /// What becomes of the version that the path and its tag mean, and why. It takes no memory. Refused: as `version_at`.
+    /// Returns what becomes of the version that the path and its tag mean, and why. It takes no
+    /// memory. Refused: as `version_at`.
     pub fn fate_at(&self, tagged: &TaggedPath) -> Result<Fate, Refusal>
         ensures { IsWhy self.now.world tagged.now result }
     {
@@ -201,10 +203,11 @@ impl State {
         Ok(fate_of(&self.rows, file, &info))
     }
 
-    /// The keys of the versions that are due at the moment if until then nothing comes but the clock, in the order in which they
-    /// would be removed. Of a moment before now: the keys of those due now that were ripe by then.
+    /// Returns the keys of the versions that are due at the moment if only the clock moves until
+    /// then, in order of removal. For a moment before now these are the keys of versions that are
+    /// due now and were ripe by then.
     ///
-    /// `NoMemory` where memory is refused.
+    /// `NoMemory` if memory is refused.
     pub fn due_by(&self, moment: Moment) -> Result<KeyList, NoMemory>
         ensures { IfOk result
             (λ keys. keys ≡ scan (after_change self.now.world (Time moment))) }

@@ -1,4 +1,4 @@
-//! Files that are made, and the drop of one of which nothing is left.
+//! New files, and the drop of a file without live name, held version and draft.
 ghost use Rattle.std.specs.Prelude.{◌≡◌, ◌<◌, ◌+◌, IfOk, OnErr, is_some, false};
 ghost use Rattle.ele_model.specs.Change.{DropIdle, MakeFile, after_change};
 ghost use Rattle.ele_model.specs.Step.{versions_made};
@@ -15,7 +15,7 @@ use ele_model::{DirId, FileId, Name, NoMemory, Target};
 use ele_policy::{Floor, Interval, Policy};
 use ele_usage::Usage;
 
-// What a file uses that has no version and no draft.
+// What a file uses without versions and draft.
 const ONE_FILE: Usage = Usage {
     files: 1,
     versions: 0,
@@ -30,14 +30,14 @@ const NEW_FILE: Usage = Usage {
 };
 
 impl State {
-    /// Whether the file has a draft.
+    /// Returns whether the file has a draft.
     pub fn has_draft(&self, file: FileId) -> bool
         ensures { result ≡ has_draft self.now.world file }
     {
         self.rows.files.has_draft(file)
     }
 
-    /// The policy that governs the file; a day's where the file is missing.
+    /// Returns the policy of the file, or one of a day if there is no such file.
     pub fn policy_for(&self, file: FileId) -> Policy
         ensures { result ≡ policy_for self.now.world.files file }
     {
@@ -47,9 +47,10 @@ impl State {
         }
     }
 
-    /// A file is made in the directory, with that one's policy, its name, and an empty first version.
+    /// Makes a file in the directory, with the directory's default policy, its name, and an empty
+    /// first version.
     ///
-    /// `NoMemory` where memory is refused; the world stays.
+    /// `NoMemory` if memory is refused; the world stays as it was.
     #[tactic(auto, using(crate::proofs::Words::nat_tests, crate::proofs::Bounded::directories_placed, crate::proofs::Bounded::files_before, crate::proofs::Booked::made_fits))]
     pub fn make_file(&mut self, directory: DirId, name: Name) -> Result<FileId, NoMemory>
         requires home { IsHome self.old.world directory }
@@ -69,7 +70,7 @@ impl State {
             .names
             .add(directory, name, Target::File(id), self.rows.moment)?;
         if let Err(refused) = self.rows.files.add(id, policy, self.rows.moment) {
-            // The name goes again: it is the only one of the file.
+            // This removes the name again: it is the file's only one.
             self.rows.names.drop_file(id);
             return Err(refused);
         }
@@ -81,7 +82,8 @@ impl State {
     }
 }
 
-// The file goes with its dead names, and leaves its groups, if it has no live name, no held version and no draft.
+// Drops the file with its dead names and its memberships, if it has no live name, no held version
+// and no draft.
 #[tactic(auto, using(crate::proofs::Words::nat_tests, crate::proofs::DroppedFiles::absent_stays, crate::proofs::DroppedFiles::dropped_within))]
 pub fn drop_idle(rows: &mut Rows, file: FileId)
     requires { IsSound rows.old }

@@ -10,39 +10,39 @@ use crate::mark::{GroupChange, regroup};
 use ele_model::{FileId, GroupList, MarkRow, Moment, Name, NoMemory};
 
 impl State {
-    /// Whether there is a group of that name.
+    /// Returns whether there is a group of that name.
     pub fn has_group(&self, name: &Name) -> bool
         ensures { result ≡ has_group self.now.world.groups name.now }
     {
         self.rows.groups.has_group(name)
     }
 
-    /// Whether the group of that name has the file.
+    /// Returns whether the group of that name has the file.
     pub fn is_member(&self, name: &Name, file: FileId) -> bool
         ensures { result ≡ has_member self.now.world.groups name.now file }
     {
         self.rows.groups.is_member(name, file)
     }
 
-    /// Whether the group of that name was marked at the moment.
+    /// Returns whether the group of that name has a mark at the moment.
     pub fn has_mark(&self, name: &Name, mark: Moment) -> bool
         ensures { result ≡ is_marked_at self.now.world.groups name.now mark }
     {
         self.rows.groups.has_mark(name, mark)
     }
 
-    /// All groups with their files and marks, in order of making.
+    /// Returns all groups with their files and marks, in order of making.
     ///
-    /// `NoMemory` where memory is refused.
+    /// `NoMemory` if memory is refused.
     pub fn groups(&self) -> Result<GroupList, NoMemory>
         ensures { IfOk result (λ groups. groups ≡ self.now.world.groups) }
     {
         self.rows.groups.rows()
     }
 
-    /// A group of a name that none has is made.
+    /// Makes a group with a new name.
     ///
-    /// `NoMemory` where memory is refused; the world stays.
+    /// `NoMemory` if memory is refused; the world stays as it was.
     pub fn make_group(&mut self, name: &Name) -> Result<(), NoMemory>
         requires free { has_group self.old.world.groups name.now ≡ false }
         requires room { self.old.world.made.groups < self.old.world.limits.groups }
@@ -55,9 +55,10 @@ impl State {
         Ok(())
     }
 
-    /// The group of that name goes, and the versions that its marks cover have their keys as without it.
+    /// Removes the group of that name. The versions that its marks cover get the keys that they
+    /// have without it.
     ///
-    /// `NoMemory` where memory is refused; the world stays.
+    /// `NoMemory` if memory is refused; the world stays as it was.
     pub fn drop_group(&mut self, name: &Name) -> Result<(), NoMemory>
         ensures ok { OnOk result
             (self.new.world ≡ after_change self.old.world (DropGroup name.now)) }
@@ -69,9 +70,10 @@ impl State {
         regroup(&mut self.rows, &change, &members, &marks)
     }
 
-    /// The group of that name gets the file, whose versions that its marks cover have later keys, or none.
+    /// Adds the file to the group of that name. The file's versions that the group's marks cover
+    /// get later keys, or none.
     ///
-    /// `NoMemory` where memory is refused; the world stays.
+    /// `NoMemory` if memory is refused; the world stays as it was.
     pub fn add_member(&mut self, name: &Name, file: FileId) -> Result<(), NoMemory>
         requires there { 0 < next_of self.old.world.files file }
         requires other { has_member self.old.world.groups name.now file ≡ false }
@@ -85,9 +87,10 @@ impl State {
         regroup(&mut self.rows, &change, &[file], &marks)
     }
 
-    /// The group of that name loses the file, whose versions have their keys as without its marks.
+    /// Removes the file from the group of that name. Its versions get the keys that they have
+    /// without the group's marks.
     ///
-    /// `NoMemory` where memory is refused; the world stays.
+    /// `NoMemory` if memory is refused; the world stays as it was.
     pub fn remove_member(&mut self, name: &Name, file: FileId) -> Result<(), NoMemory>
         requires { has_member self.old.world.groups name.now file ≡ true }
         ensures ok { OnOk result
@@ -99,10 +102,10 @@ impl State {
         regroup(&mut self.rows, &change, &[file], &marks)
     }
 
-    /// The group of that name is marked at a moment that has passed, until one that is to come, if the mark ends: the versions that
-    /// it covers have their keys no earlier than that, or none.
+    /// Marks the group of that name at a moment before now, for good or until a moment after now.
+    /// The versions that it covers get keys no earlier than its end, or none if it has no end.
     ///
-    /// `NoMemory` where memory is refused; the world stays.
+    /// `NoMemory` if memory is refused; the world stays as it was.
     pub fn add_mark(&mut self, name: &Name, mark: &MarkRow) -> Result<(), NoMemory>
         requires past { mark.now.at < self.old.world.now }
         requires ahead { option_map_or (λ end. nat_le end self.old.world.now) mark.now.until false ≡ false }
@@ -117,9 +120,10 @@ impl State {
         regroup(&mut self.rows, &change, &members, &[mark.at])
     }
 
-    /// The group of that name loses the mark, and the versions that it covers have their keys as without it.
+    /// Removes the mark from the group of that name. The versions that it covers get the keys that
+    /// they have without it.
     ///
-    /// `NoMemory` where memory is refused; the world stays.
+    /// `NoMemory` if memory is refused; the world stays as it was.
     pub fn remove_mark(&mut self, name: &Name, mark: Moment) -> Result<(), NoMemory>
         requires { is_marked_at self.old.world.groups name.now mark ≡ true }
         ensures ok { OnOk result

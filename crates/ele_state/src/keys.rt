@@ -1,4 +1,4 @@
-//! How the queue of keys follows the files: keys come and go by the version that they are of.
+//! Updates of the queue of keys.
 ghost use Rattle.std.specs.Prelude.{◌≡◌, ◌++◌, ◌||◌, ◌&&◌, not, Some, None, OnOk, OnErr};
 ghost use Rattle.ele_due.specs.declared.key.Key.{Key};
 ghost use Rattle.ele_due.specs.HasKey.{has_key};
@@ -7,7 +7,7 @@ ghost use Rattle.ele_state.specs.Queued.{IsRekeyed, comes, goes, if_changed};
 use ele_due::DueQueue;
 use ele_model::{FileId, Key, Moment, NoMemory, VersionNo};
 
-// Puts in the key of the version with that moment, if there is one.
+// Adds the key of the version with that moment, if there is one.
 pub fn put(
     queue: &mut DueQueue,
     file: FileId,
@@ -23,7 +23,7 @@ pub fn put(
     queue.insert(Key { ripe, file, number })
 }
 
-// Takes out the key of the version with that moment, if there is one.
+// Removes the key of the version with that moment, if there is one.
 pub fn take(queue: &mut DueQueue, file: FileId, number: VersionNo, moment: Option<Moment>)
     ensures { IsRekeyed file number moment None queue.old queue.new }
 {
@@ -32,7 +32,8 @@ pub fn take(queue: &mut DueQueue, file: FileId, number: VersionNo, moment: Optio
     }
 }
 
-// The moment of a version changes: the key that it had goes, and another comes, where it has one.
+// A change of a version's ripe moment: the queue loses its old key, if it has one, and gets the new
+// one, if there is one.
 #[derive(Clone, Copy)]
 pub struct KeyChange {
     pub file: FileId,
@@ -41,7 +42,7 @@ pub struct KeyChange {
     pub is: Option<Moment>,
 }
 
-// The key of a version comes, which had none, if it has a moment.
+// The addition of a key, if there is a moment, for a version that had none.
 pub fn new_key(file: FileId, number: VersionNo, moment: Option<Moment>) -> KeyChange
     ensures { result ≡ record { file = file; number = number; was = None; is = moment } }
 {
@@ -53,7 +54,7 @@ pub fn new_key(file: FileId, number: VersionNo, moment: Option<Moment>) -> KeyCh
     }
 }
 
-// Adds the change, if there is one, and the moment is another.
+// Adds the change, if there is one and the two moments differ.
 pub fn add_change(changes: &mut Vec<KeyChange>, change: Option<KeyChange>) -> Result<(), NoMemory>
     ensures { OnOk result (changes.new.items ≡ changes.old.items ++ if_changed change) }
 {
@@ -65,7 +66,7 @@ pub fn add_change(changes: &mut Vec<KeyChange>, change: Option<KeyChange>) -> Re
     Ok(())
 }
 
-// Puts in all keys that come, or none where memory is refused; none of them is there.
+// Adds all new keys, or none if memory is refused. None of them is in the queue.
 pub fn put_changed(queue: &mut DueQueue, changes: &[KeyChange]) -> Result<(), NoMemory>
     ensures ok { OnOk result
         ((k : Key) → has_key k queue.new ≡ (comes changes.now k || has_key k queue.old)) }
@@ -81,7 +82,7 @@ pub fn put_changed(queue: &mut DueQueue, changes: &[KeyChange]) -> Result<(), No
     Ok(())
 }
 
-// Takes out all keys that came.
+// Removes all new keys.
 pub fn take_back(queue: &mut DueQueue, changes: &[KeyChange])
     ensures { (k : Key) → has_key k queue.new ≡ (not (comes changes.now k) && has_key k queue.old) }
 {
@@ -90,7 +91,7 @@ pub fn take_back(queue: &mut DueQueue, changes: &[KeyChange])
     }
 }
 
-// Takes out all keys that go.
+// Removes all old keys.
 pub fn remove_old_keys(queue: &mut DueQueue, changes: &[KeyChange])
     ensures { (k : Key) → has_key k queue.new ≡ (not (goes changes.now k) && has_key k queue.old) }
 {

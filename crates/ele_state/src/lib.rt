@@ -1,5 +1,6 @@
-//! One world, kept fast: its rows, and the queue of keys and the book of usage, which follow each change. A contract sees a
-//! state as its flat world, with a count of the rows that the last clean read.
+//! One world, stored for fast access: its rows, and the queue of keys and the book of usage, which
+//! follow each change. A contract sees a state as its flat world, with the number of version rows
+//! that the last clean read.
 #![tactic(auto)]
 
 ghost use Rattle.std.specs.Prelude.{◌≡◌, ◌≤◌, IfOk};
@@ -44,7 +45,7 @@ use ele_usage::UsageBook;
 use std::alloc::Global;
 use std::marker::Model;
 
-/// One world, which is well formed and has no file of which nothing is left.
+/// One world, which is well formed; each file has a live name, a held version or a draft.
 #[derive(Drop)]
 pub struct State {
     rows: Rows,
@@ -63,9 +64,9 @@ impl Model for State {
 }
 
 impl State {
-    /// The fresh world of these limits.
+    /// Makes the fresh world with these limits.
     ///
-    /// `NoMemory` where memory is refused.
+    /// `NoMemory` if memory is refused.
     pub fn new(alloc: Global, limits: Limits) -> Result<State, NoMemory>
         ensures { IfOk result (λ state. state.world ≡ fresh_world limits) }
     {
@@ -101,13 +102,14 @@ impl State {
         })
     }
 
-    /// The allocator behind the rows.
+    /// Returns the allocator of the rows.
     pub fn allocator(&self) -> Global {
         self.rows.alloc
     }
 
-    /// The moment that it is. The world is well formed, its limits are within theirs, and it has no file of which nothing is
-    /// left, so the laws of `ele_world` hold.
+    /// Returns the current moment. Its contract also says that the world is well formed, and that
+    /// its limits are allowed. Each file has a live name, a held version or a draft. So the laws of
+    /// `ele_world` hold.
     pub fn now(&self) -> Moment
         ensures value { result ≡ self.now.world.now }
         ensures formed { IsWellFormed self.now.world }
@@ -117,7 +119,7 @@ impl State {
         self.rows.moment
     }
 
-    /// The time goes on to the moment.
+    /// Moves the clock to the moment.
     pub fn set_time(&mut self, to: Moment)
         requires { self.old.world.now ≤ to }
         ensures world { self.new.world ≡ after_change self.old.world (Time to) }
@@ -127,14 +129,14 @@ impl State {
         self.rows.moment = to;
     }
 
-    /// Whether as many were made as may be; with the versions count the drafts that are open.
+    /// Returns whether the limit of that kind is reached. Open drafts count as versions.
     pub fn is_full(&self, which: Which) -> bool
         ensures { result ≡ is_full self.now.world which }
     {
         self.made(which) >= self.rows.limits.limit(which)
     }
 
-    // How many were ever made; with the versions count the drafts that are open.
+    // How many of that kind were ever made. Open drafts count as versions.
     #[tactic(auto, using(crate::proofs::Bounded::versions_few))]
     fn made(&self, which: Which) -> u64
         ensures { result ≡ made_of self.now.world which }
@@ -152,24 +154,24 @@ impl State {
         }
     }
 
-    /// How many version rows `remove` read after the last `reset_rows_read`. Other calls count none
-    /// of the rows that they read.
+    /// Returns how many version rows `remove` read since the last `reset_rows_read`. Rows that
+    /// other calls read don't count.
     pub fn rows_read(&self) -> u64
         ensures { result ≡ self.now.rows_read }
     {
         self.rows.meter.rows()
     }
 
-    /// The count of the rows read begins again at zero.
+    /// Sets the count of rows read to zero.
     pub fn reset_rows_read(&mut self)
         ensures { self.new ≡ record self.old { rows_read = 0 } }
     {
         self.rows.meter = Meter::new();
     }
 
-    /// A plain copy of all rows and counts.
+    /// Returns a plain copy of all rows and counts.
     ///
-    /// `NoMemory` where memory is refused.
+    /// `NoMemory` if memory is refused.
     pub fn flat(&self) -> Result<Flat, NoMemory>
         ensures { IfOk result (λ flat. flat ≡ self.now.world) }
     {

@@ -1,4 +1,4 @@
-//! Changes of groups, and the moments of versions that were current at their marks.
+//! Changes of groups, and the new ripe moments of versions that were current at their marks.
 ghost use Rattle.std.specs.Prelude.{◌≡◌, ◌==◌, ◌∷◌, [], IfOk, OnOk, OnErr, Some, false, true};
 ghost use Rattle.std.specs.List.{list_any};
 ghost use Rattle.std.specs.Option.{option_map_or};
@@ -23,7 +23,7 @@ use ele_groups::Groups;
 use ele_model::{Cover, FileId, MarkRow, Moment, Name, NoMemory};
 use ele_policy::Rule;
 
-// A change of the group of that name, by which marks keep versions for longer, or less long.
+// A change of the group of that name, after which marks hold versions for longer, or less long.
 #[derive(Clone, Copy)]
 pub enum GroupChange {
     Marked(Name, MarkRow),
@@ -33,7 +33,8 @@ pub enum GroupChange {
     Dropped(Name),
 }
 
-// For how long the group of that name keeps, or the rest; nothing is kept for longer than for ever, so then the group isn't asked.
+// How long the group of that name holds the version, or `rest` if that is longer. If `rest` has no
+// end, the group isn't asked.
 fn with_group(groups: &Groups, name: &Name, rest: &Cover, closed: Moment, ended: Moment) -> Cover
     ensures { result ≡ longer (option_map_or (λ row. cover_by closed (Some ended) row.marks)
         (group_named groups.now name.now) Free) rest.now }
@@ -47,8 +48,9 @@ fn with_group(groups: &Groups, name: &Name, rest: &Cover, closed: Moment, ended:
     }
 }
 
-// For how long marks keep a version of the file that closed and ended then, as groups stand and once they have changed. Where some
-// leave, what the others keep is asked of all the file's groups, and what leaves of the group alone.
+// How long marks hold a version of the file that closed and ended then, before the change and after
+// it. If the change removes marks, it looks at all groups of the file for the others, and at this
+// group alone for the removed ones.
 #[tactic(auto, using(crate::proofs::Words::nat_tests, crate::proofs::OtherGroups::longer_again, crate::proofs::OtherGroups::members_have))]
 fn covers(
     groups: &Groups,
@@ -84,8 +86,9 @@ fn covers(
     }
 }
 
-// How the moment changes of the version that was current at the mark of the file that has that rule; none where it doesn't.
-// Where marks keep it for as long, nothing else is asked.
+// The change of the ripe moment of the version that was current at the mark, in the file of that
+// rule. None if it stays. If marks hold the version for as long as before, nothing else is
+// computed.
 fn change_at(
     rows: &Rows,
     change: &GroupChange,
@@ -110,7 +113,7 @@ fn change_at(
         return None;
     }
     let rule = (*rule)?;
-    // The borrow checker's proof wants a local of the type that a rule holds.
+    // The borrow checker's proof needs a local of the type in a rule.
     let _policy = rule.policy;
     let ripe = case(&rows.files, file, rule, &info).ripe(ended)?;
     Some(KeyChange {
@@ -121,8 +124,8 @@ fn change_at(
     })
 }
 
-// How the moments change of the versions of these files that were current at these marks. One version may stand there more than
-// once.
+// The changes of the ripe moments of the versions that were current at these marks in these files.
+// A version may be there more than once.
 fn changes_by(
     rows: &Rows,
     change: &GroupChange,
@@ -146,7 +149,7 @@ fn changes_by(
     Ok(changes)
 }
 
-// The group changes, and what is made is counted.
+// Changes the group, and counts what is made.
 fn make(rows: &mut Rows, change: &GroupChange) -> Result<(), NoMemory>
     requires may { May (world_of rows.old) (change_of change.now) }
     requires bounds { AreBounds rows.old.limits }
@@ -171,7 +174,7 @@ fn make(rows: &mut Rows, change: &GroupChange) -> Result<(), NoMemory>
     Ok(())
 }
 
-// The group changes, of which these are the files and the marks that the change touches, and the queue follows.
+// Changes the group, and updates the queue. The change touches these files and these marks.
 pub fn regroup(
     rows: &mut Rows,
     change: &GroupChange,
@@ -189,7 +192,7 @@ pub fn regroup(
     ensures tracked { IsTracked rows.new }
 {
     let changes = changes_by(rows, change, files, marks)?;
-    // All keys come before one goes, so that one that is refused is still without trace.
+    // All new keys are added before an old one is removed, so that a refused one leaves no trace.
     put_changed(&mut rows.queue, &changes)?;
     if let Err(refused) = make(rows, change) {
         take_back(&mut rows.queue, &changes);

@@ -1,4 +1,5 @@
-//! The moments at which versions ripen while no handle reads them, by the rules of their files and the marks of their groups.
+//! The ripe moments of versions that no handle reads, by the rules of their files and the marks of
+//! their groups.
 ghost use Rattle.std.specs.Prelude.{◌≡◌};
 ghost use Rattle.ele_model.specs.Cover.{cover_of};
 ghost use Rattle.ele_model.specs.Neighbours.{case_in, case_moment, free_moment, rule_of};
@@ -10,7 +11,7 @@ use ele_groups::Groups;
 use ele_model::{FileId, Moment, VersionInfo, VersionNo};
 use ele_policy::{Case, Rule};
 
-// The file's policy as it is in force now, if the file is there.
+// The policy in force in the file, if the file exists.
 pub fn rule(rows: &Rows, file: FileId) -> Option<Rule>
     ensures { result ≡ rule_of (world_of rows.now) file }
 {
@@ -18,7 +19,7 @@ pub fn rule(rows: &Rows, file: FileId) -> Option<Rule>
     Some(policy.rule_in(rows.names.is_live(file)))
 }
 
-// The case under the rule of the file's version of these info.
+// The case of the file's version with this info, under the rule.
 pub fn case(files: &Files, file: FileId, rule: Rule, info: &VersionInfo) -> Case
     ensures { result ≡ case_in rule files.now.versions file info.now.number info.now.closed }
 {
@@ -30,8 +31,8 @@ pub fn case(files: &Files, file: FileId, rule: Rule, info: &VersionInfo) -> Case
     }
 }
 
-// When a version of the file of that case ripens which ended then: not before the latest end of the marks that cover it; none where
-// one keeps it for ever, or where it is never due.
+// When a version of that case ripens, by its end: not before the latest end of the marks that cover
+// it. None if one of them has no end, or if the version is never due.
 pub fn case_moment(groups: &Groups, file: FileId, case: &Case, ended: Moment) -> Option<Moment>
     ensures { result ≡ case_moment (cover_of groups.now file) case.now ended }
 {
@@ -39,7 +40,7 @@ pub fn case_moment(groups: &Groups, file: FileId, case: &Case, ended: Moment) ->
     groups.cover(file, case.closed, Some(ended)).ripe_past(ripe)
 }
 
-// When the file's version of that number ripens; none where it isn't held or has no end.
+// When the file's version of that number ripens. None if it isn't held, has no end or never ripens.
 pub fn free_moment(rows: &Rows, file: FileId, number: VersionNo) -> Option<Moment>
     ensures { result ≡ free_moment (world_of rows.now) (cover_of rows.now.groups file) file number }
 {

@@ -1,4 +1,4 @@
-//! Names that come, move and die.
+//! New names, moved names and ended names.
 ghost use Rattle.std.specs.Prelude.{◌≡◌, ◌<◌, OnOk, OnErr, IfOk, IfSome, None, Some, is_some, false, not};
 ghost use Rattle.std.specs.List.{count_by, list_any};
 ghost use Rattle.ele_model.specs.Change.{AddName, EndFileName, MoveName, after_change};
@@ -20,23 +20,23 @@ use ele_model::{DirId, FileId, ListOf, Moment, Name, NameList, NoMemory, Target}
 use ele_names::Found;
 
 impl State {
-    /// Whether the name is live there.
+    /// Returns whether the directory has such a live name.
     pub fn is_taken(&self, directory: DirId, name: &Name) -> bool
         ensures { result ≡ is_some (live_target self.now.world.names directory name.now) }
     {
         self.rows.names.live(directory, name).is_some()
     }
 
-    /// Whether no name in the directory is live.
+    /// Returns whether the directory has no live name.
     pub fn is_empty(&self, directory: DirId) -> bool
         ensures { result ≡ not (list_any (is_live_in directory) self.now.world.names) }
     {
         self.rows.names.is_empty(directory)
     }
 
-    /// The names that stood in the directory at the moment, by their bytes.
+    /// Returns the directory's names at the moment with their targets, by the bytes of the names.
     ///
-    /// `NoMemory` where memory is refused.
+    /// `NoMemory` if memory is refused.
     pub fn names_in(&self, directory: DirId, moment: Moment) -> Result<NameList, NoMemory>
         ensures { IfOk result
             (λ names. names ≡ listing self.now.world.names directory moment) }
@@ -45,7 +45,7 @@ impl State {
         Ok(ListOf::from_vec(names))
     }
 
-    /// What the newest name of this kind stood for, if that name is dead. None is live then.
+    /// Returns the target of the newest such name, if that name is dead. No such name is live then.
     pub fn last_dead(&self, directory: DirId, name: &Name) -> Option<Target>
         ensures value { result ≡ last_dead self.now.world.names directory name.now }
         ensures there { IfSome result (λ target. IsPresent self.now.world target) }
@@ -55,9 +55,9 @@ impl State {
         self.rows.names.last_dead(directory, name)
     }
 
-    /// What is there has a name more, from now on.
+    /// Gives the target a new name from now on.
     ///
-    /// `NoMemory` where memory is refused; the world stays.
+    /// `NoMemory` if memory is refused; the world stays as it was.
     pub fn add_name(&mut self, directory: DirId, name: Name, target: Target) -> Result<(), NoMemory>
         requires home { IsHome self.old.world directory }
         requires free { is_some (live_target self.old.world.names directory name) ≡ false }
@@ -75,9 +75,9 @@ impl State {
         Ok(())
     }
 
-    /// The live name gives way to another one of what it stands for.
+    /// Replaces the live name by another name of its target.
     ///
-    /// `NoMemory` where memory is refused; the world stays.
+    /// `NoMemory` if memory is refused; the world stays as it was.
     #[tactic(auto, using(crate::proofs::Words::nat_tests, crate::proofs::NewNames::dies_before, crate::proofs::Words::name_stands))]
     pub fn move_name(
         &mut self,
@@ -93,7 +93,7 @@ impl State {
             (MoveName from.now.0 from.now.1 to.now.0 to.now.1 found.now)) }
         ensures err { OnErr result (self.new.world ≡ self.old.world) }
     {
-        // The new name comes first, since it may be refused memory.
+        // The new name is first, since it may be refused memory.
         self.rows
             .names
             .add(to.0, to.1, found.target(), self.rows.moment)?;
@@ -104,9 +104,9 @@ impl State {
         Ok(())
     }
 
-    /// The file's name dies, and with its last one its current version ends.
+    /// Ends the file's name. With the last name the current version ends too.
     ///
-    /// `NoMemory` where memory is refused; the world stays.
+    /// `NoMemory` if memory is refused; the world stays as it was.
     #[tactic(auto, using(crate::proofs::Words::nat_tests, crate::proofs::Unlinked::others_live))]
     pub fn end_file_name(
         &mut self,
@@ -130,8 +130,8 @@ impl State {
     }
 }
 
-// The only name of the file dies, and its current version ends; without a name its rule asks for no newer ones, and the versions that
-// it kept have their keys.
+// Ends the only name of the file and its current version. Without a name the file's rule asks for
+// no newer versions, so those that it kept get keys.
 #[tactic(auto, using(crate::proofs::Words::nat_tests, crate::proofs::ClosedSteps::past, crate::proofs::Unlinked::name_there, crate::proofs::Unlinked::last_ends, crate::proofs::Unlinked::ended_queue, crate::proofs::Unlinked::ended_book))]
 fn end_last_name(
     rows: &mut Rows,
@@ -150,7 +150,7 @@ fn end_last_name(
 {
     let head = head(&rows.files, file);
     let asked = head.policy.rule_in(true).newer;
-    // The newest version ends, and is the current one.
+    // The newest version also gets a key, since it is the current one, and ends.
     let changes = freed(rows, file, &head, asked.max(1))?;
     put_changed(&mut rows.queue, &changes)?;
     rows.names.kill_found(directory, name, found, rows.moment);

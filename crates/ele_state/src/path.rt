@@ -1,4 +1,4 @@
-//! Where a path leads, now or at an earlier moment.
+//! Walks of paths, now or at an earlier moment.
 ghost use Rattle.std.specs.Prelude.{◌≡◌, ◌<◌, ◌⊎◌, true, Ok, Some, IfOk, IfErr};
 ghost use Rattle.ele_names.specs.Stops.{StopsAtPlace};
 ghost use Rattle.ele_model.specs.Tagged.{walk_meant, walk_then};
@@ -11,7 +11,7 @@ use crate::State;
 use ele_model::{DirId, FileId, Name, Path, PathAt, Refusal, Tag, Target};
 use ele_names::{Found, resolve_at, resolve_now};
 
-/// The target, where it is a file. Refused: `IsDirectory`.
+/// Returns the target's file. Refused: `IsDirectory`.
 pub fn file_in(target: Target) -> Result<FileId, Refusal>
     ensures { result ≡ file_at (Ok target) }
 {
@@ -21,7 +21,7 @@ pub fn file_in(target: Target) -> Result<FileId, Refusal>
     }
 }
 
-/// The target, where it is a directory. Refused: `NotDirectory`.
+/// Returns the target's directory. Refused: `NotDirectory`.
 pub fn directory_in(target: Target) -> Result<DirId, Refusal>
     ensures { result ≡ directory_in (Ok target) }
 {
@@ -32,7 +32,8 @@ pub fn directory_in(target: Target) -> Result<DirId, Refusal>
 }
 
 impl State {
-    /// The directory that the path's last name stands in, and that name. Refused: `IsRoot`, `NoEntry`, `NotDirectory`.
+    /// Returns the directory of the path's last name, and that name. Refused: `IsRoot`, `NoEntry`,
+    /// `NotDirectory`.
     #[tactic(auto, using(crate::proofs::Walked::parent_is_home))]
     pub fn parent_now(&self, path: &Path) -> Result<(DirId, Name), Refusal>
         ensures value { result ≡ parent_now self.now.world.names path.now }
@@ -41,8 +42,8 @@ impl State {
         ele_names::parent_now(&self.rows.names, path)
     }
 
-    /// The directory that the path's last name stands in, and that name, where they are known for another path. Refused: as
-    /// `parent_now`.
+    /// Returns the directory of the path's last name, and that name, if they are known for another
+    /// path. Refused: as `parent_now`.
     #[tactic(auto, using(crate::proofs::Walked::parent_is_home))]
     pub fn parent_beside(
         &self,
@@ -57,8 +58,8 @@ impl State {
         ele_names::parent_beside(&self.rows.names, path, other, known)
     }
 
-    /// The directory that the path's last name stands in, that name, and what it stands for. It refuses as `parent_now`, and
-    /// then as a walk of the whole path.
+    /// Returns the directory of the path's last name, that name, and its target. It refuses as
+    /// `parent_now`, and then as a walk of the whole path.
     #[tactic(auto, using(crate::proofs::NewNames::placed_stands))]
     pub fn placed_now(&self, path: &Path) -> Result<(DirId, Name, Found), Refusal>
         ensures place { IfOk result
@@ -74,7 +75,7 @@ impl State {
         ele_names::placed_now(&self.rows.names, path)
     }
 
-    /// The file that the path names. Refused: `NoEntry`, `NotDirectory`, `IsDirectory`.
+    /// Returns the file that the path names. Refused: `NoEntry`, `NotDirectory`, `IsDirectory`.
     #[tactic(auto, using(crate::proofs::Words::nat_tests, crate::proofs::Walked::file_is_there, crate::proofs::Walked::file_is_live))]
     pub fn file_now(&self, path: &Path) -> Result<FileId, Refusal>
         ensures value { result ≡ file_now self.now.world.names path.now }
@@ -87,7 +88,7 @@ impl State {
         }
     }
 
-    /// The directory that the path names. Refused: `NoEntry`, `NotDirectory`.
+    /// Returns the directory that the path names. Refused: `NoEntry`, `NotDirectory`.
     pub fn directory_now(&self, path: &Path) -> Result<DirId, Refusal>
         ensures { result ≡ directory_now self.now.world.names path.now }
     {
@@ -97,7 +98,8 @@ impl State {
         }
     }
 
-    /// What the path leads to by the names of the tag's moment; for a number by those of now. Refused: as `walk_then`.
+    /// Returns what the path leads to by the names of the tag's moment; for a number by the names
+    /// of now. Refused: as `walk_then`.
     pub fn walk_meant(&self, path: &Path, tag: Tag) -> Result<Target, Refusal>
         ensures value { result ≡ walk_meant self.now.world path.now tag }
         ensures there { IfOk result (λ target. IsThere self.now.world.files target) }
@@ -109,8 +111,8 @@ impl State {
         }
     }
 
-    /// What the path led to at its moment, or leads to now. Refused: `Future` for a moment later than now, `NoEntry`,
-    /// `NotDirectory`.
+    /// Returns what the path led to at its moment, or leads to now. Refused: `Future` for a moment
+    /// after now, `NoEntry`, `NotDirectory`.
     pub fn walk_then(&self, at: &PathAt) -> Result<Target, Refusal>
         ensures { result ≡ walk_then self.now.world at.now }
     {
@@ -120,7 +122,7 @@ impl State {
         }
     }
 
-    /// Whether the path's last name stands in the target or below it.
+    /// Returns whether the path's last name is in the target or below it.
     pub fn stands_in(&self, target: Target, path: &Path) -> bool
         ensures { result ≡ stands_in self.now.world.names target path.now }
     {

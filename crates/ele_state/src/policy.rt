@@ -1,4 +1,5 @@
-//! The policy of a file, and the moments that another one changes, or a file's first or last live name.
+//! The policy of a file, and the ripe moments that change with it, or with a file's first or last
+//! live name.
 ghost use Rattle.std.specs.Prelude.{◌≡◌, ◌<◌, ◌+◌, ◌||◌, IfOk, OnOk, OnErr};
 ghost use Rattle.ele_due.specs.declared.key.Key.{Key};
 ghost use Rattle.ele_files.specs.FileHead.{Stands};
@@ -20,9 +21,9 @@ use ele_model::{FileId, NoMemory, VersionInfo};
 use ele_policy::{Case, Policy, Rule};
 
 impl State {
-    /// The file gets the policy, under which its versions have other keys and count for its kind.
+    /// Sets the policy of the file. Its versions get other keys, and count for the policy's kind.
     ///
-    /// `NoMemory` where memory is refused; the world stays.
+    /// `NoMemory` if memory is refused; the world stays as it was.
     #[tactic(auto, using(crate::proofs::Words::nat_tests, crate::proofs::Bounded::rows_few, crate::proofs::Governed::uses_within, crate::proofs::Governed::uses_fit))]
     pub fn set_policy(&mut self, file: FileId, policy: Policy) -> Result<(), NoMemory>
         requires { 0 < next_of self.old.world.files file }
@@ -39,7 +40,8 @@ impl State {
         let is_live = self.rows.names.is_live(file);
         let rule = &was.rule_in(is_live);
         let changes = changes_under(&self.rows, file, rule, &policy.rule_in(is_live))?;
-        // All keys come before one goes, so that one that is refused is still without trace.
+        // All new keys are added before an old one is removed, so that a refused one leaves no
+        // trace.
         put_changed(&mut self.rows.queue, &changes)?;
         remove_old_keys(&mut self.rows.queue, &changes);
         self.rows.files.set_policy(file, policy);
@@ -48,8 +50,8 @@ impl State {
     }
 }
 
-// How the moment of the file's version of these info changes, which comes from under the one rule under the other; none where a handle
-// reads it.
+// The change of the ripe moment of the file's version with this info, from the old rule to the new
+// one. None if a handle reads the version.
 fn change_under(
     rows: &Rows,
     file: FileId,
@@ -82,8 +84,8 @@ fn change_under(
     })
 }
 
-// How the moments of the file's versions change, which come from under the one rule under the other: one walk, which looks at each
-// once.
+// The changes of the ripe moments of the file's versions, from the old rule to the new one. One
+// walk looks at each version once.
 fn changes_under(
     rows: &Rows,
     file: FileId,
@@ -103,8 +105,9 @@ fn changes_under(
     Ok(changes)
 }
 
-// The key that the version with so many newer ones has, if it is held, under the policy of the file that stands so where that asks for
-// no newer ones, as if it were the newest or others didn't matter; it ends now if it hasn't. None where a handle reads it.
+// The key that the held version with so many newer ones has if the policy asks for no newer ones.
+// An unended version ends now. None if a handle reads the version. The head describes the file;
+// under its policy other versions don't matter.
 fn freed_key(rows: &Rows, file: FileId, head: &FileHead, newer: u64) -> Option<KeyChange>
     requires stands { Stands rows.now.files file head.now }
     requires placed { AllLater ArePlaced rows.now.files.versions }
@@ -127,8 +130,8 @@ fn freed_key(rows: &Rows, file: FileId, head: &FileHead, newer: u64) -> Option<K
     Some(new_key(file, info.number, moment))
 }
 
-// The keys of the file's newest versions, so many, as they come where the rule asks for no newer ones: under a policy that may ask no
-// other version matters.
+// The keys that the file's newest versions get, so many, if the rule no longer asks for newer ones.
+// Under a policy that may ask for newer ones, no other version matters.
 pub fn freed(
     rows: &Rows,
     file: FileId,

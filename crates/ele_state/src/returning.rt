@@ -1,4 +1,4 @@
-//! The names that may come back.
+//! The restorable names.
 ghost use Rattle.std.specs.Prelude.{◌≡◌, ◌-◌, IfOk};
 ghost use Rattle.ele_model.specs.Restorable.{may_return, nameless, restorable, returning_name};
 ghost use Rattle.ele_model.specs.World.{is_held, next_of};
@@ -21,7 +21,8 @@ fn has_last_version(rows: &Rows, file: FileId) -> bool
 }
 
 impl State {
-    /// Whether it may have a name again: a directory that has none, or a file whose last version is held.
+    /// Returns whether the target may have a name again: a directory without a name, or a file
+    /// whose last version is held.
     pub fn may_return(&self, target: &Target) -> bool
         ensures { result ≡ may_return self.now.world target.now }
     {
@@ -31,7 +32,7 @@ impl State {
         }
     }
 
-    /// The file, if it has no live name.
+    /// Returns the target's file, if it has no live name.
     pub fn nameless(&self, target: &Target) -> Option<FileId>
         ensures { result ≡ nameless self.now.world target.now }
     {
@@ -41,7 +42,7 @@ impl State {
         }
     }
 
-    // The dead name, if what it last stood for may have a name again.
+    // The dead name, if its last target may have a name again.
     fn returning(&self, lost: (DirId, Name, Target)) -> Option<DeadName>
         ensures { result ≡ returning_name self.now.world lost }
     {
@@ -56,9 +57,9 @@ impl State {
         None
     }
 
-    /// The names that may come back, by directory and then by the bytes of the name.
+    /// Returns the restorable names, by directory and then by the bytes of the name.
     ///
-    /// `NoMemory` where memory is refused.
+    /// `NoMemory` if memory is refused.
     pub fn restorable(&self) -> Result<DeadNameList, NoMemory>
         ensures { IfOk result (λ names. names ≡ restorable self.now.world) }
     {

@@ -1,4 +1,4 @@
-//! What stands behind a state: the rows of directories by number, the names, the files, the groups, and beside them the queue
+//! The rows of a state: directories by number, names, files and groups, and beside them the queue
 //! of keys and the book of usage.
 use ele_due::DueQueue;
 use ele_files::{Files, Meter};
@@ -8,7 +8,7 @@ use ele_names::Names;
 use ele_usage::UsageBook;
 use std::alloc::Global;
 
-// How much was ever made, but for handles, which the files count.
+// How many of each kind were ever made; the files count the handles.
 #[derive(Clone, Copy, Debug)]
 pub struct Made {
     pub files: u64,
@@ -20,7 +20,7 @@ pub struct Made {
     pub marks: u64,
 }
 
-// All rows and counts. The meter has counted the version rows that the last clean read.
+// All rows and counts. The meter has the number of version rows that the last clean read.
 #[derive(Drop)]
 pub struct Rows {
     pub moment: Moment,

@@ -25,14 +25,14 @@ use ele_model::{ByteList, FileId, Handle, Moment, NoMemory, Reads, Refusal, Vers
 use ele_sessions::FoundHandle;
 
 impl State {
-    /// What is read through the handle. Refused: `NoHandle`.
+    /// Returns what the handle reads. Refused: `NoHandle`.
     pub fn reads_by(&self, handle: Handle) -> Result<Reads, Refusal>
         ensures { result ≡ reads_by self.now.world.handles handle }
     {
         self.rows.files.reads_by(handle)
     }
 
-    /// The open handle of that number, and its place. Refused: `NoHandle`.
+    /// Returns the open handle of that number, and its place. Refused: `NoHandle`.
     pub fn handle(&self, handle: Handle) -> Result<FoundHandle, Refusal>
         ensures number { IfOk result (λ found. found.row.number ≡ handle) }
         ensures stands { IfOk result (StandsAt self.now.world.handles) }
@@ -42,7 +42,8 @@ impl State {
         self.rows.files.handle(handle)
     }
 
-    /// The file that is written through the handle, which has a draft. Refused: `NoHandle`, `NotWriter`.
+    /// Returns the file that the handle writes, which has a draft. Refused: `NoHandle`,
+    /// `NotWriter`.
     pub fn file_by(&self, handle: Handle) -> Result<FileId, Refusal>
         ensures file { result ≡ file_by self.now.world.handles handle }
         ensures drafted { IfOk result (λ file. has_draft self.now.world file ≡ true) }
@@ -50,9 +51,9 @@ impl State {
         self.rows.files.file_by(handle)
     }
 
-    /// The bytes of the draft or the version.
+    /// Returns the bytes of the draft or the version.
     ///
-    /// `NoMemory` where memory is refused.
+    /// `NoMemory` if memory is refused.
     pub fn bytes_of(&self, reads: Reads) -> Result<ByteList, NoMemory>
         ensures { IfOk result (λ bytes. bytes ≡ content_of (cells_read self.now.world reads)) }
     {
@@ -62,7 +63,8 @@ impl State {
         }
     }
 
-    /// Copies the bytes of the draft or the version from the offset on, as many as there is room for, to the start of the caller's.
+    /// Copies the bytes of the draft or the version from the offset on, as many as fit, to the
+    /// start of the caller's buffer.
     pub fn copy_bytes(&self, reads: Reads, offset: u64, into: &mut [u8]) -> Copied
         ensures { IsCopied (content_of (cells_read self.now.world reads)) offset
             into.old into.new result }
@@ -75,9 +77,10 @@ impl State {
         }
     }
 
-    /// A handle is opened by which the file is written; a draft is begun where there is none. The answer is its number.
+    /// Opens a handle that writes the file, and returns its number. It begins a draft if there is
+    /// none.
     ///
-    /// `NoMemory` where memory is refused; the world stays.
+    /// `NoMemory` if memory is refused; the world stays as it was.
     pub fn open_write(&mut self, file: FileId) -> Result<Handle, NoMemory>
         requires there { 0 < next_of self.old.world.files file }
         requires handles { self.old.world.made.handles < self.old.world.limits.handles }
@@ -97,10 +100,10 @@ impl State {
         Ok(number)
     }
 
-    /// A handle is opened that reads the version, whose key goes, for while the handle is open the version isn't due. The
-    /// answer is the handle's number.
+    /// Opens a handle that reads the version, and returns its number. The version loses its key,
+    /// since it isn't due while the handle is open.
     ///
-    /// `NoMemory` where memory is refused; the world stays.
+    /// `NoMemory` if memory is refused; the world stays as it was.
     pub fn open_read(&mut self, file: FileId, number: VersionNo) -> Result<Handle, NoMemory>
         requires held { is_held self.old.world file number ≡ true }
         requires room { self.old.world.made.handles < self.old.world.limits.handles }
@@ -115,9 +118,9 @@ impl State {
         Ok(handle)
     }
 
-    /// The bytes are written from that offset on into the file's draft.
+    /// Writes the bytes into the file's draft, from that offset on.
     ///
-    /// `NoMemory` where memory is refused; the world stays.
+    /// `NoMemory` if memory is refused; the world stays as it was.
     pub fn write(&mut self, file: FileId, offset: u64, bytes: &[u8]) -> Result<(), NoMemory>
         requires drafted { has_draft self.old.world file ≡ true }
         requires short { offset + length bytes.now ≤ longest_content }
@@ -131,9 +134,9 @@ impl State {
         Ok(())
     }
 
-    /// The file's draft gets so many bytes.
+    /// Sets the length of the file's draft to so many bytes.
     ///
-    /// `NoMemory` where memory is refused; the world stays.
+    /// `NoMemory` if memory is refused; the world stays as it was.
     pub fn truncate(&mut self, file: FileId, size: u64) -> Result<(), NoMemory>
         requires drafted { has_draft self.old.world file ≡ true }
         requires short { size ≤ longest_content }
@@ -147,11 +150,11 @@ impl State {
         Ok(())
     }
 
-    /// The handle goes. With a file's last writer its draft goes: a changed one becomes the file's next version, and the answer
-    /// is its number; with any other goes a file of which nothing else is left. A version that is read by no other has its key
-    /// again.
+    /// Closes the handle. With a file's last writer the draft is removed: a changed one becomes the
+    /// file's next version, and the call returns that version's number. A file without live name,
+    /// version and draft is dropped. A version that no other handle reads gets its key again.
     ///
-    /// `NoMemory` where memory is refused; the world stays.
+    /// `NoMemory` if memory is refused; the world stays as it was.
     pub fn close(&mut self, handle: &FoundHandle) -> Result<Option<VersionNo>, NoMemory>
         requires { StandsAt self.old.world.handles handle.now }
         ensures ok { IfOk result (λ number. (Closed number, self.new.world)
@@ -165,7 +168,7 @@ impl State {
     }
 }
 
-// The last handle of a changed draft is closed, which becomes the file's next version.
+// Closes the last handle of a changed draft, which becomes the file's next version.
 #[tactic(auto, using(crate::proofs::ClosedSteps::numbered, crate::proofs::ClosedSteps::past, crate::proofs::ClosedSteps::writes_file))]
 fn finish(
     rows: &mut Rows,
@@ -189,7 +192,8 @@ fn finish(
     Ok(Some(number))
 }
 
-// A handle is closed whose draft stays, or goes without a trace, and with it a file of which nothing else is left.
+// Closes a handle of a draft that stays, or is removed without a version. A file without live name,
+// version and draft is then dropped.
 #[tactic(auto, using(crate::proofs::Words::nat_tests, crate::proofs::Booked::fits, crate::proofs::ClosedSums::left_owed, crate::proofs::ClosedSums::left_answer))]
 fn leave(rows: &mut Rows, handle: &FoundHandle, file: FileId) -> Option<VersionNo>
     requires sound { IsSound rows.old }
@@ -207,8 +211,9 @@ fn leave(rows: &mut Rows, handle: &FoundHandle, file: FileId) -> Option<VersionN
     None
 }
 
-// A handle that reads a version is closed. With the last one that reads it the version's key comes again, where it has one. The
-// key comes before the handle goes, so that one that is refused leaves all as it was, and goes again while others read.
+// Closes a handle that reads a version. With its last reader the version gets its key again, if it
+// has one. The key is added before the handle is removed, so that a refused one leaves all as it
+// was. It is removed again if others still read.
 #[tactic(auto, using(crate::proofs::Words::nat_tests, crate::proofs::OpenedKeys::unread_queue))]
 fn unread(
     rows: &mut Rows,
@@ -236,7 +241,7 @@ fn unread(
     Ok(None)
 }
 
-// A handle that writes a file is closed.
+// Closes a handle that writes a file.
 fn unwrite(
     rows: &mut Rows,
     handle: &FoundHandle,

@@ -1,4 +1,4 @@
-//! Versions that come again or go, and what is asked of them.
+//! Versions that are restored or removed, and questions about them.
 ghost use Rattle.std.specs.Prelude.{◌≡◌, ◌-◌, ◌<◌, ◌∷◌, [], true, false, Some, IfOk, OnOk, OnErr, filter, is_some, map};
 ghost use Rattle.std.specs.Result.{result_map_both};
 ghost use Rattle.ele_model.specs.Change.{Append, DropIdle, Revive, Take, after_change, after_changes};
@@ -25,7 +25,8 @@ use ele_model::{
 };
 
 impl State {
-    /// The file's version that the tag means; without one it is the current one. Refused: `NoVersion`, `Forgotten`.
+    /// Returns the file's version that the tag means; without one that is the current version.
+    /// Refused: `NoVersion`, `Forgotten`.
     pub fn version_meant(&self, file: FileId, tag: Tag) -> Result<VersionInfo, Refusal>
         requires { 0 < next_of self.now.world.files file }
         ensures { result ≡ result_map_both info_of (λ refusal. refusal)
@@ -34,8 +35,8 @@ impl State {
         self.rows.files.version_meant(file, tag)
     }
 
-    /// The file and the info of the version that the path and its tag mean. Refused: as `walk_meant`, `IsDirectory`, and as
-    /// `version_meant`.
+    /// Returns the file and the info of the version that the path and its tag mean. Refused: as
+    /// `walk_meant`, `IsDirectory`, and as `version_meant`.
     pub fn version_at(&self, tagged: &TaggedPath) -> Result<(FileId, VersionInfo), Refusal>
         ensures value { result ≡ found_of (version_at self.now.world tagged.now) }
         ensures held { IfOk result (λ found. is_held self.now.world found.0 found.1.number ≡ true) }
@@ -48,9 +49,9 @@ impl State {
         Ok((file, info))
     }
 
-    /// The versions that are held of the file, by number.
+    /// Returns the held versions of the file, by number.
     ///
-    /// `NoMemory` where memory is refused.
+    /// `NoMemory` if memory is refused.
     pub fn versions(&self, file: FileId) -> Result<StampsList, NoMemory>
         ensures { IfOk result (λ rows. rows
             ≡ map info_of (filter (is_version_of file) self.now.world.versions)) }
@@ -58,10 +59,10 @@ impl State {
         self.rows.files.stamps_of_file(file)
     }
 
-    /// A live file without a draft gets a version more, with the content of the held version of that number; the answer is the
-    /// new one's.
+    /// Makes a new version of a live file without a draft, with the content of the held version of
+    /// that number. Returns the new version's number.
     ///
-    /// `NoMemory` where memory is refused; the world stays.
+    /// `NoMemory` if memory is refused; the world stays as it was.
     #[tactic(auto, using(crate::proofs::Words::nat_tests))]
     pub fn revert_to(&mut self, file: FileId, number: VersionNo) -> Result<VersionNo, NoMemory>
         requires live { is_live self.old.world file ≡ true }
@@ -79,10 +80,10 @@ impl State {
         append(&mut self.rows, file, &head, false, source)
     }
 
-    /// A file without a live name and without a draft has a name again, and a version with the content of its last one; the
-    /// answer is its number.
+    /// Gives a file without a live name and without a draft a name again, and a new version with
+    /// the content of its last one. Returns the new version's number.
     ///
-    /// `NoMemory` where memory is refused; the world stays.
+    /// `NoMemory` if memory is refused; the world stays as it was.
     #[tactic(auto, using(crate::proofs::Words::nat_tests))]
     pub fn revive(
         &mut self,
@@ -104,10 +105,10 @@ impl State {
     {
         let head = head(&self.rows.files, file);
         let last = head.next.before();
-        // With the name the rule asks for newer ones again, and the new version is one.
+        // With a name the rule asks for newer versions again, and the new version is one of them.
         let asked = head.policy.rule_in(true).newer;
         let gone = freed(&self.rows, file, &head, asked.saturating_sub(1))?;
-        // The name comes first: it can be taken back without memory.
+        // The name is first: its removal takes no memory.
         self.rows
             .names
             .add(directory, name, Target::File(file), self.rows.moment)?;
@@ -124,8 +125,8 @@ impl State {
         }
     }
 
-    /// The version of the key goes, which is the first due one, and with it a file of which nothing else is left. It takes no
-    /// memory, and reads one row.
+    /// Removes the version of the key, which is the first due one. A file without live name,
+    /// version and draft is then dropped. It takes no memory, and reads one row.
     #[tactic(auto, using(crate::proofs::Words::nat_tests, crate::proofs::Words::first_is_due, crate::proofs::Words::placed_of, crate::proofs::Removed::held_stays, crate::proofs::Removed::removed_queue))]
     pub fn remove(&mut self, key: &Key)
         requires first { first_due self.old.world ≡ Some key.now }
@@ -142,7 +143,7 @@ impl State {
         else {
             unreachable!()
         };
-        // No other key changes, so that a clean takes no memory and can't be stopped.
+        // No other key changes, so a clean takes no memory and can't be stopped.
         take(&mut self.rows.queue, key.file, key.number, Some(key.ripe));
         self.rows.book.sub(removed.kind, one_version(removed.bytes));
         charge_blocks(&mut self.rows.book, &self.rows.files, removed.kind, before);

@@ -1,4 +1,4 @@
--- What a storm over a history of its own came to.
+-- The result of a storm over a history of its own.
 use Rattle.std.specs.Prelude.{◌≡◌, ℕ, ◌≤◌, Bool, List, [], length, IsTrue}
 use Rattle.ele_history.specs.Legal.{IsLegal}
 use Rattle.ele_history.specs.Past.{Past, fresh}
@@ -11,8 +11,8 @@ use Rattle.ele_storm.specs.declared.plan.StormPlan.{StormPlan}
 use Rattle.ele_storm.specs.Plan.{storm_events}
 use Rattle.ele_storm.specs.Storm.{AddsStorm, IsWoven}
 
--- the history that was closed is legal from the fresh world on, and all calls of the plan's storm stand in it, each worker's in
--- their order; what is told of the world behind it is what its scans give
+-- the closed history is legal from the fresh world on, and has all calls of the plan's storm, each worker's in their order; the core's
+-- answers after it are those of the scans
 pub record IsAudited (limits : Bounds) (plan : StormPlan) (history : Past) (events : ℕ) (equal : Bool) : Type 0 where
   pub count : events ≡ storm_events plan
   pub entries : List Entry

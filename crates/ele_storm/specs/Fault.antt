@@ -1,4 +1,4 @@
--- The numbers and the names of what ends a storm early.
+-- The numbers and the names of the faults of a storm.
 use Rattle.std.specs.Prelude.{ℕ, List, codes}
 use Rattle.ele_model.specs.Answers.{stop_answer}
 use Rattle.ele_model.specs.declared.refusal.Stop.{Stop}

@@ -1,4 +1,4 @@
--- What the workers of a storm leave their seat. No public clause cites this module.
+-- What a seat knows after the workers of a storm. No public clause cites this module.
 use Rattle.std.specs.Prelude.{◌≡◌, ℕ, ◌+◌, ◌-◌, ◌*◌, min, [], length, Result, OnOk}
 use Rattle.ele_shared_history.specs.Knowledge.{Knowledge}
 use Rattle.ele_shared_history.specs.Running.{StartsWith, entries_of}
@@ -6,13 +6,13 @@ use Rattle.ele_storm.specs.declared.fault.StormFault.{StormFault}
 use Rattle.ele_storm.specs.declared.plan.StormPlan.{StormPlan}
 use Rattle.ele_storm.specs.Storm.{AreOfWorkers}
 
--- how many events a round has of the workers before this one
+-- how many events the workers before this one make in a round
 abbrev pub size_before : StormPlan → ℕ → ℕ
 size_before plan worker =
     4 * min worker plan.writers + 2 * min (worker - plan.writers) plan.historians + (worker - (plan.writers + plan.historians))
 
--- so many workers from this number on: the seat has seen no less, and where none failed it has as many calls more as all their
--- rounds have events, which are its only ones if it had none before
+-- so many workers from this number on: the seat has seen no less, and if none failed it has as many more calls as all their rounds have
+-- events; these are its only ones if it had none before
 pub record RunsWorkers (plan : StormPlan) (from count : ℕ) (before after : Knowledge) {A : Type 0} (result : Result A StormFault) : Type 0 where
   pub object : after.object ≡ before.object
   pub view : StartsWith after.view before.view

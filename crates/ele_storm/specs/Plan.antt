@@ -15,7 +15,7 @@ use Rattle.ele_storm.specs.declared.plan.StormPlan.{StormPlan}
 use Rattle.ele_storm.specs.declared.plan.Task.{Task}
 use Rattle.ele_storm.specs.declared.plan.Task.TheVariants.{Writer, Historian, Cleaner}
 
--- the writers, the historians and the cleaner
+-- the number of workers: the writers, the historians and the cleaner
 abbrev pub workers_of : StormPlan → ℕ
 workers_of plan = plan.writers + plan.historians + 1
 
@@ -33,7 +33,7 @@ file_of writer = (codes "w" ++ decimal writer) ∷ []
 abbrev pub tagged : List (List ℕ) → Tag → TaggedPath
 tagged path tag = record { path = path; tag = tag }
 
--- a writer writes the round's number over its file, through this handle
+-- a writer writes the round's number into its file, through this handle
 abbrev pub writes : ℕ → ℕ → ℕ → List Event
 writes writer round handle =
     Tick 1 ∷ OpenWrite (file_of writer) ∷ Write handle 0 (to_be_bytes w64 round) ∷ Close handle ∷ []
@@ -48,12 +48,12 @@ round_events writers (Writer writer) round handle = writes writer round handle
 round_events writers (Historian historian) round handle = looks (1 + (historian + round) % writers) handle
 round_events writers Cleaner round handle = CleanOne ∷ []
 
--- the handle that a reply tells, and 0 where it tells none
+-- the handle in a reply, or 0 if it has none
 abbrev pub handle_in : Reply → ℕ
 handle_in (reply.Handle handle) = handle
 handle_in _ = 0
 
--- that of the second entry, with which a writer's round opens its file
+-- the handle in the second entry, with which a writer's round opens its file
 abbrev pub handle_of : List Entry → ℕ
 handle_of (first ∷ second ∷ entries) = handle_in second.reply
 handle_of _ = 0
@@ -62,7 +62,7 @@ handle_of _ = 0
 abbrev pub AreOf : (ℕ → List Event) → List Entry → Type 0
 AreOf events entries = events_of entries ≡ events (handle_of entries)
 
--- those of so many rounds in a row, which are numbered from 0 on
+-- the entries are of so many rounds in a row, which are numbered from 0 on
 abbrev pub AreRounds : ℕ → Task → ℕ → List Entry → Type 0
 AreRounds writers task zero entries = entries ≡ []
 AreRounds writers task (suc round) entries =

@@ -1,4 +1,4 @@
--- What a storm leaves its seat: the calls that make ready, and those of all workers.
+-- What a seat knows after a storm: the calls that prepare it, and those of all workers.
 use Rattle.std.specs.Prelude.{◌≡◌, ℕ, zero, suc, List, [], ◌∷◌, ◌++◌, ◌⊎◌}
 use Rattle.ele_history.specs.Past.{events_of}
 use Rattle.ele_model.specs.declared.entry.Entry.{Entry}
@@ -9,7 +9,7 @@ use Rattle.ele_policy.specs.declared.policy.Policy.TheVariants.{Landmarks}
 use Rattle.ele_storm.specs.declared.plan.StormPlan.{StormPlan}
 use Rattle.ele_storm.specs.Plan.{AreRounds, file_of, task_of, workers_of}
 
--- under this policy versions come and go within a few rounds
+-- this policy lets versions come and go within a few rounds
 abbrev pub storm_policy : Policy
 storm_policy = Landmarks ((3, 2) ∷ (10, 10) ∷ [])
 
@@ -18,24 +18,24 @@ abbrev pub creates : ℕ → List Event
 creates zero = []
 creates (suc writers) = creates writers ++ Create (file_of (suc writers)) ∷ []
 
--- what makes ready: the root's policy, and a file for each writer
+-- the events that prepare a storm: the root's policy, and a file for each writer
 abbrev pub prepared : StormPlan → List Event
 prepared plan = SetDefault [] storm_policy ∷ creates plan.writers
 
--- the last list is woven of the two others: it has their elements and no more, and those of each in their order
+-- the last list interleaves the two others: it has exactly their elements, and those of each in their order
 abbrev pub IsWoven : {A : Type 0} → List A → List A → List A → Type 0
 IsWoven xs ys [] = (xs ≡ []) × (ys ≡ [])
 IsWoven {A} xs ys (z ∷ zs) =
     ((rest : List A) × (xs ≡ z ∷ rest) × IsWoven rest ys zs) ⊎ ((rest : List A) × (ys ≡ z ∷ rest) × IsWoven xs rest zs)
 
--- the entries are woven of the rounds of so many workers, from this number on
+-- the entries interleave the rounds of so many workers, from this number on
 abbrev pub AreOfWorkers : StormPlan → ℕ → ℕ → List Entry → Type 0
 AreOfWorkers plan from zero entries = entries ≡ []
 AreOfWorkers plan from (suc count) entries =
     (first others : List Entry) × IsWoven first others entries × AreRounds plan.writers (task_of plan from) plan.rounds first × AreOfWorkers plan (suc from) count others
 
--- behind its own calls, which may be none yet, a seat has those of a whole storm: those that make ready, and woven into them those
--- of all workers
+-- after its own calls, which may be none yet, a seat has those of a whole storm: the ones that prepare it, interleaved with those of all
+-- workers
 pub record AddsStorm (plan : StormPlan) (before : List Entry) (after : List Entry) : Type 0 where
   pub ready : List Entry
   pub worked : List Entry

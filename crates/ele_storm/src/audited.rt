@@ -1,4 +1,4 @@
-//! A storm over a history of its own, with an audit behind it.
+//! A storm over a history of its own, with an audit after it.
 ghost use Rattle.std.specs.Prelude.{◌≡◌, IfOk, IsTrue};
 ghost use Rattle.ele_shared_history.specs.Closing.{Closes};
 ghost use Rattle.ele_storm.specs.Audited.{IsAudited, IsBegun};
@@ -14,11 +14,11 @@ use std::alloc::Global;
 use std::sync::Wait;
 use std::thread::Threads;
 
-/// Runs a storm over a fresh history of these limits, and then compares what its core tells with
-/// the scans of its rows. Answers the history, how many events the storm ran, and whether all was
-/// equal.
+/// Runs a storm over a fresh history with these limits, and then compares its core's answers with
+/// the scans of its rows. Returns the history, how many events the storm ran, and whether all
+/// answers were equal.
 ///
-/// At a fault there was no audit, or no memory for one, and the history is gone.
+/// After a fault there is no history: the storm failed, or there was no memory for the audit.
 pub fn storm_and_audit<C: Audit + Send, R: Threads + Wait + Sync, M: Meet + Sync>(
     rt: &R,
     alloc: Global,
@@ -34,9 +34,9 @@ pub fn storm_and_audit<C: Audit + Send, R: Threads + Wait + Sync, M: Meet + Sync
     Ok((history, events, equal))
 }
 
-/// A fresh history of these limits for many threads, and its seat, which has made no call.
+/// Makes a fresh history with these limits for many threads, and its seat, which has made no call.
 ///
-/// `NoMemory` where memory is refused.
+/// `NoMemory` if memory is refused.
 pub fn share_fresh<C: Step>(alloc: Global, limits: Limits) -> Result<(Shared<C>, Seat<C>), NoMemory>
     ensures { IfOk result (λ made. IsBegun limits made.0 made.1) }
 {
@@ -50,11 +50,11 @@ pub fn share_fresh<C: Step>(alloc: Global, limits: Limits) -> Result<(Shared<C>,
     Ok((shared, seat))
 }
 
-/// Closes the history, and compares what its core tells with the scans of its rows: answers the
-/// history, and whether all was equal.
+/// Closes the history, and compares its core's answers with the scans of its rows. Returns the
+/// history, and whether all answers were equal.
 ///
-/// `TurnHeld` where a call took the turn and never gave it back, and `NoMemory` where there is none
-/// for the scans. The history is gone then.
+/// `TurnHeld` if a call took the turn and never gave it back, and `NoMemory` if there is none for
+/// the scans. The history is lost then.
 pub fn close_and_audit<C: Audit>(
     shared: Shared<C>,
     seat: Seat<C>,
@@ -68,7 +68,7 @@ pub fn close_and_audit<C: Audit>(
     Ok((history, equal))
 }
 
-// Whether what the core tells is what the scans of its rows give.
+// Whether the core's answers are those of the scans of its rows.
 fn is_equal<C: Audit>(core: &C) -> Result<bool, NoMemory>
     ensures { IfOk result (λ equal. IsTrue equal) }
 {
@@ -76,7 +76,7 @@ fn is_equal<C: Audit>(core: &C) -> Result<bool, NoMemory>
     let names = core.dead_names()?;
     let usage = core.usage();
     let flat = core.flat()?;
-    // Told for the proof: the world is well formed, so the sums of its usage are within 64 bits.
+    // For the proof: the world is well formed, so the sums of its usage are within 64 bits.
     let _now = core.now();
     laws::usage_fits();
     audit(due.as_slice(), names.as_slice(), &usage, &flat)

@@ -1,4 +1,4 @@
-//! The paths and the bytes that the events of a storm name.
+//! The paths and bytes in the events of a storm.
 ghost use Rattle.std.specs.Prelude.{◌≡◌, ◌<◌, IfOk};
 ghost use Rattle.std.specs.Int.{to_be_bytes, w64};
 ghost use Rattle.ele_path.specs.declared.tagged.Tag.TheVariants as tag;
@@ -16,7 +16,7 @@ pub(crate) fn file_of(alloc: Global, writer: u64) -> Result<Path, NoMemory>
     Path::read(alloc, text.as_bytes()).map_err(|_| NoMemory)
 }
 
-/// The same path, for what stands there now.
+/// The same path, with the tag of now.
 #[tactic(auto, using(crate::proofs::Paths::spells_file_now))]
 pub(crate) fn file_now(alloc: Global, writer: u64) -> Result<TaggedPath, NoMemory>
     ensures { IfOk result (λ path. path ≡ tagged (file_of writer) tag.Now) }
@@ -25,7 +25,7 @@ pub(crate) fn file_now(alloc: Global, writer: u64) -> Result<TaggedPath, NoMemor
     TaggedPath::read(alloc, text.as_bytes()).map_err(|_| NoMemory)
 }
 
-/// The same path, for the first version.
+/// The same path, with the tag of the first version.
 #[tactic(auto, using(crate::proofs::Paths::spells_first))]
 pub(crate) fn first_version(alloc: Global, writer: u64) -> Result<TaggedPath, NoMemory>
     ensures { IfOk result (λ path. path ≡ tagged (file_of writer) (tag.Number 1)) }
@@ -41,7 +41,7 @@ pub(crate) fn bytes_of(alloc: Global, round: u64) -> Result<ByteList, NoMemory>
     Ok(ByteList::from_vec(Vec::from_slice(alloc, &round.to_be_bytes())?))
 }
 
-/// The handle that the reply tells, and 0 where it tells none.
+/// The handle in the reply, or 0 if the reply has none.
 pub(crate) fn handle_in(reply: &Reply) -> Handle
     ensures { result ≡ handle_in reply.now }
 {

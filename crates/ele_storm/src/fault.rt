@@ -9,19 +9,19 @@ use ele_model::{NoMemory, Stop};
 use ele_shared_history::TurnHeld;
 use thiserror::Error;
 
-/// Why a storm, or a worker of it, ended early. Events that were run stay in the history.
+/// Why a storm, or one of its workers, ended early. The history keeps the events that were run.
 #[derive(Clone, Copy, Debug, PartialEq, Eq, Error)]
 pub enum StormFault {
     /// Memory was refused.
     #[error("no memory")]
     NoMemory,
-    /// As many events were run as the limits allow.
+    /// The history has as many events as its limits allow.
     #[error("the history is full")]
     HistoryFull,
     /// No thread could be made.
     #[error("no thread")]
     NoThread,
-    /// A worker met no other.
+    /// A worker saw no other worker arrive.
     #[error("a worker was alone")]
     Alone,
 }
@@ -45,19 +45,18 @@ impl From<Stop> for StormFault {
     }
 }
 
-/// Why a storm with an audit behind it ended early. Its text is its number and its name, as
-/// `40 Alone`.
+/// Why an audited storm ended early. Its text is its number and its name, as `40 Alone`.
 #[derive(Clone, Copy, Debug, PartialEq, Eq, Error)]
 #[error("{} {}", self.number(), self.name())]
 pub enum AuditFault {
-    /// The storm.
+    /// The storm ended early.
     Storm(StormFault),
     /// A call took the turn and never gave it back.
     TurnHeld,
 }
 
 impl AuditFault {
-    /// The fault's number.
+    /// Returns the fault's number.
     pub fn number(self) -> u8
         ensures { result ≡ number_of self }
     {
@@ -70,7 +69,7 @@ impl AuditFault {
         }
     }
 
-    /// The fault's name.
+    /// Returns the fault's name.
     pub fn name(self) -> &'static str
         ensures { result.now ≡ name_of self }
     {

@@ -1,4 +1,4 @@
-//! Flags by which the workers of a storm see one another. A contract sees how many they are.
+//! Flags that show the workers of a storm one another. A contract sees how many they are.
 ghost use Rattle.std.specs.Prelude.{◌≡◌, ◌≤◌, IfOk};
 ghost use Rattle.ele_storm.specs.declared.meet.MeetEnd.TheVariants as meet;
 
@@ -9,7 +9,7 @@ use std::marker::Model;
 use std::sync::atomic::{AtomicBool, Ordering};
 use std::thread;
 
-/// A flag for each worker, which goes up as it arrives.
+/// A flag for each worker, which the worker sets as it arrives.
 #[derive(Drop)]
 pub struct Flags {
     up: Vec<AtomicBool>,
@@ -25,9 +25,10 @@ impl Model for Flags {
 }
 
 impl Flags {
-    /// Flags for so many workers, each of which looks for another one's flag so often at most.
+    /// Makes flags for so many workers. Each worker looks at most so often for a flag of another
+    /// one.
     ///
-    /// `NoMemory` where memory is refused.
+    /// `NoMemory` if memory is refused.
     pub fn new(alloc: Global, workers: u32, looks: u64) -> Result<Flags, NoMemory>
         ensures { IfOk result (λ flags. flags ≡ workers) }
     {
@@ -40,8 +41,8 @@ impl Flags {
 }
 
 impl Meet for Flags {
-    /// `Met` as soon as another worker's flag is seen up, and `Alone` where none was after so many
-    /// looks, or where there is no such worker. Others run between two looks.
+    /// Returns `Met` as soon as another worker's flag is set. Returns `Alone` if none is after so
+    /// many looks, or if there is no worker of that number. Other threads run between two looks.
     fn arrive(&self, worker: u32) -> MeetEnd
         ensures { self.now ≤ worker → result ≡ meet.Alone }
     {
@@ -60,7 +61,7 @@ impl Meet for Flags {
     }
 }
 
-// Whether a flag but this one is up.
+// Whether a flag other than this one is set.
 fn is_other_up(flags: &[AtomicBool], mine: usize) -> bool {
     flags.iter().enumerate().any(|(place, flag)| place != mine && flag.load(Ordering::SeqCst))
 }

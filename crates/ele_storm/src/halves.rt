@@ -18,7 +18,7 @@ use std::thread::{Promise, Threads, scope, scope_env};
 /// A seat, and how its workers ended.
 pub(crate) type Ended<C> = (Seat<C>, Result<(), StormFault>);
 
-// What is promised of the workers behind a seat.
+// What is promised of the workers that a seat ran.
 #[derive(Drop)]
 struct Half<C: Step> {
     before: Snapshot<Seat<C>>,
@@ -31,9 +31,9 @@ impl<C: Step> Promise<Ended<C>> for Half<C> {
     ghost kept_by = { λ p r. RunsWorkers p.plan p.from p.count p.before.value r.0 r.1 };
 }
 
-/// Runs so many workers from this number on: one by the seat, and more by halves, the left one by
-/// the seat and the right one by a seat that is split off, in a thread of its own. The left half's
-/// fault goes before the right's.
+/// Runs so many workers from this number on. It runs one worker by the seat. It cuts more into
+/// halves: the left half by the seat, and the right half by a new seat in a thread of its own. If
+/// both halves fail, it returns the left one's fault.
 pub(crate) fn run<C: Step + Send, R: Threads + Wait + Sync, M: Meet + Sync>(
     rt: &R,
     alloc: Global,

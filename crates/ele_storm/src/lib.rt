@@ -1,5 +1,6 @@
 //! Storms: many writers, historians and a cleaner call one history at once, each from a thread of
-//! its own. A contract sees which calls a worker has added to its seat, and how many a storm has.
+//! its own. A contract sees which calls a worker has added to its seat, and how many calls a storm
+//! has.
 #![tactic(auto)]
 
 mod audited;

@@ -1,16 +1,16 @@
-//! Where the workers of a storm arrive, so that it is seen whether they run at once.
+//! Where the workers of a storm arrive, to show that they run at once.
 
 /// How an arrival ends.
 #[derive(Clone, Copy, Debug, PartialEq, Eq)]
 pub enum MeetEnd {
     /// Another worker has arrived too.
     Met,
-    /// No other was seen, and the storm is to end.
+    /// No other worker was seen, and the storm ends.
     Alone,
 }
 
-/// Where each worker of a storm arrives once, before its first event.
+/// A place where each worker of a storm arrives once, before its first event.
 pub trait Meet {
-    /// Tells that the worker has arrived, and answers whether it goes on.
+    /// Registers that the worker has arrived, and returns whether it goes on.
     fn arrive(&self, worker: u32) -> MeetEnd;
 }

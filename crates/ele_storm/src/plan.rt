@@ -6,7 +6,8 @@ ghost use Rattle.std.specs.Prelude.{◌≡◌, ◌≤◌, ◌<◌, ◌↔◌, Is
 pub enum Task {
     /// The writer with that number, from 1 on, writes its file once.
     Writer(u32),
-    /// The historian with that number, from 1 on, asks for a file and for its first version.
+    /// The historian with that number, from 1 on, asks for the versions of a file and reads its
+    /// first one.
     Historian(u32),
     /// The cleaner makes one clean.
     Cleaner,
@@ -30,7 +31,7 @@ pub struct StormPlan {
 impl StormPlan {
     ghost use Rattle.ele_storm.specs.Plan.{storm_events, task_of, workers_of};
 
-    /// The plan with these numbers, if they are such as may be.
+    /// Makes the plan with these numbers. None if a number is out of its range.
     pub fn new(writers: u32, historians: u32, rounds: u32) -> Option<StormPlan>
         ensures fits { IsSome result ↔ ((1 ≤ writers) × (writers ≤ 16) × (1 ≤ historians)
             × (historians ≤ 16) × (1 ≤ rounds) × (rounds ≤ 1000)) }
@@ -50,14 +51,14 @@ impl StormPlan {
         })
     }
 
-    /// How many workers there are.
+    /// Returns how many workers there are.
     pub fn workers(&self) -> u32
         ensures { result ≡ workers_of self.now }
     {
         self.writers + self.historians + 1
     }
 
-    /// What the worker does.
+    /// Returns what the worker does.
     pub fn task(&self, worker: u32) -> Task
         requires { worker < workers_of self.now }
         ensures { result ≡ task_of self.now worker }
@@ -71,7 +72,7 @@ impl StormPlan {
         }
     }
 
-    /// How many events a whole storm runs.
+    /// Returns how many events the whole storm runs.
     pub fn events(&self) -> u64
         ensures { result ≡ storm_events self.now }
     {

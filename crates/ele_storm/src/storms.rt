@@ -17,12 +17,12 @@ use std::alloc::Global;
 use std::sync::Wait;
 use std::thread::Threads;
 
-/// Sets the policy of the root, makes a file for each writer, and then lets all workers work at
-/// once, each in a thread of its own. Answers how many events these were, once all have ended.
+/// Sets the policy of the root, makes a file for each writer, and runs all workers at once, each in
+/// a thread of its own. Waits for them all, and returns how many events they ran.
 ///
-/// After a fault some of them were run, and it is that of the worker with the lowest number:
-/// `NoThread` of one that wasn't run since a thread was refused. One that waited for such a worker
-/// may be told before, as `Alone`.
+/// After a fault some of the events were run. The fault is that of the worker with the lowest
+/// number. `NoThread` means that a worker wasn't run, since its thread was refused. A worker that
+/// waited for it may report `Alone` first.
 pub fn storm<C: Step + Send, R: Threads + Wait + Sync, M: Meet + Sync>(
     rt: &R,
     alloc: Global,
@@ -75,7 +75,7 @@ fn prepare<C: Step, R: Wait>(
     Ok(())
 }
 
-// Under which versions come and go within a few rounds.
+// A policy that lets versions come and go within a few rounds.
 fn policy() -> Policy
     ensures { result ≡ storm_policy }
 {

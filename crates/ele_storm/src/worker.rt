@@ -15,12 +15,12 @@ use ele_shared_history::{Seat, Shared};
 use std::alloc::Global;
 use std::sync::Wait;
 
-/// Does what the plan has for the worker: it arrives, and then makes the events of each round, in
-/// order. A writer whose file couldn't be opened writes and closes by handle 0. Answers how many
-/// events these were.
+/// Runs one worker of the plan: it arrives, and then makes the events of each round, in order. A
+/// writer whose file can't be opened writes and closes by handle 0. Returns how many events it
+/// made.
 ///
-/// After a fault it has made some of them: `Alone` where it arrived alone, and then none;
-/// `NoMemory` where memory was refused, `HistoryFull` where the history is full.
+/// After a fault it has made some of the events. `Alone` if no other worker arrived, and then it
+/// has made none; `NoMemory` if memory was refused; `HistoryFull` if the history is full.
 pub fn work<C: Step, R: Wait, M: Meet>(
     rt: &R,
     alloc: Global,
@@ -104,7 +104,7 @@ fn run_round<C: Step, R: Wait>(
     }
 }
 
-// Writes the round's number over the writer's file, as the clock goes on by a second.
+// Moves the clock by a second, and writes the round's number into the writer's file.
 fn write<C: Step, R: Wait>(
     rt: &R,
     alloc: Global,
@@ -148,7 +148,7 @@ fn look<C: Step, R: Wait>(
     Ok(())
 }
 
-/// Makes one event, whatever it is answered.
+/// Makes one event, and ignores its reply.
 pub(crate) fn make<C: Step, R: Wait>(
     rt: &R,
     shared: &Shared<C>,
@@ -164,7 +164,7 @@ pub(crate) fn make<C: Step, R: Wait>(
     Ok(())
 }
 
-// Makes one event, and answers the reply.
+// Makes one event, and returns the reply.
 fn ask<C: Step, R: Wait>(
     rt: &R,
     shared: &Shared<C>,

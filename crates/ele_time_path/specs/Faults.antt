@@ -12,7 +12,7 @@ refusal_of IsRoot = refusal.IsRoot
 refusal_of NoEntry = refusal.NoEntry
 refusal_of NotDirectory = refusal.NotDirectory
 
--- it is that of a fault
+-- the refusal is that of a fault
 pub record IsOfWalk (refusal : Refusal) : Type 0 where
   pub fault : WalkFault
   pub is : refusal_of fault ≡ refusal

@@ -7,13 +7,13 @@ pub enum WalkFault {
     /// The moment is later than now.
     #[error("later than now")]
     Future,
-    /// The path is that of the root, which has no name.
+    /// The path is the root, which has no name.
     #[error("the root has no name")]
     IsRoot,
-    /// No such name.
+    /// A name of the path isn't there.
     #[error("no such name")]
     NoEntry,
-    /// A name follows a file.
+    /// A name follows the name of a file.
     #[error("not a directory")]
     NotDirectory,
 }

@@ -1,4 +1,4 @@
-//! Paths with tags, and where they lead among the names, now and at an earlier moment. A contract
+//! Paths with tags, and what they lead to among the names, now and at an earlier moment. A contract
 //! sees a path as the list of its names, and a walk as `ele_model` defines it.
 #![tactic(auto)]
 

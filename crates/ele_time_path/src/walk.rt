@@ -1,5 +1,5 @@
-//! Where a path leads, now or at an earlier moment.
-//! A contract sees the names as their rows, and a walk as the world's words say it.
+//! Walks of paths, now or at an earlier moment.
+//! A contract sees the names as their rows, and a walk as `ele_model` defines it.
 ghost use Rattle.std.specs.Prelude.{◌≡◌};
 ghost use Rattle.std.specs.Result.{ForErr, result_map_both};
 ghost use Rattle.ele_model.specs.Walk.{parent_now, walk_now};
@@ -12,7 +12,7 @@ use ele_moment::{DirId, Moment, Name};
 use ele_names::Names;
 use ele_path::Path;
 
-/// What the path leads to by the live names.
+/// Returns what the path leads to by the live names.
 ///
 /// `NoEntry` if one of its names isn't live, `NotDirectory` if a name follows a file.
 #[tactic(auto, using(crate::proofs::Walks::walk_refuses))]
@@ -23,10 +23,10 @@ pub fn resolve_now(names: &Names, path: &Path) -> Result<Target, WalkFault>
     with_fault(ele_names::resolve_now(names, path))
 }
 
-/// What the path led to at the moment `t`.
+/// Returns what the path led to at the moment `t`.
 ///
-/// `Future` if `t` is later than `now`; `NoEntry` if one of its names stood for nothing then,
-/// `NotDirectory` if a name follows a file.
+/// `Future` if `t` is later than `now`; `NoEntry` if one of its names meant nothing then,
+/// `NotDirectory` if a name follows the name of a file.
 #[tactic(auto, using(crate::proofs::Walks::walk_at_refuses))]
 pub fn resolve_at(names: &Names, path: &Path, t: Moment, now: Moment) -> Result<Target, WalkFault>
     ensures { result_map_both (λ target. target) refusal_of result
@@ -35,7 +35,7 @@ pub fn resolve_at(names: &Names, path: &Path, t: Moment, now: Moment) -> Result<
     with_fault(ele_names::resolve_at(names, path, t, now))
 }
 
-/// The directory of the path's last name, and that name, which may be free.
+/// Returns the directory of the path's last name, and that name, which may be free.
 ///
 /// `IsRoot` if the path has no name; `NoEntry` if one of the names before the last isn't live,
 /// `NotDirectory` if one of them is a file's.

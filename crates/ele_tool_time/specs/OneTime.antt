@@ -1,4 +1,4 @@
--- What is true of the words of times.
+-- What is true of every word: it spells at most one time.
 use Rattle.std.specs.Prelude.{◌≡◌, ℕ, List}
 use Rattle.ele_moment.specs.Spelled.{SpellsMoment}
 use Rattle.ele_tool_time.specs.Time.{SpellsTime}

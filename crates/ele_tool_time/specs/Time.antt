@@ -1,4 +1,4 @@
--- Which words spell a time, and which moment that is.
+-- Which words spell a time, and which moment it is.
 use Rattle.std.specs.Prelude.{◌≡◌, ◌≢◌, ℕ, ◌+◌, ◌*◌, ◌≤◌, List, [], ◌∷◌, ◌++◌, ◌⊎◌, IsTrue}
 use Rattle.std.specs.Char.{is_ascii_digit}
 use Rattle.std.specs.List.{list_all}
@@ -36,8 +36,7 @@ pub record SpellsDate (word : List ℕ) (m : ℕ) : Type 0 where
   pub number_is : IsDayNumber year month day number
   pub midnight : m ≡ 86400 * number
 
--- a date, a mark, a time of day, a fraction of a second, which counts for nothing, and a zone, whose clock shows the date and the
--- time of day
+-- a date, a separator, a time of day, a fraction of a second, which is ignored, and a zone, whose clock shows the date and the time of day
 pub record SpellsZoned (word : List ℕ) (m : ℕ) : Type 0 where
   pub fields : Fields
   pub mark : ℕ

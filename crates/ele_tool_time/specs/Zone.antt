@@ -13,7 +13,7 @@ pub record SpellsClock (word : List ℕ) (minutes : ℕ) : Type 0 where
   pub text : (word ≡ two_digits hour ++ 58 ∷ two_digits minute) ⊎ (word ≡ two_digits hour ++ two_digits minute)
   pub worth : minutes ≡ 60 * hour + minute
 
--- `+` (43) in front of how far a clock is ahead of UTC, or `-` (45) in front of how far it is behind
+-- `+` (43) and how far a clock is ahead of UTC, or `-` (45) and how far it is behind
 abbrev pub SpellsOffset : List ℕ → Offset → Type 0
 SpellsOffset word (Ahead minutes) = (clock : List ℕ) × (word ≡ 43 ∷ clock) × SpellsClock clock minutes
 SpellsOffset word (Behind minutes) = (clock : List ℕ) × (word ≡ 45 ∷ clock) × SpellsClock clock minutes
@@ -22,7 +22,7 @@ SpellsOffset word (Behind minutes) = (clock : List ℕ) × (word ≡ 45 ∷ cloc
 abbrev pub IsUtc : List ℕ → Type 0
 IsUtc zone = (zone ≡ []) ⊎ (zone ≡ 90 ∷ []) ⊎ (zone ≡ 122 ∷ [])
 
--- UTC, or an offset with a space (32) in front of it or without
+-- UTC, or an offset, with a space (32) before it or without
 abbrev pub SpellsZone : List ℕ → Offset → Type 0
 SpellsZone zone offset =
     (IsUtc zone × (offset ≡ Ahead 0)) ⊎ SpellsOffset zone offset ⊎ ((word : List ℕ) × (zone ≡ 32 ∷ word) × SpellsOffset word offset)

@@ -1,9 +1,9 @@
-//! Fractions of a second, which are cut off. A contract sees a word as its bytes.
+//! Fractions of a second, which are ignored. A contract sees a word as its bytes.
 ghost use Rattle.std.specs.Prelude.{◌≡◌};
 ghost use Rattle.std.specs.Option.{option_map};
 ghost use Rattle.ele_tool_time.specs.ReadParts.{after_digits, after_fraction, after_some_digits};
 
-/// What stands behind a fraction, or all if none stands in front. None if a point has no digit behind it.
+/// Returns the rest after a fraction, or all if there is none. None if no digit follows a point.
 pub(crate) fn after_fraction(word: &[u8]) -> Option<&[u8]>
     ensures { option_map (λ rest. rest.now) result ≡ after_fraction word.now }
 {
@@ -13,7 +13,7 @@ pub(crate) fn after_fraction(word: &[u8]) -> Option<&[u8]>
     }
 }
 
-// What stands behind digits, of which there must be one.
+// The rest after digits, at least one of which must be there.
 fn after_some_digits(word: &[u8]) -> Option<&[u8]>
     ensures { option_map (λ rest. rest.now) result ≡ after_some_digits word.now }
 {
@@ -23,7 +23,7 @@ fn after_some_digits(word: &[u8]) -> Option<&[u8]>
     }
 }
 
-// What stands behind digits, however many there are.
+// The rest after any number of digits.
 fn after_digits(word: &[u8]) -> &[u8]
     ensures { result.now ≡ after_digits word.now }
 {

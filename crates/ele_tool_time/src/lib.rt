@@ -1,5 +1,5 @@
 //! Times as other tools print them: seconds, dates, and dates with times of day in any zone.
-//! A contract sees a word as its bytes, and a time as the moment that it spells.
+//! A contract sees a word as its bytes, and a time as its moment.
 #![tactic(auto)]
 
 mod fraction;

@@ -6,8 +6,8 @@ ghost use Rattle.ele_tool_time.specs.Time.{SpellsDate};
 
 use ele_moment::Moment;
 
-/// The moment at which a clock in UTC shows the date and the time of day of the word's first 19 bytes,
-/// whatever stands between these two.
+/// Returns the moment at which a clock in UTC shows the date and the time of day of the word's
+/// first 19 bytes. It ignores the byte between these two.
 pub(crate) fn read_local(word: &[u8]) -> Option<Moment>
     requires { 19 ≤ length word.now }
     ensures found { IfSome result (SpellsMoment (stamp_of word.now)) }
@@ -16,7 +16,7 @@ pub(crate) fn read_local(word: &[u8]) -> Option<Moment>
     read(&stamp_of(word))
 }
 
-/// The midnight of a date in UTC.
+/// Returns the midnight of a date in UTC.
 pub(crate) fn read_date(word: &[u8]) -> Option<Moment>
     requires { length word.now ≡ 10 }
     ensures found { IfSome result (SpellsDate word.now) }

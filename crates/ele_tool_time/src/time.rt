@@ -10,15 +10,15 @@ use crate::local::{read_date, read_local};
 use crate::zone::{Offset, read_zone};
 use ele_moment::{BadMoment, Moment};
 
-/// The moment of the time that a word spells, as other tools print times:
+/// Returns the moment of the time that a word spells, as other tools print times:
 /// - seconds since 1970, as in `1769860800`,
 /// - a date, as in `2026-01-31`, which is its midnight in UTC,
-/// - a date and a time of day, as in `2026-01-31T12:00:00.25+05:30`. `T` may be `t` or a space. The fraction
-///   may be left out, and is cut off. The offset may be `Z` or `z`, may lack its colon, and may follow a
-///   space; without one the time is UTC.
+/// - a date and a time of day, as in `2026-01-31T12:00:00.25+05:30`. `T` may be `t` or a space. The
+///   fraction is optional, and is ignored. The offset may be `Z` or `z`, may lack its colon, and
+///   may follow a space; without one the time is UTC.
 ///
-/// `BadMoment` for every other word, for a date before 1970, and for a time that is before 1970 or after
-/// the year 9999 in UTC. It takes no memory.
+/// `BadMoment` for every other word, for a date before 1970, and for a time that is before 1970 or
+/// after the year 9999 in UTC. It takes no memory.
 pub fn read_time(word: &[u8]) -> Result<Moment, BadMoment>
     ensures found { IfOk result (SpellsTime word.now) }
     ensures only { (m : ℕ) → SpellsTime word.now m → result ≡ Ok m }
@@ -52,14 +52,14 @@ fn read_zoned(word: &[u8]) -> Option<Moment>
     moment_at(local, offset)
 }
 
-// Whether the byte may stand between a date and a time of day.
+// Whether the byte is allowed between a date and a time of day.
 fn is_mark(byte: u8) -> bool
     ensures { IsTrue result ↔ IsMark byte }
 {
     matches!(byte, b'T' | b't' | b' ')
 }
 
-// The offset behind a time of day.
+// The offset after a time of day.
 #[tactic(auto, unfolding(crate::specs::ReadParts::rest_of, ele_moment::specs::ReadFields::and_then))]
 fn read_rest(rest: &[u8]) -> Option<Offset>
     ensures { result ≡ rest_of rest.now }

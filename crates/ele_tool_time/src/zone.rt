@@ -1,4 +1,4 @@
-//! Offsets from UTC, behind a time of day. A contract sees a word as its bytes, and an offset as
+//! Offsets from UTC, after a time of day. A contract sees a word as its bytes, and an offset as
 //! minutes ahead of UTC or behind it.
 ghost use Rattle.std.specs.Prelude.{◌≡◌};
 ghost use Rattle.ele_tool_time.specs.ReadParts.{clock_of, is_utc, offset_of, with_sign, without, zone_of};
@@ -12,7 +12,7 @@ pub enum Offset {
     Behind(u16),
 }
 
-/// The offset that a zone spells, if it's one; UTC if there is none.
+/// Returns the offset that a zone spells, if it is one; UTC if it is empty.
 pub(crate) fn read_zone(zone: &[u8]) -> Option<Offset>
     ensures { result ≡ zone_of zone.now }
 {
@@ -66,7 +66,7 @@ fn read_clock(word: &[u8]) -> Option<u16>
     }
 }
 
-// What stands behind a mark, or all if the word doesn't begin with it.
+// The rest after the separator, or all if the word doesn't begin with it.
 fn without(mark: u8, word: &[u8]) -> &[u8]
     ensures { result.now ≡ without mark word.now }
 {

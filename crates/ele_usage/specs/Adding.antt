@@ -1,4 +1,4 @@
--- How usages are added up, as the book of the state does it. No reader of the core needs it.
+-- Sums of usages, as the book of the state computes them. A reader of the core doesn't need them.
 use Rattle.std.specs.Prelude.{◌+◌, ◌≤◌}
 use Rattle.ele_usage.specs.declared.usage.Usage.{Usage}
 

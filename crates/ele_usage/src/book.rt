@@ -12,7 +12,8 @@ use crate::usage::Usage;
 use ele_policy::Kind;
 use std::marker::Model;
 
-/// For each kind of policy, what the files with a policy of that kind use. No call takes memory.
+/// For each kind of policy, what the files with a policy of that kind use. The calls take no
+/// memory.
 #[derive(Clone, Copy, Debug, Default, PartialEq, Eq)]
 pub struct UsageBook {
     one: Usage,
@@ -33,7 +34,7 @@ impl Model for UsageBook {
 }
 
 impl UsageBook {
-    /// A book of no files.
+    /// Makes a book with all sums 0.
     pub fn new() -> UsageBook
         ensures { (k : Kind) → sums_of result k ≡ nothing }
     {
@@ -45,7 +46,7 @@ impl UsageBook {
         }
     }
 
-    /// The sums of the kind.
+    /// Returns the sums of the kind.
     pub fn get(&self, kind: Kind) -> Usage
         ensures { result ≡ sums_of self.now kind }
     {
@@ -57,7 +58,7 @@ impl UsageBook {
         }
     }
 
-    /// The sums of the four kinds, in the order of `Kind`.
+    /// Returns the sums of the four kinds, in the order of `Kind`.
     pub fn all(&self) -> [Usage; 4]
         ensures { result ≡ sums_of self.now kind.One ∷ sums_of self.now kind.All
             ∷ sums_of self.now kind.Safe ∷ sums_of self.now kind.Landmarks ∷ [] }
@@ -65,7 +66,7 @@ impl UsageBook {
         [self.one, self.all, self.safe, self.landmarks]
     }
 
-    /// Adds to the sums of the kind. The caller knows that these stay within 64 bits.
+    /// Adds to the sums of the kind. The caller keeps these within 64 bits.
     pub fn add(&mut self, kind: Kind, usage: Usage)
         requires { Fits (plus (sums_of self.old kind) usage) }
         ensures sums { sums_of self.new kind ≡ plus (sums_of self.old kind) usage }
@@ -76,7 +77,7 @@ impl UsageBook {
         self.set(kind, self.get(kind).plus(usage));
     }
 
-    /// Takes from the sums of the kind. The caller knows that at least that much is there.
+    /// Subtracts from the sums of the kind. The caller knows that they are at least as large.
     pub fn sub(&mut self, kind: Kind, usage: Usage)
         requires { IsWithin usage (sums_of self.old kind) }
         ensures sums { plus (sums_of self.new kind) usage ≡ sums_of self.old kind }
@@ -88,8 +89,8 @@ impl UsageBook {
     }
 
     /// Moves what a file uses from one kind to the other, as its policy changes. The caller knows
-    /// that at least that much is there, and that the sums of the other kind stay within 64 bits.
-    /// Where the two are one kind, nothing changes.
+    /// that the sums of the first kind are at least as large, and that those of the other stay
+    /// within 64 bits. If the two are one kind, nothing changes.
     pub fn move_file(&mut self, from: Kind, to: Kind, usage: Usage)
         requires there { IsWithin usage (sums_of self.old from) }
         requires room { from ≢ to → Fits (plus (sums_of self.old to) usage) }

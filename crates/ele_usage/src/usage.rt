@@ -18,7 +18,7 @@ pub struct Usage {
 }
 
 impl Usage {
-    // Both together.
+    // The sum of both.
     pub(crate) fn plus(self, other: Usage) -> Usage
         requires { Fits (plus self other) }
         ensures { result ≡ plus self other }
@@ -31,7 +31,7 @@ impl Usage {
         }
     }
 
-    // What is left without the part.
+    // The difference of both.
     pub(crate) fn minus(self, part: Usage) -> Usage
         requires { IsWithin part self }
         ensures { plus result part ≡ self }

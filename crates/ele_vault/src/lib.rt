@@ -1,5 +1,5 @@
-//! The vault: a core with its stored history. What its calls do stands with `History`, and a
-//! contract sees a vault as it sees a history.
+//! The vault: a core with its stored history. `History` documents its calls, and a contract sees a
+//! vault as it sees a history.
 #![tactic(auto)]
 
 use ele_core::Core;

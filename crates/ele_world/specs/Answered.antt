@@ -1,4 +1,4 @@
--- What a tagged path reads, tells and opens.
+-- What a tagged path reads, describes and opens.
 use Rattle.std.specs.Prelude.{◌≡◌, ℕ, Ok}
 use Rattle.ele_content.specs.Content.{content_of}
 use Rattle.ele_path.specs.declared.tagged.TaggedPath.{TaggedPath}
@@ -12,14 +12,14 @@ use Rattle.ele_model.specs.Step.{step}
 use Rattle.ele_model.specs.Told.{info_of}
 use Rattle.ele_model.specs.World.{World, policy_for, reads_by}
 
--- the version's bytes and moments, and it is what a handle reads that is opened
+-- a read and a stat reply with that version, and a handle that an open returns reads it
 pub record AnswersVersion (w : World) (tagged : TaggedPath) (row : VersionRow) : Type 0 where
   pub read : (step w (Read (Tagged tagged))).0 ≡ Bytes (content_of row.cells)
   pub stat : (step w (Stat tagged)).0 ≡ FileStat (record { file = row.file; info = info_of row; policy = policy_for w.files row.file })
   pub opened : (handle : ℕ) → (step w (OpenRead tagged)).0 ≡ Handle handle
       → reads_by ((step w (OpenRead tagged)).1).handles handle ≡ Ok (Version row.file row.number)
 
--- each is refused
+-- a read, a stat and an open are refused
 pub record Refuses (w : World) (tagged : TaggedPath) (refusal : Refusal) : Type 0 where
   pub read : (step w (Read (Tagged tagged))).0 ≡ Refused refusal
   pub stat : (step w (Stat tagged)).0 ≡ Refused refusal

@@ -1,4 +1,4 @@
--- Each change that may be made leaves a well-formed world well formed.
+-- Each change that is allowed leaves a well-formed world well formed.
 use Rattle.ele_model.specs.Change.{Change, after_change}
 use Rattle.ele_model.specs.May.{May}
 use Rattle.ele_model.specs.WellFormed.{IsWellFormed}

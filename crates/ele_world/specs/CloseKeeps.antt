@@ -1,4 +1,4 @@
--- A close that tells of a version has made it of all that was written.
+-- A close that returns the number of a version has made it of all that was written.
 use Rattle.std.specs.Prelude.{◌≡◌, ℕ, Some, Ok, find}
 use Rattle.std.specs.Option.{option_map}
 use Rattle.ele_model.specs.declared.event.Event.TheVariants.{Close}

@@ -1,4 +1,4 @@
--- How many different places a list has: as many as a list that has the same places, and none twice.
+-- The number of different places in a list: the length of a list of the same places that has each once.
 use Rattle.std.specs.Prelude.{◌≡◌, true, false, List, length}
 use Rattle.std.specs.List.{AllByRecursion, list_any}
 use Rattle.ele_content.specs.Place.{Place, is_place, different}

@@ -1,4 +1,4 @@
--- After a default event the directory at its path gives the policy, every other directory its own, and nothing else has changed.
+-- After a default event the directory at its path has that default policy, every other directory has its own, and nothing else has changed.
 use Rattle.std.specs.Prelude.{◌≡◌, ℕ, ◌==◌, false, List, map, Ok, find}
 use Rattle.ele_policy.specs.declared.policy.Policy.{Policy}
 use Rattle.ele_model.specs.declared.event.Event.TheVariants.{SetDefault}

@@ -1,4 +1,4 @@
--- The first handle that writes a file reads the content of its current version, a later one what the file's draft has.
+-- The first handle that writes a file reads the content of its current version, and a later one the content of the file's draft.
 use Rattle.std.specs.Prelude.{◌≡◌, ℕ, List, Some, true, false, Ok}
 use Rattle.ele_content.specs.Content.{content_of}
 use Rattle.ele_model.specs.declared.event.Event.TheVariants.{OpenWrite, Read}

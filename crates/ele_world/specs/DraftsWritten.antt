@@ -1,4 +1,4 @@
--- In every run each draft has a handle that writes it, so that some close can end it.
+-- In every run a handle writes each draft, so that some close can end it.
 use Rattle.std.specs.Prelude.{◌≡◌, true, List}
 use Rattle.std.specs.List.{AllByRecursion, list_any}
 use Rattle.ele_model.specs.Bounds.{Bounds, AreBounds}

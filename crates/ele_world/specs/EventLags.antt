@@ -1,4 +1,4 @@
--- An event made in a world and in one that lags behind it: it still lags, and an event that doesn't only ask is answered alike.
+-- An event happens in a world and in one that lags behind it: it still lags, and both give the same reply unless the event only asks.
 use Rattle.std.specs.Prelude.{◌≡◌, true, false}
 use Rattle.ele_model.specs.declared.event.Event.{Event}
 use Rattle.ele_world.specs.Lags.{Lags}

@@ -6,7 +6,7 @@ use Rattle.ele_model.specs.declared.rows.VersionRow.{VersionRow}
 use Rattle.ele_model.specs.Step.{step}
 use Rattle.ele_model.specs.World.{World, is_version}
 
--- the file's version with that number as it last stood in a world of the run, if it stood in one
+-- the file's version with that number as it last was in a world of the run, if one held it
 abbrev pub last_stood : World → List Event → (file number : ℕ) → Option VersionRow
 last_stood w [] file number = find (is_version file number) w.versions
 last_stood w (event ∷ events) file number =

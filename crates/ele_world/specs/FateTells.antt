@@ -1,4 +1,4 @@
--- A held version has one fate, and is told to be due just where the scan has its key, since the moment of the key.
+-- A held version has one fate. The fate is `Due` exactly if the scan has the version's key, since the moment of the key.
 use Rattle.std.specs.Prelude.{◌≡◌, ℕ, Some}
 use Rattle.ele_due.specs.HasKey.{has_key}
 use Rattle.ele_model.specs.declared.fate.Fate.{Fate}

@@ -1,4 +1,4 @@
--- What a change of one group leaves: every other group is what it was, and but for groups and counts nothing has changed.
+-- After a change of one group every other group is as it was, and nothing else has changed except the counts.
 use Rattle.std.specs.Prelude.{◌≡◌, ℕ, Bool, false, List, Option, Some}
 use Rattle.std.specs.Str.{bytes_eq}
 use Rattle.ele_model.specs.declared.rows.GroupRow.{GroupRow}
@@ -11,7 +11,7 @@ pub record ChangesGroup (before : World) (name : List ℕ) (is : Option GroupRow
   pub others : (other : List ℕ) → bytes_eq name other ≡ false → group_named after.groups other ≡ group_named before.groups other
   pub rest : after ≡ record before { groups = after.groups; made = after.made }
 
--- the group that was there has just these files, and at each moment the mark that is told
+-- the group had a row before; it has exactly these files, and at each moment this mark, if any
 pub record IsGroupOf (was : Option GroupRow) (members : GroupRow → ℕ → Bool) (marks : GroupRow → ℕ → Option MarkRow) (is : Option GroupRow) : Type 0 where
   pub row : GroupRow
   pub later : GroupRow

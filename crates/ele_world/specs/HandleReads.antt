@@ -1,4 +1,4 @@
--- A handle that is opened for reading reads the version that was meant.
+-- A handle that is opened for reading reads the version that the tagged path means.
 use Rattle.std.specs.Prelude.{◌≡◌, ℕ, Ok}
 use Rattle.ele_path.specs.declared.tagged.TaggedPath.{TaggedPath}
 use Rattle.ele_model.specs.declared.event.Event.TheVariants.{OpenRead}

@@ -1,4 +1,4 @@
--- A handle reads what it read, whatever the event, until it is closed.
+-- A handle reads the same version or draft after any event, until it is closed.
 use Rattle.std.specs.Prelude.{◌≡◌, ℕ, ◌==◌, Bool, false, Ok}
 use Rattle.ele_model.specs.declared.event.Event.{Event}
 use Rattle.ele_model.specs.declared.event.Event.TheVariants.{Close}

@@ -1,5 +1,5 @@
--- A world that lags behind another: due versions of the other have gone, and files of which nothing else was left. It keeps what
--- the other keeps, and after a clean of it alone it still lags.
+-- A world that lags behind another: some of the other's due versions are removed, and the files that had nothing else. It keeps what the
+-- other keeps, and still lags after a clean of its own.
 use Rattle.std.specs.Prelude.{◌≡◌, ℕ, Bool, true, None, []}
 use Rattle.ele_world.specs.AnyDueLeave.{AreDue}
 use Rattle.ele_model.specs.Due.{kept_rows}
@@ -9,7 +9,7 @@ use Rattle.ele_model.specs.Step.{clean_step}
 use Rattle.ele_model.specs.WellFormed.{IsWellFormed}
 use Rattle.ele_model.specs.World.{World}
 
--- the first world is the second without such versions and such files; there are no groups
+-- the first world is the second without some due versions and the files that had nothing else; there are no groups
 pub record Lags (u v : World) : Type 0 where
   pub gone : ℕ → ℕ → Bool
   pub dropped : ℕ → Bool
@@ -18,7 +18,7 @@ pub record Lags (u v : World) : Type 0 where
   pub emptied : (file : ℕ) → dropped file ≡ true → IsEmptied gone v file
   pub ungrouped : v.groups ≡ []
 
--- what the first keeps is what the second keeps; so where nothing is due in the first, its versions are those
+-- the first world keeps what the second keeps; so if nothing is due in the first, it has exactly these versions
 abbrev pub LagsKeeps : Type 0
 LagsKeeps =
     (u v : World) → IsWellFormed u → IsWellFormed v → Lags u v

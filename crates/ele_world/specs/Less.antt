@@ -1,4 +1,4 @@
--- A world without some versions, and without files of which nothing else is left.
+-- A world without some versions, and without the files that have nothing else.
 use Rattle.std.specs.Prelude.{◌≡◌, ℕ, ◌<◌, Bool, true, false, not, filter}
 use Rattle.ele_model.specs.declared.rows.Target.{Target}
 use Rattle.ele_model.specs.declared.rows.Target.TheVariants.{File, Directory}
@@ -16,7 +16,7 @@ less gone dropped w = record (without_versions gone w) {
   names = filter (λ row. not (is_dropped dropped row.target)) w.names;
 }
 
--- the file is there, without a live name or a draft, and each version that is held of it has gone
+-- the file is there, has no live name and no draft, and each of its held versions is among the removed ones
 pub record IsEmptied (gone : ℕ → ℕ → Bool) (w : World) (file : ℕ) : Type 0 where
   pub there : 0 < next_of w.files file
   pub nameless : is_live w file ≡ false

@@ -1,4 +1,4 @@
--- A version's life stays: while it is held, it lived at each moment before now after an event as before it.
+-- An event doesn't change at which moments before now a held version lived.
 use Rattle.std.specs.Prelude.{◌≡◌, ℕ, ◌<◌, Some, find}
 use Rattle.std.specs.List.{AllByRecursion}
 use Rattle.ele_model.specs.declared.event.Event.{Event}

@@ -9,7 +9,7 @@ use Rattle.ele_model.specs.Walk.{directory_now, parent_now}
 use Rattle.ele_model.specs.WellFormed.{has_directory, IsWellFormed}
 use Rattle.ele_model.specs.World.{World, default_of}
 
--- the directory is there, the path leads to it, no name stands in it, and its policy is that of the one that it stands in
+-- the directory is there, the path leads to it, it has no name in it, and its policy is the default policy of its parent
 pub record LeadsToDirectory (before : World) (path : List (List ℕ)) (id : ℕ) (after : World) : Type 0 where
   pub home : ℕ × List ℕ
   pub stands : parent_now before.names path ≡ Ok home

@@ -1,5 +1,5 @@
--- After a mark what was current then of the group's files is marked until the mark ends, beside what was marked before, and
--- nothing else.
+-- After a mark event what was current then of the group's files is marked until the mark ends, what was marked before stays marked, and
+-- nothing else is.
 use Rattle.std.specs.Prelude.{◌≡◌, ℕ, ◌+◌, ◌||◌, ◌&&◌, List, Option}
 use Rattle.ele_model.specs.declared.event.Event.TheVariants.{Mark}
 use Rattle.ele_model.specs.declared.reply.Reply.TheVariants.{Done}
@@ -9,7 +9,7 @@ use Rattle.ele_model.specs.Step.{step}
 use Rattle.ele_model.specs.WellFormed.{IsWellFormed}
 use Rattle.ele_model.specs.World.{World}
 
--- of each file, of what was current from the one moment until the other, and at each moment; no group or member comes or goes
+-- for each file, each span of time in which a version was current, and each moment; groups and members stay
 pub record MarksMoment (before : World) (name : List ℕ) (mark : MarkRow) (after : World) : Type 0 where
   pub marked : (file closed : ℕ) (ended : Option ℕ) (at : ℕ)
       → is_marked after.groups file closed ended at ≡ (is_marked before.groups file closed ended at || (has_member before.groups name file && keeps_at closed ended at mark))

@@ -1,4 +1,4 @@
--- A marked version never leaves, whatever the event: one that was current at a mark, in force now, of a group that has its file.
+-- No event removes a marked version: one that was current at a mark, in force now, of a group that has its file.
 use Rattle.std.specs.Prelude.{◌≡◌, true}
 use Rattle.std.specs.List.{AllByRecursion}
 use Rattle.ele_model.specs.declared.event.Event.{Event}

@@ -1,4 +1,4 @@
--- After a `group add` the group has the file at the path beside its others, after a `group remove` just the others, with its marks.
+-- After a `group add` the group has the file at the path and its others, after a `group remove` only the others; its marks stay.
 use Rattle.std.specs.Prelude.{◌≡◌, ℕ, ◌==◌, ◌&&◌, ◌||◌, not, List, Ok}
 use Rattle.ele_model.specs.declared.event.Event.TheVariants.{GroupAdd, GroupRemove}
 use Rattle.ele_model.specs.declared.reply.Reply.TheVariants.{Done}

@@ -1,4 +1,4 @@
--- Name rows stay in their order, but for those of a file that has gone: a birth never changes, and a death is set once, to now.
+-- Name rows stay in their order, except those of a dropped file: a birth never changes, and a death is set once, to now.
 use Rattle.std.specs.Prelude.{◌≡◌, ◌⊎◌, ℕ, true, Bool, List, [], ◌∷◌, Some, None, filter}
 use Rattle.std.specs.List.{AllByRecursion, list_any}
 use Rattle.ele_model.specs.declared.event.Event.{Event}
@@ -10,11 +10,11 @@ use Rattle.ele_model.specs.Step.{step}
 use Rattle.ele_model.specs.WellFormed.{IsWellFormed}
 use Rattle.ele_model.specs.World.{World, is_file}
 
--- the row is what it was, or it had no death and dies at the moment
+-- the row is the same, or it had no death and dies at the moment
 abbrev pub IsStillRow : ℕ → NameRow → NameRow → Type 0
 IsStillRow now row later = (later ≡ row) ⊎ ((row.death ≡ None) × (later ≡ record row { death = Some now }))
 
--- so is each, and behind them stand only names that were born at the moment
+-- each row is the same or dies, and after them are only names that were born at the moment
 abbrev pub AreStillRows : ℕ → List NameRow → List NameRow → Type 0
 AreStillRows now [] more = AllByRecursion (λ row. (row.birth ≡ now) × (row.death ≡ None)) more
 AreStillRows now (row ∷ rows) [] = ⊥

@@ -1,5 +1,5 @@
--- A number means one version: it reads, tells and opens the one of that number and no other; where that was removed the answer is
--- `Forgotten` with the greatest number held below, and where it never was `NoVersion`.
+-- A number means one version: it reads, describes and opens the one of that number and no other. If that was removed the answer is
+-- `Forgotten` with the greatest held number below, and if it never was, `NoVersion`.
 use Rattle.std.specs.Prelude.{◌≡◌, ◌⊎◌, ℕ, ◌<◌, ◌≤◌, true, List, Option, Some, None, Ok, find}
 use Rattle.ele_path.specs.declared.tagged.Tag.TheVariants.{Number}
 use Rattle.ele_path.specs.declared.tagged.TaggedPath.{TaggedPath}
@@ -10,7 +10,7 @@ use Rattle.ele_model.specs.Walk.{file_now}
 use Rattle.ele_model.specs.WellFormed.{IsWellFormed}
 use Rattle.ele_model.specs.World.{World, is_held, is_version, next_of}
 
--- the greatest number of the file that is held below, if one is
+-- the greatest held number of the file below this one, if there is one
 pub record IsGreatestBelow (w : World) (file number : ℕ) (before : Option ℕ) : Type 0 where
   pub held : (other : ℕ) → before ≡ Some other → (is_held w file other ≡ true) × (other < number)
   pub greatest : (other : ℕ) → is_held w file other ≡ true → other < number → (last : ℕ) × (before ≡ Some last) × (other ≤ last)

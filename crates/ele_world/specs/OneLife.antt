@@ -1,5 +1,5 @@
--- A file had one version at each moment at which it had a name; a read at the moment finds that version while it is held, and
--- once it was removed the answer is `Forgotten`.
+-- A file had one version at each moment at which it had a name. A read at the moment finds that version while it is held, and is
+-- `Forgotten` once it was removed.
 use Rattle.std.specs.Prelude.{◌≡◌, ℕ, true, false, List, Option, Some, Ok, Err}
 use Rattle.std.specs.List.{AllByRecursion}
 use Rattle.ele_model.specs.declared.event.Event.{Event}

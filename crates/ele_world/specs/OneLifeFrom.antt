@@ -1,5 +1,5 @@
--- From any well-formed world on one version of a file lived at each moment at which it had a name. Which versions were removed
--- before that world isn't known, so an earlier moment is told of only where a version that stood in the run lived then.
+-- From any well-formed world on, one version of a file lived at each moment at which it had a name. It isn't known which versions were
+-- removed before that world. So the law speaks of an earlier moment only if a version that the run held lived then.
 use Rattle.std.specs.Prelude.{◌≡◌, ◌≤◌, ℕ, true, List, Some}
 use Rattle.std.specs.List.{AllByRecursion}
 use Rattle.ele_model.specs.declared.event.Event.{Event}
@@ -19,7 +19,7 @@ abbrev pub NamesOneLifeFrom : World → List Event → NameRow → Type 0
 NamesOneLifeFrom first events name =
     (file moment : ℕ) → name.target ≡ File file → covers moment name ≡ true → first.now ≤ moment → HasOneLife first events file moment
 
--- at each moment at which a version of a file lived that stood in the run, and at those that names cover
+-- at each moment at which a version lived that the run held, and at those that names cover
 pub record HasLivesFrom (first : World) (events : List Event) : Type 0 where
   pub stood : (file number moment : ℕ) (row : VersionRow) → last_stood first events file number ≡ Some row → lives_at moment row ≡ true
       → HasOneLife first events file moment

@@ -1,5 +1,5 @@
--- In every run the live names are one tree: none is the root's, and each hangs from it by live names; so no directory stands in
--- itself, at any depth.
+-- In every run the live names are one tree: no name means the root, and live names lead from the root to each directory. So no directory is
+-- in itself, at any depth.
 use Rattle.std.specs.Prelude.{◌≡◌, ◌==◌, ◌&&◌, ℕ, suc, zero, Bool, true, false, List, [], None, Ok}
 use Rattle.std.specs.List.{AllByRecursion, list_any}
 use Rattle.ele_model.specs.Bounds.{Bounds, AreBounds}
@@ -13,7 +13,7 @@ use Rattle.ele_model.specs.Walk.{walk}
 use Rattle.ele_model.specs.WellFormed.{IsWellFormed}
 use Rattle.ele_model.specs.World.{World, fresh_world, root}
 
--- the directory hangs from the root by so many live names, each in the directory of the one before
+-- the directory is that many live names below the root, each in the directory of the one before
 abbrev pub hangs_by : List NameRow → ℕ → ℕ → Bool
 hangs_by names zero directory = directory == root
 hangs_by names (suc depth) directory = list_any (λ row. is_live_directory directory row && hangs_by names depth row.directory) names

@@ -1,4 +1,4 @@
--- A version that a handle reads never leaves, whatever the event.
+-- No event removes a version that a handle reads.
 use Rattle.std.specs.Prelude.{◌≡◌, ℕ, true, Ok}
 use Rattle.ele_model.specs.declared.event.Event.{Event}
 use Rattle.ele_model.specs.declared.rows.Reads.TheVariants.{Version}

@@ -1,4 +1,4 @@
--- A name that an event doesn't name stands after it for what it stood for.
+-- A name that an event doesn't name means the same after it.
 use Rattle.std.specs.Prelude.{◌≡◌, ℕ, ◌==◌, ◌&&◌, ◌||◌, Bool, false, List, Result, Ok, Err}
 use Rattle.std.specs.Str.{bytes_eq}
 use Rattle.ele_model.specs.declared.event.Event.{Event}
@@ -8,12 +8,12 @@ use Rattle.ele_model.specs.Step.{step}
 use Rattle.ele_model.specs.Walk.{live_target, parent_now}
 use Rattle.ele_model.specs.World.{World}
 
--- it is that name in that directory
+-- the look-up found that name in that directory
 abbrev pub is_home : ℕ → List ℕ → Result (ℕ × List ℕ) Refusal → Bool
 is_home directory name (Ok at) = (at.0 == directory) && bytes_eq at.1 name
 is_home directory name (Err refusal) = false
 
--- the event is one that makes or ends names, and a path of it ends with that name in that directory
+-- the event makes or ends names, and one of its paths ends with that name in that directory
 abbrev pub is_named_by : World → Event → ℕ → List ℕ → Bool
 is_named_by w (MakeDir path) directory name = is_home directory name (parent_now w.names path)
 is_named_by w (RemoveDir path) directory name = is_home directory name (parent_now w.names path)

@@ -1,4 +1,4 @@
--- What a name stood for at a moment before now stays so after any event, unless it was a file that has gone, with all its names.
+-- What a name meant at a moment before now stays after any event, unless it was a file that was dropped with all its names.
 use Rattle.std.specs.Prelude.{◌≡◌, ◌⊎◌, ℕ, ◌<◌, true, false, List, Some, None, find}
 use Rattle.ele_model.specs.declared.event.Event.{Event}
 use Rattle.ele_model.specs.declared.rows.Target.TheVariants.{File}
@@ -8,7 +8,7 @@ use Rattle.ele_model.specs.Step.{step}
 use Rattle.ele_model.specs.WellFormed.{IsWellFormed}
 use Rattle.ele_model.specs.World.{World, is_file, is_live}
 
--- the name stood for a file without a live name, of which nothing is left after the event, and stands for nothing any more
+-- the name meant a file that had no live name; the event dropped the file, and the name means nothing any more
 pub record WentWithFile (before after : World) (moment directory : ℕ) (name : List ℕ) : Type 0 where
   pub file : ℕ
   pub stood : target_at before.names moment directory name ≡ Some (File file)

@@ -1,4 +1,4 @@
--- The events of which it doesn't matter when versions are cleaned that are due.
+-- The events for which it doesn't matter when due versions are cleaned.
 use Rattle.std.specs.Prelude.{Bool, true, false}
 use Rattle.ele_model.specs.declared.event.Event.{Event}
 use Rattle.ele_model.specs.declared.event.Event.TheVariants.{Undelete, Revert, OpenRead, SetPolicy, GroupMake, GroupDrop, GroupAdd, GroupRemove, Mark, Unmark, CleanOne}
@@ -7,7 +7,7 @@ abbrev pub is_clean : Event → Bool
 is_clean CleanOne = true
 is_clean event = false
 
--- neither a clean, nor one that takes up a version of the past, nor one by which due versions may come to be held back
+-- the event is no clean, uses no past version, and can't protect a due version
 abbrev pub is_plain : Event → Bool
 is_plain CleanOne = false
 is_plain (Undelete path) = false

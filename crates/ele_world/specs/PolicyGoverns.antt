@@ -1,4 +1,4 @@
--- After a policy event the file at its path has the policy, every other file its own, and nothing else has changed.
+-- After a policy event the file at its path has the policy, every other file has its own, and nothing else has changed.
 use Rattle.std.specs.Prelude.{◌≡◌, ℕ, ◌==◌, false, List, map, Some, Ok, find}
 use Rattle.ele_policy.specs.declared.policy.Policy.{Policy}
 use Rattle.ele_model.specs.declared.event.Event.TheVariants.{SetPolicy}

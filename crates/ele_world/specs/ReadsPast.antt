@@ -1,5 +1,5 @@
--- What a path reads at a moment before now never turns into something else: after any event it reads the same bytes, or is refused,
--- as `Forgotten` once the version was removed, or as `NoEntry` once the file has gone.
+-- What a path reads at a moment before now never becomes something else. After any event it reads the same bytes, or is refused: as
+-- `Forgotten` once the version was removed, or as `NoEntry` once the file was dropped.
 use Rattle.std.specs.Prelude.{◌≡◌, ◌⊎◌, ℕ, ◌<◌, List, Option}
 use Rattle.ele_path.specs.declared.tagged.Tag.TheVariants.{At}
 use Rattle.ele_model.specs.declared.event.Event.{Event}
@@ -13,7 +13,7 @@ use Rattle.ele_model.specs.Step.{step}
 use Rattle.ele_model.specs.WellFormed.{IsWellFormed}
 use Rattle.ele_model.specs.World.{World}
 
--- what the path reads that is read at the moment
+-- the reply to a read of the path at the moment
 abbrev pub read_at : World → List (List ℕ) → ℕ → Reply
 read_at w path moment = (step w (Read (Tagged (record { path = path; tag = At moment })))).0
 

@@ -1,4 +1,4 @@
--- A revert gives the file a current version with the cells of the one that was named; that one and all others keep theirs.
+-- A revert gives the file a current version with the cells of the version that it names; that one and all others keep theirs.
 use Rattle.std.specs.Prelude.{◌≡◌, ℕ, List, Some, Ok}
 use Rattle.ele_path.specs.declared.tagged.Tag.TheVariants.{Number}
 use Rattle.ele_model.specs.declared.event.Event.TheVariants.{Revert}
@@ -10,7 +10,7 @@ use Rattle.ele_model.specs.Walk.{file_now}
 use Rattle.ele_model.specs.WellFormed.{IsWellFormed}
 use Rattle.ele_model.specs.World.{World, current_of}
 
--- the file at the path had that version, and its current one is new, opened and closed now, with that one's cells
+-- the file at the path had that version, and its current one is new, opened and closed now, with the same cells
 pub record CopiesVersion (before : World) (path : List (List ℕ)) (number made : ℕ) (after : World) : Type 0 where
   pub file : ℕ
   pub was : VersionRow

@@ -1,4 +1,5 @@
--- After a truncate the file's draft has as many bytes as told of what it had, or zeros behind them, and nothing else has changed.
+-- After a truncate the file's draft has the first bytes of its content, as many as the event says, or zeros after them; nothing else has
+-- changed.
 use Rattle.std.specs.Prelude.{◌≡◌, ℕ}
 use Rattle.ele_content.specs.Content.{content_after_truncate}
 use Rattle.ele_model.specs.declared.event.Event.TheVariants.{Truncate}

@@ -1,4 +1,4 @@
--- After an undelete the path leads to what its name last stood for; where a version was made, it has the cells of the one before.
+-- After an undelete the path leads to what its name last meant; a version that it made has the cells of the one before.
 use Rattle.std.specs.Prelude.{◌≡◌, ℕ, List, Some, None, Ok}
 use Rattle.ele_model.specs.declared.event.Event.TheVariants.{Undelete}
 use Rattle.ele_model.specs.declared.reply.Reply.TheVariants.{Done, Version}
@@ -11,7 +11,7 @@ use Rattle.ele_model.specs.Walk.{walk_now, parent_now}
 use Rattle.ele_model.specs.WellFormed.{IsWellFormed}
 use Rattle.ele_model.specs.World.{World, current_of}
 
--- the path leads to the target, which its name last stood for
+-- the path leads to the target, which its name last meant
 pub record LeadsAgain (before : World) (path : List (List ℕ)) (target : Target) (after : World) : Type 0 where
   pub home : ℕ × List ℕ
   pub stands : parent_now before.names path ≡ Ok home

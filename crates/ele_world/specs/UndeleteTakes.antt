@@ -1,4 +1,4 @@
--- A name is listed as restorable just where an undelete of a path to it isn't refused as `Exists`, `NoEntry` or `NotRestorable`.
+-- The list of restorable names has a name exactly if an undelete of a path to it isn't refused as `Exists`, `NoEntry` or `NotRestorable`.
 use Rattle.std.specs.Prelude.{◌≡◌, ℕ, Bool, true, false, not, List, Ok}
 use Rattle.std.specs.List.{list_any}
 use Rattle.ele_headline.specs.RestorableLists.{is_dead_name}
@@ -12,7 +12,7 @@ use Rattle.ele_model.specs.Walk.{parent_now}
 use Rattle.ele_model.specs.WellFormed.{IsWellFormed}
 use Rattle.ele_model.specs.World.{World}
 
--- the name is taken, or it last stood for nothing that may come back
+-- the refusal is that the name is taken, or that its last target may have no name again
 abbrev pub cannot_return : Reply → Bool
 cannot_return (Refused Exists) = true
 cannot_return (Refused NoEntry) = true

@@ -1,4 +1,4 @@
--- After an unlink its path leads nowhere, and a file without another name has no current version any more: it ended then.
+-- After an unlink its path leads nowhere, and a file without another name has no current version any more: it has ended.
 use Rattle.std.specs.Prelude.{◌≡◌, ℕ, List, true, false, Some, Ok, Err}
 use Rattle.std.specs.Option.{option_map}
 use Rattle.ele_model.specs.declared.event.Event.TheVariants.{Unlink}

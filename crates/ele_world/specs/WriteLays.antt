@@ -1,4 +1,5 @@
--- After a write the file's draft has what it had with the bytes laid over it, and nothing else has changed; without bytes nothing has.
+-- After a write the file's draft has its old content with the bytes written over it, and nothing else has changed; an empty write changes
+-- nothing.
 use Rattle.std.specs.Prelude.{◌≡◌, ℕ, ◌==◌, true, false, List, length, Some, Ok, find}
 use Rattle.ele_content.specs.Content.{content_of, content_after_write}
 use Rattle.ele_model.specs.declared.event.Event.TheVariants.{Write}
@@ -8,7 +9,7 @@ use Rattle.ele_model.specs.Step.{step}
 use Rattle.ele_model.specs.WellFormed.{IsWellFormed}
 use Rattle.ele_model.specs.World.{World, is_draft, file_by}
 
--- the draft that the handle writes had the one content and has the other, and each other draft is what it was
+-- the draft that the handle writes had the one content and has the other, and each other draft is the same
 pub record ChangesDraft (before : World) (handle : ℕ) (becomes : List ℕ → List ℕ) (after : World) : Type 0 where
   pub file : ℕ
   pub was : DraftRow

@@ -1,5 +1,5 @@
-//! What every event does to a well-formed world, and so what is true of every run: each law is the contract of a function that
-//! does nothing.
+//! What every event does to a well-formed world, and so what is true of every run. Each law is the
+//! contract of a function that does nothing.
 ghost use Rattle.ele_model.specs.CleanKeepsKeys.{CleanKeepsKeys};
 ghost use Rattle.ele_world.specs.ChangeKeeps.{ChangeKeepsWellFormed};
 ghost use Rattle.ele_world.specs.CloseKeeps.{CloseKeeps};
@@ -37,7 +37,7 @@ pub use ele_model::laws::{
 };
 use ele_policy::laws;
 
-/// A change that may be made leaves a well-formed world well formed.
+/// A change that is allowed leaves a well-formed world well formed.
 #[tactic(auto, using(crate::proofs::ChangeKeeps::change_keeps_well_formed))]
 pub fn change_keeps_well_formed()
     ensures { ChangeKeepsWellFormed }
@@ -57,7 +57,8 @@ pub fn asking_stays()
     ensures { AskingStays }
 {}
 
-/// After a mkdir its path leads to the new directory, which has no names, and the policy of the directory that it stands in.
+/// After a mkdir its path leads to the new directory, which has no names, and the default policy of
+/// its parent.
 pub fn make_dir_leads()
     ensures { MakeDirLeads }
 {
@@ -85,7 +86,8 @@ pub fn link_leads()
     laws::policies_are_lawful();
 }
 
-/// After a rename the new path leads where the old one led, the old one leads nowhere, and no version has changed.
+/// After a rename the new path leads where the old one led, the old one leads nowhere, and no
+/// version has changed.
 pub fn rename_leads()
     ensures { RenameLeads }
 {
@@ -99,21 +101,22 @@ pub fn unlink_ends()
     laws::policies_are_lawful();
 }
 
-/// After an undelete its path leads to what the name last stood for, and a version that it made has the cells of the last.
+/// After an undelete its path leads to what the name last meant. A version that it made has the
+/// cells of the last one.
 pub fn undelete_leads()
     ensures { UndeleteLeads }
 {
     laws::policies_are_lawful();
 }
 
-/// An event leaves no file of which nothing is left: no live name, no held version and no draft.
+/// After an event each file has a live name, a held version or a draft.
 pub fn no_idle_stays()
     ensures { NoIdleStays }
 {
     laws::policies_are_lawful();
 }
 
-/// After any list of events there is none.
+/// After any list of events each file has one of them.
 #[tactic(auto, using(ele_model::proofs::NoIdle::runs_have_none, ele_model::proofs::StepKeeps::fresh_is, ele_model::proofs::Formed::in_parts, ele_model::proofs::Words::fresh_world))]
 pub fn no_idle_stays_in_runs()
     ensures { NoIdleStaysInRuns }
@@ -121,36 +124,37 @@ pub fn no_idle_stays_in_runs()
     laws::policies_are_lawful();
 }
 
-/// A close that tells of a version has made it of all that was written.
+/// A close that returns the number of a version has made it of all that was written.
 pub fn close_keeps()
     ensures { CloseKeeps }
 {
     laws::policies_are_lawful();
 }
 
-/// A version that a handle reads never leaves.
+/// No event removes a version that a handle reads.
 pub fn open_stays()
     ensures { OpenStays }
 {
     laws::policies_are_lawful();
 }
 
-/// A marked version never leaves: one that was current at a mark of a group that has its file.
+/// No event removes a marked version: one that was current at a mark of a group that has its file.
 pub fn marked_stays()
     ensures { MarkedStays }
 {
     laws::policies_are_lawful();
 }
 
-/// A revert gives the file a current version with the cells of the one that was named.
+/// A revert gives the file a current version with the cells of the version that it names.
 pub fn revert_keeps()
     ensures { RevertKeeps }
 {
     laws::policies_are_lawful();
 }
 
-/// In every run, of all versions of a file that ever closed exactly one lived at each moment that a name of the file covers. A
-/// read at the moment finds it while it is held, and is refused as `Forgotten` once it was removed.
+/// In every run, exactly one version of a file, of all that ever closed, lived at each moment that
+/// a name of the file covers. A read at the moment finds it while it is held, and is refused as
+/// `Forgotten` once it was removed.
 #[tactic(auto, using(crate::proofs::OneLife::one_life))]
 pub fn one_life()
     ensures { OneLife }
@@ -158,45 +162,47 @@ pub fn one_life()
     laws::policies_are_lawful();
 }
 
-/// After any list of events on a well-formed world no two versions of a file that stood in the run lived at one moment, and one
-/// lived at each moment, from that world's on, that a name of the file covers. Reads answer of it likewise.
+/// After any list of events on a well-formed world, no two versions of a file that the run ever
+/// held lived at one moment. One lived at each moment since that world's that a name of the file
+/// covers. Reads answer accordingly.
 pub fn one_life_from()
     ensures { OneLifeFrom }
 {
     laws::policies_are_lawful();
 }
 
-/// A held version is due from its ripe moment on, and never where it has none.
+/// A held version is due from its ripe moment on, and never if it has none.
 pub fn due_from_ripe()
     ensures { DueFromRipe }
 {
     laws::policies_are_lawful();
 }
 
-/// The ripe moment of a held version that has ended and isn't protected is what `ripe` of `ele_policy` answers of it and of the
-/// closing of the next held version.
+/// The ripe moment of a held version that has ended and isn't protected is what `ripe` of
+/// `ele_policy` returns for it and the closing of the next held version.
 pub fn ripe_is_answered()
     ensures { RipeIsAnswered }
 {
     laws::policies_are_lawful();
 }
 
-/// A held version that has ended and that no handle reads ripens at the later of what `ripe` answers of it and of the latest end of
-/// the marks that cover it, in force or ended, and never under a mark without an end.
+/// A held version that has ended and that no handle reads ripens at the later of two moments. One
+/// is what `ripe` returns for it, the other the latest end of the marks that cover it, in force or
+/// ended. Under a mark without an end it never ripens.
 pub fn marked_ripens()
     ensures { MarkedRipens }
 {
     laws::policies_are_lawful();
 }
 
-/// Whichever due version is removed, the due versions afterwards are those before without it.
+/// After the removal of any due version, the due versions are those before without it.
 pub fn removal_order()
     ensures { RemovalOrder }
 {
     laws::policies_are_lawful();
 }
 
-/// Where the first due version is removed, no other version's ripe moment changes.
+/// The removal of the first due version changes no other version's ripe moment.
 pub fn clean_keeps_keys()
     ensures { CleanKeepsKeys }
 {

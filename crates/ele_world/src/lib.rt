@@ -1,5 +1,5 @@
-//! The laws of the definitions: what is true of every run. The definitions are those of `ele_model`, all of which stand under
-//! this crate's name too.
+//! The laws of the definitions: what is true of every run. `ele_model` has the definitions, and
+//! this crate exports all of them too.
 #![tactic(auto)]
 
 pub mod laws;

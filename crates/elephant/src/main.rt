@@ -1,6 +1,6 @@
-//! The program `elephant`: `elephant run` reads a script from standard input and writes its answers
-//! to standard output; `elephant storm` lets many threads call one core, and audits it; `elephant
-//! forecast` tells what becomes of the versions of a file that closed at the moments that it reads.
+//! The program `elephant`. `elephant run` reads a script from standard input and writes its answers
+//! to standard output. `elephant storm` lets many threads call one core, and audits it. `elephant
+//! forecast` reads when a file closed, and prints what becomes of its versions.
 #![tactic(auto)]
 
 ghost use Rattle.ele_words.specs.Invocation.{IsAsked};
@@ -26,7 +26,7 @@ fn asked_for(rt: &HostRuntime) -> Invocation
     }
 }
 
-// A person at a terminal is told what a run waits for, on standard error alone.
+// Greets a person at a terminal, on standard error: a run waits for their input.
 fn greet(rt: &HostRuntime, invocation: &Invocation) {
     if matches!(invocation, Invocation::Run(_, _)) && rt.stdin().is_terminal() {
         let _ = rt.stderr().write_all(GREETING.as_bytes());
@@ -39,7 +39,7 @@ fn main(rt: HostRuntime) -> ExitCode {
     let mut input = KeepsError::new(rt.stdin());
     let mut output = KeepsError::new(rt.stdout());
     let mut errors = rt.stderr();
-    // A person at a terminal is told how far a storm is.
+    // At a terminal the program reports how far a storm is.
     let watched = errors.is_terminal();
     let status = dispatch::<Core, _, _, _, _>(
         &rt,

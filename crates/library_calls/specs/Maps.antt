@@ -1,4 +1,4 @@
--- The maps that stand in the store of a test. No public clause cites this module.
+-- The maps in the store of a test. No public clause cites this module.
 use Rattle.std.specs.Prelude.{List, [], ◌∷◌}
 use Rattle.ele_blocks.specs.Layout.{Layout}
 use Rattle.ele_blocks.specs.Stock.{Tagged}

@@ -1,4 +1,5 @@
-//! The calls of a core that no script reaches. What they answer is in their contracts; here it is that they find memory.
+//! Calls of a core that no script makes. Their contracts say what they return; these tests show
+//! that they find memory.
 use ele_core::{
     ByteList, Core, Event, FileId, Handle, Limits, Moment, PassEnd, Reply, Usage, VersionNo, laws,
 };
@@ -7,13 +8,13 @@ use ele_shell::audit;
 use std::alloc::Global;
 use std::test::Fail;
 
-/// What the core replies to the line's event.
+/// The core's reply to the line's event.
 pub fn reply_to(alloc: Global, core: &mut Core, line: &str) -> Result<Reply, Fail> {
     let event = read_event(alloc, line.as_bytes())?;
     Ok(core.apply(&event)?)
 }
 
-/// Whether a core finds memory for what it is asked.
+/// Whether a core finds memory for its answers.
 fn finds_memory(core: &Core) -> bool {
     core.due().is_ok()
         && core.restorable().is_ok()
@@ -37,8 +38,8 @@ fn is_at_rest(core: &Core) -> bool {
         && core.due_first().is_none()
 }
 
-/// What a fresh core answers that makes a file and is cleaned, whether nothing is due then, and
-/// whether it finds memory for what it is asked.
+/// The replies of a fresh core that makes a file and is cleaned, whether nothing is due then, and
+/// whether it finds memory for its answers.
 fn clean_and_ask(alloc: Global, core: &mut Core) -> Result<(Reply, PassEnd, [bool; 2]), Fail> {
     let reply = reply_to(alloc, core, "create /f")?;
     let end = core.clean_pass(3);
@@ -56,7 +57,7 @@ fn a_core_is_cleaned_and_asked_and_copied(rt: HostRuntime) -> Result<(), Fail> {
     Ok(())
 }
 
-/// Whether an audit finds equal what the core answers, and the same with other usage.
+/// Whether an audit accepts the core's answers, and whether it accepts another usage.
 fn audit_both(alloc: Global, core: &Core) -> Result<[bool; 2], Fail> {
     let due = core.due()?;
     let names = core.restorable()?;
@@ -78,13 +79,13 @@ fn an_audit_compares_what_a_core_answers(rt: HostRuntime) -> Result<(), Fail> {
     Ok(())
 }
 
-/// As many bytes as a content may have, no slot of which is as the next.
+/// A content of the greatest length, in which each slot differs from the next.
 fn longest(alloc: Global) -> Result<ByteList, Fail> {
     let bytes: Vec<u8> = (0..1_048_576u32).map(|at| (at % 251) as u8).collect(alloc)?;
     Ok(ByteList::from_vec(bytes))
 }
 
-/// Writes such a content into a new file, and tells what is answered and read.
+/// Writes that content into a new file, and returns the replies to the writes and a read.
 fn write_longest(alloc: Global, core: &mut Core) -> Result<[Reply; 2], Fail> {
     reply_to(alloc, core, "create /f")?;
     reply_to(alloc, core, "open write /f")?;
@@ -101,7 +102,7 @@ fn the_longest_content_is_written_at_once(rt: HostRuntime) -> Result<(), Fail> {
     Ok(())
 }
 
-/// What a core replies to a question for names.
+/// The core's reply to a question for names.
 fn listed(alloc: Global, core: &mut Core) -> Result<Reply, Fail> {
     reply_to(alloc, core, "create /f")?;
     reply_to(alloc, core, "list /")

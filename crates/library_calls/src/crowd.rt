@@ -4,13 +4,14 @@ use ele_shell::run;
 use std::alloc::Global;
 use std::test::Fail;
 
-/// The numbers that are told of in lines for each: with the first one of its kind, which is told of alone, 10,001 of them.
+/// The first number of the lines for each number: with the first thing of each kind, which has
+/// lines of its own, there are 10,001.
 const FIRST: u32 = 2;
 
 const LAST: u32 = 10_001;
 
-/// What is asked and answered. In the text of a number `$` is the number, and `%` is 10,000 more, so that names stand in
-/// the order of numbers.
+/// Lines and their replies. In the text of a number `$` is the number, and `%` is 10,000 more, so
+/// that names are in the order of numbers.
 #[derive(Clone, Copy)]
 enum Part {
     /// These lines, with their blocks.
@@ -21,7 +22,7 @@ enum Part {
     Listed(&'static str, &'static str, &'static str, &'static str),
 }
 
-/// Files that are made, grouped, written, marked, listed, cleaned, lost and found.
+/// Files that are made, grouped, written, marked, listed, cleaned, removed and restored.
 const FILES: [Part; 27] = [
     Part::Once("default / one\n", "ok done\n"),
     Part::Once("group make g\n", "ok done\n"),
@@ -105,7 +106,7 @@ const VERSIONS: [Part; 21] = [
     Part::Once("list /\n", "ok names 2\n- a file 1\n- b file 1\n"),
 ];
 
-/// Adds the text of the number.
+/// Adds the text for the number.
 fn tell(text: &mut String, pattern: &str, number: u32) -> Result<(), Fail> {
     for letter in pattern.chars() {
         match letter {
@@ -120,7 +121,7 @@ fn tell(text: &mut String, pattern: &str, number: u32) -> Result<(), Fail> {
     Ok(())
 }
 
-/// Adds the text of each number.
+/// Adds the text for each number.
 fn tell_each(text: &mut String, pattern: &str) -> Result<(), Fail> {
     for number in FIRST..=LAST {
         tell(text, pattern, number)?;
@@ -128,7 +129,7 @@ fn tell_each(text: &mut String, pattern: &str) -> Result<(), Fail> {
     Ok(())
 }
 
-/// Adds the part to the script, and to what it prints.
+/// Adds the part to the script, and to the expected output.
 fn tell_part(script: &mut String, blocks: &mut String, part: Part) -> Result<(), Fail> {
     match part {
         Part::Once(lines, block) => {
@@ -149,7 +150,7 @@ fn tell_part(script: &mut String, blocks: &mut String, part: Part) -> Result<(),
     Ok(())
 }
 
-/// The number of the first line in which they differ; none where they are the same.
+/// The number of the first line that differs. None if they are the same.
 fn first_difference(these: &[u8], those: &[u8]) -> Option<usize> {
     if these == those {
         return None;
@@ -159,7 +160,7 @@ fn first_difference(these: &[u8], those: &[u8]) -> Option<usize> {
     Some(line_feeds.saturating_add(1))
 }
 
-/// Runs the parts, and tells the first line that is printed otherwise than told.
+/// Runs the parts, and returns the first line whose output is not as expected.
 fn first_wrong(alloc: Global, parts: &[Part]) -> Result<Option<usize>, Fail> {
     let mut script = String::new(alloc);
     let mut blocks = String::new(alloc);

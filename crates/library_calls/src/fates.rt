@@ -1,4 +1,4 @@
-//! What becomes of a held version, and what will be due, as a core tells it.
+//! The fates of held versions, and forecasts of due ones, from a core.
 use crate::cores::reply_to;
 use crate::rooms::moment;
 use ele_core::{Cause, Core, Fate, FileId, Interval, Key, Limits, VersionNo};
@@ -15,7 +15,7 @@ const TWO: [&str; 6] = [
     "close 1",
 ];
 
-/// A core of these.
+/// A core with these lines.
 fn two_versions(alloc: Global) -> Result<Core, Fail> {
     let mut core = Core::new(alloc, Limits::largest())?;
     for line in TWO {
@@ -24,7 +24,7 @@ fn two_versions(alloc: Global) -> Result<Core, Fail> {
     Ok(core)
 }
 
-/// What becomes of the version of file 1.
+/// The fate of the version of file 1.
 fn fate(core: &Core, number: u64) -> Option<Fate> {
     core.fate(FileId(1), VersionNo(number))
 }

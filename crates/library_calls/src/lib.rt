@@ -1,4 +1,5 @@
-//! Tests of what only a call from Rattle shows: that ample memory refuses nothing. It gives out nothing.
+//! Tests of what only a call from Rattle shows: with ample memory no call is refused memory. The
+//! crate exports nothing.
 #![tactic(auto)]
 
 #[cfg(test)]

@@ -9,7 +9,7 @@ use ele_moment::VersionNo;
 use std::alloc::Global;
 use std::test::Fail;
 
-/// A map of these bytes in a store that has no other.
+/// A map of these bytes in an empty store.
 #[tactic(auto, using(crate::proofs::Stocked::first_stocked))]
 fn map_of(alloc: Global, store: &mut BlockStore, bytes: &[u8]) -> Result<BlockMap, Fail>
     requires none { store.old ≡ no_blocks }
@@ -32,8 +32,8 @@ fn copy_of(map: &BlockMap, store: &mut BlockStore) -> Result<BlockMap, Fail>
     Ok(map.copy(store)?)
 }
 
-/// Cuts the copy, and tells how many slots the map and the copy have, who wrote the copy's first
-/// one, and how many blocks stand.
+/// Cuts the copy, and returns how many slots the map and the copy have, who wrote the copy's first
+/// one, and how many blocks there are.
 #[tactic(auto, using(crate::proofs::Stocked::copy_lives, crate::proofs::Stocked::copy_cut))]
 fn cut(
     copy: &mut BlockMap,

@@ -1,4 +1,4 @@
-//! How long it takes to remove all due versions of a core that holds as many versions as it may.
+//! The time to remove all due versions of a core with as many versions as its limit.
 use ele_core::{Boxed, Core, Event, Limits, Path, Policy, Reply, VersionNo};
 use std::alloc::Global;
 use std::test::Fail;
@@ -9,7 +9,7 @@ const FILES: u32 = 1_000;
 /// How many versions each file has.
 const VERSIONS: u32 = 1_000;
 
-/// How many seconds all cleans may take.
+/// The most seconds for all cleans.
 const LIMIT: u64 = 300;
 
 /// The file's path.
@@ -18,12 +18,12 @@ fn path(alloc: Global, file: u32) -> Result<Path, Fail> {
     Ok(Path::read(alloc, text.as_str().as_bytes())?)
 }
 
-/// What the core replies to the event.
+/// The core's reply to the event.
 fn reply_to(core: &mut Core, event: &Event) -> Result<Reply, Fail> {
     Ok(core.apply(event)?)
 }
 
-/// Makes the file, which goes back to its first version again and again.
+/// Makes the file, and reverts it to its first version again and again.
 fn make(alloc: Global, core: &mut Core, file: u32) -> Result<(), Fail> {
     reply_to(core, &Event::Create(path(alloc, file)?))?;
     let revert = Event::Revert(path(alloc, file)?, VersionNo(1));
@@ -44,7 +44,7 @@ fn fill(alloc: Global, core: &mut Core) -> Result<(), Fail> {
     Ok(())
 }
 
-/// Removes versions until nothing is due, and tells how many.
+/// Removes versions until nothing is due, and returns how many.
 fn clean(rt: &HostRuntime, core: &mut Core) -> Result<u32, Fail> {
     let start = Instant::now(rt)?;
     for removed in 0..=FILES * VERSIONS {

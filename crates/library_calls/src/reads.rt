@@ -1,4 +1,4 @@
-//! How many version rows are read by the cleans of scripts, and by their questions for usage.
+//! How many version rows the cleans of scripts read, and their questions for usage.
 use crate::cores::reply_to;
 use ele_core::{Core, Limits, Reply};
 use std::alloc::Global;
@@ -29,7 +29,7 @@ const LADDER: [&str; 18] = [
 /// All four are removed.
 const REMOVED: [&str; 6] = ["clock 90", "clean", "clean", "clean", "clean", "clean"];
 
-/// One of the four is removed once nobody reads it any more.
+/// One of the four is removed once no handle reads it any more.
 const READ: [&str; 9] = [
     "clock 90",
     "open read /f#2",
@@ -42,7 +42,7 @@ const READ: [&str; 9] = [
     "clean",
 ];
 
-/// Three versions, of which one is kept.
+/// Three versions, one of which is kept.
 const ONE: [&str; 8] = [
     "default / one",
     "create /f",
@@ -54,7 +54,7 @@ const ONE: [&str; 8] = [
     "close 2",
 ];
 
-/// What is used is asked for before two cleans and behind them.
+/// Questions for usage before two cleans and after them.
 const USED: [&str; 5] = ["usage", "clean", "clean", "usage", "clean"];
 
 /// Whether an event with that reply may read so many rows.
@@ -67,7 +67,7 @@ fn may_read(reply: &Reply, rows: u64) -> bool {
     }
 }
 
-/// Runs the lines, and tells how many versions they remove.
+/// Runs the lines, and returns how many versions they remove.
 fn run_lines(alloc: Global, core: &mut Core, lines: &[&str]) -> Result<usize, Fail> {
     let mut removed: usize = 0;
     for line in lines {
@@ -82,7 +82,7 @@ fn run_lines(alloc: Global, core: &mut Core, lines: &[&str]) -> Result<usize, Fa
     Ok(removed)
 }
 
-/// Runs both parts of a script over a fresh core, and tells how many versions the second one
+/// Runs both parts of a script over a fresh core, and returns how many versions the second one
 /// removes.
 fn removed_by(alloc: Global, start: &[&str], rest: &[&str]) -> Result<usize, Fail> {
     let mut core = Core::new(alloc, Limits::largest())?;

@@ -1,5 +1,5 @@
-//! The rooms under the core, each called with ample memory. Their other calls that take memory are reached by the stored
-//! scripts.
+//! The crates under the core, each called with ample memory. Stored scripts make their other calls
+//! that take memory.
 ghost use Rattle.std.specs.Prelude.{◌≡◌, None, IfOk};
 
 use ele_blocks::{BlockMap, BlockStore, laws};
@@ -49,7 +49,7 @@ fn a_copy_shares_its_leaves(rt: HostRuntime) -> Result<(), Fail> {
     Ok(())
 }
 
-/// A version of no bytes that closed as it opened.
+/// A version with an empty content, opened and closed at one moment.
 fn version(alloc: Global, number: u64, closed: Moment) -> VersionRow
     ensures number { result.number ≡ number }
     ensures closed { result.closed ≡ closed }

@@ -1,11 +1,11 @@
-//! Vaults, called with ample memory, and histories that are told and run again.
+//! Vaults, called with ample memory, and histories that are printed and run again.
 use ele_core::{FileId, Limits, Reply};
 use ele_script::{Line, Printer, put_history, read_event, read_line};
 use ele_vault::{PassEnd, Vault};
 use std::alloc::Global;
 use std::test::Fail;
 
-/// What a vault answers that makes a file, is cleaned and trimmed.
+/// The replies of a vault that makes a file, is cleaned and trimmed.
 fn make_and_trim(alloc: Global, vault: &mut Vault) -> Result<(Reply, [PassEnd; 2], u64), Fail> {
     let reply = vault.apply(read_event(alloc, b"create /f")?)?;
     let ends = [vault.pass(0), vault.pass(1)];
@@ -55,7 +55,7 @@ versions /f
 read /f@20
 read /f@46";
 
-/// One of the four is read for a while.
+/// A handle reads one of the four for a while.
 const READER: &[u8] = b"open read /f#2
 pass 9
 read 5
@@ -64,7 +64,7 @@ due
 pass 9
 versions /f";
 
-/// A file that loses its name, gets it back, and loses it for good.
+/// A file that loses its name, is restored, and loses its name for good.
 const UNLINKED: &[u8] = b"default / safe:10
 create /f
 open write /f
@@ -86,7 +86,7 @@ close 2
 pass 9
 undelete /f";
 
-/// Takes the lines, which ask for events and passes.
+/// Runs the lines, which are events and passes.
 fn take(alloc: Global, vault: &mut Vault, lines: &[u8]) -> Result<(), Fail> {
     for line in lines.split(|byte| *byte == b'\n') {
         match read_line(alloc, line)? {
@@ -109,7 +109,7 @@ fn told_by(alloc: Global, vault: &Vault) -> Result<Vec<u8>, Fail> {
     Ok(text)
 }
 
-/// Takes the lines of a history that is told.
+/// Runs the lines of a printed history.
 fn take_told(alloc: Global, vault: &mut Vault, text: &[u8]) -> Result<(), Fail> {
     for line in text.split(|byte| *byte == b'\n') {
         if let Some(line) = line.strip_prefix(b"- ") {
@@ -119,7 +119,7 @@ fn take_told(alloc: Global, vault: &mut Vault, text: &[u8]) -> Result<(), Fail> 
     Ok(())
 }
 
-/// A vault that has taken the lines of all parts.
+/// A vault that has run the lines of all parts.
 fn filled(alloc: Global, parts: &[&[u8]]) -> Result<Vault, Fail> {
     let mut vault = Vault::new(alloc, Limits::largest())?;
     for lines in parts {
@@ -128,7 +128,7 @@ fn filled(alloc: Global, parts: &[&[u8]]) -> Result<Vault, Fail> {
     Ok(vault)
 }
 
-/// A fresh vault that has taken what is told.
+/// A fresh vault that has run the printed history.
 fn run_again(alloc: Global, text: &[u8]) -> Result<Vault, Fail> {
     let mut vault = Vault::new(alloc, Limits::largest())?;
     take_told(alloc, &mut vault, text)?;
@@ -141,7 +141,7 @@ fn have_same_rows(one: &Vault, other: &Vault) -> Result<bool, Fail> {
     Ok(other.core().flat()? == rows)
 }
 
-/// Whether what a vault tells makes the same entries and the same rows in a fresh one.
+/// Whether a vault's printed history makes the same entries and the same rows in a fresh one.
 fn comes_back(alloc: Global, parts: &[&[u8]]) -> Result<bool, Fail> {
     let vault = filled(alloc, parts)?;
     let text = told_by(alloc, &vault)?;

@@ -3,11 +3,11 @@ use std::alloc::Global;
 use std::io;
 use std::io::{Error, ErrorKind, Read, Write};
 
-/// So often in a row an end is interrupted before it gives or takes a byte.
+/// How often in a row an end is interrupted before it gives or takes a byte.
 const INTERRUPTIONS: u8 = 100;
 
-/// A reader that gives a byte at a time, is interrupted before each, and ends in a failure where
-/// `fails` says so. Asked again it would tell of no failure, but that it is at its end.
+/// A reader that gives a byte at a time, is interrupted before each, and ends in a failure if
+/// `fails` says so. After the failure it is at its end.
 #[derive(Drop)]
 pub struct SlowReader<'a> {
     rest: &'a [u8],
@@ -48,7 +48,7 @@ impl Read for SlowReader<'_> {
     }
 }
 
-/// A reader and writer that always fails so.
+/// A reader and writer that always fails with this kind.
 #[derive(Drop)]
 pub struct Failing(pub ErrorKind);
 
@@ -68,17 +68,17 @@ impl Write for Failing {
     }
 }
 
-/// What a writer does that has no room left.
+/// What a full writer does.
 #[derive(Clone, Copy)]
 pub enum Full {
     Fails,
     TakesNothing,
-    /// As a full disk does. A flush is interrupted then.
+    /// It fails as a full disk does. A flush is interrupted then.
     HasNoSpace,
 }
 
-/// A writer that takes a byte at a time, is interrupted before each, and has room for so many. It
-/// counts the bytes that were flushed.
+/// A writer that takes a byte at a time, is interrupted before each, and takes so many in all. It
+/// counts the flushed bytes.
 #[derive(Drop)]
 pub struct SlowWriter {
     pub taken: Vec<u8>,

@@ -1,4 +1,4 @@
-//! What the program tells of closings, and how it ends.
+//! What the program prints for closings, and how it ends.
 use crate::ends::{Full, SlowReader, SlowWriter};
 use crate::program::{ask, expect, expect_at};
 use ele_moment::Moment;
@@ -23,9 +23,9 @@ const CLOSINGS: &[u8] = b"2026-01-01T08:00:00Z
 2026-02-10T06:00:00Z
 ";
 
-// What becomes of them under the standard ladder: a version is due a day after its end if the next
-// one closed in its hour, seven days after it if in its day, and thirty days after it if in its seven
-// days, and else never.
+// Their forecast under the standard ladder. A version is due a day after its end if the next one
+// closed in its hour. It is due seven days after its end if that closed in its day, and thirty days
+// after it if in its seven days. Else it never is.
 const TABLE: &str = "version closed ended due why
 1 2026-01-01T08:00:00Z 2026-01-01T08:30:00Z 2026-01-02T08:30:00Z version 2 closed in the same hour
 2 2026-01-01T08:30:00Z 2026-01-01T09:10:00Z 2026-01-08T09:10:00Z version 3 closed in the same day
@@ -44,7 +44,7 @@ at 2026-01-09T10:00:00Z stay 4: 4 7 8 9
 at 2026-02-10T06:00:00Z stay 4: 8 9 11 12
 ";
 
-// A forecast under that policy, at the moments that these words spell.
+// A forecast under that policy, at the moments of these words.
 fn ask_about(alloc: Global, policy: Policy, words: &[&[u8]]) -> Result<Invocation, Fail> {
     let mut moments = Vec::new(alloc);
     for word in words {

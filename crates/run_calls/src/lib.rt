@@ -1,6 +1,6 @@
-//! Tests of runs and of what the program does, over readers and writers that give and take little,
-//! are interrupted and fail. They run over a world that stays empty, so they need no core. It gives
-//! out nothing.
+//! Tests of runs and of the program, over readers and writers that give and take little, are
+//! interrupted and fail. They run over a world that stays empty, so they need no core. The crate
+//! exports nothing.
 #![tactic(auto)]
 
 #[cfg(test)]

@@ -1,10 +1,10 @@
-//! A reader that gives a line at a time, and looks at what was written by then.
+//! A reader that gives a line at a time, and looks at what was written before each.
 use std::cell::RefCell;
 use std::io;
 use std::io::{Error, ErrorKind, Read, Write};
 use std::rc::Rc;
 
-/// A writer whose bytes others can look at.
+/// A writer whose bytes others can read.
 #[derive(Drop)]
 pub struct SharedWriter(pub Rc<RefCell<Vec<u8>>>);
 
@@ -22,7 +22,7 @@ impl Write for SharedWriter {
     }
 }
 
-/// A reader that gives a line at a time, and notes how many bytes were written as each was asked for.
+/// A reader that gives a line at a time, and notes how many bytes were written before each.
 #[derive(Drop)]
 pub struct LineReader<'a> {
     pub lines: &'a [(&'static str, &'static str)],

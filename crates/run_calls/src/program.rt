@@ -1,4 +1,4 @@
-//! The program over a world that stays empty, with what it is to write and how it is to end.
+//! The program over a world that stays empty, with its expected output and status.
 use crate::ends::{Full, SlowWriter};
 use ele_words::{Invocation, KeepsError, dispatch};
 use empty_world::EmptyWorld;
@@ -9,11 +9,11 @@ use std::sync::Wait;
 use std::thread::Threads;
 use std::time::Clock;
 
-/// What the program is to write at its writer and at the one for faults, and its status.
+/// The expected output of the program, its expected output of faults, and its status.
 type Wanted<'a> = (&'a str, &'a str, u8);
 
-/// Asks the program for this over the reader, and expects that it does as wanted and flushes what it
-/// wrote.
+/// Runs the program over the reader, and expects this output and status, and that it flushes its
+/// output.
 pub fn expect<T: Threads + Wait + Clock + Sync + Abort, R: Read + Drop>(
     rt: &T,
     alloc: Global,
@@ -26,7 +26,7 @@ pub fn expect<T: Threads + Wait + Clock + Sync + Abort, R: Read + Drop>(
     assert_eq!(rt; writer.flushed, writer.taken.len());
 }
 
-/// The same at a writer that may fail, flushed or not.
+/// Does the same with a writer that may fail, flushed or not.
 pub fn expect_at<T: Threads + Wait + Clock + Sync + Abort, R: Read + Drop>(
     rt: &T,
     alloc: Global,
@@ -42,8 +42,7 @@ pub fn expect_at<T: Threads + Wait + Clock + Sync + Abort, R: Read + Drop>(
     assert_eq!(rt; ended, status);
 }
 
-/// Asks the program for this, watched or not. Answers what it writes at the writer for faults, and
-/// its status.
+/// Runs the program, watched or not. Returns its output of faults, and its status.
 pub fn ask<T: Threads + Wait + Clock + Sync, R: Read + Drop, W: Write + Drop>(
     rt: &T,
     alloc: Global,

@@ -1,4 +1,4 @@
-//! What a run tells beside the blocks of its bad lines.
+//! What a run prints beside the blocks of its bad lines.
 use crate::ends::{Full, SlowWriter};
 use crate::program::expect;
 use ele_model::Limits;
@@ -14,13 +14,13 @@ const LINES: &[u8] = b"clock 007\n\nhello\nwhy x\nahead 3\nwhy /f\ntick 5";
 const BLOCKS: &str = "1 bad 30 BadMoment\n3 bad 32 Syntax\n4 bad 29 BadPath\n5 ok ahead 0\n\
 6 no 5 NoEntry\n7 bad 32 Syntax\n";
 
-/// Why they are bad.
+/// The reasons of these.
 const REASONS: &str = "elephant: line 1, word 2: a moment has no leading zero\n\
 elephant: line 3, word 1: there is no such command\n\
 elephant: line 4, word 2: a path begins with a slash\n\
 elephant: line 7, end: it has no line feed\n";
 
-/// With numbers, and lines that are explained.
+/// Options with numbers, and lines that are explained.
 fn numbered(strict: bool) -> RunOptions {
     RunOptions {
         strict,
@@ -56,7 +56,7 @@ fn a_writer_of_reasons_that_fails_ends_no_run(rt: HostRuntime) -> Result<(), Fai
     Ok(())
 }
 
-// The reason is told once, at the end, and of a last line that is never run only that.
+// The run prints the reason once, at the end. Of a last line that is never run it prints only that.
 #[test]
 fn a_strict_run_with_numbers_tells_one_reason(rt: HostRuntime) {
     let invocation = Invocation::Run(Limits::largest(), numbered(true));

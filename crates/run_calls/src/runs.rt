@@ -50,7 +50,8 @@ fn script(alloc: Global) -> Result<Vec<u8>, Fail> {
     Ok(bytes)
 }
 
-/// How many lines so many bytes are, the blocks of the whole ones, and whether the last one is cut.
+/// How many lines are in so many bytes, the blocks of the whole ones, and whether the last one is
+/// cut.
 fn within(alloc: Global, bytes: usize) -> Result<(u64, Vec<u8>, bool), Fail> {
     let mut left = bytes;
     let mut blocks = Vec::new(alloc);

@@ -1,4 +1,4 @@
-//! What the program writes, and how it ends.
+//! What the program prints, and how it ends.
 use crate::ends::{Failing, Full, SlowReader, SlowWriter};
 use crate::program::{ask, expect, expect_at};
 use ele_model::Limits;
@@ -38,7 +38,7 @@ fn a_flush_that_fails_is_told(rt: HostRuntime) {
     expect_at(&rt, rt.alloc(), &plain_run(), tick, &mut writer, wanted);
 }
 
-// The fault stands alone on its line, and why the system failed on the next one.
+// The fault has a line of its own, and the system's reason is on the next one.
 #[test]
 fn a_full_disk_is_told(rt: HostRuntime) {
     let mut writer = SlowWriter::new(rt.alloc(), 6, Full::HasNoSpace);
@@ -48,7 +48,7 @@ fn a_full_disk_is_told(rt: HostRuntime) {
     expect_at(&rt, rt.alloc(), &plain_run(), tick, &mut writer, wanted);
 }
 
-// Why an end failed is that end's own reason, if the program knows words for it.
+// The reason is that of the end that failed, if the program has words for it.
 #[test]
 fn each_end_tells_why_it_failed(rt: HostRuntime) -> Result<(), Fail> {
     let alloc = rt.alloc();
@@ -102,7 +102,7 @@ fn a_storm_without_memory_is_told(rt: HostRuntime) -> Result<(), Fail> {
     Ok(())
 }
 
-// And so it does while it is watched: the watcher hears that it has ended.
+// The same storm, watched: the watcher gets its end.
 #[test]
 fn a_watched_storm_ends(rt: HostRuntime) -> Result<(), Fail> {
     let alloc = rt.alloc();

@@ -16,7 +16,7 @@ fn asked_by(alloc: Global, line: &str) -> Result<Invocation, Fail> {
     Ok(words(alloc, given.as_slice()))
 }
 
-// The limit of events of a run that the words ask for, and its manner.
+// The limit of events and the options of a run that the words ask for.
 fn run_of(alloc: Global, line: &str) -> Result<Option<(u64, RunOptions)>, Fail> {
     match asked_by(alloc, line)? {
         Invocation::Run(limits, options) => Ok(Some((limits.events(), options))),

@@ -1,4 +1,4 @@
-//! Workers of a storm by themselves, and the flags where they arrive.
+//! Single workers of a storm, and the flags where they arrive.
 use ele_model::{Audit, Event, Limits, Step};
 use ele_storm::{
     AuditFault, Flags, Meet, MeetEnd, StormFault, StormPlan, close_and_audit, share_fresh, work,
@@ -8,7 +8,7 @@ use std::alloc::Global;
 use std::sync::Wait;
 use std::test::Fail;
 
-/// What the first of four workers is answered that arrives before the others, and how many events
+/// The result of the first of four workers, which arrives before the others, and how many events
 /// there are then.
 fn work_first<C: Step, R: Wait>(
     rt: &R,
@@ -37,7 +37,7 @@ fn a_flag_is_seen_by_those_who_come_later(rt: HostRuntime) -> Result<(), Fail> {
     Ok(())
 }
 
-/// What an audit finds behind one event.
+/// The result of an audit after one event.
 fn audit_one<C: Audit>(alloc: Global) -> Result<Result<bool, AuditFault>, Fail> {
     let (shared, mut seat) = share_fresh::<C>(alloc, Limits::largest())?;
     if shared.try_call(&mut seat, Event::Tick(1)).is_err() {
@@ -46,7 +46,7 @@ fn audit_one<C: Audit>(alloc: Global) -> Result<Result<bool, AuditFault>, Fail> 
     Ok(close_and_audit(shared, seat).map(|closed| closed.1))
 }
 
-// An audit that didn't ask its core would find all equal.
+// An audit that didn't ask its core would find all answers equal.
 #[test]
 fn an_audit_asks_its_core(rt: HostRuntime) -> Result<(), Fail> {
     let alloc = rt.alloc();

@@ -1,4 +1,4 @@
-//! Runs the worked scripts of `data/`, and compares what each prints with the output that stands beside it.
+//! Runs the worked scripts of `data/`, and compares what each prints with the output beside it.
 #![tactic(auto)]
 
 use anyhow::{Context, Result, anyhow};
@@ -8,7 +8,8 @@ use ele_runs::{RunOptions, run_in};
 use ele_shell::run;
 use std::{fs, io};
 
-/// What names the scripts under the largest limits, a line each: NAME.script has its NAME.output.
+/// The file that names the scripts under the largest limits, a line each: NAME.script has its
+/// NAME.output.
 const ROWS: &str = "rows";
 
 /// Scripts under limits of their own: events, files, directories, names, versions, handles, groups, members, marks.
@@ -67,7 +68,7 @@ const LIMITED: [(&str, [u64; 9]); 24] = [
     ("each_limit_is_one", [99, 1, 1, 1, 99, 1, 1, 1, 1]),
 ];
 
-/// Scripts under the largest limits whose lines `why` and `ahead` are answered.
+/// Scripts under the largest limits whose run answers `why` and `ahead`.
 const EXPLAINED: [&str; 3] = [
     "explained_landmarks",
     "explained_policies",
@@ -84,7 +85,7 @@ fn printed(rt: &HostRuntime, name: &str, limits: Limits) -> Result<String> {
     }
 }
 
-/// What the script prints where the run explains.
+/// What the script prints if the run explains.
 fn explained(rt: &HostRuntime, name: &str) -> Result<String> {
     let script = fs::read(rt, format!(in rt.alloc(); "{name}.script")?)?;
     let mut text = Vec::new(rt.alloc());
@@ -106,7 +107,7 @@ fn explained(rt: &HostRuntime, name: &str) -> Result<String> {
     }
 }
 
-/// Tells whether the script printed what it is to print; prints both where it didn't.
+/// Returns whether the script printed the expected output; prints both if it didn't.
 fn compare(rt: &HostRuntime, name: &str, printed: &String) -> Result<()> {
     let wanted = fs::read_to_string(rt, format!(in rt.alloc(); "{name}.output")?)?;
     if printed.as_str() == wanted.as_str() {

@@ -1,4 +1,4 @@
-"""Elephant: a store of files that keep their earlier versions, and forget them by policies.
+"""Elephant: a store of files that keep their earlier versions until a policy lets them go.
 
     from elephant import Store
 

@@ -1,4 +1,4 @@
-"""What a store answers: named tuples."""
+"""The named tuples that a store returns."""
 
 from __future__ import annotations
 
@@ -9,7 +9,7 @@ from ._policies import Policy
 
 
 class Limits(NamedTuple):
-    """How much a store may ever make. What is removed gives nothing back. These are the largest."""
+    """How many of each kind a store may ever make. A removal lowers no count. The defaults are the largest."""
 
     events: int = 1_000_000_000
     files: int = 100_000
@@ -45,7 +45,7 @@ class FileStat(NamedTuple):
 
 
 class DirectoryStat(NamedTuple):
-    """A directory, and the policy that it gives the files made in it."""
+    """A directory, and the default policy of the files made in it."""
 
     directory: int
     default: Policy
@@ -61,7 +61,7 @@ class Entry(NamedTuple):
 
 
 class DeadName(NamedTuple):
-    """A name that `undelete` brings back. `parent` is the number of the directory that it stood in."""
+    """A name that `undelete` can restore. `parent` is the number of its directory."""
 
     parent: int
     name: str
@@ -79,7 +79,7 @@ class Removable(NamedTuple):
 
 
 class Usage(NamedTuple):
-    """What the files of one kind of policy use: `bytes` is the sum of the lengths, `blocks` counts what they share once."""
+    """What the files of one kind of policy use: `bytes` is the sum of the lengths, `blocks` counts shared blocks once."""
 
     kind: str
     files: int
@@ -105,14 +105,14 @@ class Group(NamedTuple):
 
 
 class Pass(NamedTuple):
-    """How many versions a pass removed, and whether none is left that it could remove."""
+    """How many versions a pass removed, and whether it left none that may be removed."""
 
     removed: int
     finished: bool
 
 
 class History(NamedTuple):
-    """How many events were folded, and the lines of those that are stored."""
+    """How many events are folded, and the lines of the stored ones."""
 
     folded: int
     lines: tuple[str, ...]
@@ -133,7 +133,7 @@ class Open(NamedTuple):
 
 
 class Marked(NamedTuple):
-    """A mark of the group protects the version, until a moment (None: for good)."""
+    """A mark of the group holds the version, until a moment (None: for good)."""
 
     group: str
     at: Moment
@@ -144,7 +144,7 @@ class Marked(NamedTuple):
 
 
 class Kept(NamedTuple):
-    """Its policy keeps the version until a moment (None: whatever the clock says); `level` is the level of a ladder, else None."""
+    """Its policy keeps the version until a moment (None: for good); `level` is the level of a ladder, else None."""
 
     until: Optional[Moment]
     level: Optional[int]
@@ -181,7 +181,7 @@ class ClosedSession(NamedTuple):
 
 
 class Recovered(NamedTuple):
-    """What opening a journal mended: how many bytes of a change that was cut off it removed, and which sessions it closed."""
+    """What the opening of a journal repaired: how many bytes of a cut change it removed, and which sessions it closed."""
 
     cut: int = 0
     closed: tuple[ClosedSession, ...] = ()

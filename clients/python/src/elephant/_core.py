@@ -1,4 +1,4 @@
-"""A store's handle in the shared library: calls on spelled paths and numbers, which raise what is refused."""
+"""A store's handle in the shared library: calls on spelled paths and numbers, which raise refusals."""
 
 from __future__ import annotations
 
@@ -25,7 +25,7 @@ _LEAST_ROOM = 1 << 12
 
 
 def natural(value: SupportsIndex, what: str) -> int:
-    """Returns a number that the library can be given. Raises ValueError for one that is negative or too great."""
+    """Returns a number as an argument of the library. Raises ValueError if it is negative or too large."""
     number = operator.index(value)
     if not 0 <= number < 1 << 64:
         raise ValueError(f"{what} is from 0 to {(1 << 64) - 1}, not {number}")
@@ -64,7 +64,7 @@ class Core:
             self.refuse(code)
 
     def refuse(self, code: int, subject: object = "") -> None:
-        """Raises the error of a code that the last call answered."""
+        """Raises the error of the code that the last call returned."""
         detail = None
         if code in _TOLD_MORE and self.library.elephant_detail(self.handle, self.number_at) == 0:
             detail = self._number.value
@@ -77,19 +77,19 @@ class Core:
             self.refuse(code, subject)
 
     def ask(self, call: Call, subject: object, *words: object) -> int:
-        """Makes a call that answers one number, and returns it."""
+        """Makes a call that returns one number, and returns it."""
         code = call(self.handle, *words, self.number_at)
         if code:
             self.refuse(code, subject)
         return self._number.value
 
     def ask_two(self, call: Call, subject: object, *words: object) -> tuple[int, int]:
-        """Makes a call that answers two numbers, and returns them."""
+        """Makes a call that returns two numbers, and returns them."""
         self.do(call, subject, *words, self.number_at, byref(self._second))
         return self._number.value, self._second.value
 
     def row(self, call: Call, kind: type[ctypes.Structure], subject: object, *words: object) -> Any:
-        """Makes a call that answers a row, and returns it."""
+        """Makes a call that returns a row, and returns it."""
         row = kind()
         self.do(call, subject, *words, byref(row))
         return row
@@ -105,7 +105,7 @@ class Core:
             yield row
 
     def kept_bytes(self, call: Call, length: int) -> bytes:
-        """Returns the bytes that the handle keeps: by `take` a content, by `answer` a text."""
+        """Returns the bytes that the handle keeps: `take` reads a content, `answer` a text."""
         if length > len(self._room):
             self._room = ctypes.create_string_buffer(1 << (length - 1).bit_length())
         code = call(self.handle, 0, self._room, length, self.number_at)
@@ -161,7 +161,7 @@ class Core:
 
     @property
     def number(self) -> int:
-        """The number that the last call answered."""
+        """The number that the last call returned."""
         return self._number.value
 
     def now(self) -> int:

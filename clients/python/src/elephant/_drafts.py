@@ -1,4 +1,4 @@
-"""Sessions and readers of a store, and what the journal keeps of their drafts."""
+"""Sessions and readers of a store, and how their drafts get into the journal."""
 
 from __future__ import annotations
 
@@ -14,7 +14,7 @@ from ._replay import write_lines
 from ._sessions import Reader, Session
 from ._turns import Clock, Fsync
 
-# In place of the number of a file that isn't known.
+# In place of the number of an unknown file.
 UNKNOWN = 0
 
 
@@ -36,11 +36,11 @@ class Drafts(Questions):
         self._drafts: dict[int, Draft] = {}
         """The draft of each file that has one."""
         self._joint: list[bytes] = []
-        """In a store with a history, the lines of all drafts: two of them may be of one file, if one is of a file that isn't known."""
+        """In a store with a history, the lines of all drafts: two of them may be of one file, if the file of one is unknown."""
         super().__init__(journal, limits, history, clock, fsync, wait)
 
     def session(self, path: Path) -> Session:
-        """Opens a session, which writes the file's draft: the draft is shared by all its sessions, and read by them alone."""
+        """Opens a session, which writes the file's draft. All sessions of the file share the draft, and only they read it."""
         name = spell(path)
         with self._lock, self._change as core:
             number = core.ask(core.library.elephant_open_write, path, name, len(name))
@@ -81,7 +81,7 @@ class Drafts(Questions):
             self._defer(handle, b"truncate %d %d" % (handle, number))
 
     def _defer(self, handle: int, *lines: bytes) -> None:
-        """Keeps lines of a session in mind until its draft becomes a version, or until a sync."""
+        """Stores the lines of a session until its draft becomes a version, or until a sync."""
         if self._journal is not None:
             self._writers[handle].lines.extend(lines)
 
@@ -92,7 +92,8 @@ class Drafts(Questions):
             return version or None
 
     def _keep_close(self, handle: int, makes_version: bool) -> None:
-        """Keeps the close of a handle. What sessions wrote is kept with the close of the last one, as that makes the version."""
+        """Puts the close of a handle into the journal. The close of the last handle makes the version, and stores what the sessions
+        wrote."""
         line, draft = b"close %d" % handle, self._writers.get(handle)
         if draft is None:
             self._keep(line)
@@ -106,7 +107,7 @@ class Drafts(Questions):
             self._flush(draft)
 
     def _flush(self, draft: Draft) -> None:
-        """Keeps the lines that the journal doesn't have yet."""
+        """Puts the lines of a draft into the journal that it doesn't have yet."""
         lines = draft.lines[:]
         draft.lines.clear()
         if lines:

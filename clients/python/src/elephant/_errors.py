@@ -1,4 +1,4 @@
-"""What a store refuses, one class for each number, and what can go wrong with a journal."""
+"""The refusals of a store, one class for each number, and the errors of a journal."""
 
 from __future__ import annotations
 
@@ -38,7 +38,7 @@ BY_NUMBER: dict[int, type[ElephantError]] = {}
 
 
 class Stop(ElephantError):
-    """The command was not run. Of a pass, `removed` says how many versions it removed before."""
+    """The command was not run. If it was a pass, `removed` says how many versions it removed before."""
 
     removed: int = 0
 
@@ -56,11 +56,11 @@ class Refused(ElephantError):
 
 
 class ClockBack(Refused, number=3):
-    """The moment is earlier than now."""
+    """The moment is before now."""
 
 
 class ClockEnd(Refused, number=4):
-    """The moment would be past the last one."""
+    """The moment would be after the last one."""
 
 
 class NoEntry(Refused, FileNotFoundError, number=5):
@@ -70,13 +70,13 @@ class NoEntry(Refused, FileNotFoundError, number=5):
 
 
 class NotDirectory(Refused, NotADirectoryError, number=6):
-    """A file is where a directory is wanted."""
+    """The path has a file in place of a directory."""
 
     errno = errno.ENOTDIR
 
 
 class IsDirectory(Refused, IsADirectoryError, number=7):
-    """A directory is where a file is wanted."""
+    """The path has a directory in place of a file."""
 
     errno = errno.EISDIR
 
@@ -92,7 +92,7 @@ class NotEmpty(Refused, number=9):
 
 
 class IntoItself(Refused, number=10):
-    """The directory would lie in itself."""
+    """The directory would be in itself."""
 
 
 class IsRoot(Refused, number=11):
@@ -100,7 +100,7 @@ class IsRoot(Refused, number=11):
 
 
 class Future(Refused, number=12):
-    """The moment is later than now."""
+    """The moment is after now."""
 
 
 class Forgotten(Refused, number=13):
@@ -121,7 +121,7 @@ class NoHandle(Refused, number=15):
 
 
 class NotWriter(Refused, number=16):
-    """The handle is one for reading."""
+    """The handle is for reading."""
 
 
 class TooBig(Refused, number=17):
@@ -141,7 +141,7 @@ class NoGroup(Refused, number=20):
 
 
 class GroupExists(Refused, number=21):
-    """There is such a group already."""
+    """The group exists already."""
 
 
 class NoMark(Refused, number=22):
@@ -153,15 +153,15 @@ class MarkExists(Refused, number=23):
 
 
 class NotPast(Refused, number=24):
-    """The moment of the mark is not earlier than now."""
+    """The moment of the mark is not before now."""
 
 
 class AlreadyMember(Refused, number=25):
-    """The file is in the group already."""
+    """The group has the file already."""
 
 
 class NotMember(Refused, number=26):
-    """The file is not in the group."""
+    """The group doesn't have the file."""
 
 
 class Full(Refused, number=27):
@@ -190,11 +190,11 @@ class BadLadder(Refused, ValueError, number=31):
 
 
 class Syntax(Refused, ValueError, number=32):
-    """An argument has not the form of its kind."""
+    """An argument doesn't have the form of its kind."""
 
 
 class NotAhead(Refused, number=41):
-    """The moment is not later than now (the end of a mark) or earlier than now (`ahead`)."""
+    """The end of a mark is not after now, or the moment of `ahead` is before now."""
 
 
 class Closed(ElephantError, ValueError, number=64):
@@ -210,11 +210,11 @@ class NoHistory(ElephantError, ValueError, number=67):
 
 
 class Untold(ElephantError, MemoryError, number=71):
-    """The line was run, and there was no memory for the text of its answer."""
+    """The line was run, but there was no memory for the text of its answer."""
 
 
 class JournalError(ElephantError):
-    """The journal can't be used, or the store is no longer in step with it. Open the store again."""
+    """The journal can't be used, or it no longer matches the store in memory. Open the store again."""
 
 
 class JournalLocked(JournalError, BlockingIOError):

@@ -1,4 +1,4 @@
-"""Files of a store as Python's file objects. What is written is kept here, and becomes a version when the file is closed."""
+"""Files of a store as Python's file objects. They hold what you write, and make a version of it when you close them."""
 
 from __future__ import annotations
 
@@ -19,7 +19,7 @@ Commit = Callable[[bytes], int]
 
 
 class Mode:
-    """What a mode as `r+b` allows."""
+    """What a mode such as `r+b` allows."""
 
     def __init__(self, mode: str) -> None:
         kinds = [kind for kind in mode if kind in "rwax"]
@@ -31,26 +31,26 @@ class Mode:
 
 @functools.lru_cache(maxsize=64)
 def mode_of(mode: str) -> Mode:
-    """Returns what a mode allows. Raises ValueError for one that is none."""
+    """Returns what a mode allows. Raises ValueError if it is no mode."""
     return Mode(mode)
 
 
 class File(io.BufferedIOBase):
     """The content of one version as a binary file.
 
-    A file that is written becomes one version when it is closed. It becomes none when its `with` block ends by an exception, when
-    `discard` is called, or when nobody refers to it any more and it was never closed.
+    The close of a file that was written makes one version of it. It makes none if its `with` block ends by an exception, if you call
+    `discard`, or if you drop the file without a close.
     """
 
-    # So that one whose making fails is let go of in silence.
+    # So that a file whose `__init__` fails is dropped without an error.
     _is_done = True
 
     def __init__(self, path: str, mode: Mode, content: bytes, commit: Optional[Commit] = None, is_new: bool = False) -> None:
         self.name, self.mode = path, mode.word
         self.version: Optional[int] = None
-        """After a close, the number of the version that has what was written; None if nothing was."""
+        """After a close, the number of the version that it made, or None if it made none."""
         self._mode, self._commit, self._is_done = mode, commit, False
-        # An opening that makes the file or cuts it off is a change in itself.
+        # Opening a file that is new or that the mode cuts to length 0 is a change in itself.
         self._is_changed = is_new or mode.kind == "w"
         self._bytes = io.BytesIO(content)
 
@@ -113,7 +113,7 @@ class File(io.BufferedIOBase):
         return self._bytes.tell()
 
     def give_up(self) -> None:
-        """Has the close make no version."""
+        """Makes the close make no version."""
         self._commit = None
 
     def discard(self) -> None:
@@ -122,7 +122,7 @@ class File(io.BufferedIOBase):
         self.close()
 
     def close(self) -> None:
-        """Closes the file, which makes a version of what was written."""
+        """Closes the file, and makes a version of what was written."""
         if self._is_done:
             return
         self._is_done = True
@@ -158,7 +158,7 @@ class TextFile(io.TextIOWrapper):
 
     @property
     def version(self) -> Optional[int]:
-        """After a close, the number of the version that has what was written."""
+        """After a close, the number of the version that it made."""
         return self.file.version
 
     def __exit__(self, kind: Optional[type[BaseException]], fault: Optional[BaseException], trace: Optional[TracebackType]) -> None:
@@ -171,7 +171,7 @@ class TextFile(io.TextIOWrapper):
 
 
 def _drop(file: Union[File, TextFile]) -> None:
-    """Lets go of a file that nobody refers to. One that was written and never closed makes no version, as its writer may have failed."""
+    """Drops a file without a close. A file that was written then makes no version, as its writer may have failed."""
     try:
         is_done = file.closed
     except (AttributeError, ValueError):  # it was never made, or it was detached

@@ -1,8 +1,8 @@
-"""A journal: the file that a store is kept in. docs/EMBED.md describes its form.
+"""A journal: the file that stores a store. docs/EMBED.md describes its form.
 
-Each line is a checksum, a mark and a line of the script language. The marks group lines into changes, each of which is kept whole
+Each line is a checksum, a mark and a line of the script language. The marks group lines into changes, and each change is stored whole
 or not at all: `=` is a change of one line, `<`, `-` and `>` are the first, a middle and the last line of a longer one. A checksum covers
-all lines up to its own, so that a line can be neither changed nor left out, doubled or moved.
+all lines up to its own, so it detects a line that was changed, left out, doubled or moved.
 """
 
 from __future__ import annotations
@@ -19,7 +19,7 @@ from ._errors import JournalDamaged, JournalError, JournalLocked
 FORM = b"# elephant journal 1"
 PREFIX = len("00000000 = ")
 ONE, FIRST, MIDDLE, LAST = b"= ", b"< ", b"- ", b"> "
-# No line of the script language has this in it, as a word of one character follows none that ends in such digits.
+# No line of the script language contains this, as no word of one character follows a word that ends in such digits.
 _CHANGE_START = re.compile(rb"[0-9a-f]{8} [=<] ")
 
 
@@ -28,7 +28,7 @@ HEADER = b"%08x %b%b\n" % (_HEADER_SUM, ONE, FORM)
 
 
 class Journal:
-    """An open journal, which this process alone has. First `changes` is read to its end, then `append` adds to it."""
+    """An open journal, which only this process uses. First read `changes` to its end, then `append` adds to it."""
 
     def __init__(self, path: str, syncs_each: bool, wait: float) -> None:
         self.path, self._syncs_each, self._file = os.path.abspath(path), syncs_each, -1
@@ -40,7 +40,7 @@ class Journal:
             raise
 
     def _open_locked(self, deadline: float) -> None:
-        """Opens the file and locks it. Whoever had it may have put another in its place meanwhile, which is opened then."""
+        """Opens the file and locks it. The last owner may have replaced the file before the lock; then this opens the new one."""
         while True:
             self._file = os.open(self.path, os.O_RDWR | os.O_CREAT | os.O_APPEND | os.O_CLOEXEC, 0o666)
             self._lock(deadline)
@@ -108,7 +108,7 @@ class Journal:
         return JournalDamaged(f"{place}, is damaged", number, self._size)
 
     def _cut_tail(self, number: int) -> None:
-        """Cuts off the change that was begun last. Where another one begins after it, it was no torn tail."""
+        """Cuts off the change that was begun last. Raises JournalDamaged if another change begins after it: then it was no torn tail."""
         end = os.fstat(self._file).st_size
         if end == self._size:
             return
@@ -119,7 +119,7 @@ class Journal:
         os.fsync(self._file)
 
     def append(self, lines: Sequence[bytes]) -> None:
-        """Adds a change. If it can't be written, takes all of it away again and raises JournalError."""
+        """Adds a change. If it can't be written, removes all of it again and raises JournalError."""
         checksum, last, parts = self._checksum, len(lines) - 1, []
         mark = FIRST if last else ONE
         for at, line in enumerate(lines):
@@ -146,14 +146,14 @@ class Journal:
             pass  # the next opening cuts it off, as the change isn't whole
 
     def sync(self) -> None:
-        """Has what was appended on the disk."""
+        """Writes all changes to the disk."""
         try:
             os.fdatasync(self._file)
         except OSError as fault:
             raise JournalError(f"{self.path} can't be synced: {fault}") from fault
 
     def close(self) -> None:
-        """Lets go of the file, and of the lock."""
+        """Closes the file, and frees the lock."""
         if self._file >= 0:
             os.close(self._file)
             self._file = -1

@@ -1,4 +1,4 @@
-"""The shared library: where it is, and the signature of each call (include/elephant.h says what each does)."""
+"""The shared library: how it is found, and the signature of each call (include/elephant.h describes them)."""
 
 from __future__ import annotations
 
@@ -31,7 +31,7 @@ GroupRow = _struct("GroupRow", "name_length members marks")
 MarkRow = _struct("MarkRow", "moment until")
 WhyRow = _struct("WhyRow", "fate moment until level cause seconds by")
 
-# `text` is a pointer to bytes and their count; `into` is room to write into and its size; `out` is a pointer to a number or a row.
+# `text` is a pointer to bytes and their count; `into` is a buffer and its size; `out` is a pointer to a number or a row.
 _PARTS: dict[str, list[type]] = {
     "handle": [c_void_p], "text": [c_char_p, c_size_t], "into": [c_void_p, c_size_t], "out": [c_void_p],
     "number": [c_uint64], "word": [c_uint32],
@@ -60,8 +60,8 @@ _CALLS = {
 
 
 def _places() -> Iterator[str]:
-    """Yields where the library may be: ELEPHANT_LIBRARY alone if it is set, else beside this package (where an installation puts it),
-    in the repository that this file is in, and where the system's loader looks."""
+    """Yields the places to look for the library: only ELEPHANT_LIBRARY if it is set. Else beside this package (the place of an
+    installation), in the repository of this file, and in the places of the system's loader."""
     named = os.environ.get(VARIABLE)
     if named:
         yield named
@@ -74,7 +74,7 @@ def _places() -> Iterator[str]:
 
 @functools.lru_cache(maxsize=None)
 def library() -> ctypes.CDLL:
-    """Loads the library, once, and gives each call its signature. Raises ElephantError if it is nowhere."""
+    """Loads the library, once, and gives each call its signature. Raises ElephantError if it isn't found."""
     faults = []
     for place in _places():
         try:

@@ -27,7 +27,7 @@ MomentLike = Union[int, datetime]
 
 
 def seconds_of(moment: MomentLike) -> int:
-    """Returns a moment's number of seconds. A part of a second is cut off: within a second, what it held is what it holds."""
+    """Returns a moment's number of seconds. It drops the part of a second, so a moment within a second means that second."""
     if isinstance(moment, datetime):
         if moment.utcoffset() is None:
             raise ValueError(f"{moment!r} has no time zone; use an aware datetime, as datetime.now(timezone.utc)")
@@ -42,5 +42,5 @@ def seconds_of(moment: MomentLike) -> int:
 
 
 def moment_or_none(number: int) -> Optional[Moment]:
-    """Returns a moment that the library answered, or None for never."""
+    """Returns a moment from the library, or None for never."""
     return None if number == NEVER else Moment(number)

@@ -1,8 +1,8 @@
-"""How a path is spelled by the bytes that the store has.
+"""How paths are spelled in the bytes of the store.
 
 A name of the store has 1 to 64 bytes from `!` to `~` without `/`, `@` and `#`. Other characters, and `%` itself, are spelled as UTF-8
-with a percent sign and two hexadecimal digits for each byte, as in a URL: `my file` is `my%20file`. A path that is given as `bytes`
-is taken as it is spelled.
+with a percent sign and two hexadecimal digits for each byte, as in a URL: `my file` is `my%20file`. A path given as `bytes` is taken
+as it is.
 """
 
 from __future__ import annotations
@@ -22,7 +22,7 @@ _SPELLED = re.compile(rb"%([0-9A-F]{2})")
 
 
 def spell_name(name: str) -> bytes:
-    """Returns how a name is spelled. Raises BadName if that is no byte or too many."""
+    """Returns the spelling of a name. Raises BadName if the spelling is empty or too long."""
     if name in (".", ".."):
         return b"%2E" * len(name)
     spelled = _OWN.sub(lambda found: b"%%%02X" % found[0][0], name.encode("utf-8", "surrogateescape"))
@@ -44,7 +44,7 @@ def _spell_text(path: str) -> bytes:
 
 
 def spell(path: Path) -> bytes:
-    """Returns how a path is spelled."""
+    """Returns the spelling of a path."""
     if type(path) is str:
         return _spell_text(path)
     found = os.fspath(path)
@@ -57,7 +57,7 @@ def spell(path: Path) -> bytes:
 
 @functools.lru_cache(maxsize=4096)
 def name_of(spelled: bytes) -> str:
-    """Returns the name that was spelled so. A name that `spell_name` never spells is returned as it is."""
+    """Returns the name of a spelling. A spelling that `spell_name` never makes is returned as it is."""
     raw = _SPELLED.sub(lambda found: bytes((int(found[1], 16),)), spelled)
     name = raw.decode("utf-8", "surrogateescape")
     try:
@@ -68,5 +68,5 @@ def name_of(spelled: bytes) -> str:
 
 @functools.lru_cache(maxsize=4096)
 def path_of(spelled: bytes) -> str:
-    """Returns the path that was spelled so."""
+    """Returns the path of a spelling."""
     return "/".join(name_of(name) if name else "" for name in spelled.split(b"/"))

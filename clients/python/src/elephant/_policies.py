@@ -1,4 +1,4 @@
-"""Policies: which versions of a file that have ended may be removed."""
+"""Policies: which ended versions of a file may be removed."""
 
 from __future__ import annotations
 
@@ -25,7 +25,7 @@ def _seconds(length: Seconds) -> int:
 
 
 class Policy:
-    """Base of the policies. `word` spells it as scripts do, and policies with the same word are equal."""
+    """Base of the policies. `word` is its word in scripts, and policies with the same word are equal."""
 
     __slots__ = ("word",)
     word: str
@@ -44,7 +44,7 @@ class Policy:
 
     @staticmethod
     def of(word: str) -> Policy:
-        """Returns the policy that a word spells, as `safe:604800/3`."""
+        """Returns the policy of a word such as `safe:604800/3`."""
         kind, _, rest = word.partition(":")
         try:
             if word in ("one", "all"):
@@ -68,7 +68,7 @@ def _number(word: str) -> int:
 
 
 class KeepOne(Policy):
-    """A version may be removed as soon as it has ended."""
+    """A version may be removed once it has ended."""
 
     __slots__ = ()
 
@@ -92,7 +92,7 @@ class KeepAll(Policy):
 
 
 class KeepSafe(Policy):
-    """A version may be removed once it has been ended for so long.
+    """A version may be removed once so much time has passed since its end.
 
     With a floor, the newest `floor` versions of a file that has a name stay, however old they are.
     """
@@ -113,7 +113,7 @@ class KeepSafe(Policy):
 
 
 class Landmarks(Policy):
-    """The longer ago a version ended, the fewer stay: from each age on, the newest of each span of the width.
+    """The longer ago a version ended, the fewer stay: from each age on, only the newest of each span of the width.
 
     `rungs` are one to eight pairs of an age and a width, in seconds or as timedelta. The ages rise, and each width divides the next.
     """
@@ -133,7 +133,7 @@ class Landmarks(Policy):
 
     @classmethod
     def standard(cls) -> Landmarks:
-        """All for a day, then the newest of each hour, after 7 days of each day, after 30 days of each week, for ever."""
+        """Keeps all versions for a day, then the newest of each hour, after 7 days of each day, and after 30 days of each week."""
         day = 86_400
         return cls([(day, 3_600), (7 * day, day), (30 * day, 7 * day)])
 

@@ -1,4 +1,4 @@
-"""What a store is asked. No question changes it."""
+"""The questions of a store. No question changes it."""
 
 from __future__ import annotations
 
@@ -39,8 +39,8 @@ def tag_of(at: Optional[MomentLike], version: Optional[SupportsIndex] = None) ->
 class Questions(Turns):
     """The questions of a store.
 
-    Each that takes a path may be asked of a moment in the past (`at`, an int or an aware datetime), and some of a version by its number
-    (`version`). Without either it is asked of now.
+    Each question about a path takes a moment in the past (`at`, an int or an aware datetime), and some take the number of a version
+    (`version`). Without either the question is about now.
     """
 
     @property
@@ -51,7 +51,7 @@ class Questions(Turns):
             return Moment(self._now)
 
     def read(self, path: Path, *, at: Optional[MomentLike] = None, version: Optional[SupportsIndex] = None) -> bytes:
-        """Returns the content of a version. Raises Forgotten if it was removed; no other version is ever returned for it."""
+        """Returns the content of a version. Raises Forgotten if it was removed; it never returns another version in its place."""
         name, (tag, number) = spell(path), tag_of(at, version)
         with self._lock:
             core = self._begin()
@@ -71,7 +71,7 @@ class Questions(Turns):
             return FileStat(row.id, row.version, Moment(row.opened), Moment(row.closed), moment_or_none(row.ended), row.length, policy)
 
     def versions(self, path: Path, *, at: Optional[MomentLike] = None) -> Versions:
-        """Returns the held versions of the file that has the name, or had it at a moment."""
+        """Returns the held versions of the file that the path names, or named at a moment."""
         name, (tag, number) = spell(path), tag_of(at)
         with self._lock:
             core = self._begin()
@@ -86,7 +86,7 @@ class Questions(Turns):
         return [Entry(name_of(spelled), is_directory, target, spelled) for _, is_directory, target, spelled in rows]
 
     def restorable(self) -> DeadNames:
-        """Returns the names that `undelete` brings back, by directory and name."""
+        """Returns the names that `undelete` can restore, by directory and name."""
         with self._lock:
             core = self._begin()
             rows = self._names(core, core.ask(core.library.elephant_restorable, ""))
@@ -98,14 +98,14 @@ class Questions(Turns):
         return [(row.directory, bool(row.is_directory), row.id, core.row_name(index)) for index, row in enumerate(rows)]
 
     def due(self) -> Removables:
-        """Returns the versions that may be removed now, in the order in which `clean` removes them."""
+        """Returns the versions that may be removed now, in order of removal."""
         with self._lock:
             core = self._begin()
             keys = core.keys(core.ask(core.library.elephant_due, ""))
         return [Removable(Moment(since), file, number) for since, file, number in keys]
 
     def ahead(self, moment: MomentLike) -> Removables:
-        """Returns what `due` will return at a moment if nothing but the clock changes."""
+        """Returns what `due` will return at a moment if only the clock moves."""
         seconds = seconds_of(moment)
         with self._lock:
             core = self._begin()
@@ -113,7 +113,7 @@ class Questions(Turns):
         return [Removable(Moment(since), file, number) for since, file, number in keys]
 
     def why(self, path: Path, *, at: Optional[MomentLike] = None, version: Optional[SupportsIndex] = None) -> Fate:
-        """Explains why a version stays, or since when it may be removed."""
+        """Returns why a version stays, or since when it may be removed."""
         name, (tag, number) = spell(path), tag_of(at, version)
         with self._lock:
             core = self._begin()
@@ -122,7 +122,7 @@ class Questions(Turns):
             return fate
 
     def usage(self) -> Usages:
-        """Counts what the files of each kind of policy use: KeepOne, KeepAll, KeepSafe, Landmarks."""
+        """Returns what the files of each kind of policy use: KeepOne, KeepAll, KeepSafe, Landmarks."""
         with self._lock:
             core = self._begin()
             rows = core.rows(core.library.elephant_row_usage, UsageRow, core.ask(core.library.elephant_usage, ""))
@@ -144,7 +144,7 @@ class Questions(Turns):
         return Group(name_of(spelled), files, tuple(Mark(Moment(row.moment), moment_or_none(row.until)) for row in rows), spelled)
 
     def history(self) -> History:
-        """Returns the lines of all events that were answered, also of questions. The store needs `history=True`."""
+        """Returns the lines of all answered events, also of questions. The store needs `history=True`."""
         with self._lock:
             core = self._begin()
             first, *rows = core.line(b"history").decode("ascii").splitlines()

@@ -1,4 +1,4 @@
-"""The lines of a journal: how a change is written as lines, and how they are run again."""
+"""The lines of a journal: how to write a change as lines, and how to run them again."""
 
 from __future__ import annotations
 
@@ -8,7 +8,7 @@ from ._core import Core
 from ._errors import JournalError, NoMemory
 
 MOST_PIECE = 4000
-# Lines that change nothing, and are in no journal.
+# Lines that change nothing, and that no journal has.
 QUESTIONS = frozenset(b"read stat versions list restorable due usage groups history trim why ahead".split())
 
 
@@ -20,7 +20,7 @@ def write_lines(handle: int, offset: int, data: bytes) -> list[bytes]:
 
 
 class Replay:
-    """Runs the changes of a journal in a fresh store, and keeps in mind which handles they leave open."""
+    """Runs the changes of a journal in a fresh store, and notes which handles they leave open."""
 
     def __init__(self, core: Core) -> None:
         self._core, self._library, self._e = core, core.library, core.handle
@@ -29,7 +29,7 @@ class Replay:
         self.readers: set[int] = set()
 
     def run(self, lines: list[bytes]) -> None:
-        """Runs the lines of one change. Raises JournalError if one isn't answered as it was."""
+        """Runs the lines of one change. Raises JournalError if one gets another answer than it had."""
         for line in lines:
             word, _, rest = line.partition(b" ")
             if word == b"write":
@@ -50,7 +50,7 @@ class Replay:
                 self._refuse(code, line)
 
     def remark(self, text: bytes) -> None:
-        """Passes over a remark, which is no command: a program that keeps more in its journal than its store wrote it."""
+        """Passes over a remark, which is no command. A program may write remarks into its journal; the store doesn't."""
 
     def _write(self, handle: bytes, offset: bytes, digits: bytes) -> int:
         data = unhexlify(digits)

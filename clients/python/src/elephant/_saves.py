@@ -1,4 +1,4 @@
-"""How a content becomes a version: by a file object, or at once."""
+"""How a content becomes a version: by a file object, or by one call."""
 
 from __future__ import annotations
 
@@ -24,19 +24,19 @@ TextMode = Literal["r", "w", "a", "x", "r+", "w+", "a+", "x+", "rt", "wt", "at",
 
 
 class _Base(NamedTuple):
-    """What a file held when it was opened: its number, its version's, and the content."""
+    """A file when it was opened: its number, its version's number, and the content."""
 
     file: int
     version: int
     content: bytes
 
 
-# What a file held that is to be written anew.
+# The base of a file that is written anew.
 _CUT_OFF = _Base(0, 0, b"")
 
 
 class Saves(Drafts):
-    """A store whose files are written and read as Python's are."""
+    """A store whose files you write and read as Python's."""
 
     @overload
     def open(
@@ -60,10 +60,10 @@ class Saves(Drafts):
         self, path: Path, mode: str = "r", *, at: Optional[MomentLike] = None, version: Optional[SupportsIndex] = None,
         encoding: str = "utf-8", errors: Optional[str] = None, newline: Optional[str] = None,
     ) -> Union[File, TextFile]:
-        """Opens a version to be read, or a file to be written, with the modes of Python's `open`.
+        """Opens a version for reading, or a file for writing, with the modes of Python's `open`.
 
-        The content is copied. What is written is kept in the file object; its close makes one version of all of it, and an exception
-        in its `with` block none. Only `r` and `rb` take `at` or `version`.
+        It copies the content. The file object holds what you write. Its close makes one version of all of it, and an exception in its
+        `with` block makes none. Only `r` and `rb` take `at` or `version`.
         """
         wanted = mode_of(mode)
         name = spell(path)
@@ -80,7 +80,7 @@ class Saves(Drafts):
         return TextFile(file, encoding, errors, newline) if wanted.is_text else file
 
     def _base(self, path: Path, name: bytes, mode: Mode) -> Optional[_Base]:
-        """Returns what the file holds, or None if it is to be made. Raises what the mode or the path is refused for."""
+        """Returns the content of the file, or None if the file is to be made. Raises the refusal of the mode or the path."""
         with self._lock:
             core = self._begin()
             try:
@@ -101,14 +101,14 @@ class Saves(Drafts):
     def save(self, path: Path, content: ReadableBuffer) -> int:
         """Makes the content the file's newest version, whole or not at all, and returns its number. Makes the file if it doesn't exist.
 
-        An empty content makes no version of a file that is empty. If the file was made and there is no memory for the content, it is empty.
+        An empty content makes no version of an empty file. If memory runs out after the file was made, the file is empty.
         """
         name, data = spell(path), as_bytes(content)
         with self._lock, self._change as core:
             return self._save(core, path, name, data, 0, len(data))
 
     def _commit(self, path: Path, name: bytes, kind: str, base: Optional[_Base], content: bytes) -> int:
-        """Makes a version of what a file object has. If the file is as it was opened, only what differs is written."""
+        """Makes a version of a file object's content. If the file has not changed since it was opened, it writes only the difference."""
         with self._lock, self._change as core:
             if base is not None and kind != "w":
                 row = core.stat(path, name)
@@ -118,7 +118,7 @@ class Saves(Drafts):
             return self._save(core, path, name, content, 0, len(content), must_create=kind == "x")
 
     def _save(self, core: Core, path: Path, name: bytes, data: bytes, offset: int, size: int, must_create: bool = False) -> int:
-        """Writes data into the draft of a file, which then has that size, and closes it. All of it is one change of the journal."""
+        """Writes data into the draft of a file, sets its length, and closes it. All of it is one change of the journal."""
         if size > MOST_BYTES:
             raise TooBig(f"{path_of(name)}: a content has at most {MOST_BYTES} bytes")
         if self._drafts:
@@ -146,7 +146,7 @@ class Saves(Drafts):
 
     @staticmethod
     def _open_or_create(core: Core, path: Path, name: bytes, size: int, lines: list[bytes], must_create: bool) -> int:
-        """Returns a handle that writes the file, or 0 if the file was made and is to be empty."""
+        """Returns a handle that writes the file, or 0 if the file was made and stays empty."""
         code = NO_ENTRY if must_create else core.library.elephant_open_write(core.handle, name, len(name), core.number_at)
         if code == NO_ENTRY:
             core.ask(core.library.elephant_create, path, name, len(name))
@@ -162,7 +162,8 @@ class Saves(Drafts):
     def _fill(
         self, core: Core, path: Path, name: bytes, handle: int, data: bytes, offset: int, size: int, lines: list[bytes]
     ) -> int:
-        """Fills a draft and closes it. If that fails, the draft gets the content that the file has, so that no version has a part."""
+        """Fills a draft and closes it. If that fails, the draft gets the file's content again, so that no version has a part of the
+        data."""
         library, is_changed = core.library, False
         try:
             if data:
@@ -178,12 +179,12 @@ class Saves(Drafts):
             self._undo(core, path, name, handle, is_changed, lines)
             raise
         lines.append(b"close %d" % handle)
-        if data and not version:  # a session that was opened by a line of a store with a history has the draft
+        if data and not version:  # the draft has a session that a line of a store with a history opened
             raise Drafting(f"{path_of(name)}, and the draft has the content")
         return version
 
     def _undo(self, core: Core, path: Path, name: bytes, handle: int, is_changed: bool, lines: list[bytes]) -> None:
-        """Closes the draft of a save that failed, with the content that the file has."""
+        """Closes the draft of a failed save, with the file's content."""
         library = core.library
         try:
             if is_changed:
@@ -195,14 +196,14 @@ class Saves(Drafts):
             core.ask(library.elephant_close_handle, path, handle)
             lines.append(b"close %d" % handle)
         except ElephantError:
-            # The draft stays open, so that it is nobody's version.
+            # The draft stays open, so that it becomes no version.
             self._fail("there was no memory to undo a save")
             self._add_writer(core.stat(path, name).id, handle)
             raise
 
 
 def _changed(old: bytes, new: bytes) -> tuple[int, int]:
-    """Returns the part of the new content that differs, in whole slots; of two that are equal the first byte, as it was written."""
+    """Returns the part of the new content that differs, in whole slots; if both are equal, the first byte."""
     shorter = min(len(old), len(new))
     start = 0
     while start < shorter and old[start:start + SLOT] == new[start:start + SLOT]:

@@ -24,7 +24,7 @@ class Handle:
         return self._store
 
     def read(self) -> bytes:
-        """Returns what the handle reads: of a session the draft."""
+        """Returns what the handle reads; a session reads its draft."""
         return self._checked()._read_handle(self.number)
 
     def _close(self) -> Optional[int]:
@@ -49,24 +49,24 @@ class Reader(Handle):
 
 
 class Session(Handle):
-    """Writes a draft of a file, which all its sessions share. The draft becomes a version when the last of them is closed.
+    """Writes the draft of a file, which all its sessions share. The draft becomes a version when the last of them closes.
 
-    A session can't be given up: what was written becomes a version, also if a `with` block ends by an exception.
+    You can't discard a session: what it wrote becomes a version, even if a `with` block ends by an exception.
     """
 
     version: Optional[int] = None
-    """After a close, the number of the version that this made, or None: nothing was written, or another session has the draft."""
+    """After a close, the number of the version that it made. None if nothing was written, or another session has the draft."""
 
     def write(self, data: bytes, offset: int = 0) -> None:
-        """Lays the bytes over the draft from the offset on. Zeros fill what is between."""
+        """Writes the bytes into the draft from the offset on. Zeros fill a gap before them."""
         self._checked()._write_handle(self.number, offset, data)
 
     def truncate(self, size: int) -> None:
-        """Gives the draft that many bytes: its first ones, or all and then zeros."""
+        """Sets the length of the draft: cuts it, or adds zeros."""
         self._checked()._truncate_handle(self.number, size)
 
     def close(self) -> Optional[int]:
-        """Closes the handle, and returns the number of the version that this made, if it made one."""
+        """Closes the handle, and returns the number of the version that the close made. None if it made none."""
         self.version = self._close()
         return self.version
 

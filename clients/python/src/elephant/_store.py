@@ -1,4 +1,4 @@
-"""A store: files that keep their earlier versions, in memory or kept in a journal."""
+"""A store: files that keep their earlier versions, in memory or in a journal."""
 
 from __future__ import annotations
 
@@ -23,11 +23,11 @@ from ._turns import Clock, Fsync
 class Store(Saves):
     """A store of files that keep their earlier versions.
 
-    `journal`: the path of the file that it is kept in; without one it ends with this object. `limits`: how much it may ever make.
-    `history`: it also keeps all events, which `history` returns. `clock`: with `"system"` each call first moves the store's clock to the
-    time of day, never back; with `"manual"` it begins at 0 and is moved by `clock` and `tick` alone. `fsync`: with `"always"` a change
-    is on the disk before the call returns, with `"sync"` only after a `sync`. `wait`: for how many seconds to wait for a journal that
-    another store has.
+    `journal`: the path of the file that stores it; without one the store ends with this object. `limits`: how many of each kind it may
+    ever make. `history`: it also keeps all events, which `history` returns. `clock`: with `"system"` each call first moves the store's
+    clock to the time of day, never back; with `"manual"` it begins at 0, and only `clock` and `tick` move it. `fsync`: with `"always"`
+    a change is on the disk before the call returns, with `"sync"` only after a `sync`. `wait`: how many seconds to wait for a journal
+    that another store has.
 
     Many threads may call a store. Paths begin with a slash. A moment is an int, of seconds since 1970, or an aware datetime.
     """
@@ -52,7 +52,7 @@ class Store(Saves):
         self.close()
 
     def close(self) -> None:
-        """Closes the store. With a journal, sessions that are open are closed first, as the next opening would, and all is synced."""
+        """Closes the store. With a journal, it first closes the open sessions, as the next opening would, and syncs all."""
         with self._lock:
             if self.is_closed:
                 return
@@ -65,7 +65,8 @@ class Store(Saves):
                 self._release()
 
     def sync(self) -> None:
-        """Has all that was answered on the disk, also what open sessions wrote. What they wrote becomes a version if they are cut off."""
+        """Writes all changes to the disk, also what open sessions wrote. If the program ends then, the next opening makes versions of
+        these."""
         with self._lock, self._change:
             for draft in self._drafts.values():
                 self._flush(draft)
@@ -75,7 +76,7 @@ class Store(Saves):
     # The clock.
 
     def clock(self, moment: MomentLike) -> Moment:
-        """Moves the clock to a moment, and returns the moment that it is. Raises ClockBack for one that is earlier than now."""
+        """Moves the clock to a moment, and returns the moment now. Raises ClockBack if it is before now."""
         seconds = seconds_of(moment)
         with self._lock, self._change as core:
             core.do(core.library.elephant_clock, moment, seconds)
@@ -83,7 +84,7 @@ class Store(Saves):
             return Moment(seconds)
 
     def tick(self, seconds: SupportsIndex) -> Moment:
-        """Moves the clock on by seconds, and returns the moment that it is."""
+        """Moves the clock forward by seconds, and returns the moment now."""
         number = natural(seconds, "a number of seconds")
         with self._lock, self._change as core:
             core.do(core.library.elephant_tick, number, number)
@@ -123,21 +124,21 @@ class Store(Saves):
             self._keep(b"link %b %b" % (name, other))
 
     def unlink(self, path: Path) -> None:
-        """Ends a name of a file. With its last name its current version ends."""
+        """Removes a name of a file. With its last name its current version ends."""
         name = spell(path)
         with self._lock, self._change as core:
             core.do(core.library.elephant_unlink, path, name, len(name))
             self._keep(b"unlink " + name)
 
     def rename(self, path: Path, new: Path) -> None:
-        """Gives a file or a directory a name in place of another. Nothing is ever replaced by it."""
+        """Moves a file or a directory to a new path. It never replaces anything."""
         name, other = spell(path), spell(new)
         with self._lock, self._change as core:
             core.do(core.library.elephant_rename, (path, new), name, len(name), other, len(other))
             self._keep(b"rename %b %b" % (name, other))
 
     def undelete(self, path: Path) -> Optional[int]:
-        """Brings a dead name back. Returns the number of the version that a file gets which had no name, else None."""
+        """Restores a dead name. Returns the number of the version that a file without a name gets, else None."""
         name = spell(path)
         with self._lock, self._change as core:
             version = core.ask(core.library.elephant_undelete, path, name, len(name))
@@ -157,11 +158,11 @@ class Store(Saves):
     # Policies, groups and marks.
 
     def set_policy(self, path: Path, policy: Policy) -> None:
-        """Gives a file a policy, which decides about all its versions at once."""
+        """Sets the policy of a file, which decides about all its versions at once."""
         self._policy("policy", path, policy)
 
     def set_default(self, path: Path, policy: Policy) -> None:
-        """Sets the policy of the files and directories that are made in a directory from now on."""
+        """Sets the policy of later files and directories in a directory."""
         self._policy("default", path, policy)
 
     def _policy(self, word: str, path: Path, policy: Policy) -> None:
@@ -176,7 +177,7 @@ class Store(Saves):
         self._group_itself("make", group)
 
     def group_drop(self, group: str) -> None:
-        """Ends a group, with its marks."""
+        """Removes a group and its marks."""
         self._group_itself("drop", group)
 
     def _group_itself(self, word: str, group: str) -> None:
@@ -190,7 +191,7 @@ class Store(Saves):
         self._group_member("add", group, path)
 
     def group_remove(self, group: str, path: Path) -> None:
-        """Takes a file out of a group."""
+        """Removes a file from a group."""
         self._group_member("remove", group, path)
 
     def _group_member(self, word: str, group: str, path: Path) -> None:
@@ -201,7 +202,7 @@ class Store(Saves):
             self._keep(b"group %b %b %b" % (word.encode(), name, member))
 
     def mark(self, group: str, at: MomentLike, until: Optional[MomentLike] = None) -> None:
-        """Protects what was current of a group's files at a past moment, for good or until another moment."""
+        """Holds what was current of a group's files at a past moment, for good or until another moment."""
         name, moment, end = spell_name(group), seconds_of(at), NEVER if until is None else seconds_of(until)
         with self._lock, self._change as core:
             core.do(core.library.elephant_mark, group, name, len(name), moment, end)
@@ -217,7 +218,7 @@ class Store(Saves):
     # Forgetting.
 
     def clean(self) -> Optional[Removable]:
-        """Removes the first version that may be removed, and returns it; None if there is none."""
+        """Removes the first version that may be removed, and returns it. None if there is none."""
         with self._lock, self._change as core:
             key = core.row(core.library.elephant_clean, KeyRow, "")
             if not key.file:
@@ -226,7 +227,8 @@ class Store(Saves):
             return Removable(Moment(key.since), key.file, key.number)
 
     def pass_(self, budget: Optional[SupportsIndex] = None) -> Pass:
-        """Removes versions until none may be removed, or as many as the budget says. The `removed` of a Stop is how many it removed before."""
+        """Removes versions until none may be removed, or as many as the budget says. A Stop has in `removed` how many it removed
+        before."""
         most = NEVER if budget is None else natural(budget, "a budget")
         removed, finished = c_uint64(), c_uint64()
         with self._lock, self._change as core:
@@ -241,7 +243,7 @@ class Store(Saves):
             return Pass(removed.value, bool(finished.value))
 
     def trim(self) -> int:
-        """Folds the history into the store as it is, and returns how many events were folded. The store needs `history=True`."""
+        """Folds the history into the store as it is, and returns how many events these were. The store needs `history=True`."""
         with self._lock:
             core = self._begin()
             return core.ask(core.library.elephant_trim, "trim")
@@ -249,7 +251,8 @@ class Store(Saves):
     # Lines of the script language.
 
     def line(self, line: str) -> str:
-        """Runs a line of the script language, and returns its answer, whose lines end with line feeds. A refusal is an answer here."""
+        """Runs a line of the script language, and returns its answer, whose lines end with line feeds. It returns refusals, and doesn't
+        raise them."""
         if "\n" in line:
             raise ValueError(f"{line!r} has a line feed")
         spelled = line.encode("utf-8", "surrogateescape")
@@ -259,7 +262,7 @@ class Store(Saves):
             return answer.decode("ascii")
 
     def _keep_line(self, core: Core, line: bytes, answer: bytes) -> None:
-        """Keeps a line as the call of the same name does."""
+        """Puts a line into the journal as the call of the same name does."""
         words, told = line.split(b" "), answer.split()
         word = words[0]
         if word == b"pass" and told[-1].isdigit() and told[-1] != b"0":
@@ -274,6 +277,7 @@ class Store(Saves):
             self._keep_close(int(words[1]), len(told) > 2)
         else:
             if words[:2] == [b"open", b"write"]:
-                # To ask for the file would be an event of the history. Without its number it shares a draft with all such sessions.
+                # A question for the file would be an event of the history. Without the file's number, the draft is shared with all
+                # sessions of unknown files.
                 self._add_writer(UNKNOWN if self._has_history else core.stat(words[2], words[2]).id, int(told[2]))
             self._keep(line)

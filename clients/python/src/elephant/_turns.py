@@ -21,7 +21,7 @@ Fsync = Literal["always", "sync"]
 
 
 class Change:
-    """One change of the core, which is made with the lock held. If another exception than a refusal interrupts it, the store fails."""
+    """One change of the core, made with the lock held. If an exception other than a refusal interrupts it, the store fails."""
 
     __slots__ = ("_turns",)
 
@@ -38,10 +38,10 @@ class Change:
 
 
 class Turns:
-    """A core that many threads may call, one at a time, whose changes are kept in a journal if there is one."""
+    """A core that many threads may call, one at a time, with a journal of its changes if there is one."""
 
     recovered: Recovered
-    """What the opening of the journal mended."""
+    """What the opening of the journal repaired."""
 
     def __init__(self, journal: Optional[str], limits: Limits, history: bool, clock: Clock, fsync: Fsync, wait: float) -> None:
         if clock not in ("system", "manual") or fsync not in ("always", "sync"):
@@ -66,7 +66,7 @@ class Turns:
         _stores.add(self)
 
     def _replay(self, core: Core, journal: Journal) -> None:
-        """Runs the journal's changes, and closes the sessions that it leaves open."""
+        """Runs the journal's changes, and closes the sessions that they leave open."""
         replay = self._replay_in(core)
         for change in journal.changes():
             replay.run(change)
@@ -81,7 +81,7 @@ class Turns:
         self.recovered, self._now = Recovered(journal.cut, tuple(closed)), core.now()
 
     def _replay_in(self, core: Core) -> Replay:
-        """Returns what runs the journal's changes."""
+        """Returns the object that runs the journal's changes."""
         return Replay(core)
 
     @property
@@ -90,7 +90,7 @@ class Turns:
         return self._core is None
 
     def _begin(self) -> Core:
-        """Returns the core, whose clock is up to date."""
+        """Returns the core, after it has updated the clock."""
         core = self._core
         if core is None:
             raise Closed("the store")
@@ -105,12 +105,12 @@ class Turns:
         return core
 
     def _keep_clock(self, now: int) -> None:
-        """Keeps a move of the clock that was asked for."""
+        """Puts a move of the clock by the caller into the journal."""
         self._now, self._is_clock_kept = now, False
         self._keep()
 
     def _keep(self, *lines: bytes) -> None:
-        """Appends a change that was answered to the journal, and before it the moment that it is."""
+        """Appends a change to the journal, and before it the moment now."""
         if self._journal is None:
             return
         if not self._is_clock_kept:
@@ -123,12 +123,12 @@ class Turns:
         self._is_clock_kept = True
 
     def _fail(self, reason: str) -> None:
-        """Has no call answered any more, as what is in memory may differ from what the journal has."""
+        """Makes every later call fail, as the memory may differ from the journal."""
         if self._journal is not None:
             self._failure = reason
 
     def _release(self) -> None:
-        """Frees the store and lets go of the journal."""
+        """Frees the store and closes the journal."""
         core, self._core = self._core, None
         if core is not None:
             core.free()
@@ -140,7 +140,7 @@ _stores: weakref.WeakSet[Turns] = weakref.WeakSet()
 
 
 def _after_fork() -> None:
-    """In a forked child a store with a journal can't be used: two processes would append to it."""
+    """Makes a store with a journal fail in a forked child: else two processes would append to one journal."""
     for store in _stores:
         store._lock = threading.RLock()
         if store._journal is not None:

@@ -19,8 +19,8 @@ use crate::store::leaves::Stage;
 use ele_lists::ByteList;
 use ele_moment::{NoMemory, VersionNo};
 
-/// New bytes for slots: how many slots before are kept, the first that is new, and the bytes of
-/// each.
+/// New bytes for slots: how many slots before are kept, the first new slot, and the bytes of each
+/// new one.
 #[derive(Debug, Drop)]
 struct Change {
     writer: VersionNo,
@@ -29,7 +29,8 @@ struct Change {
     staged: Vec<ByteList>,
 }
 
-/// A run of leaves that gives way: up to before the second those whose slots are met.
+/// A run of leaves to replace. The change meets the slots of the leaves from the first to before
+/// the second number.
 #[derive(Clone, Copy, Debug)]
 struct Run {
     from: usize,
@@ -37,8 +38,8 @@ struct Run {
     to: usize,
 }
 
-// The leaves that a change meets from the first slot on, which ends in the leaf before `past`;
-// where nothing that is kept stands behind them, all leaves behind go too.
+// The leaves that a change meets from the first slot on, which ends in the leaf before `past`. If
+// nothing after them is kept, the run has all leaves from there on.
 fn run_of(first: usize, past: usize, kept: usize, leaves: usize) -> Run
     requires order { first ≤ kept }
     requires within { kept ≤ 16 * leaves }
@@ -62,11 +63,11 @@ fn run_of(first: usize, past: usize, kept: usize, leaves: usize) -> Run
 }
 
 impl BlockMap {
-    /// Writes bytes from the offset on; zeros fill the content up to the offset where it ends
-    /// before. Each slot that meets what is filled or written gets a new block and the writer;
-    /// every other slot stays, and so does every other map, also one that shared the blocks which
-    /// are replaced. No bytes within the content change nothing. Where memory is refused, map and
-    /// store are as they were; the store refuses room for more than 2^32 leaves.
+    /// Writes bytes from the offset on. If the content ends before the offset, zeros fill it up to
+    /// there. Each slot with filled or written bytes gets a new block and the writer. All other
+    /// slots stay, and all other maps, even those that shared the replaced blocks. If no bytes are
+    /// written within the content, nothing changes. If memory is refused, map and store are as they
+    /// were; the store holds at most 2^32 leaves.
     #[tactic(auto, using(crate::proofs::Cited::reach, crate::proofs::Cited::write_change, crate::proofs::Cited::written_nothing))]
     pub fn write(
         &mut self,
@@ -86,7 +87,7 @@ impl BlockMap {
         let end = offset + bytes.len() as u64;
         let from = offset.min(length);
         if from == end {
-            // No byte is filled or written.
+            // The write changes no byte.
             return Ok(());
         }
         let kept = self.slots();
@@ -103,8 +104,7 @@ impl BlockMap {
         Ok(())
     }
 
-    // The bytes of the slots from the first up to where a write of the bytes ends, after this
-    // write.
+    // The new bytes of each slot, from the first up to the end of the write.
     #[tactic(auto, using(crate::proofs::Lemmas::piece_more))]
     fn patches(
         &self,
@@ -130,10 +130,10 @@ impl BlockMap {
         Ok(staged)
     }
 
-    /// Makes the content so many bytes long. A longer one is filled with zeros, and each slot that
-    /// they meet gets a new block and the writer; a shorter one loses its last slots, and a slot
-    /// that is cut gets a new block and the writer. Every other slot stays, and so does every other
-    /// map. Where memory is refused, map and store are as they were.
+    /// Sets the length of the content in bytes. Zeros fill a longer content, and each slot with
+    /// such zeros gets a new block and the writer. A shorter content loses its last slots, and a
+    /// slot that is cut gets a new block and the writer. All other slots stay, and all other maps.
+    /// If memory is refused, map and store are as they were.
     pub fn truncate(
         &mut self,
         store: &mut BlockStore,
@@ -156,7 +156,7 @@ impl BlockMap {
         Ok(())
     }
 
-    // Cuts the content to fewer bytes. Where memory is refused, map and store are as they were.
+    // Cuts the content to fewer bytes. If memory is refused, map and store are as they were.
     fn cut(
         &mut self,
         store: &mut BlockStore,
@@ -184,9 +184,9 @@ impl BlockMap {
         Ok(())
     }
 
-    // Keeps the first slots, and lays new blocks over them. New leaves stand in place of those that
-    // this meets, since other maps may own them.
-    // Where memory is refused, map and store are as they were.
+    // Keeps the first slots, and puts new blocks after them. New leaves replace those that this
+    // meets, since other maps may own the old ones. If memory is refused, map and store are as they
+    // were.
     fn replace(&mut self, store: &mut BlockStore, change: Change, size: u64) -> Result<(), NoMemory>
         requires lives { LivesIn store.old self.old }
         requires within { change.first ≤ change.kept }

@@ -1,5 +1,5 @@
-//! Leaves as their owners come and go.
-//! A contract sees how owners of leaves change hands, and those of blocks with them.
+//! Leaves, as they get and lose owners.
+//! A contract sees how the owners of leaves change, and with them the owners of blocks.
 ghost use Rattle.std.specs.Prelude.{◌≡◌, ◌<◌, ◌≤◌, ◌+◌, ◌^◌, [], ◌∷◌, OnOk, OnErr, IfOk, Some, length, map, max, vec_len, vec_capacity};
 ghost use Rattle.slab.specs.Slab.{HasRoomFor};
 ghost use Rattle.ele_blocks.specs.Hands.{Hands, AreThere};
@@ -19,10 +19,10 @@ use ele_lists::ByteList;
 use ele_moment::{NoMemory, VersionNo};
 use std::alloc::Global;
 
-/// For how many leaves a store has room at most: as many as 32 bits can number.
+/// The largest number of leaves in a store: as many as 32 bits can number.
 const MOST: usize = 1 << 32;
 
-/// New slots for a run of leaves: blocks of these bytes, from this place on.
+/// New slots for a run of leaves: their bytes, from this place on.
 #[derive(Debug, Drop)]
 pub(crate) struct Stage {
     pub window: Vec<Slot>,
@@ -31,7 +31,7 @@ pub(crate) struct Stage {
     pub staged: Vec<ByteList>,
 }
 
-// Makes room for so many leaves more, each with a number of 32 bits.
+// Reserves memory for so many more leaves, each with a number of 32 bits.
 fn reserve_leaves(leaves: &mut Shared<Leaf>, more: usize) -> Result<(), NoMemory>
     ensures room { OnOk result (HasRoomFor leaves.new more) }
     ensures numbers { OnOk result (leaves.new.capacity ≤ 2 ^ 32) }
@@ -44,7 +44,7 @@ fn reserve_leaves(leaves: &mut Shared<Leaf>, more: usize) -> Result<(), NoMemory
     Ok(())
 }
 
-// Keeps the slots as new leaves where there is room, and adds their numbers.
+// Adds the slots as new leaves in reserved memory, and their numbers to the list.
 #[tactic(auto, using(crate::proofs::Cited::chunk_next, crate::proofs::Cited::puts_more, crate::proofs::Cited::length_drop, crate::proofs::Cited::length_append, crate::proofs::Cited::backing_put))]
 fn put_leaves(leaves: &mut Shared<Leaf>, ids: &mut Vec<u32>, slots: &[Slot])
     requires room { HasRoomFor leaves.old (leaf_count (length slots.now)) }
@@ -64,9 +64,8 @@ fn put_leaves(leaves: &mut Shared<Leaf>, ids: &mut Vec<u32>, slots: &[Slot])
     }
 }
 
-// New blocks for what is staged, and the window with their slots laid over it. The block of every
-// other slot has one owner more.
-// Where memory is refused, the blocks are as they were.
+// Makes new blocks for the staged bytes, and the window of slots with these in it. The block of
+// every other slot gets one owner more. If memory is refused, the blocks are as they were.
 fn lay_stage(
     blocks: &mut Shared<ByteList>,
     alloc: Global,
@@ -100,7 +99,7 @@ fn lay_stage(
 }
 
 impl BlockStore {
-    /// The slots of a leaf.
+    /// Returns the slots of a leaf.
     pub(crate) fn leaf(&self, leaf: usize) -> &[Slot]
         requires { 0 < owners self.now.leaves leaf }
         ensures { result.now ≡ leaf_at self.now leaf }
@@ -108,7 +107,7 @@ impl BlockStore {
         self.leaves.get(leaf).as_slice()
     }
 
-    /// The slots of leaves in a row.
+    /// Returns the slots of some leaves, in order.
     pub(crate) fn slots_in(&self, leaves: &[u32]) -> Result<Vec<Slot>, NoMemory>
         requires { Covers self.now.leaves leaves.now }
         ensures { IfOk result (λ slots. slots.items ≡ slots_in self.now leaves.now) }
@@ -120,7 +119,7 @@ impl BlockStore {
         Ok(slots)
     }
 
-    // Gives a leaf one owner more.
+    // Adds an owner to a leaf.
     fn share_leaf(&mut self, leaf: usize)
         requires there { 0 < owners self.old.leaves leaf }
         requires few { owners self.old.leaves leaf < 2 ^ 63 }
@@ -129,7 +128,7 @@ impl BlockStore {
         self.leaves.share(leaf);
     }
 
-    /// Gives each leaf one owner more.
+    /// Adds an owner to each leaf.
     pub(crate) fn share_leaves(&mut self, leaves: &[u32])
         requires there { Covers self.old.leaves leaves.now }
         requires few { (leaf : _) → owners self.old.leaves leaf + length leaves.now ≤ 2 ^ 63 }
@@ -140,7 +139,8 @@ impl BlockStore {
         }
     }
 
-    // Takes one owner from a leaf, which leaves with its last, and then releases its blocks.
+    // Takes one owner from a leaf. With its last owner the leaf is removed, and releases its
+    // blocks.
     fn release_leaf(&mut self, leaf: usize)
         requires there { 0 < owners self.old.leaves leaf }
         requires backed { AreBacked self.old (leaf_at self.old leaf) }
@@ -162,10 +162,10 @@ impl BlockStore {
         }
     }
 
-    /// New leaves and blocks in place of these leaves, each of which loses an owner. Every block is
-    /// in the new leaves under its number, so it has one owner more while the old leaf stands.
-    /// Where memory is refused, the store is as it was; so it is where a block has 2^62 owners, and
-    /// where there would be room for more than 2^32 leaves.
+    /// Makes new leaves and blocks in place of these leaves, each of which loses an owner. The new
+    /// leaves name the blocks that stay, so these have one owner more until the old leaf is
+    /// removed. If memory is refused, the store is as it was. Memory also counts as refused if a
+    /// block has 2^62 owners, or if the store would have more than 2^32 leaves.
     pub(crate) fn renew(&mut self, was: &[u32], stage: Stage) -> Result<Vec<u32>, NoMemory>
         requires owned { Covers self.old.leaves was.now }
         requires backed { AreBacked self.old (slots_in self.old was.now) }

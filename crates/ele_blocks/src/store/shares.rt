@@ -1,5 +1,5 @@
 //! Owners of many blocks at once.
-//! A contract sees how often each block is named.
+//! A contract sees how often the slots name each block.
 ghost use Rattle.std.specs.Prelude.{◌≡◌, ◌<◌, ◌≤◌, ◌+◌, ◌^◌, [], IsTrue, length};
 ghost use Rattle.ele_blocks.specs.Hands.{AreThere};
 ghost use Rattle.ele_blocks.specs.Layout.{ids_of};
@@ -11,10 +11,10 @@ use crate::slot::Slot;
 use crate::store::{BlockId, BlockStore};
 use ele_lists::ByteList;
 
-/// How many owners a block may have that is to get more.
+/// A block with so many owners gets no more.
 const CROWD: u64 = 1 << 62;
 
-// Gives a block one owner more.
+// Adds an owner to a block.
 fn share_one(blocks: &mut Shared<ByteList>, id: BlockId)
     requires there { 0 < owners blocks.old.slots id }
     requires few { owners blocks.old.slots id < 2 ^ 63 }
@@ -23,7 +23,7 @@ fn share_one(blocks: &mut Shared<ByteList>, id: BlockId)
     blocks.share(id.key);
 }
 
-/// Gives the block of each slot one owner more.
+/// Adds an owner to the block of each slot.
 #[tactic(auto, using(crate::proofs::Lemmas::slot_named, crate::proofs::Lemmas::share_next, crate::proofs::Lemmas::share_few, crate::proofs::Lemmas::share_more))]
 pub fn share_all(blocks: &mut Shared<ByteList>, slots: &[Slot])
     requires there { (id : _) → 0 < times id (ids_of slots.now) → 0 < owners blocks.old.slots id }
@@ -37,7 +37,7 @@ pub fn share_all(blocks: &mut Shared<ByteList>, slots: &[Slot])
 }
 
 impl BlockStore {
-    /// Whether no block of the slots has so many owners that more could not be counted.
+    /// Whether the block of each slot has few enough owners to count more.
     #[tactic(auto, using(crate::proofs::Cited::slot_named, crate::proofs::Cited::slot_next))]
     pub(crate) fn can_share(&self, slots: &[Slot]) -> bool
         requires { AreThere self.now slots.now }

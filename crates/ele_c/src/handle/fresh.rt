@@ -40,7 +40,7 @@ fn held_by(parts: Parts<Elephant, Global>) -> Grip
     Grip { at }
 }
 
-/// A closed handle on the heap, or null if there is no memory.
+/// Makes a closed handle on the heap, or returns null if memory is refused.
 pub(crate) fn fresh(alloc: Global) -> Grip
     ensures { result ≡ result }
 {

@@ -1,5 +1,5 @@
-//! What is asked of files, drafts and handles.
-//! A contract sees each answer as a look at the rows.
+//! Questions about files, drafts and handles.
+//! A contract sees each answer as a look-up in the rows.
 ghost use Rattle.std.specs.Prelude.{◌≡◌, IfOk, length, find, true};
 ghost use Rattle.std.specs.List.{list_any};
 ghost use Rattle.std.specs.Option.{option_map};
@@ -17,7 +17,7 @@ use ele_policy::Policy;
 use ele_sessions::FoundHandle;
 
 impl Files {
-    /// The file's policy; none where there is no such file.
+    /// Returns the file's policy. None if there is no such file.
     #[tactic(auto, using(std::proofs::lemmas::Bool::Decides::nat_tests, crate::proofs::Rows::file_row_found))]
     pub fn policy_of(&self, file: FileId) -> Option<Policy>
         ensures { result ≡ policy_of self.now.files file }
@@ -26,7 +26,7 @@ impl Files {
         Some(held.policy)
     }
 
-    /// The number that the file's next version gets; none where there is no such file.
+    /// Returns the number that the file's next version gets. None if there is no such file.
     #[tactic(auto, using(std::proofs::lemmas::Bool::Decides::nat_tests, crate::proofs::Rows::file_row_found))]
     pub fn next_of(&self, file: FileId) -> Option<VersionNo>
         ensures { result ≡ option_map (λ row. row.next) (find (is_file file) self.now.files) }
@@ -35,14 +35,14 @@ impl Files {
         Some(held.next)
     }
 
-    /// What is read through the handle. Refused: `NoHandle`, where no open handle has that number.
+    /// Returns what the handle reads. Refused: `NoHandle` if no open handle has that number.
     pub fn reads_by(&self, handle: Handle) -> Result<Reads, Refusal>
         ensures { result ≡ reads_by self.now.handles handle }
     {
         self.sessions.reads_by(handle)
     }
 
-    /// The open handle of that number, and its place. Refused: `NoHandle`.
+    /// Returns the open handle of that number, and its place. Refused: `NoHandle`.
     pub fn handle(&self, handle: Handle) -> Result<FoundHandle, Refusal>
         ensures number { IfOk result (λ found. found.row.number ≡ handle) }
         ensures stands { IfOk result (StandsAt self.now.handles) }
@@ -52,7 +52,7 @@ impl Files {
         self.sessions.handle(handle)
     }
 
-    /// The file that is written through the handle, which has a draft. Refused: `NoHandle`,
+    /// Returns the file that the handle writes, which has a draft. Refused: `NoHandle`,
     /// `NotWriter`.
     #[tactic(auto, using(std::proofs::lemmas::Bool::Decides::nat_tests, crate::proofs::Rows::any_draft))]
     pub fn file_by(&self, handle: Handle) -> Result<FileId, Refusal>
@@ -62,28 +62,28 @@ impl Files {
         self.sessions.file_by(handle)
     }
 
-    /// Whether the version is open: some handle reads it. This looks at no handle.
+    /// Returns whether some handle reads the version. It looks at a count, and at no handle.
     pub fn is_open(&self, file: FileId, number: VersionNo) -> bool
         ensures { result ≡ is_open self.now.handles file number }
     {
         self.sessions.pins(file, number)
     }
 
-    /// How many handles were ever opened.
+    /// Returns how many handles were ever opened.
     pub fn handles_opened(&self) -> u64
         ensures { result ≡ self.now.opened }
     {
         self.sessions.handles_opened()
     }
 
-    /// How many drafts are open.
+    /// Returns how many drafts are open.
     pub fn drafts_open(&self) -> usize
         ensures { result ≡ length self.now.drafts }
     {
         self.sessions.drafts_open()
     }
 
-    /// Whether the file has a draft.
+    /// Returns whether the file has a draft.
     #[tactic(auto, using(std::proofs::lemmas::Bool::Decides::nat_tests, crate::proofs::Tagged::drafted))]
     pub fn has_draft(&self, file: FileId) -> bool
         ensures { result ≡ list_any (is_draft file) self.now.drafts }
@@ -91,7 +91,7 @@ impl Files {
         self.sessions.draft(file).is_some()
     }
 
-    /// The bytes of the file's draft; none where it has no draft.
+    /// Returns the bytes of the file's draft, or no bytes if it has none.
     #[tactic(auto, using(std::proofs::lemmas::Bool::Decides::nat_tests, crate::proofs::Rows::draft_found, crate::proofs::Stock::draft_lives))]
     pub fn draft_content(&self, file: FileId) -> Result<ByteList, NoMemory>
         ensures { IfOk result (λ bytes. bytes ≡ content_of (cells_of_draft self.now file)) }

@@ -1,4 +1,4 @@
-//! The closing of a handle, which may make a version.
+//! The close of a handle, which may make a version.
 //! A contract sees the rows of all files before and after.
 ghost use Rattle.std.specs.Prelude.{◌≡◌, ◌<◌, ◌≤◌, ◌+◌, ◌^◌, Some, Ok, OnOk, OnErr, IfOk, length};
 ghost use Rattle.std.specs.List.{AllByRecursion};
@@ -17,7 +17,7 @@ use ele_blocks::{BlockMap, BlockStore};
 use ele_moment::{FileId, Moment, NoMemory};
 use ele_sessions::{Closing, FoundHandle};
 
-// When the draft was opened that the closing makes a version; none where it makes none.
+// When the draft was opened that the close turns into a version. None if it makes none.
 fn opening_of(closing: Closing) -> Option<Moment>
     ensures { result ≡ opening_of (Some closing) }
 {
@@ -38,9 +38,9 @@ fn give_up(store: &mut BlockStore, map: Option<BlockMap>)
 }
 
 impl Files {
-    /// When the draft was opened that is to become a version as the handle closes: that of the file
-    /// which it writes, where no other handle does and the draft was changed. None where closing it
-    /// makes no version, as that of a handle that reads one.
+    /// Returns when the draft was opened that the close of the handle turns into a version. The
+    /// close does so if the draft was changed and no other handle writes the file. None if it makes
+    /// no version.
     pub fn changed_draft(&self, handle: &FoundHandle) -> Option<Moment>
         requires { StandsAt self.now.handles handle.now }
         ensures { result ≡ opening_by self.now handle.now.row.number }
@@ -48,8 +48,8 @@ impl Files {
         opening_of(self.sessions.peek_close_found(handle))
     }
 
-    /// The handle goes, and no version is made: while others write the file its draft stays, and
-    /// with the last handle it vanishes. Of a handle that reads a version nothing stays behind.
+    /// Closes a handle whose close makes no version. While others write the file its draft stays;
+    /// with the last writer the draft is removed. A handle that reads a version leaves nothing.
     pub fn leave(&mut self, handle: &FoundHandle)
         requires { StandsAt self.old.handles handle.now }
         ensures { self.new ≡ left_by self.old handle.now.row.number }
@@ -58,10 +58,10 @@ impl Files {
         give_up(&mut self.store, map);
     }
 
-    /// The handle goes, which is the last of a changed draft that was opened then, of a file that
-    /// is there: the draft becomes the file's next version, and the version before that ends. The
-    /// caller tells whether the file is live; where it isn't, the new version ends at once. The
-    /// answer is its number and its length. Where memory is refused, all is as it was.
+    /// Closes the last writer of a changed draft that was opened at `opened`, of a file that
+    /// exists. The draft becomes the file's next version, and the version before that ends. The
+    /// call returns the new version's number and length. The caller says whether the file is live;
+    /// if it isn't, the new version also ends now. If memory is refused, all is as it was.
     #[tactic(auto, using(std::proofs::lemmas::Bool::Decides::nat_tests, crate::proofs::Closes::not_missing))]
     pub fn finish(
         &mut self,

@@ -16,7 +16,7 @@ use ele_moment::NoMemory;
 use std::alloc::Global;
 
 impl Files {
-    /// A copy of the files' rows, by id.
+    /// Returns a copy of the files' rows, by id.
     pub fn file_rows(&self) -> Result<ListOf<FileRow>, NoMemory>
         ensures { IfOk result (λ rows. rows ≡ self.now.files) }
     {
@@ -32,7 +32,7 @@ impl Files {
         Ok(ListOf::from_vec(rows))
     }
 
-    /// A copy of the versions' rows, by file and number.
+    /// Returns a copy of the versions' rows, by file and number.
     pub fn version_rows(&self) -> Result<ListOf<VersionRow>, NoMemory>
         ensures { IfOk result (λ rows. rows ≡ self.now.versions) }
     {
@@ -43,7 +43,7 @@ impl Files {
         Ok(ListOf::from_vec(rows))
     }
 
-    /// A copy of the drafts' rows, by file.
+    /// Returns a copy of the drafts' rows, by file.
     pub fn draft_rows(&self) -> Result<ListOf<DraftRow>, NoMemory>
         ensures { IfOk result (λ rows. rows ≡ self.now.drafts) }
     {
@@ -67,7 +67,7 @@ impl Files {
         Ok(ListOf::from_vec(rows))
     }
 
-    /// A copy of the handles' rows, by number.
+    /// Returns a copy of the handles' rows, by number.
     pub fn handle_rows(&self) -> Result<ListOf<HandleRow>, NoMemory>
         ensures { IfOk result (λ rows. rows ≡ self.now.handles) }
     {
@@ -76,7 +76,7 @@ impl Files {
     }
 }
 
-// The cells that the map shows, with bytes of their own.
+// The cells of the map, with bytes of their own.
 fn copy_cells(alloc: Global, store: &BlockStore, map: &BlockMap) -> Result<ListOf<Cell>, NoMemory>
     requires laws { StockLaws }
     requires lives { LivesIn store.now map.now }

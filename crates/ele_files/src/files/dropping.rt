@@ -1,4 +1,4 @@
-//! The file of which nothing is held, and its drop.
+//! The drop of a file without versions and draft.
 //! A contract sees the rows of all files before and after.
 ghost use Rattle.std.specs.Prelude.{◌≡◌, ◌<◌, true, vec_len};
 ghost use Rattle.std.specs.List.{list_any, remove};
@@ -9,7 +9,7 @@ use crate::boxed::BoxedFile;
 use crate::files::{Files, file_of, place_of};
 use ele_moment::FileId;
 
-// The file at that place goes.
+// Removes the file at that place.
 fn take_out(files: &mut Vec<BoxedFile>, at: usize)
     requires { at < vec_len files.old }
     ensures { files.new.items ≡ remove files.old.items at }
@@ -29,14 +29,14 @@ impl Files {
         }
     }
 
-    /// Whether nothing of the file is held: no version and no draft.
+    /// Returns whether the file has neither a held version nor a draft.
     pub fn is_bare(&self, file: FileId) -> bool
         ensures { result ≡ is_bare self.now file }
     {
         !self.has_version(file) && !self.has_draft(file)
     }
 
-    /// Takes out the row of a file of which nothing is held. A number that no file has does
+    /// Removes the row of a file without versions and draft. A number that no file has does
     /// nothing.
     #[tactic(auto, using(std::proofs::lemmas::Bool::Decides::nat_tests, crate::proofs::Drops::rows_left, crate::proofs::Words::remove_first_none))]
     pub fn drop_file(&mut self, file: FileId)

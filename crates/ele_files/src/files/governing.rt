@@ -1,4 +1,4 @@
-//! The policy of a file, from now on.
+//! The change of a file's policy.
 //! A contract sees the rows of all files before and after.
 ghost use Rattle.std.specs.Prelude.{◌≡◌, [], ◌∷◌};
 ghost use Rattle.ele_files.specs.Held.{changed_at};
@@ -9,7 +9,7 @@ use ele_moment::FileId;
 use ele_policy::Policy;
 
 impl Files {
-    /// The file has that policy from now on. A number that no file has does nothing.
+    /// Sets the policy of the file. A number that no file has does nothing.
     #[tactic(auto, using(std::proofs::lemmas::Bool::Decides::nat_tests, crate::proofs::Words::update_first_unfound, crate::proofs::Words::all_not_found, crate::proofs::Rows::file_row_found, crate::proofs::Rows::no_file))]
     pub fn set_policy(&mut self, file: FileId, policy: Policy)
         ensures { self.new ≡ changed_at self.old 0 (SetFilePolicy file policy ∷ []) }

@@ -1,5 +1,5 @@
-//! How a file stands, and when the next version behind one closed.
-//! A contract sees each answer as a look at the rows.
+//! The state of a file, and when the next version after one closed.
+//! A contract sees each answer as a look-up in the rows.
 ghost use Rattle.std.specs.Prelude.{◌≡◌, ◌<◌, ◌≤◌, ◌+◌, ◌^◌, IfNone, IfSome};
 ghost use Rattle.ele_files.specs.FileHead.{Stands};
 ghost use Rattle.ele_model.specs.Neighbours.{next_closing};
@@ -12,7 +12,8 @@ use ele_model::VersionInfo;
 use ele_moment::{FileId, Moment, VersionNo};
 use ele_policy::Policy;
 
-/// How a file stands: what its next version is, and what the moments of its versions depend on.
+/// What a new version of a file needs to know: the next number, and what the moments of its
+/// versions depend on.
 #[derive(Clone, Copy)]
 pub struct FileHead {
     pub policy: Policy,
@@ -23,7 +24,7 @@ pub struct FileHead {
 }
 
 impl Files {
-    /// When the file's next held version behind the number closed; none where there is none.
+    /// Returns when the file's next held version after the number closed. None if there is none.
     #[tactic(auto, using(std::proofs::lemmas::Bool::Decides::nat_tests, crate::proofs::Tagged::closing_none, crate::proofs::Tagged::closing_shown))]
     pub fn next_closing(&self, file: FileId, number: VersionNo) -> Option<Moment>
         ensures { result ≡ next_closing self.now.versions file number }
@@ -33,7 +34,7 @@ impl Files {
         Some(row.closed)
     }
 
-    /// How the file stands, by one look-up; none where there is no such file.
+    /// Returns the head of the file, by one look-up. None if there is no such file.
     #[tactic(auto, using(std::proofs::lemmas::Bool::Decides::nat_tests, crate::proofs::Rows::next_found, crate::proofs::Rows::file_row_found, crate::proofs::Tagged::newest_shown))]
     pub fn head(&self, file: FileId) -> Option<FileHead>
         ensures some { IfSome result (λ head. Stands self.now file head) }

@@ -1,5 +1,6 @@
-//! The held versions behind one: the next, whether there are so many, and the one that has so many.
-//! A contract sees each answer as a look at the rows.
+//! The newer held versions of one: the next, whether there are so many, and the one that has so
+//! many.
+//! A contract sees each answer as a look-up in the rows.
 ghost use Rattle.std.specs.Prelude.{◌≡◌, ◌<◌, ◌≤◌, ◌+◌, ◌^◌, ◌-◌, ◌||◌, false, nat_le, nat_lt, None, IfNone, IfSome, find, reverse, slice_get};
 ghost use Rattle.std.specs.Option.{option_map, option_map_or};
 ghost use Rattle.ele_files.specs.Beside.{IsBeside};
@@ -16,7 +17,7 @@ use ele_model::VersionInfo;
 use ele_moment::{FileId, Moment, VersionNo};
 use ele_policy::Case;
 
-/// What a version's ripe moment depends on beside its end.
+/// What a version's ripe moment depends on, except its end.
 #[derive(Clone, Copy)]
 pub struct Beside {
     /// Its case under the file's policy.
@@ -32,7 +33,7 @@ fn closing(info: &Option<VersionInfo>) -> Option<Moment>
     Some(info.as_ref()?.closed)
 }
 
-// What is told of the first row with a greater number.
+// The info of the first row with a greater number.
 fn next_in(log: &InodeLog, number: VersionNo) -> Option<VersionInfo>
     ensures { result ≡ option_map stamps_in (find (is_after number) log.now.rows) }
 {
@@ -56,7 +57,7 @@ fn has_newer(log: &InodeLog, number: VersionNo, count: u64) -> bool
 }
 
 impl Files {
-    /// What is told of the file's next held version behind the number; none where there is none.
+    /// Returns the info of the file's next held version after the number. None if there is none.
     #[tactic(auto, using(std::proofs::lemmas::Bool::Decides::nat_tests, crate::proofs::Newer::newer_none, crate::proofs::Newer::newer_shown))]
     pub fn next_held(&self, file: FileId, number: VersionNo) -> Option<VersionInfo>
         ensures { result
@@ -66,7 +67,7 @@ impl Files {
         next_in(&held.log, number)
     }
 
-    /// Whether the file holds at least so many versions with a greater number.
+    /// Returns whether the file holds at least so many versions with a greater number.
     #[tactic(auto, using(std::proofs::lemmas::Bool::Decides::nat_tests))]
     pub fn has_newer(&self, file: FileId, number: VersionNo, count: u64) -> bool
         ensures { result ≡ nat_le count (newer_held self.now.versions file number) }
@@ -77,8 +78,8 @@ impl Files {
         }
     }
 
-    /// What stands beside the file's version of these info, under the file's policy as it is in
-    /// force while the file is live or not, by one look-up; none where there is no such file.
+    /// Returns what the ripe moment of this version depends on, by one look-up. The policy is the
+    /// file's, in force for a file that is live or not. None if there is no such file.
     #[tactic(auto, using(std::proofs::lemmas::Bool::Decides::nat_tests, crate::proofs::Rows::file_row_found))]
     pub fn beside(&self, file: FileId, info: &VersionInfo, is_live: bool) -> Option<Beside>
         ensures some { IfSome result (IsBeside self.now file info.now is_live) }
@@ -96,8 +97,7 @@ impl Files {
         Some(Beside { case, next })
     }
 
-    /// What is told of the file's held version that has so many newer ones; none where there is
-    /// none.
+    /// Returns the info of the file's held version with so many newer ones. None if there is none.
     #[tactic(auto, using(std::proofs::lemmas::Bool::Decides::nat_tests, crate::proofs::Newer::none_back, crate::proofs::Newer::back_shown))]
     pub fn with_newer(&self, file: FileId, newer: u64) -> Option<VersionInfo>
         ensures { result ≡ option_map info_of (with_newer self.now.versions file newer) }

@@ -1,5 +1,5 @@
-//! Contents that are copied out of their blocks.
-//! A contract sees the bytes that were copied, and that nothing else was written.
+//! Copies of contents into a caller's buffer.
+//! A contract sees the copied bytes, and that nothing else was written.
 ghost use Rattle.std.specs.Prelude.{◌≡◌, ◌<◌, ◌≤◌, ◌+◌, ◌-◌, ◌++◌, [], length, min, take, drop};
 ghost use Rattle.ele_blocks.specs.Layout.{shown};
 ghost use Rattle.ele_blocks.specs.LivesIn.{LivesIn};
@@ -16,7 +16,7 @@ use ele_moment::{FileId, VersionNo};
 /// How many bytes a slot of a content has, unless it is the last one.
 const SLOT: usize = 512;
 
-/// What was copied of a content.
+/// The result of a copy.
 #[derive(Clone, Copy, Debug)]
 pub struct Copied {
     /// How many bytes the content has.
@@ -25,7 +25,7 @@ pub struct Copied {
     pub count: u64,
 }
 
-// Copies bytes of a block behind those that were copied, and answers how many.
+// Copies bytes of a block after those that were copied, and returns how many.
 fn put_rest(block: &[u8], skip: usize, into: &mut [u8], done: usize) -> usize
     requires skip { skip ≤ length block.now }
     requires done { done ≤ length into.old }
@@ -38,7 +38,7 @@ fn put_rest(block: &[u8], skip: usize, into: &mut [u8], done: usize) -> usize
     count
 }
 
-// Copies the bytes of the slots that the room meets, and answers how many.
+// Copies the bytes of the slots that fit, and returns how many.
 fn copy_slots(store: &BlockStore, map: &BlockMap, offset: usize, into: &mut [u8]) -> usize
     requires laws { StockLaws }
     requires lives { LivesIn store.now map.now }
@@ -81,7 +81,7 @@ fn copy_map(store: &BlockStore, map: &BlockMap, offset: u64, into: &mut [u8]) ->
     }
 }
 
-// What is copied where there are no bytes.
+// The result of a copy without bytes.
 #[tactic(auto, using(crate::proofs::Reading::copied_by))]
 fn nothing(into: &[u8], offset: u64) -> Copied
     ensures { IsCopied [] offset into.now into.now result }
@@ -93,8 +93,8 @@ fn nothing(into: &[u8], offset: u64) -> Copied
 }
 
 impl Files {
-    /// Copies the bytes of the file's draft from the offset on, as many as there is room for, to the
-    /// start of the caller's; no bytes where it has no draft.
+    /// Copies the bytes of the file's draft from the offset on, as many as fit, to the start of the
+    /// caller's buffer. It copies none if the file has no draft.
     #[tactic(auto, using(std::proofs::lemmas::Bool::Decides::nat_tests, crate::proofs::Rows::draft_found, crate::proofs::Stock::draft_lives))]
     pub fn copy_draft(&self, file: FileId, offset: u64, into: &mut [u8]) -> Copied
         ensures { IsCopied (content_of (cells_of_draft self.now file)) offset
@@ -106,7 +106,7 @@ impl Files {
         }
     }
 
-    /// Copies the bytes of the version in the same way; no bytes where it isn't held.
+    /// Copies the bytes of the version in the same way; none if it isn't held.
     #[tactic(auto, using(std::proofs::lemmas::Bool::Decides::nat_tests, crate::proofs::Tagged::cells_none, crate::proofs::Tagged::cells_some, crate::proofs::Rows::version_none, crate::proofs::Stock::row_lives))]
     pub fn copy_version(
         &self,

@@ -1,4 +1,4 @@
-//! The end of a file's current version, and an older content as its next version.
+//! The end of a file's current version, and a new version of an older content.
 //! A contract sees the rows of all files before and after.
 ghost use Rattle.std.specs.Prelude.{◌≡◌, ◌<◌, ◌≤◌, ◌+◌, ◌^◌, false, [], ◌∷◌, IfOk, IsSome, OnOk, OnErr, find, length};
 ghost use Rattle.std.specs.List.{AllByRecursion, list_any};
@@ -14,8 +14,8 @@ use ele_inode_log::Meter;
 use ele_moment::{FileId, Moment, NoMemory, VersionNo};
 
 impl Files {
-    /// The version before the file's next one ends now, unless it has ended or isn't held. This
-    /// takes no memory.
+    /// Ends the version before the file's next one now, unless it has ended or isn't held. It takes
+    /// no memory.
     #[tactic(auto, using(std::proofs::lemmas::Bool::Decides::nat_tests, crate::proofs::Words::update_first_unfound, crate::proofs::Words::all_not_found, crate::proofs::Rows::version_none, crate::proofs::Rows::no_file))]
     pub fn end_current(&mut self, file: FileId, now: Moment)
         requires { AllByRecursion (IsPast now) self.old.versions }
@@ -27,10 +27,10 @@ impl Files {
         }
     }
 
-    /// The held version of that number comes again as the file's next version, which opens and
-    /// closes now, and the version before that ends. No draft of the file is there. The caller
-    /// tells whether the file is live; where it isn't, the new version ends at once. The answer is
-    /// its number and its length. Where memory is refused, all is as it was.
+    /// Makes a new version of the file with the content of the held version of that number, and
+    /// returns its number and length. It opens and closes now, and the version before that ends.
+    /// The file has no draft. The caller says whether the file is live; if it isn't, the new
+    /// version also ends now. If memory is refused, all is as it was.
     #[tactic(auto, using(std::proofs::lemmas::Bool::Decides::nat_tests, crate::proofs::Openings::maps_seen, crate::proofs::Appends::lives, crate::proofs::Appends::not_missing, crate::proofs::Appends::not_lost))]
     pub fn restore(
         &mut self,

@@ -20,7 +20,7 @@ use ele_model::Usage;
 use ele_moment::{FileId, NoMemory};
 use std::collections::HashSet;
 
-// Meets the slots of the map.
+// Adds the slots of the map to the set.
 fn meet(met: &mut HashSet<(usize, u64)>, store: &BlockStore, map: &BlockMap) -> Result<(), NoMemory>
     requires laws { StockLaws }
     requires lives { LivesIn store.now map.now }
@@ -37,7 +37,7 @@ fn meet(met: &mut HashSet<(usize, u64)>, store: &BlockStore, map: &BlockMap) -> 
     Ok(())
 }
 
-// Meets the slots of all versions in the file's log.
+// Adds the slots of all versions in the file's log to the set.
 fn meet_log(
     met: &mut HashSet<(usize, u64)>,
     store: &BlockStore,
@@ -76,7 +76,7 @@ struct OwnVersions {
 }
 
 impl Files {
-    // Meets the slots of the file's versions, and counts these and their bytes.
+    // Adds the slots of the file's versions to the set, and counts these versions and their bytes.
     #[tactic(auto, using(std::proofs::lemmas::Bool::Decides::nat_tests, crate::proofs::Words::all_found, crate::proofs::Stock::logs_live, crate::proofs::Copies::own_count, crate::proofs::Copies::own_few, crate::proofs::Copies::own_bytes, crate::proofs::Tagged::none_shown))]
     fn meet_versions(
         &self,
@@ -101,7 +101,7 @@ impl Files {
         })
     }
 
-    // Meets the slots of the file's draft, if it has one.
+    // Adds the slots of the file's draft to the set, if it has one.
     #[tactic(auto, using(std::proofs::lemmas::Bool::Decides::nat_tests, crate::proofs::Stock::draft_lives))]
     fn meet_draft(&self, met: &mut HashSet<(usize, u64)>, file: FileId) -> Result<(), NoMemory>
         ensures { OnOk result (Meets file met.old.keys met.new.keys
@@ -113,9 +113,9 @@ impl Files {
         }
     }
 
-    /// What the file uses: one file, its held versions and their bytes, and how many different
-    /// blocks these and its draft have. NoMemory where the blocks can't be counted for want of
-    /// memory. It looks at each slot of each of its versions.
+    /// Returns what the file uses: one file, its held versions and their bytes, and how many
+    /// different blocks these and its draft have. `NoMemory` if memory for the set of blocks is
+    /// refused. It looks at each slot of each of the file's versions.
     pub fn usage_of(&self, file: FileId) -> Result<Usage, NoMemory>
         requires few { length self.now.versions ≤ 2 ^ 40 }
         ensures { IfOk result

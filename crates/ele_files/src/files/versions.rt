@@ -1,5 +1,5 @@
-//! What is asked of versions.
-//! A contract sees each answer as a look at the rows.
+//! Questions about versions.
+//! A contract sees each answer as a look-up in the rows.
 ghost use Rattle.std.specs.Prelude.{◌≡◌, ◌<◌, ◌≤◌, ◌+◌, ◌^◌, IfOk, OnOk, filter, find, map, is_some, if◌then◌else◌};
 ghost use Rattle.std.specs.Option.{option_map};
 ghost use Rattle.std.specs.Result.{result_map_both};
@@ -21,7 +21,7 @@ use ele_moment::{FileId, Moment, NoMemory, VersionNo};
 use std::alloc::Global;
 
 impl Files {
-    /// The version's number, its moments and its length; none where it isn't held.
+    /// Returns the version's number, its moments and its length in bytes. None if it isn't held.
     #[tactic(auto, using(std::proofs::lemmas::Bool::Decides::nat_tests, crate::proofs::Tagged::stamps_shown, crate::proofs::Rows::version_none))]
     pub fn info(&self, file: FileId, number: VersionNo) -> Option<VersionInfo>
         ensures { result
@@ -32,9 +32,9 @@ impl Files {
         Some(info_of(row))
     }
 
-    /// The file's version that the tag means; without one it is that before the next. Refused:
-    /// `NoVersion` for a number that no version got, and `Forgotten` where it isn't held any more,
-    /// with the last number that is held from before it.
+    /// Returns the file's version that the tag means; without one that is the version before the
+    /// next. Refused: `NoVersion` for a number that no version got. `Forgotten` if it isn't held
+    /// any more, with the last held number before it.
     #[tactic(auto, using(std::proofs::lemmas::Bool::Decides::nat_tests, crate::proofs::Rows::next_found, crate::proofs::Tagged::meant_shown))]
     pub fn version_meant(&self, file: FileId, tag: Tag) -> Result<VersionInfo, Refusal>
         requires { 0 < next_of self.now.files file }
@@ -47,7 +47,7 @@ impl Files {
         held.meant(tag)
     }
 
-    /// The file's version that lived at the moment; none where it isn't held.
+    /// Returns the file's version that lived at the moment. None if it isn't held.
     #[tactic(auto, using(std::proofs::lemmas::Bool::Decides::nat_tests, crate::proofs::Tagged::none_lived, crate::proofs::Tagged::at_shown, crate::proofs::Tagged::told_found, crate::proofs::Tagged::forgotten_none))]
     pub fn version_at(&self, file: FileId, moment: Moment) -> Option<VersionInfo>
         ensures { result
@@ -60,7 +60,7 @@ impl Files {
         }
     }
 
-    /// The bytes of the version; none where it isn't held.
+    /// Returns the bytes of the version, or no bytes if it isn't held.
     #[tactic(auto, using(std::proofs::lemmas::Bool::Decides::nat_tests, crate::proofs::Tagged::cells_none, crate::proofs::Tagged::cells_some, crate::proofs::Rows::version_none, crate::proofs::Stock::row_lives))]
     pub fn version_content(&self, file: FileId, number: VersionNo) -> Result<ByteList, NoMemory>
         ensures { IfOk result
@@ -78,7 +78,7 @@ impl Files {
         }
     }
 
-    /// What is told of all held versions of the file, by number.
+    /// Returns the infos of all held versions of the file, by number.
     #[tactic(auto, using(std::proofs::lemmas::Bool::Decides::nat_tests, crate::proofs::Words::all_found, crate::proofs::Tagged::list_shown, crate::proofs::Tagged::none_shown))]
     pub fn stamps_of_file(&self, file: FileId) -> Result<StampsList, NoMemory>
         ensures { IfOk result
@@ -94,7 +94,7 @@ impl Files {
     }
 }
 
-// What is told of all rows of the file's log.
+// The infos of all rows of the file's log.
 fn log_stamps(alloc: Global, file: &File) -> Result<Vec<VersionInfo>, NoMemory>
     ensures { IfOk result (λ list. list.items ≡ map stamps_in file.now.log.rows) }
 {

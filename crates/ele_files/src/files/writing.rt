@@ -11,8 +11,8 @@ use crate::files::Files;
 use ele_moment::{FileId, NoMemory};
 
 impl Files {
-    /// Writes the bytes from the offset on into the file's draft; zeros fill it up to the offset
-    /// where it ends before. Where memory is refused, all is as it was.
+    /// Writes the bytes from the offset on into the file's draft. If the draft ends before the
+    /// offset, zeros fill it up to there. If memory is refused, all is as it was.
     #[tactic(auto, using(std::proofs::lemmas::Bool::Decides::nat_tests, crate::proofs::Stock::draft_lives, crate::proofs::Drafts::wrote))]
     pub fn write(&mut self, file: FileId, offset: u64, bytes: &[u8]) -> Result<(), NoMemory>
         requires there { list_any (is_draft file) self.old.drafts ≡ true }
@@ -25,8 +25,8 @@ impl Files {
             .write_draft(&mut self.store, file, offset, bytes)
     }
 
-    /// Makes the file's draft so many bytes long; one of that length stays. Where memory is
-    /// refused, all is as it was.
+    /// Sets the length of the file's draft to so many bytes; a draft of that length stays. If
+    /// memory is refused, all is as it was.
     #[tactic(auto, using(std::proofs::lemmas::Bool::Decides::nat_tests, crate::proofs::Stock::draft_lives, crate::proofs::Drafts::length_is, crate::proofs::Rows::draft_found, crate::proofs::Drafts::cut))]
     pub fn truncate(&mut self, file: FileId, size: u64) -> Result<(), NoMemory>
         requires there { list_any (is_draft file) self.old.drafts ≡ true }

@@ -1,4 +1,4 @@
-//! What is asked of the sessions.
+//! Questions about the sessions.
 //! A contract sees each answer as a look-up in drafts or handles.
 ghost use Rattle.std.specs.Prelude.{◌≡◌, IfOk, Some, length, slice_get, true};
 ghost use Rattle.std.specs.List.{list_any};
@@ -21,14 +21,14 @@ use ele_model::{HandleRow, Reads, Refusal};
 use ele_moment::{FileId, Handle, Moment, VersionNo};
 
 impl Sessions {
-    /// How many handles were ever opened.
+    /// Returns how many handles were ever opened.
     pub fn handles_opened(&self) -> u64
         ensures { result ≡ self.now.opened }
     {
         self.opened
     }
 
-    /// How many drafts are open.
+    /// Returns how many drafts are open.
     pub fn drafts_open(&self) -> usize
         ensures value { result ≡ length self.now.drafts }
         ensures orderly { AreOrderly self.now }
@@ -36,7 +36,7 @@ impl Sessions {
         self.drafts.len()
     }
 
-    /// What closing the handle would answer; none where no open handle has that number.
+    /// Returns what closing the handle would return. None if no open handle has that number.
     pub fn peek_close(&self, handle: Handle) -> Option<Closing>
         ensures { result ≡ option_map (λ answer. answer.0) (closing self.now handle) }
     {
@@ -46,7 +46,7 @@ impl Sessions {
         Some(self.peek_close_found(&found))
     }
 
-    /// What closing the handle that was found there would answer.
+    /// Returns what closing the handle that was found would return.
     #[tactic(auto, using(crate::proofs::Found::rises_in))]
     pub fn peek_close_found(&self, found: &FoundHandle) -> Closing
         requires { StandsAt self.now.handles found.now }
@@ -62,7 +62,7 @@ impl Sessions {
         }
     }
 
-    /// The open handle of that number, and its place. Refused: `NoHandle`.
+    /// Returns the open handle of that number, and its place. Refused: `NoHandle`.
     pub fn handle(&self, handle: Handle) -> Result<FoundHandle, Refusal>
         ensures number { IfOk result (λ found. found.row.number ≡ handle) }
         ensures stands { IfOk result (StandsAt self.now.handles) }
@@ -72,7 +72,7 @@ impl Sessions {
         handle_by(&self.handles, handle)
     }
 
-    /// What is read through the handle; none if no open handle has that number.
+    /// Returns what the handle reads. None if no open handle has that number.
     pub fn read(&self, handle: Handle) -> Option<Reads>
         ensures { result ≡ result_ok (reads_by self.now.handles handle) }
     {
@@ -82,14 +82,14 @@ impl Sessions {
         Some(reads)
     }
 
-    /// What is read through the handle. Refused: `NoHandle`.
+    /// Returns what the handle reads. Refused: `NoHandle`.
     pub fn reads_by(&self, handle: Handle) -> Result<Reads, Refusal>
         ensures { result ≡ reads_by self.now.handles handle }
     {
         reads_by(&self.handles, handle)
     }
 
-    /// The file that is written through the handle, which has a draft. Refused: `NoHandle`,
+    /// Returns the file that the handle writes, which has a draft. Refused: `NoHandle`,
     /// `NotWriter`.
     pub fn file_by(&self, handle: Handle) -> Result<FileId, Refusal>
         ensures file { result ≡ file_by self.now.handles handle }
@@ -98,14 +98,14 @@ impl Sessions {
         file_by(&self.handles, handle)
     }
 
-    /// Whether some open handle reads the version.
+    /// Returns whether some open handle reads the version.
     pub fn pins(&self, file: FileId, number: VersionNo) -> bool
         ensures { result ≡ is_open self.now.handles file number }
     {
         self.counts.count(Reads::Version(file, number)) > 0
     }
 
-    /// The map of the file's draft; none where no handle writes the file.
+    /// Returns the map of the file's draft. None if no handle writes the file.
     #[tactic(auto, using(crate::proofs::Found::rises_in))]
     pub fn draft(&self, file: FileId) -> Option<&BlockMap>
         ensures map { option_copied result
@@ -120,8 +120,8 @@ impl Sessions {
         Some(&draft.map)
     }
 
-    /// The file of a draft, when the draft was opened, and whether it was changed, by the file's
-    /// place among those with drafts; none past the last one.
+    /// Returns the file of a draft, when the draft was opened, and whether it was changed, by the
+    /// draft's place. None past the last one.
     pub fn draft_at(&self, place: usize) -> Option<(FileId, Moment, bool)>
         ensures { result ≡ option_map (λ draft. (draft.file, draft.opened, draft.changed))
             (slice_get self.now.drafts place) }
@@ -130,8 +130,8 @@ impl Sessions {
         Some((entry.file, entry.draft.opened, entry.draft.changed))
     }
 
-    /// The number of an open handle, and what is read through it, by the handle's place among
-    /// those that are open; none past the last one.
+    /// Returns the number of an open handle, and what it reads, by the handle's place. None past
+    /// the last one.
     pub fn handle_at(&self, place: usize) -> Option<(Handle, Reads)>
         ensures { result ≡ option_map (λ handle. (handle.number, handle.reads))
             (slice_get self.now.handles place) }
@@ -140,7 +140,7 @@ impl Sessions {
         Some((handle.number, handle.reads))
     }
 
-    /// The open handles, by number.
+    /// Returns the open handles, by number.
     pub fn handles(&self) -> &[HandleRow]
         ensures { result.now ≡ self.now.handles }
     {

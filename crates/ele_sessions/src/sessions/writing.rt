@@ -1,5 +1,5 @@
-//! Writes and truncates of drafts: by file, where the caller knows that they may be, and by handle,
-//! where they are judged. A contract sees the list of drafts, in which one has another map.
+//! Writes and truncates of drafts. The calls by file expect a draft; those by handle check
+//! everything. A contract sees the list of drafts, in which one has another map.
 ghost use Rattle.std.specs.Prelude.{◌≡◌, ◌≤◌, ◌+◌, [], None, OnOk, OnErr, IfErr, IsOk, IsSome, IsTrue, length, true};
 ghost use Rattle.std.specs.List.{list_any};
 ghost use Rattle.std.specs.Option.{ForSome};
@@ -20,9 +20,9 @@ use ele_content::is_too_long;
 use ele_moment::{FileId, Handle, NoMemory};
 
 impl Sessions {
-    /// Writes the bytes from the offset on into the file's draft; zeros fill it up to the offset
-    /// where it ends before. The draft is changed, even by equal bytes or by none. Where memory is
-    /// refused, sessions and store are as they were.
+    /// Writes the bytes from the offset on into the file's draft. If the draft ends before the
+    /// offset, zeros fill it up to there. The draft is marked as changed, even by equal bytes or by
+    /// none. If memory is refused, sessions and store are as they were.
     #[tactic(auto, using(crate::proofs::Found::rises_in))]
     pub fn write_draft(
         &mut self,
@@ -43,8 +43,8 @@ impl Sessions {
         Ok(())
     }
 
-    /// Makes the file's draft so many bytes long, and marks it changed; where it has that length,
-    /// nothing is changed. Where memory is refused, sessions and store are as they were.
+    /// Sets the length of the file's draft to so many bytes, and marks it as changed. If it has
+    /// that length, nothing changes. If memory is refused, sessions and store are as they were.
     #[tactic(auto, using(crate::proofs::Found::rises_in))]
     pub fn truncate_draft(
         &mut self,
@@ -64,13 +64,13 @@ impl Sessions {
         Ok(())
     }
 
-    /// Writes the bytes from the offset on into the draft under the handle; zeros fill it up to the
-    /// offset where it ends before. Even equal bytes mark the draft changed. No bytes change
-    /// nothing, whatever the offset.
+    /// Writes the bytes from the offset on into the handle's draft. If the draft ends before the
+    /// offset, zeros fill it up to there. Equal bytes also mark the draft as changed. An empty
+    /// write changes nothing, whatever the offset.
     ///
     /// In this order: `NoHandle` if no open handle has that number, `NotWriter` if it reads a
-    /// version, `TooBig` if the bytes would end past 1,048,576, `NoMemory` if memory is refused. A
-    /// fault leaves all as it was.
+    /// version, `TooBig` if the bytes would end past 1,048,576, `NoMemory` if memory is refused.
+    /// Each fault leaves all as it was.
     #[tactic(auto, using(crate::proofs::Found::rises_in))]
     pub fn write(
         &mut self,
@@ -102,11 +102,11 @@ impl Sessions {
         Ok(())
     }
 
-    /// Makes the content of the draft under the handle so many bytes long, and marks it changed;
-    /// where it has that length, nothing is changed.
+    /// Sets the length of the handle's draft to so many bytes, and marks it as changed. If it has
+    /// that length, nothing changes.
     ///
     /// In this order: `NoHandle` if no open handle has that number, `NotWriter` if it reads a
-    /// version, `TooBig` for more than 1,048,576 bytes, `NoMemory` if memory is refused. A fault
+    /// version, `TooBig` for more than 1,048,576 bytes, `NoMemory` if memory is refused. Each fault
     /// leaves all as it was.
     #[tactic(auto, using(crate::proofs::Found::rises_in))]
     pub fn truncate(

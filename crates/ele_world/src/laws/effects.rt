@@ -1,4 +1,4 @@
-//! What single events leave: each law is the contract of a function that does nothing.
+//! What single events change. Each law is the contract of a function that does nothing.
 ghost use Rattle.ele_world.specs.CloseTells.{CloseTells, CloseLeaves};
 ghost use Rattle.ele_world.specs.DefaultGoverns.{DefaultGoverns};
 ghost use Rattle.ele_world.specs.DraftBegins.{DraftBegins};
@@ -13,42 +13,48 @@ ghost use Rattle.ele_world.specs.WriteLays.{WriteLays};
 
 use ele_policy::laws;
 
-/// After a policy event the file at its path has the policy, every other file its own, and nothing else has changed.
+/// After a policy event the file at its path has the policy, every other file has its own, and
+/// nothing else has changed.
 pub fn policy_governs()
     ensures { PolicyGoverns }
 {
     laws::policies_are_lawful();
 }
 
-/// After a default event the directory at its path gives the policy, every other one its own, and nothing else has changed.
+/// After a default event the directory at its path has that default policy, every other one has its
+/// own, and nothing else has changed.
 pub fn default_governs()
     ensures { DefaultGoverns }
 {
     laws::policies_are_lawful();
 }
 
-/// After a mark what was current then of the group's files is marked, beside what was marked before, and nothing else.
+/// A mark event marks the versions of the group's files that were current then. What was marked
+/// before stays marked, and nothing else is.
 pub fn mark_marks()
     ensures { MarkMarks }
 {
     laws::policies_are_lawful();
 }
 
-/// The first handle that writes a file reads the content of its current version, a later one that of the file's draft.
+/// The first handle that writes a file reads the content of its current version, and a later one
+/// that of the file's draft.
 pub fn draft_begins()
     ensures { DraftBegins }
 {
     laws::policies_are_lawful();
 }
 
-/// After a write the file's draft has what it had with the bytes laid over it, and nothing else has changed.
+/// After a write the file's draft has its old content with the bytes written over it, and nothing
+/// else has changed.
 pub fn write_lays()
     ensures { WriteLays }
 {
     laws::policies_are_lawful();
 }
 
-/// After a truncate the file's draft has as many bytes as told, and nothing else has changed.
+/// After a truncate the file's draft has as many bytes as the event says, and nothing else has
+/// changed.
 pub fn truncate_fits()
     ensures { TruncateFits }
 {
@@ -62,26 +68,27 @@ pub fn handle_reads()
     laws::policies_are_lawful();
 }
 
-/// A handle reads what it read until it is closed.
+/// A handle reads the same version or draft until it is closed.
 pub fn handle_stays()
     ensures { HandleStays }
 {
     laws::policies_are_lawful();
 }
 
-/// A number reads, tells and opens one version, and no other.
+/// A number reads, describes and opens one version, and no other.
 pub fn number_means()
     ensures { NumberMeans }
 {
     laws::policies_are_lawful();
 }
 
-/// The close of a handle that writes makes a version just where the draft was changed and no other handle writes it.
+/// The close of a handle that writes makes a version exactly if the draft was changed and no other
+/// handle writes it.
 pub fn close_tells()
     ensures { CloseTells }
 {}
 
-/// A close that tells of no version has changed none.
+/// A close that returns no number has changed no version.
 pub fn close_leaves()
     ensures { CloseLeaves }
 {}

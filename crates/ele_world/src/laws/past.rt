@@ -1,5 +1,5 @@
-//! What stays of the past, of other names, and of all that was counted, whatever the event: each law is the contract of a function
-//! that does nothing.
+//! What every event leaves of the past, of other names, and of all counts. Each law is the contract
+//! of a function that does nothing.
 ghost use Rattle.ele_world.specs.DraftsWritten.{DraftsWritten, DraftsWrittenInRuns};
 ghost use Rattle.ele_world.specs.LifeStays.{LifeStays};
 ghost use Rattle.ele_world.specs.NameRowsStay.{NameRowsStay};
@@ -11,48 +11,50 @@ ghost use Rattle.ele_world.specs.ReadsPast.{ReadsPast};
 pub use ele_model::laws::numbers_rise;
 use ele_policy::laws;
 
-/// What a name stood for at a moment before now stays so, unless it was a file that has gone.
+/// What a name meant at a moment before now stays, unless it was a file that was dropped.
 pub fn past_stays()
     ensures { PastStays }
 {
     laws::policies_are_lawful();
 }
 
-/// Name rows stay in their order, but for those of a file that has gone: a birth never changes, and a death is set once, to now.
+/// Name rows stay in their order, except those of a dropped file. A birth never changes, and a
+/// death is set once, to now.
 pub fn name_rows_stay()
     ensures { NameRowsStay }
 {
     laws::policies_are_lawful();
 }
 
-/// A held version lived at each moment before now after an event as before it.
+/// An event doesn't change at which moments before now a held version lived.
 pub fn life_stays()
     ensures { LifeStays }
 {
     laws::policies_are_lawful();
 }
 
-/// The names that an event doesn't name stand for what they stood for.
+/// Names that an event doesn't name keep their meaning.
 #[tactic(auto, using(crate::proofs::OtherNames::other_names_stay))]
 pub fn other_names_stay()
     ensures { OtherNamesStay }
 {}
 
-/// What a path reads at a moment before now is after an event the same bytes, or refused as `Forgotten` or `NoEntry`.
+/// An event doesn't change what a path reads at a moment before now: the same bytes, or a refusal
+/// as `Forgotten` or `NoEntry`.
 pub fn reads_past()
     ensures { ReadsPast }
 {
     laws::policies_are_lawful();
 }
 
-/// An event leaves each draft a handle that writes it.
+/// After an event a handle writes each draft.
 pub fn drafts_written()
     ensures { DraftsWritten }
 {
     laws::policies_are_lawful();
 }
 
-/// After any list of events each draft has one.
+/// After any list of events a handle writes each draft.
 #[tactic(auto, using(crate::proofs::Writing::runs_have_writers, ele_model::proofs::StepKeeps::fresh_is, ele_model::proofs::Formed::in_parts, ele_model::proofs::Words::fresh_world))]
 pub fn drafts_written_in_runs()
     ensures { DraftsWrittenInRuns }
@@ -60,14 +62,15 @@ pub fn drafts_written_in_runs()
     laws::policies_are_lawful();
 }
 
-/// An event leaves what one version wrote into a slot the same wherever it stands.
+/// An event leaves what one version wrote into a slot the same in all versions and drafts that have
+/// it.
 pub fn one_content_stays()
     ensures { OneContentStays }
 {
     laws::policies_are_lawful();
 }
 
-/// After any list of events it is the same.
+/// After any list of events it is the same in all of them.
 #[tactic(auto, using(crate::proofs::OneContent::runs_have_one, ele_model::proofs::StepKeeps::fresh_is, ele_model::proofs::Formed::in_parts, ele_model::proofs::Words::fresh_world))]
 pub fn one_content_in_runs()
     ensures { OneContentInRuns }

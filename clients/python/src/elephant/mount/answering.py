@@ -27,7 +27,7 @@ _ERRNOS = {
 
 
 class Answering(pyfuse3.Operations):  # type: ignore[misc]
-    """What requests are answered with: the store, the log and the lock."""
+    """What all requests need: the store, the log and the lock."""
 
     def __init__(self, store: MountStore, log: Log) -> None:
         super().__init__()
@@ -35,7 +35,7 @@ class Answering(pyfuse3.Operations):  # type: ignore[misc]
         self.lock = threading.RLock()
 
     def errno_of(self, fault: Exception) -> int:
-        """Returns the error number of what a request raised, and logs what its caller can't see from that."""
+        """Returns the error number of an exception of a request, and logs what the number doesn't show."""
         if isinstance(fault, NoSpace):
             if not self.store.stopped:
                 self.store.stopped = "the disk of the journal is full"
@@ -58,7 +58,8 @@ class Answering(pyfuse3.Operations):  # type: ignore[misc]
         return fault.errno or errno.EIO
 
     def follow_store(self) -> None:
-        """Brings the names to those of the store, which has done what the journal couldn't take: all files can be read meanwhile."""
+        """Brings the names up to date with the store, if it has done more than the journal could take. All files stay readable
+        meanwhile."""
 
     def require_writable(self) -> None:
         if self.store.stopped:
@@ -67,7 +68,7 @@ class Answering(pyfuse3.Operations):  # type: ignore[misc]
 
 
 def answered(method: Callable[..., Any]) -> Callable[..., Any]:
-    """Has a method answer a request of the kernel: under the lock, and with an error number for what it raises."""
+    """Makes a method answer a request of the kernel: under the lock, and with an error number for each exception."""
 
     @functools.wraps(method)
     async def call(self: Answering, *words: Any) -> Any:
@@ -85,7 +86,7 @@ def answered(method: Callable[..., Any]) -> Callable[..., Any]:
 
 
 def changing(method: Callable[..., Any]) -> Callable[..., Any]:
-    """The same for a request that changes something, which a mount that is read-only refuses."""
+    """Does the same for a request that changes something, which a read-only mount refuses."""
 
     def checked(self: Answering, *words: Any) -> Any:
         self.require_writable()

@@ -1,7 +1,7 @@
-"""What files hold: drafts in memory, and how they become versions.
+"""The contents of files: drafts in memory, and how they become versions.
 
-What is written stays in the draft of its file, in memory. When one of the file's descriptors is closed or synced, the journal gets what
-it lacks of the draft. When the last descriptor that writes is closed, the draft becomes a version.
+What a program writes stays in the draft of its file, in memory. When a descriptor of the file is closed or synced, the journal gets the
+part of the draft that it lacks. When the last descriptor that writes is closed, the draft becomes a version.
 """
 
 from __future__ import annotations
@@ -19,7 +19,7 @@ MOST_BYTES = 1_048_576
 
 
 class Limited(OSError):
-    """The store has used up one of its limits."""
+    """The store has reached one of its limits."""
 
     def __init__(self, limit: str, count: int) -> None:
         super().__init__(errno.ENOSPC, f"the store has made all {count} {limit} that it ever makes")
@@ -41,13 +41,13 @@ class Contents:
         return node.size if node.draft is None else len(node.draft)
 
     def read(self, node: File, offset: int, size: int) -> bytes:
-        """Returns bytes of what a file holds, with what was written and isn't a version yet."""
+        """Returns bytes of a file, with those that are written and in no version yet."""
         if node.draft is not None:
             return bytes(memoryview(node.draft)[offset:offset + size])
         return self.whole(node)[offset:offset + size]
 
     def whole(self, node: File) -> bytes:
-        """Returns all that a file holds."""
+        """Returns the whole content of a file."""
         if node.draft is not None:
             return bytes(node.draft)
         file, version, content = self._last
@@ -57,13 +57,13 @@ class Contents:
         return content
 
     def forget_read(self) -> None:
-        """Drops the content that was read last. To be called if a node is about to stand for another file."""
+        """Drops the content that was read last. Call it if a node is about to get another file."""
         self._last = None, 0, b""
 
     # Writing.
 
     def begin(self, node: File, is_cut: bool = False) -> bytearray:
-        """Returns a file's draft, which is made if there is none. Raises Limited if the store can't make another version."""
+        """Returns a file's draft, and makes it if there is none. Raises Limited if the store can't make another version."""
         if node.draft is None:
             if node.names:
                 self.require_limits(versions=1, handles=1)
@@ -80,7 +80,7 @@ class Contents:
             self.drafts.add(node)
 
     def require_limits(self, **wanted: int) -> None:
-        """Raises Limited unless the store can make so much more, beside what the drafts will take."""
+        """Raises Limited unless the store can make so much more, beside what the drafts will need."""
         unopened = sum(it.handle is None for it in self.drafts)
         for name in ("versions", "handles"):
             if name in wanted:
@@ -100,7 +100,7 @@ class Contents:
         self._set_pending(node, max(size, 1))
 
     def write(self, node: File, offset: int, data: bytes) -> int:
-        """Writes bytes into a file's draft. Zeros fill what is between its end and them."""
+        """Writes bytes into a file's draft. Zeros fill a gap between its end and them."""
         end = offset + len(data)
         if end > MOST_BYTES:
             raise TooBig(node, end)
@@ -114,7 +114,7 @@ class Contents:
         return len(data)
 
     def truncate(self, node: File, size: int) -> None:
-        """Gives a file so many bytes. If nobody writes it, that is a version."""
+        """Sets the length of a file. If no program writes it, that makes a version."""
         if size > MOST_BYTES:
             raise TooBig(node, size)
         if node.draft is None and size == node.size:
@@ -144,7 +144,7 @@ class Contents:
     # Saving.
 
     def save(self, node: File) -> None:
-        """Gives the journal what it lacks of a file's draft."""
+        """Writes the part of a file's draft that the journal lacks."""
         if not node.is_unsaved or not node.names:
             return
         draft = node.draft
@@ -160,7 +160,7 @@ class Contents:
         node.is_unsaved = False
 
     def settle(self, node: File) -> None:
-        """Makes a file's draft a version, and keeps the draft if it can't be one. What a file without a name holds is nobody's any more."""
+        """Makes a file's draft a version, and keeps the draft if that fails. The draft of a file without a name is dropped."""
         if node.draft is None:
             return
         self.save(node)
@@ -189,18 +189,18 @@ class Contents:
             self._drop(node)
 
     def _drop(self, node: File) -> None:
-        """Lets go of a file that has neither a name nor a descriptor."""
+        """Drops a file that has neither a name nor a descriptor."""
         if node.draft is not None:
             self.settle(node)
         self.tree.let_go(node)
 
     def hold(self, node: File) -> None:
-        """Keeps in memory what an open file holds, which is about to lose its last name."""
+        """Keeps the content of an open file in memory, before the file loses its last name."""
         if node.opens and node.draft is None:
             self._set_draft(node, bytearray(self.whole(node)))
 
     def settle_all(self, is_every: bool = True) -> list[tuple[File, Exception]]:
-        """Makes all drafts versions, or those that nobody writes any more. Returns which couldn't be made one, each with what kept it."""
+        """Makes versions of all drafts, or of those that no program writes any more. Returns the failures, each with its reason."""
         faults: list[tuple[File, Exception]] = []
         for node in list(self.drafts):
             if node.names and (is_every or not node.writers):

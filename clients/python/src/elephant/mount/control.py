@@ -28,7 +28,7 @@ from .tree import Directory, File, Node
 MOST_LINE = 1 << 20
 # The path of a socket has at most 107 bytes.
 MOST_FOLDER = 100
-# Lines after which the tree may be another, and lines that change nothing at all.
+# Lines after which the tree may differ, and lines that change nothing.
 _ASK = frozenset("read stat versions list restorable due usage groups why ahead history trim".split())
 _SHORT = frozenset("policy default group mark unmark clean pass".split())
 _OF_HANDLES = frozenset("write truncate close read".split())
@@ -45,7 +45,7 @@ class Lines:
         """Lines of the mount's own, without words, that are answered without the lock."""
 
     def answer(self, line: str) -> tuple[str, Changes]:
-        """Returns the answer to a line, with line feeds, and what of the tree it changed."""
+        """Returns the answer to a line, with line feeds, and what it changed in the tree."""
         words = line.split(" ")
         if line in self.more:
             return self.more[line](), []
@@ -76,7 +76,7 @@ class Lines:
         return f"elephant-mount: {getattr(fault, 'strerror', None) or fault or type(fault).__name__}\n"
 
     def _node(self, spelling: str) -> Optional[Union[File, Directory]]:
-        """Returns what a path stands for now, or None."""
+        """Returns the node of a path now, or None."""
         node: Union[File, Directory] = self.tree.root
         for name in _bytes(spelling).split(b"/")[1:]:
             child = node.children.get(name_in(name)) if isinstance(node, Directory) and name else None
@@ -113,7 +113,8 @@ class Lines:
         return drafts | {str(it.reader) for it in self.operations.past_handles.values() if it.reader is not None}
 
     def _prepare(self, words: list[str]) -> None:
-        """Has what programs have open stay as it is for them when a line takes its name, and no draft overtaken by a line."""
+        """Prepares for a line that ends a name: keeps the contents of open files for their programs, and makes versions of drafts
+        first."""
         node = self._node(words[1]) if len(words) > 1 and words[1].startswith("/") else None
         if not isinstance(node, File):
             return
@@ -124,14 +125,14 @@ class Lines:
 
     @staticmethod
     def _require_no_writer(node: File) -> None:
-        """Refuses what changes the content of a file that a program may write: that program would go on where it was."""
+        """Refuses to change the content of a file that a program may write: that program would go on at its old position."""
         if node.draft is not None or node.writers:
             raise OSError(16, "a program has the file open to write it: close it first")
 
     # Undo.
 
     def _undo(self, words: list[str]) -> str:
-        """Makes what a file held before its last save, or at a moment, its next version. Brings a deleted file back."""
+        """Makes what a file held before its last save, or at a moment, its next version. Restores a deleted file."""
         if len(words) not in (1, 2) or not words[0].startswith("/"):
             return "elephant-mount: undo takes a file, and a moment if you like\n"
         self.operations.require_writable()
@@ -228,7 +229,7 @@ def _bytes(text: str) -> bytes:
 
 
 def _private_folder(journal: str) -> str:
-    """Returns a folder that nobody else may look into: of each journal the same one, so that a mount that was killed leaves one at most."""
+    """Returns a folder that only this user can enter. Each journal has one, so a killed mount leaves at most one."""
     parent = os.environ.get("XDG_RUNTIME_DIR") or tempfile.gettempdir()
     folder = os.path.join(parent, f"elephant-mount-{os.getuid()}-{crc32(os.fsencode(journal)):08x}")
     if len(os.fsencode(folder)) > MOST_FOLDER:

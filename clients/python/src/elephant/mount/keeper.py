@@ -1,4 +1,4 @@
-"""What a mount does by itself: it removes what its policies let go, syncs its journal, makes it anew, and closes long sessions."""
+"""The work of a mount without a request: it removes due versions, syncs and rewrites its journal, and closes long sessions."""
 
 from __future__ import annotations
 
@@ -18,7 +18,7 @@ from .rewriting import Rewriting
 from .store import Departed, NoSpace
 from .tree import File
 
-# The longest that other requests wait for removals, in seconds, and how long these then wait.
+# The longest wait of other requests for removals, in seconds, and the pause of removals after it.
 MOST_AT_ONCE, PAUSE = 0.003, 0.03
 MOST_KEYS = 256
 SYNC_EVERY, RETRY_EVERY, REWRITE_EVERY = 5.0, 2.0, 600.0
@@ -26,7 +26,7 @@ Task = tuple[float, Callable[[], object]]
 
 
 class Keeper:
-    """Two threads beside the one that answers requests: one has the disk hold what was answered, and the other one's work may take long.
+    """Two threads beside the one that answers requests. One syncs the answered changes to the disk; the work of the other may take long.
 
     `clean_every` is in seconds, `every` in minutes; 0 is never.
     """
@@ -134,14 +134,14 @@ class Keeper:
             self._say(fault)
 
     def sync(self) -> None:
-        """Has the disk hold what was answered some seconds ago, and looks whether the journal is still at its place."""
+        """Syncs the changes of the last seconds to the disk, and checks that the journal is still at its path."""
         if not self.store.has_place:
             self.log.say_once(f"{self.store.journal_path} was moved or deleted: copy your files out of the folder before you unmount it")
         if self.store.unsynced and not self.store.stopped:
             self.store.sync_journal_aside()
 
     def retry(self) -> None:
-        """Tries whether the journal can be written again, and tells the kernel what was changed in spite of an error."""
+        """Tries to write the journal again, and reports to the kernel what was changed in spite of an error."""
         faults: list[tuple[File, Exception]] = []
         with self.operations.lock:
             if self.store.stopped and self.store.retry():

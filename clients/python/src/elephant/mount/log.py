@@ -7,7 +7,7 @@ import time
 
 
 class Log:
-    """Writes lines with the time in front."""
+    """Writes lines with the time before each."""
 
     def __init__(self) -> None:
         self._said: dict[str, float] = {}
@@ -20,7 +20,7 @@ class Log:
             pass  # nobody reads it
 
     def say_once(self, text: str) -> None:
-        """Says what wasn't said within the last minute."""
+        """Writes a text unless it was written within the last minute."""
         now = time.monotonic()
         if now - self._said.get(text, -61.0) > 60:
             if len(self._said) > 1000:

@@ -1,7 +1,7 @@
 """A loop for pyfuse3 that handles one request after the other.
 
-pyfuse3 runs on trio. Here no handler ever waits, so trio would only cost time: three times that of a request. pyfuse3 lets its loop be
-replaced (`pyfuse3_asyncio` does so for asyncio), and this one waits for a request by `poll`, in the thread that called it.
+pyfuse3 runs on trio. No handler here ever waits, so trio would only cost time: three times that of a request. pyfuse3 lets its loop be
+replaced (`pyfuse3_asyncio` does so for asyncio). This loop waits for a request by `poll`, in the thread that called it.
 """
 
 from __future__ import annotations
@@ -16,7 +16,7 @@ from typing import Any, Callable, Optional
 import pyfuse3
 
 
-# For so long a loop that is to end answers what the kernel asks, in seconds.
+# How long a loop that is to end still answers the kernel, in seconds.
 LONGEST_END = 2.0
 
 
@@ -48,7 +48,7 @@ class _Nursery:
 
 
 class Loop:
-    """What pyfuse3 asks of trio, and `stop`, which any thread and any signal handler may call."""
+    """The part of trio that pyfuse3 uses, and `stop`, which any thread and any signal handler may call."""
 
     Lock = _Lock
 
@@ -63,7 +63,7 @@ class Loop:
         self._is_registered, self._end = False, 0.0
 
     def install(self) -> None:
-        """Has pyfuse3 use this loop. To be called before `pyfuse3.init`."""
+        """Makes pyfuse3 use this loop. Call it before `pyfuse3.init`."""
         pyfuse3.trio = self
 
     def run(self) -> None:
@@ -78,7 +78,7 @@ class Loop:
                 raise
 
     def stop(self) -> None:
-        """Ends `run` as soon as the kernel asks nothing any more, at the latest after some seconds."""
+        """Ends `run` as soon as the kernel sends no more requests, at the latest after some seconds."""
         self._end = self._end or time.monotonic() + LONGEST_END
         os.write(self._waker, b".")
 

@@ -77,7 +77,7 @@ def send(folder: str, words: list[str]) -> int:
 
 
 def _undo_words(folder: str, words: list[str]) -> list[str]:
-    """Spells the file of an `undo`, which is given as any other: by its path, from here or from FOLDER."""
+    """Spells the file of an `undo`, whose path is relative to the working directory or to FOLDER."""
     if len(words) == 1:
         _, *words = re.split(r" +", words[0], maxsplit=1)
         words = ["undo", *words]

@@ -87,14 +87,15 @@ class Mount:
         threading.Thread(target=self._end, daemon=True).start()
 
     def _end(self) -> None:
-        """Asks the kernel for what programs have mapped and changed, which nobody could write after the end. The loop answers meanwhile."""
+        """Asks the kernel for changes that programs made in mapped files, which would be lost after the end. The loop answers
+        meanwhile."""
         with suppress(OSError):
             if os.path.ismount(self.folder):
                 sync_all(self.folder)
         self.loop.stop()
 
     def _close(self) -> bool:
-        """Makes versions of what is open, and closes the journal. Returns whether that has everything."""
+        """Makes versions of the open drafts, and closes the journal. Returns whether the journal has everything."""
         self.control.stop()
         self.keeper.stop()
         with self.operations.lock:
@@ -116,7 +117,7 @@ class Mount:
                 self.store.close_draft(opened.reader)
 
     def _tell_kernel(self, changes: Changes) -> None:
-        """Has the kernel drop what it knows of what a line changed. Not under the lock: the kernel may ask back meanwhile."""
+        """Makes the kernel drop its cache of what a line changed. Call it without the lock: the kernel may send requests meanwhile."""
         for node, name in changes:
             try:
                 if name is None:
@@ -129,7 +130,7 @@ class Mount:
 
 
 def _collect_rarely() -> None:
-    """Has Python look for cycles seldom: few objects of a mount are in one, and looking at all of them doubles the time of a request."""
+    """Makes Python look for cycles rarely: few objects of a mount are in one, and a look at all of them doubles the time of a request."""
     gc.collect()
     gc.freeze()
     gc.set_threshold(50_000, 50, 1000)

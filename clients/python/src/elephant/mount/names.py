@@ -13,7 +13,7 @@ _OWN = re.compile(rb"[^!-~]|[/@#%]")
 
 
 class TooLong(OSError):
-    """A name or a path that the store has no room for; `reason` says how much it takes."""
+    """A name or a path that is too long for the store; `reason` says how long it is."""
 
     def __init__(self, reason: str) -> None:
         super().__init__(errno.ENAMETOOLONG, reason)
@@ -22,7 +22,7 @@ class TooLong(OSError):
 
 @functools.lru_cache(maxsize=16384)
 def spelled(name: bytes) -> bytes:
-    """Returns how a name is spelled. Raises TooLong if that takes more than 64 bytes."""
+    """Returns the spelling of a name. Raises TooLong if it has more than 64 bytes."""
     found = b"%2E" * len(name) if name in (b".", b"..") else _OWN.sub(lambda it: b"%%%02X" % it[0][0], name)
     if len(found) > MOST_NAME:
         raise TooLong(f"the name {shown(name)} takes {len(found)} bytes as it is spelled, and a name has at most {MOST_NAME}")
@@ -31,11 +31,11 @@ def spelled(name: bytes) -> bytes:
 
 @functools.lru_cache(maxsize=16384)
 def name_in(spelling: bytes) -> bytes:
-    """Returns the name that is spelled so. A spelling that `spelled` never makes is returned as it is."""
+    """Returns the name of a spelling. A spelling that `spelled` never makes is returned as it is."""
     return name_of(spelling).encode("utf-8", "surrogateescape")
 
 
 def shown(name: bytes) -> str:
-    """Returns a name or a path as it is printed in the log."""
+    """Returns a name or a path for the log."""
     text = name.decode("utf-8", "backslashreplace")
     return text if text.isprintable() else repr(text)[1:-1]

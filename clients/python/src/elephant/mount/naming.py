@@ -1,8 +1,8 @@
-"""What changes the names of a mount: making, linking, removing and renaming, and how a name keeps its past when an editor saves.
+"""The changes of names in a mount: making, linking, removing and renaming, and how a name keeps its past when an editor saves.
 
-Editors save in three ways. They write over the file: that is a version anyway. They write a new file and rename it over the old one:
-`rename` makes the new file's content the next version of the old file. They rename or delete the old file and make a new one: `create`
-gives the old file its name back, for the new content, and makes another file of what was renamed.
+Editors save in three ways. Some write over the file, which makes a version anyway. Some write a new file and rename it over the old one:
+`rename` makes the new file's content the next version of the old file. Some rename or delete the old file and make a new one: `create`
+restores the old file's name for the new content, and makes another file of the renamed one.
 """
 
 from __future__ import annotations
@@ -21,18 +21,18 @@ from .records import Attributes, directory_key, file_key
 from .store import MountStore, Remarks
 from .tree import Directory, File, Node, Tree
 
-# For so many seconds after a name ended a new file of that name goes on with the past of the one that had it.
+# How long after the end of a name a new file of that name continues the past of the old one, in seconds.
 GOES_ON = 2.0
 MOST_LEFT = 64
 # A file that was made and written once has the empty version 1 and one more.
 FRESH = 2
 NO_REPLACE, EXCHANGE = 1, 2
-# The names and values of a file's extended attributes have at most so many bytes, about as on ext4.
+# The limit of the names and values of a file's extended attributes, in bytes, about as on ext4.
 MOST_EXTENDED = 4000
 
 
 class TooMuch(OSError):
-    """The extended attributes of a file would take more than they may."""
+    """The extended attributes of a file would exceed their limit."""
 
     def __init__(self, reason: str) -> None:
         super().__init__(errno.ENOSPC, reason)
@@ -51,7 +51,7 @@ class Naming:
     # Making.
 
     def _new(self, parent: Directory, mode: int, owner: int, group: int) -> Attributes:
-        """Returns the attributes of what is made in a directory."""
+        """Returns the attributes of a new node in a directory."""
         now = records.now_ns()
         if parent.attributes.mode & stat.S_ISGID:
             group = parent.attributes.group
@@ -84,7 +84,7 @@ class Naming:
         return node
 
     def create(self, parent: Directory, name: bytes, mode: int, owner: int, group: int) -> File:
-        """Makes a file, a fifo or a socket. If the file that had the name was renamed just now, its past goes on here."""
+        """Makes a file, a fifo or a socket. If the file of that name was renamed just now, the new content continues its past."""
         self._require_free(parent, name)
         path = parent.path_of_new(name)
         made = self._new(parent, mode, owner, group)
@@ -107,9 +107,9 @@ class Naming:
         return node
 
     def _leave(self, parent: Directory, name: bytes, file: Union[File, int]) -> None:
-        """Notes that a name of a regular file ended, so that a new file may go on with its past.
+        """Notes that a name of a regular file ended, so that a new file may continue its past.
 
-        A file that was made and renamed at once had its name only to be written: its past isn't the name's.
+        A file that was made and renamed at once had its name only while it was written: its past isn't the name's.
         """
         if isinstance(file, File) and (not file.is_regular or time.monotonic() - file.born < GOES_ON):
             return
@@ -118,20 +118,20 @@ class Naming:
             del parent.left[next(iter(parent.left))]
 
     def _past_of(self, parent: Directory, name: bytes) -> Optional[Union[File, int]]:
-        """Returns the file, or the number of the file, whose past goes on under a name that ended just now."""
+        """Returns the file, or the number of the file, whose past a new file of a name that ended just now continues."""
         file, moment = parent.left.pop(name, (0, 0.0))
         if not file or time.monotonic() - moment > GOES_ON:
             return None
         if isinstance(file, File) and (len(file.names) != 1 or file.draft is not None):
             return None
-        if file in self.tree.files:  # an undo has brought it back, by another of its names
+        if file in self.tree.files:  # an undo has restored it, by another of its names
             return None
         drafts = len(self.contents.drafts)
         lacks = self.store.counts.lacking(files=1, names=2, versions=3 + drafts, handles=2 + drafts)
         return None if lacks else file
 
     def _revive(self, path: bytes, number: int) -> bool:
-        """Brings a name back. Returns whether it is that of the file with this number again."""
+        """Restores a name. Returns whether it is again that of the file with this number."""
         try:
             version = self.store.run((b"undelete", path))
         except Refused:
@@ -144,7 +144,7 @@ class Naming:
         return False
 
     def _take_over(self, parent: Directory, name: bytes, made: Attributes, old: File) -> File:
-        """Gives a file its name back, for a new content. The node that was renamed stands for another file with the old content."""
+        """Restores a file's name for a new content. The renamed node gets another file with the old content."""
         path, away = parent.path_of(name), old.path
         number = old.number
         content = self.contents.whole(old)
@@ -160,7 +160,7 @@ class Naming:
         return self._go_on(parent, name, made, number)
 
     def _go_on(self, parent: Directory, name: bytes, made: Attributes, number: int) -> File:
-        """Has a new node stand for a file that has a past. It is empty, and its first content is the file's next version."""
+        """Makes a new node of a file that has a past. It is empty, and its first content is the file's next version."""
         self.store.records.by_key[file_key(number)] = made
         self.store.keep(records.made(file_key(number), key_of(parent), made))
         row = self.store.stat_row(parent.path_of(name))
@@ -172,7 +172,7 @@ class Naming:
         return node
 
     def symlink(self, parent: Directory, name: bytes, target: bytes, owner: int, group: int) -> File:
-        """Makes a symbolic link: a file of the store with where it leads as content."""
+        """Makes a symbolic link: a file of the store whose content is the target path."""
         self._require_free(parent, name)
         path = parent.path_of_new(name)
         self.contents.require_limits(files=1, names=1, versions=2, handles=1)
@@ -207,7 +207,7 @@ class Naming:
         return node
 
     def unlink(self, parent: Directory, name: bytes) -> File:
-        """Ends a name of a file."""
+        """Removes a name of a file."""
         node = self.child(parent, name)
         if isinstance(node, Directory):
             raise IsADirectoryError(errno.EISDIR, shown(name))
@@ -229,7 +229,7 @@ class Naming:
             self.contents.settle(node)
 
     def rmdir(self, parent: Directory, name: bytes) -> Directory:
-        """Ends the name of an empty directory."""
+        """Removes the name of an empty directory."""
         node = self.child(parent, name)
         if isinstance(node, File):
             raise NotADirectoryError(errno.ENOTDIR, shown(name))
@@ -243,7 +243,7 @@ class Naming:
     # Renaming.
 
     def rename(self, parent: Directory, name: bytes, new_parent: Directory, new_name: bytes, flags: int) -> None:
-        """Gives what has a name another one. What has that one already is replaced, or goes on with the content of a file."""
+        """Moves a node to another name. It replaces what has that name, or continues a file there with the moved content."""
         node, found = self.child(parent, name), new_parent.children.get(new_name)
         if flags == EXCHANGE:
             return self._exchange(parent, name, new_parent, new_name)
@@ -301,7 +301,7 @@ class Naming:
 
     @staticmethod
     def _moved(now: int, node: Node, *others: Node) -> list[bytes]:
-        """Returns the remarks of a node that was moved. What is in a directory stays as it is then, and so does that time."""
+        """Returns the remarks of a moved node. A directory's content stays as it is, and so does the time of its content."""
         if not isinstance(node, Directory):
             return [records.names_changed(now, *map(key_of, (*others, node)))]
         it = node.attributes.copy()
@@ -319,7 +319,7 @@ class Naming:
         return alone and self.store.counts.lacking(versions=most, handles=most) is None
 
     def _merge(self, parent: Directory, name: bytes, new_parent: Directory, new_name: bytes, now: int) -> None:
-        """Makes a file's content the next version of the one that has the new name. The node of the first stands for the second now."""
+        """Makes a file's content the next version of the file of the new name. The node of the first gets that file."""
         node, found = parent.children[name], new_parent.children[new_name]
         assert isinstance(node, File) and isinstance(found, File)
         path, new_path, number = parent.path_of(name), new_parent.path_of(new_name), found.number
@@ -342,7 +342,7 @@ class Naming:
     def _replace(
         self, parent: Directory, name: bytes, new_parent: Directory, new_name: bytes, now: int, path: bytes, new_path: bytes
     ) -> None:
-        """Ends what has the new name, and gives that to the other: two commands that are one change."""
+        """Removes what has the new name, and gives the name to the other node: two commands that are one change."""
         node, found = parent.children[name], new_parent.children[new_name]
         self._require_names(1)
         if isinstance(found, File) and len(found.names) == 1:
@@ -357,7 +357,7 @@ class Naming:
             self._leave(parent, name, node)
 
     def _run_all(self, *commands: Sequence[bytes], remarks: Remarks) -> None:
-        """Runs commands. If one is refused, the tree is brought to what those before it have done."""
+        """Runs commands. If one is refused, it brings the tree up to date with the commands before it."""
         try:
             self.store.run(*commands, remarks=remarks)
         except ElephantError:
@@ -373,7 +373,7 @@ class Naming:
     # Exchanging.
 
     def _exchange(self, parent: Directory, name: bytes, new_parent: Directory, new_name: bytes) -> None:
-        """Gives each of two names what the other one has. Each name's past goes on, if both are the only names of files that are closed."""
+        """Exchanges the nodes of two names. Each name's past continues, if both are the only names of files that are closed."""
         node, found = self.child(parent, name), self.child(new_parent, new_name)
         if found is node:
             return
@@ -392,7 +392,7 @@ class Naming:
             self._touch_moved(now, it)
 
     def _exchange_contents(self, path: bytes, node: File, new_path: bytes, found: File, now: int) -> None:
-        """Makes what each of two files holds the next version of the other, and has each node stand for the other file."""
+        """Makes the content of each of two files the next version of the other, and exchanges the files of their nodes."""
         contents = self.contents.whole(node), self.contents.whole(found)
         self.contents.forget_read()
         node.attributes.ctime = found.attributes.ctime = now
@@ -408,7 +408,7 @@ class Naming:
         return self.store.close_draft(self.store.write_draft(path, None, content, True, remarks))
 
     def _exchange_names(self, parent: Directory, name: bytes, new_parent: Directory, new_name: bytes, now: int) -> None:
-        """Renames twice by a third name, which nobody sees, since the three renames are one change."""
+        """Renames twice by a third name, which no program sees, since the three renames are one change."""
         self._require_names(3)
         node, found = parent.children[name], new_parent.children[new_name]
         third = next(it for it in (b".exchange%d" % number for number in range(len(parent.children) + 1)) if it not in parent.children)

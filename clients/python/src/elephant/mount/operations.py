@@ -1,4 +1,4 @@
-"""What the kernel asks of the mount, over pyfuse3. Each request is answered under one lock, without waiting."""
+"""The requests of the kernel to the mount, over pyfuse3. Each is answered under one lock, without waiting."""
 
 from __future__ import annotations
 
@@ -19,7 +19,7 @@ from .past import NAME, Past, PastNode, Source
 from .store import MountStore
 from .tree import ROOT, Directory, File, Node, Tree
 
-# For as long as this the kernel may keep what it was told: every change comes through it, or it is told of it.
+# How long the kernel may cache an answer, in seconds: it makes every change itself, or is notified of it.
 LASTING = 86_400.0
 FIRST_PAST_HANDLE = 1 << 60
 NAME_MAX = 64
@@ -28,7 +28,7 @@ _CHANGES = os.O_ACCMODE | os.O_TRUNC
 
 
 class PastHandle:
-    """An open file of the past: its content, and by which handle the store keeps the version, if it does already."""
+    """An open file of the past: its content, and the store's handle that holds the version, if there is one already."""
 
     __slots__ = ("node", "source", "content", "reader")
 
@@ -38,7 +38,7 @@ class PastHandle:
 
 
 class Listing(NamedTuple):
-    """An open directory: the names as they were when it was read from its beginning."""
+    """An open directory: its names when it was read from its beginning."""
 
     node: Union[Directory, PastNode]
     names: list[bytes]
@@ -57,7 +57,8 @@ class Operations(Answering):
         self.past_handles: dict[int, PastHandle] = {}
         self._listings: dict[int, Listing] = {}
         self.untold: list[tuple[Node, Optional[bytes]]] = []
-        """What has changed of the tree by no answer to the kernel, which another thread has to tell it: the kernel may ask meanwhile."""
+        """Changes of the tree without a request of the kernel. Another thread has to report them, as the kernel may send requests
+        meanwhile."""
         self._next_handle = FIRST_PAST_HANDLE
 
     def follow_store(self) -> None:
@@ -78,7 +79,7 @@ class Operations(Answering):
         raise OSError(errno.EROFS if isinstance(node, PastNode) else errno.ENOTDIR, "")
 
     def _entry(self, node: Node) -> Any:
-        """Returns what the kernel is told of a node."""
+        """Returns the kernel's entry of a node."""
         if node.entry is not None:
             return node.entry
         it, entry = node.attributes, pyfuse3.EntryAttributes()
@@ -104,11 +105,11 @@ class Operations(Answering):
         return entry
 
     def _known(self, node: Node) -> Any:
-        """Returns what the kernel is told of a node that it will know from now on."""
+        """Returns the kernel's entry of a node that it will know from now on."""
         node.lookups += 1
         return self._entry(node)
 
-    # The four requests that come most often are answered here, and what is unusual of them below: a call more costs a reader a fifth.
+    # The four most frequent requests are answered here, and their unusual cases below: one more call costs a reader a fifth.
 
     async def lookup(self, ino: int, name: bytes, context: Any) -> Any:
         with self.lock:
@@ -258,7 +259,7 @@ class Operations(Answering):
             raise OSError(errno.EBUSY, "")
         self.naming.rename(self._directory(ino), name, self._parent(new_ino, new_name), new_name, flags)
 
-    # Extended attributes: those of users alone, `user.NAME`.
+    # Extended attributes: only those of users, `user.NAME`.
 
     async def getxattr(self, ino: int, name: bytes, context: Any) -> bytes:
         # The kernel asks for `security.capability` before each write.
@@ -346,7 +347,7 @@ class Operations(Answering):
         self._next_handle += 1
         self.past_handles[self._next_handle] = PastHandle(node, source, content)
         node.opens += 1
-        # The kernel keeps nothing of the only text that changes.
+        # The kernel caches no page of the only text that changes.
         return pyfuse3.FileInfo(fh=self._next_handle, keep_cache=True) if source else pyfuse3.FileInfo(fh=self._next_handle, direct_io=True)
 
     @changing
@@ -390,9 +391,9 @@ class Operations(Answering):
             self.store.sync_journal()
 
     def hold_past(self) -> bool:
-        """Has the store keep the versions that open files of the past read, and returns whether it does so for another one.
+        """Opens handles of the store for the versions that open files of the past read. Returns whether it opened another one.
 
-        To be called before anything is removed.
+        Call it before a removal.
         """
         is_another = False
         for opened in self.past_handles.values():
@@ -406,7 +407,7 @@ class Operations(Answering):
         return is_another
 
     def _path_now(self, source: Source) -> bytes:
-        """Returns the path by which a version is found: a number of a version is that of the file that has the name now."""
+        """Returns the path that finds a version: a version's number means the file that has the name now."""
         if source.tag != 2:
             return source.path
         node = self.tree.files.get(source.file)
@@ -440,7 +441,7 @@ class Operations(Answering):
                 found.lookups += 1
 
     def _named(self, node: Union[Directory, PastNode], name: bytes) -> Optional[Union[Node, PastNode]]:
-        """Returns what a name of a listing stands for now, if for anything."""
+        """Returns the node of a name in a listing now, if there is one."""
         if isinstance(node, Directory):
             return node if name == b"." else (node.parent or node) if name == b".." else node.children.get(name)
         try:
@@ -453,7 +454,7 @@ class Operations(Answering):
             return self._entry(node)
         try:
             return self._past_entry(node)
-        except (ElephantError, OSError):  # it was forgotten: who asks for it is told so
+        except (ElephantError, OSError):  # it was forgotten: a request for it says so
             entry = pyfuse3.EntryAttributes()
             entry.st_ino, entry.st_mode, entry.entry_timeout, entry.attr_timeout = node.ino, stat.S_IFREG | 0o444, 0, 0
             return entry
@@ -471,7 +472,7 @@ class Operations(Answering):
         disk, it, counts = self.store.disk(), pyfuse3.StatvfsData(), self.store.counts
         it.f_bsize = it.f_frsize = 4096
         it.f_blocks = disk.f_blocks * disk.f_frsize // 4096
-        # A content takes twice its bytes of the journal.
+        # A content takes twice its bytes in the journal.
         it.f_bfree = it.f_bavail = 0 if self.store.stopped else disk.f_bavail * disk.f_frsize // 8192
         it.f_files = counts.limits.files
         it.f_ffree = it.f_favail = min(counts.left("files"), counts.left("names"), counts.left("versions") // 2)

@@ -1,4 +1,4 @@
-"""The folder `.elephant`: the tree as it stood at a moment, the held versions of each file, and the deleted names that may come back.
+"""The folder `.elephant`: the tree at a moment, the held versions of each file, and the restorable names.
 
     .elephant/at/2026-11-27T08:00:00Z/PATH    what PATH held at that moment
     .elephant/versions/PATH/2                 version 2 of the file PATH
@@ -6,7 +6,7 @@
     .elephant/limits                          how much of each limit is used and left, as text
     .elephant/socket                          a link to the socket that takes lines
 
-All of it is read only. It is in no listing of the folder that it is in, so that no copy and no search comes by it.
+All of it is read only. The listing of its parent doesn't show it, so copies and searches skip it.
 """
 
 from __future__ import annotations
@@ -28,16 +28,16 @@ NAME = b".elephant"
 FIRST_INO = 1 << 48
 PARTS = (b"at", b"limits", b"restorable", b"socket", b"versions")
 _WORDS: dict[bytes, tuple[object, ...]] = {b"versions": (b"",), b"restorable": (0,)}
-# The kinds of files: as a moment found them, by the number of a version, and those that were deleted.
+# The kinds of files: by a moment, by the number of a version, and deleted ones.
 FILES = ("then", "version", "dead")
 Key = tuple[object, ...]
 
 
 class PastNode:
-    """What an inode number below `.elephant` stands for: a kind and its words.
+    """The node of an inode number below `.elephant`: a kind and its words.
 
-    The last two words of a file's are the number of the file and of the version: the kernel keeps what it has read of an inode, so that no
-    inode may ever have another content, though a path does. `shown` is what was last told of a node that is open.
+    The last two words of a file are the numbers of the file and of the version. The kernel caches what it has read from an inode, so an
+    inode always has one content, though a path may get another. `shown` is the last answer about an open node.
     """
 
     __slots__ = ("ino", "key", "lookups", "opens", "shown")
@@ -48,7 +48,7 @@ class PastNode:
 
 
 class Shown(NamedTuple):
-    """What `stat` tells of a node."""
+    """The attributes of a node."""
 
     mode: int
     size: int
@@ -58,7 +58,7 @@ class Shown(NamedTuple):
 
 
 class Source(NamedTuple):
-    """Where the store has the content of a node: the file, and how a read finds the version."""
+    """The content of a node in the store: the file, and how a read finds the version."""
 
     file: int
     path: bytes
@@ -114,7 +114,7 @@ class Past:
     # Looking up.
 
     def lookup(self, node: PastNode, name: bytes) -> PastNode:
-        """Returns what a name in a directory stands for. Raises FileNotFoundError, or Forgotten."""
+        """Returns the node of a name in a directory. Raises FileNotFoundError, or Forgotten."""
         found = self.find(node, name)
         try:
             self.show(found)
@@ -124,7 +124,7 @@ class Past:
         return found
 
     def find(self, node: PastNode, name: bytes) -> PastNode:
-        """The same, also of a version that was forgotten, of which nothing can be read."""
+        """Does the same, also for a forgotten version, which can't be read."""
         kind, *words = node.key
         key: Optional[Key] = None
         if kind == "root" and name in PARTS:
@@ -179,7 +179,7 @@ class Past:
         return self._dead_path(first) + b"/" + second, AT, max(self.store.ends.get((first, second), 0) - 1, 0)
 
     def _file_key(self, kind: object, first: object, second: object, wanted: object = None) -> Key:
-        """Returns the key of what a path of the past leads to. Of a file whose version isn't found the version is 0."""
+        """Returns the key of the target of a path of the past. If a file's version isn't found, the version is 0."""
         path, tag, number = self._place(kind, first, second)
         try:
             row = self.store.stat_row(path, tag, number)
@@ -190,14 +190,14 @@ class Past:
         if row.is_directory and kind == "then":
             return "at", first, second
         if wanted not in (None, row.id):
-            # It was made and deleted within one second, or its directory had another name: no moment finds it, and undelete does.
+            # It was made and deleted within one second, or its directory had another name: no moment finds it, but undelete does.
             return kind, first, second, wanted, 0
         return kind, first, second, int(row.id), int(row.version)
 
     # Attributes and contents.
 
     def _row(self, node: PastNode) -> Any:
-        """Returns the store's row of a file. Raises Forgotten, or ESTALE if what is found isn't the version that the node stands for."""
+        """Returns the store's row of a file. Raises Forgotten, or ESTALE if the row isn't that of the node's version."""
         if node.key[0] not in FILES:
             raise IsADirectoryError(errno.EISDIR, "")
         kind, first, second, file, version = node.key
@@ -207,7 +207,7 @@ class Past:
         return row
 
     def source(self, node: PastNode) -> Source:
-        """Returns where the content of a file is. Raises IsADirectoryError, or Forgotten."""
+        """Returns the source of a file's content. Raises IsADirectoryError, or Forgotten."""
         row = self._row(node)
         return Source(row.id, *self._place(*node.key[:3]))
 
@@ -256,13 +256,13 @@ class Past:
         return node.shown
 
     def is_over(self, node: PastNode) -> bool:
-        """Whether a node is of a tree whose moment is over: no directory of it will ever be another."""
+        """Whether a node is of a tree of an earlier moment: such a tree never changes."""
         return node.key[0] == "at" and len(node.key) > 1 and node.key[1] < self.store.now  # type: ignore[operator]
 
     # Listing.
 
     def names(self, node: PastNode) -> list[bytes]:
-        """Returns the names in a directory, which `find` takes."""
+        """Returns the names in a directory, which `find` accepts."""
         kind, *words = node.key
         if kind == "root":
             return list(PARTS)
@@ -287,7 +287,7 @@ class Past:
         return self._dead.get(number, {})
 
     def _refresh_dead(self) -> None:
-        """Lists the deleted names again if any name has changed: those of files that have no other name, by directory."""
+        """Lists the deleted names again if any name has changed: those of files without another name, by directory."""
         if self._dead_seen == self.store.name_changes:
             return
         dead: dict[int, dict[bytes, Key]] = {}
@@ -316,7 +316,7 @@ class Past:
 
 
 def _add_above(dead: dict[int, dict[bytes, Key]], places: dict[int, tuple[int, bytes]], number: int) -> None:
-    """Lists a directory that has deleted names in the one that it is in, and so on."""
+    """Lists a directory with deleted names in its parent, and so on up."""
     while number:
         parent, spelling = places[number]
         names = dead.setdefault(parent, {})

@@ -1,16 +1,16 @@
-"""What the mount keeps of files and directories beside the store: modes, owners, times and extended attributes. It has no past.
+"""The mount's records of files and directories: modes, owners, times and extended attributes. They have no past.
 
-They are kept in the store's journal, as remarks:
+The store's journal stores them, as remarks:
 
     # made f12 d3 100644 0 0 NS           file 12 was made in directory 3: mode (octal), owner, group, and the time
     # names NS d3 d5 f12                  names in directories 3 and 5 changed, and with them file 12
     # saved f12 NS                        the content of file 12 was written
     # attr f12 100644 0 0 NS NS NS        file 12: mode, owner, group, times of access, content and attributes
     # xattr f12 NS 757365722e61 =6f6e65   file 12 has the extended attribute user.a with the value one, both in hexadecimal
-    # xattr f12 NS 757365722e61           file 12 hasn't it any more, and without a name it has none
+    # xattr f12 NS 757365722e61           file 12 has lost the attribute, and without a name it has none
 
 NS is a time in nanoseconds since 1970. A mode has the kind of the file too: a symbolic link is a file of the store whose content is
-where it leads.
+its target path.
 """
 
 from __future__ import annotations
@@ -48,7 +48,7 @@ class Attributes:
 
 
 def now_ns() -> int:
-    """Returns the time as a disk's file system takes it, to some milliseconds.
+    """Returns the time with the resolution of a disk's file system, some milliseconds.
 
     A file that is made and written at once then has one time. If it had two, the kernel would drop the content that it has of it.
     """
@@ -95,19 +95,19 @@ def extended(key: int, now: int, name: bytes, value: Optional[bytes]) -> bytes:
 
 
 def everything(key: int, it: Attributes) -> list[bytes]:
-    """Returns the remarks that make all attributes of a key these, whatever it had before."""
+    """Returns the remarks that set all attributes of a key."""
     none = b"# xattr %b %d" % (word_of(key), it.ctime)
     return [whole(key, it), none, *(extended(key, it.ctime, name, value) for name, value in (it.extended or {}).items())]
 
 
 class Records:
-    """The attributes of all files and directories that ever were, by key."""
+    """The attributes of all files and directories that ever existed, by key."""
 
     def __init__(self) -> None:
         self.by_key: dict[int, Attributes] = {}
 
     def apply(self, remark: bytes) -> None:
-        """Takes in a remark of the journal. One of another program is passed over."""
+        """Applies a remark of the journal. It passes over remarks of other programs."""
         with suppress(ValueError, IndexError):
             self._apply(remark)
 
@@ -148,7 +148,7 @@ class Records:
             self.touch(key, now, content=bool(key & 1))
 
     def touch(self, key: int, now: int, content: bool) -> None:
-        """Sets the time of the attributes, and that of the content too."""
+        """Sets the time of the attributes, and with `content` that of the content too."""
         it = self.by_key.get(key)
         if it is None and key & 1:
             it = self.by_key[key] = Attributes(DIRECTORY_MODE, os.getuid(), os.getgid(), now, now, now)

@@ -1,4 +1,4 @@
-"""Makes the journal of a mount anew if that is shorter: by a process of its own, a new file, and a rename."""
+"""Rewrites the journal of a mount if that makes it shorter: by a process of its own, a new file, and a rename."""
 
 from __future__ import annotations
 
@@ -17,9 +17,9 @@ from .log import Log
 from .operations import Operations
 from .shorter import changes_in
 
-# A journal is made anew if it is longer than this, and probably more than twice as long as the new one.
+# A journal is rewritten if it is longer than this, and probably more than twice as long as the new one.
 LEAST_BYTES = 1 << 20
-# What the commands of a version take of a journal, about.
+# The commands of a version take about so many bytes of a journal.
 COMMANDS_OF_VERSION = 160
 GROWTH = 1.2
 NOT_SHORTER = "it would be as long as before"
@@ -28,12 +28,12 @@ SOURCE = str(Path(__file__).resolve().parent.parent.parent)
 
 
 class Rewriting:
-    """Makes the journal anew."""
+    """Rewrites the journal."""
 
     def __init__(self, operations: Operations, log: Log, may_settle: bool) -> None:
         self.operations, self.store, self.log = operations, operations.store, log
         self._may_settle = may_settle
-        """Whether what is being written may become a version for this."""
+        """Whether open drafts may become versions for this."""
         self._tried = 0
         self._turn = threading.Lock()
         self._process: Optional[subprocess.Popen[str]] = None
@@ -48,25 +48,25 @@ class Rewriting:
             return size > max(LEAST_BYTES, 2 * least, self._tried * GROWTH) and not self.store.stopped
 
     def run_if_worth(self) -> None:
-        """Makes the journal anew if it is likely to be half as long then."""
+        """Rewrites the journal if that probably halves it."""
         if self._is_worth():
             self.run()
 
     def run_and_tell(self) -> str:
-        """Makes the journal anew, and says how long it was and is."""
+        """Rewrites the journal, and returns a text with the old and the new length."""
         before = self.store.journal_size
         fault = self.run()
         return f"elephant-mount: {fault}\n" if fault else f"ok journal {before} {self.store.journal_size}\n"
 
     def stop(self) -> None:
-        """Has the journal stay as it is from now on."""
+        """Stops rewriting, for good."""
         self._is_stopped = True
         process = self._process
         if process is not None:
             process.terminate()
 
     def run(self) -> str:
-        """Makes the journal anew. Returns why that wasn't done, or an empty text."""
+        """Rewrites the journal. Returns why it didn't, or an empty text."""
         # Two at once would write one file.
         if not self._turn.acquire(blocking=False):
             return "it is being made anew already"
@@ -97,7 +97,7 @@ class Rewriting:
         return fault
 
     def _make(self, path: str, size: int, new: str) -> str:
-        """Has another process make the new journal, while this one goes on. Returns what it lacks."""
+        """Makes another process write the new journal, while this one goes on. Returns why it failed, or an empty text."""
         make_private(new)
         words = [sys.executable, "-m", "elephant.mount.shorter", path, str(size), new]
         environment = {**os.environ, "PYTHONPATH": os.pathsep.join(filter(None, [SOURCE, os.environ.get("PYTHONPATH", "")]))}
@@ -111,7 +111,7 @@ class Rewriting:
         return "" if process.returncode == 0 and said == "ok\n" else lack.strip() or f"it ended with {process.returncode}"
 
     def _take(self, path: str, size: int, new: str) -> str:
-        """Adds what came meanwhile to the new journal, and puts it in place of the old one. Returns why it doesn't."""
+        """Adds the changes since then to the new journal, and replaces the old one. Returns why it didn't, or an empty text."""
         journal, is_taken = Journal(new, False, 5.0), False
         try:
             for _ in journal.changes():
@@ -145,7 +145,7 @@ def _give_rights(path: str, file: int) -> None:
 
 
 def _clear(path: str) -> None:
-    """Removes a journal that a mount, which was killed, didn't finish. A file that is no journal stays."""
+    """Removes an unfinished journal of a mount that was killed. A file that is no journal stays."""
     try:
         with open(path, "rb") as file:
             found = file.read(len(HEADER))

@@ -1,10 +1,10 @@
-"""Makes a shorter journal of a mount's: `python3 -m elephant.mount.shorter OLD SIZE NEW`, in a process of its own.
+"""Writes a shorter journal of a mount's: `python3 -m elephant.mount.shorter OLD SIZE NEW`, in a process of its own.
 
 The new journal makes the same store, with the same numbers and moments. It has every command of the old one, since each may have used a
-number. It lacks the contents that no held version needs: in place of one that was removed meanwhile stands one byte, and in place of all
-that sessions wrote the parts in which a version differs from the one before it. And it has each file's attributes once.
+number. It lacks the contents that no held version needs: a removed version has one byte, and a held one only the parts that differ from
+the version before it. It has each file's attributes once.
 
-Before it says `ok` it runs the new journal in a fresh store, and compares what that tells of everything with what the old one tells.
+Before it prints `ok` it runs the new journal in a fresh store, and compares all answers of that store with those of the old one.
 """
 
 from __future__ import annotations
@@ -105,11 +105,11 @@ class Census(Replay):
         return 0
 
     def end(self) -> None:
-        """Frees the store: what was found of it stays."""
+        """Frees the store, and keeps the results."""
         self._core.free()
 
     def needed(self) -> set[Version]:
-        """Returns the versions whose contents the new journal needs: those that are held, and those that they are copies of."""
+        """Returns the versions whose contents the new journal needs: the held ones, and those that they are copies of."""
         needed = set(self.held)
         for source, made in reversed(self.copies):
             if made in needed:
@@ -118,7 +118,7 @@ class Census(Replay):
 
 
 class Shortening(Replay):
-    """Runs the old journal again, and beside it a store that gets the lines of the new one."""
+    """Runs the old journal again, and with it a store that gets the lines of the new one."""
 
     def __init__(self, core: Core, other: Core, census: Census) -> None:
         super().__init__(core)
@@ -136,7 +136,7 @@ class Shortening(Replay):
         return code or self._also(b"open write " + path)
 
     def _also(self, line: bytes) -> int:
-        """Runs a line in the other store, and keeps it."""
+        """Runs a line in the other store, and adds it to the new journal."""
         answer = self._other_core.line(line)
         if not answer.startswith(b"ok "):
             raise JournalError(f"{line[:80]!r} is answered {answer[:80]!r}")
@@ -151,12 +151,12 @@ class Shortening(Replay):
         return code or self._also(b"close %d" % handle)
 
     def _fill(self, handle: int, is_needed: bool) -> None:
-        """Gives the other store's draft the content, or one byte if nobody will read it."""
+        """Writes the content into the other store's draft, or one byte if nobody will read it."""
         if not is_needed:
             self._also(b"write %d 0 00" % handle)
             return
         content, old = (_draft(core, handle) for core in (self._core, self._other_core))
-        if not content and not old:  # something was written and cut off again
+        if not content and not old:  # something was written and cut again
             self._also(b"write %d 0 00" % handle)
             self._also(b"truncate %d 0" % handle)
         for start, end in changed_parts(old, content, True):
@@ -176,7 +176,7 @@ def _draft(core: Core, handle: int) -> bytes:
 
 
 def told(core: Core) -> Iterator[bytes]:
-    """Yields all that a store tells of what it holds."""
+    """Yields all answers of a store about what it holds."""
     for line in (b"restorable", b"due", b"groups", b"ahead %d" % LAST_MOMENT, b"clock %d" % core.now()):
         yield core.line(line)
     for row in core.line(b"usage").splitlines():
@@ -200,7 +200,7 @@ def told(core: Core) -> Iterator[bytes]:
 
 
 def shorten(old: str, size: int, new: str) -> None:
-    """Writes the new journal, and compares the stores that the two make."""
+    """Writes the new journal, and compares the stores of the two."""
     first = crc32(HEADER[PREFIX - 2:])
     census = Census(Core(Limits(), False))
     for change in changes_in(old, len(HEADER), size, first):
@@ -223,7 +223,7 @@ def shorten(old: str, size: int, new: str) -> None:
 
 
 def _write(old: str, size: int, shortening: Shortening, journal: Journal, census: Census) -> None:
-    """Writes the lines of the new journal, and the attributes of what is held."""
+    """Writes the lines of the new journal, and the attributes of what the store holds."""
     first = crc32(HEADER[PREFIX - 2:])
     for change in changes_in(old, len(HEADER), size, first):
         lines = shortening.shorten(change)

@@ -1,4 +1,4 @@
-"""The store of a mount: its journal also keeps attributes, its limits are counted, and a full disk stops changes and nothing else."""
+"""The store of a mount: its journal also stores attributes, its limits are counted, and a full disk stops only changes."""
 
 from __future__ import annotations
 
@@ -20,18 +20,18 @@ from .disk import allocate as _allocate
 from .records import Records
 
 BLOCK = 4096
-# What a change takes of the journal at most, beside contents.
+# The most bytes of a change in the journal, without contents.
 MOST_CHANGE = 16_384
 RESERVE_STEP = 1 << 20
-# No line of a journal is longer.
+# The most bytes of a line of a journal.
 MOST_LINE = 9000
-# Which counts a command takes one of.
+# The counts that each command raises by one.
 _TAKES = {
     b"create": ("files", "names", "versions"), b"mkdir": ("directories", "names"), b"link": ("names",), b"rename": ("names",),
     b"undelete": ("names",), b"open": ("handles",), b"revert": ("versions",), b"group make": ("groups",), b"group add": ("members",),
     b"mark": ("marks",),
 }
-# Lines that end no name and bring none back. A removal may, of the last version of a file without a name: `forget_names` is for that.
+# Lines that end no name and restore none. A removal of the last version of a file without a name may: `forget_names` is for that.
 _OF_CONTENTS = (b"# ", b"clock ", b"write ", b"truncate ", b"open ", b"close ", b"clean", b"pass ")
 Remarks = Callable[[int], Sequence[bytes]]
 
@@ -41,7 +41,7 @@ class NoSpace(Exception):
 
 
 class NotKept(JournalError):
-    """The journal can't be written. The store has what was asked of it, and answered `number`: a handle or a version."""
+    """The journal can't be written. The store has made the change, and returned `number`: a handle or a version."""
 
     def __init__(self, subject: str, number: int) -> None:
         super().__init__(subject)
@@ -49,14 +49,14 @@ class NotKept(JournalError):
 
 
 class Departed(NamedTuple):
-    """A file without a name: the path that was its last, and the policy that it had."""
+    """A file without a name: its last path, and its policy."""
 
     path: bytes
     policy: str
 
 
 class Counts:
-    """How many of each limit the store has used. What is removed gives nothing back."""
+    """How much of each limit the store has used. A removal lowers no count."""
 
     def __init__(self, limits: Limits) -> None:
         self.limits = limits
@@ -67,7 +67,7 @@ class Counts:
             self.used[name] += 1
 
     def take_line(self, line: bytes) -> None:
-        """Counts the line of a command that was answered."""
+        """Counts the line of an answered command."""
         words = line.split(b" ", 2)
         self.take(b" ".join(words[:2]) if words[0] == b"group" else words[0])
 
@@ -75,12 +75,12 @@ class Counts:
         return max(int(getattr(self.limits, name)) - self.used[name], 0)
 
     def lacking(self, **wanted: int) -> Optional[str]:
-        """Returns a limit of which less is left, or None."""
+        """Returns a limit with less than that left, or None."""
         return next((name for name, count in wanted.items() if self.left(name) < count), None)
 
 
 class _MountReplay(Replay):
-    """Runs a journal again, and takes in what the mount keeps in it."""
+    """Runs a journal again, and applies the remarks of the mount."""
 
     def __init__(self, core: Core, store: MountStore) -> None:
         super().__init__(core)
@@ -114,8 +114,8 @@ class _MountReplay(Replay):
 class MountStore(Store):
     """A store in a journal, with the records of a mount.
 
-    Many commands may be one change of the journal. `stopped` says why the journal can't be written, if it can't: what was answered
-    before stays in memory, and is written as soon as that works again.
+    Many commands may be one change of the journal. `stopped` says why the journal can't be written, if it can't: the answered changes
+    stay in memory until it can be written again.
     """
 
     def __init__(self, journal: str, limits: Optional[Limits] = None) -> None:
@@ -127,7 +127,7 @@ class MountStore(Store):
         self.stopped = ""
         """Why the journal can't be written, if it can't."""
         self.name_changes = 0
-        """Goes up whenever a name may have ended, come back, or stopped being one that can come back."""
+        """A count that goes up whenever a name may have ended, was restored, or is no longer restorable."""
         self.unsynced = False
         self._is_sync_lost = False
         self._unkept: list[Sequence[bytes]] = []
@@ -146,7 +146,7 @@ class MountStore(Store):
 
     @property
     def journal_size(self) -> int:
-        """The bytes of the journal."""
+        """The length of the journal in bytes."""
         return self._journal._size if self._journal else 0
 
     def _keep(self, *lines: bytes) -> None:
@@ -175,7 +175,7 @@ class MountStore(Store):
 
     @contextmanager
     def together(self) -> Iterator[None]:
-        """Has all that is changed within be one change of the journal: a kill leaves the whole of it, or nothing."""
+        """Makes one change of the journal of all changes within: a kill leaves all of it, or nothing."""
         with self._lock:
             outer, self._gathered = self._gathered, []
             try:
@@ -190,20 +190,20 @@ class MountStore(Store):
         super()._keep_close(handle, makes_version)
 
     def keep(self, *remarks: bytes) -> None:
-        """Keeps remarks alone."""
+        """Adds remarks without a command."""
         with self._lock:
             self._begin()
             self._keep(*remarks)
 
     def retry(self) -> bool:
-        """Writes what the journal lacks, if that works again. Returns whether it lacks nothing."""
+        """Writes the changes that the journal lacks, if that works again. Returns whether it now lacks none."""
         with self._lock:
             if self._is_sync_lost:
                 return False
             try:
                 assert self._journal is not None
                 if os.fstat(self._journal._file).st_size != self._journal._size:
-                    # A write that failed has left some of its bytes, which would be damage in the middle of the journal.
+                    # A failed write may have left some bytes, which would be damage in the middle of the journal.
                     os.ftruncate(self._journal._file, self._journal._size)
                     self._reserved = 0
                 while self._unkept:
@@ -218,7 +218,7 @@ class MountStore(Store):
             return True
 
     def reserve(self, content: int) -> None:
-        """Makes sure that the disk has space for what is pending, a content of so many bytes, and a change. Raises NoSpace."""
+        """Makes sure that the disk has space for the pending changes, a content of so many bytes, and a change. Raises NoSpace."""
         assert self._journal is not None
         wanted = self._journal._size + self.pending + 2 * content + content // 200 + MOST_CHANGE
         if wanted <= self._reserved:
@@ -232,7 +232,7 @@ class MountStore(Store):
         raise NoSpace
 
     def sync_journal(self) -> None:
-        """Has all that was answered on the disk."""
+        """Syncs the journal to the disk."""
         with self._lock:
             if self._is_sync_lost:
                 raise JournalError(self.stopped)
@@ -241,7 +241,7 @@ class MountStore(Store):
             self._sync(self._journal._file)
 
     def _sync(self, file: int) -> None:
-        """Syncs the journal. If the disk fails, it may have dropped what it was given, and it says so once: no later sync mends that."""
+        """Syncs the journal. If the disk fails, it may have dropped data, and reports it once: no later sync repairs that."""
         try:
             os.fdatasync(file)
         except OSError as fault:
@@ -253,7 +253,7 @@ class MountStore(Store):
         raise JournalError(self.stopped) from fault
 
     def sync_journal_aside(self) -> None:
-        """The same, without the lock: other calls go on meanwhile."""
+        """Does the same without the lock: other calls go on meanwhile."""
         with self._lock:
             assert self._journal is not None
             file = os.dup(self._journal._file)
@@ -269,7 +269,7 @@ class MountStore(Store):
 
     @property
     def has_place(self) -> bool:
-        """Whether the journal is the file that its path names."""
+        """Whether the journal's path still names the journal."""
         with self._lock:
             assert self._journal is not None
             try:
@@ -279,7 +279,7 @@ class MountStore(Store):
 
     @property
     def has_sessions(self) -> bool:
-        """Whether lines have opened files to be written."""
+        """Whether lines have opened handles that write."""
         return bool(self._writers)
 
     def checksum_at(self, size: int) -> int:
@@ -290,7 +290,7 @@ class MountStore(Store):
         return int(last[:8], 16)
 
     def change_journal(self, journal: Journal) -> None:
-        """Goes on with another journal, which is at this one's place already."""
+        """Continues with another journal, which has already replaced this one."""
         with self._lock:
             old, path = self._journal, self.journal_path
             assert old is not None
@@ -308,7 +308,7 @@ class MountStore(Store):
         return os.statvfs(self._journal._file)
 
     def release_reserve(self) -> None:
-        """Gives back what was reserved and isn't used."""
+        """Frees the reserved space that isn't used."""
         with self._lock:
             if self._journal is not None and self._journal._file >= 0:
                 os.ftruncate(self._journal._file, self._journal._size)
@@ -317,7 +317,7 @@ class MountStore(Store):
     # Commands.
 
     def run(self, *commands: Sequence[bytes], remarks: Remarks = lambda _: ()) -> int:
-        """Runs commands, as one change with the remarks that a number gives: the one that the last command answers, and returns it."""
+        """Runs commands, as one change with remarks. The remarks may depend on the last command's number, which it returns."""
         lines: list[bytes] = []
         with self._lock, self._change as core:
             number = 0
@@ -344,7 +344,7 @@ class MountStore(Store):
         return 0
 
     def note_end(self, core: Core, path: bytes) -> None:
-        """Notes that a name is about to end, and what its file was."""
+        """Notes that a name is about to end, and which file it had."""
         parent, _, name = path.rpartition(b"/")
         try:
             row = core.stat(path, path)
@@ -367,9 +367,10 @@ class MountStore(Store):
             return self._begin().stat(path, path, tag, number)
 
     def write_draft(self, path: bytes, handle: Optional[int], content: bytes, is_changed: bool, remarks: Iterable[bytes]) -> int:
-        """Gives a file's draft a content, opening it if there is no handle. Returns the handle. The journal has it when this returns.
+        """Writes a content into a file's draft, and opens a handle if there is none. Returns the handle. The journal then has the
+        content.
 
-        `is_changed`: the draft counts as changed, also if it has the same bytes as before.
+        `is_changed`: the draft counts as changed, even if it has the same bytes as before.
         """
         lines: list[bytes] = []
         with self._lock, self._change as core:
@@ -402,9 +403,9 @@ class MountStore(Store):
             lines.append(b"truncate %d %d" % (handle, len(content)))
 
     def replace_content(self, path: bytes, source: bytes, content: bytes, is_fresh: bool, remarks: Iterable[bytes]) -> int:
-        """Makes a content the next version of a file, and ends the name of the file that it is from. Returns the version's number.
+        """Makes a content the next version of a file, and removes the name of the file that it is from. Returns the version's number.
 
-        What the other file held is due at once if it is fresh, since all of it goes on in this one.
+        If the other file is fresh, its versions are due at once, since this file now has its content.
         """
         lines: list[bytes] = []
         with self._lock, self._change as core:
@@ -430,7 +431,7 @@ class MountStore(Store):
             return version
 
     def close_draft(self, handle: int, remarks: Iterable[bytes] = ()) -> int:
-        """Closes a handle. Returns the number of the version that this made, or 0."""
+        """Closes a handle. Returns the number of the version that the close made, or 0."""
         with self._lock, self._change as core:
             version = core.ask(core.library.elephant_close_handle, "", handle)
             self.counts.used["versions"] += bool(version)
@@ -441,7 +442,7 @@ class MountStore(Store):
             return version
 
     def undelete(self, path: bytes) -> Optional[int]:  # type: ignore[override]
-        """Brings a deleted name back. Returns the number of the version that a file gets which had no name, else None."""
+        """Restores a deleted name. Returns the number of the version that a file without a name gets, else None."""
         version = super().undelete(path)
         self.counts.take(b"undelete")
         self.counts.used["versions"] += version is not None
@@ -454,7 +455,7 @@ class MountStore(Store):
         return made
 
     def open_reader(self, path: bytes, tag: int, number: int) -> int:
-        """Opens a handle that keeps a version from being removed."""
+        """Opens a handle that protects a version from removal."""
         with self._lock, self._change as core:
             handle = core.ask(core.library.elephant_open_read, path, path, len(path), tag, number)
             self.counts.take(b"open")
@@ -469,7 +470,7 @@ class MountStore(Store):
             return [Removable(Moment(since), file, number) for since, file, number in core.keys(min(count, most))]
 
     def names_in(self, path: bytes, tag: int = NOW, number: int = 0) -> list[tuple[bytes, bool, int]]:
-        """Returns the names in a directory as they are spelled, each with whether it is a directory's and the number."""
+        """Returns the spelled names in a directory, each with whether it is a directory and with its number."""
         with self._lock:
             core = self._begin()
             rows = self._names(core, core.ask(core.library.elephant_list, path, path, len(path), tag, number))
@@ -477,8 +478,8 @@ class MountStore(Store):
 
 
 def changed_parts(old: bytes, new: bytes, is_changed: bool) -> list[tuple[int, int]]:
-    """Returns the parts of the new content that differ from the old one, in whole blocks. If none does, and the content counts as
-    changed, the first byte is one."""
+    """Returns the parts of the new content that differ from the old one, in whole blocks. If none differs but the content counts as
+    changed, it returns the first byte."""
     parts: list[tuple[int, int]] = []
     for start in range(0, len(new), BLOCK):
         end = min(start + BLOCK, len(new))

@@ -1,6 +1,6 @@
-"""The names of a mount as they are now: what the kernel knows by an inode number, and what the store knows by the number of a file.
+"""The names of a mount now: the nodes that the kernel knows by inode numbers, and the store by the numbers of files.
 
-The tree holds what the store holds. A command is asked of the store first, and then done here.
+The tree follows the store: a command runs in the store first, and then here.
 """
 
 from __future__ import annotations
@@ -22,7 +22,7 @@ FIRST_SPARE = 1 << 40
 
 
 class Node:
-    """What an inode number stands for. `entry` is what the kernel was last told of it, if that still holds."""
+    """A node, known by its inode number. `entry` is the last answer to the kernel about it, if that still holds."""
 
     __slots__ = ("ino", "number", "attributes", "lookups", "entry")
 
@@ -35,8 +35,8 @@ class Node:
 class File(Node):
     """A file or a symbolic link.
 
-    While something of it is written and isn't a version, `draft` is the content. `handle` is then the store's handle, if the store
-    has been given some of the draft.
+    While a part of it is written and in no version, `draft` is the content. `handle` is then the store's handle, if the store has some of
+    the draft.
     """
 
     __slots__ = ("names", "size", "version", "draft", "is_unsaved", "handle", "opens", "writers", "pending", "info", "born")
@@ -50,9 +50,9 @@ class File(Node):
         self.handle: Optional[int] = None
         self.opens = self.writers = self.pending = 0
         self.born = 0.0
-        """When it was made, by the monotonic clock, if this mount made it."""
+        """When this mount made it, by the monotonic clock, if it did."""
         self.info: Any = None
-        """What the kernel is told when it opens the file to read it."""
+        """The kernel's answer to an open for reading."""
 
     @property
     def path(self) -> bytes:
@@ -78,9 +78,9 @@ class Directory(Node):
         self.children: dict[bytes, Union[File, Directory]] = {}
         self.subdirectories = 0
         self.odd: dict[bytes, bytes] = {}
-        """Names whose spelling isn't the one that the mount makes: a line made them."""
+        """Names with another spelling than the mount's: a line made them."""
         self.left: dict[bytes, tuple[Union[File, int], float]] = {}
-        """Names that ended just now, each with the time, and the file that has another name now, or the number of one that has none."""
+        """Names that ended just now, each with the time, and the file if it has another name, or else its number."""
         self.ended = False
 
     def path_of(self, name: bytes) -> bytes:
@@ -88,7 +88,7 @@ class Directory(Node):
         return self.path + b"/" + (self.odd.get(name) or spelled(name))
 
     def path_of_new(self, name: bytes) -> bytes:
-        """Returns the path of a name that is to be made. Raises TooLong."""
+        """Returns the path of a new name. Raises TooLong."""
         if self.depth >= MOST_NAMES:
             raise TooLong(f"the path of {shown(name)} has more than {MOST_NAMES} names")
         if self.ended:
@@ -103,7 +103,7 @@ class Tree:
         self.store, self.records = store, store.records
         self.by_ino: dict[int, Node] = {}
         self.files: dict[int, File] = {}
-        """By the number of the store's file, those that have a name."""
+        """The files with a name, by the number of the store's file."""
         self._spare = FIRST_SPARE
         self.root = self.new_directory(0)
         for _ in self.refresh():
@@ -112,14 +112,14 @@ class Tree:
     # Making.
 
     def _ino_of(self, key: int) -> int:
-        """Returns the inode number of a new node: that of its number, unless another node has it."""
+        """Returns the inode number of a new node: its own number, unless another node has it."""
         if key not in self.by_ino:
             return key
         self._spare += 1
         return self._spare
 
     def attributes_of(self, key: int, mode: int, now: int) -> Attributes:
-        """Returns the attributes of a file or directory, which it gets if it has none."""
+        """Returns the attributes of a file or directory, and makes them if it has none."""
         found = self.records.of(key)
         if found is None:
             found = self.records.by_key[key] = Attributes(mode, os.getuid(), os.getgid(), now, now, now)
@@ -140,7 +140,7 @@ class Tree:
     # Names.
 
     def add(self, parent: Directory, name: bytes, node: Union[File, Directory], spelling: Optional[bytes] = None) -> None:
-        """Gives a node a name, also one that was let go when it lost another."""
+        """Gives a node a name, also a node that was dropped when it lost another."""
         self.by_ino[node.ino] = node
         parent.left.pop(name, None)
         parent.children[name] = node
@@ -164,7 +164,7 @@ class Tree:
                 self._set_path(child)
 
     def remove(self, parent: Directory, name: bytes) -> Union[File, Directory]:
-        """Takes a name away. A node without names is let go when the kernel has forgotten it."""
+        """Removes a name. A node without names is dropped once the kernel has forgotten it."""
         node = parent.children.pop(name)
         parent.odd.pop(name, None)
         parent.entry = node.entry = None
@@ -181,7 +181,7 @@ class Tree:
         return node
 
     def move(self, parent: Directory, name: bytes, new_parent: Directory, new_name: bytes) -> None:
-        """Gives what has a name another one, which is free, in its place."""
+        """Moves a node to a free name."""
         node = parent.children[name]
         if isinstance(node, File):
             self.add(new_parent, new_name, node)
@@ -194,7 +194,7 @@ class Tree:
         self.add(new_parent, new_name, node)
 
     def exchange(self, parent: Directory, name: bytes, new_parent: Directory, new_name: bytes) -> None:
-        """Gives each of two names what the other one has."""
+        """Exchanges the nodes of two names."""
         places = (parent, name), (new_parent, new_name)
         nodes = parent.children[name], new_parent.children[new_name]
         for (folder, word), (new_folder, new_word), node in zip(places, reversed(places), nodes):
@@ -210,45 +210,46 @@ class Tree:
             self._set_path(node)
 
     def let_go(self, node: Node) -> None:
-        """Drops a node that has no name, no opening, and that the kernel doesn't know."""
+        """Drops a node that has no name, that isn't open, and that the kernel doesn't know."""
         has_name = bool(node.names) or node.opens > 0 if isinstance(node, File) else not getattr(node, "ended", False)
         if not has_name and not node.lookups:
             self.by_ino.pop(node.ino, None)
 
     def give_number(self, node: File, number: int) -> None:
-        """Has a node stand for another of the store's files. Its own attributes go with it."""
+        """Gives a node another of the store's files. That file gets the node's attributes."""
         if self.files.get(node.number) is node:
             del self.files[node.number]
         old = file_key(node.number)
         if self.records.of(old) is node.attributes:
-            self.records.by_key[old] = node.attributes.copy()  # that file may come back
+            self.records.by_key[old] = node.attributes.copy()  # that file may be restored
         node.number = number
         self.files[number] = node
         self.records.by_key[file_key(number)] = node.attributes
 
     def height(self, node: Union[File, Directory]) -> int:
-        """Returns how many names the longest path has that begins with a node's own."""
+        """Returns the number of names in the longest path below a node, with the node's own."""
         below = node.children.values() if isinstance(node, Directory) else ()
         return 1 + max((self.height(it) for it in below), default=0)
 
     # After commands that weren't the kernel's.
 
     def refresh(self) -> Iterator[tuple[Node, Optional[bytes]]]:
-        """Makes the tree that of the store. Yields what differs: a directory and a name in it, or a file whose content is another."""
+        """Brings the tree up to date with the store. Yields each difference: a directory and a name in it, or a file with another
+        content."""
         known = {0: self.root}
         for directory in self.directories():
             known[directory.number] = directory
         yield from self._refresh(self.root, known)
 
     def directories(self, above: Optional[Directory] = None) -> Iterator[Directory]:
-        """Yields all directories but the root, each after the one that it is in."""
+        """Yields all directories but the root, each after its parent."""
         for child in (above or self.root).children.values():
             if isinstance(child, Directory):
                 yield child
                 yield from self.directories(child)
 
     def refresh_file(self, directory: Directory, name: bytes) -> Iterator[tuple[Node, Optional[bytes]]]:
-        """The same for one name of a directory, if nothing else can differ: it takes no longer in a large tree."""
+        """Does the same for one name of a directory, if nothing else can differ. Its time doesn't grow with the tree."""
         try:
             row = self.store.stat_row(directory.path_of(name))
             rows = {name: (directory.path_of(name).rpartition(b"/")[2], bool(row.is_directory), int(row.id))}
@@ -263,7 +264,7 @@ class Tree:
     def _refresh_names(
         self, directory: Directory, names: list[bytes], rows: dict[bytes, tuple[bytes, bool, int]], known: dict[int, Directory]
     ) -> Iterator[tuple[Node, Optional[bytes]]]:
-        """Looks at names that a directory has, and gives it those of the store's rows."""
+        """Updates names of a directory to those of the store's rows."""
         for name in names:
             node, row = directory.children[name], rows.get(name)
             if row is None or (isinstance(node, Directory), node.number) != row[1:]:
