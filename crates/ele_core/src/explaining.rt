@@ -1,8 +1,13 @@
 //! A core tells why a version is held, and which will be due. A contract of what is generic over both sees it as its flat world.
+ghost use Rattle.std.specs.Prelude.{◌≡◌, find};
+ghost use Rattle.std.specs.Option.{option_map};
 ghost use Rattle.ele_model.specs.Why.{IsWhy};
+ghost use Rattle.ele_model.specs.World.{is_draft};
 
 use crate::Core;
-use ele_model::{Explain, Fate, KeyList, Moment, NoMemory, Refusal, TaggedPath};
+use ele_model::{
+    Explain, Fate, FileId, HandleRow, KeyList, Moment, NoMemory, Refusal, TaggedPath, VersionNo,
+};
 
 impl Core {
     /// What becomes of the version that the path and its tag mean, and why, as `fate` tells it. It takes no memory. Refused:
@@ -14,6 +19,23 @@ impl Core {
     {
         self.state.fate_at(tagged)
     }
+
+    /// The open handles, by number.
+    /// Cost: constant time.
+    pub fn handles(&self) -> &[HandleRow]
+        ensures { result.now ≡ self.now.world.handles }
+    {
+        self.state.handles()
+    }
+
+    /// When the file's draft was opened. None if the file has no draft.
+    /// Cost: the logarithm of the drafts.
+    pub fn draft_opened(&self, file: FileId) -> Option<Moment>
+        ensures { result
+            ≡ option_map (λ draft. draft.opened) (find (is_draft file) self.now.world.drafts) }
+    {
+        self.state.draft_opened(file)
+    }
 }
 
 impl Explain for Core {
@@ -23,5 +45,17 @@ impl Explain for Core {
 
     fn due_by(&self, moment: Moment) -> Result<KeyList, NoMemory> {
         Core::due_by(self, moment)
+    }
+
+    fn fate(&self, file: FileId, number: VersionNo) -> Option<Fate> {
+        Core::fate(self, file, number)
+    }
+
+    fn handles(&self) -> &[HandleRow] {
+        Core::handles(self)
+    }
+
+    fn draft_opened(&self, file: FileId) -> Option<Moment> {
+        Core::draft_opened(self, file)
     }
 }
