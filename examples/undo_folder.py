@@ -45,7 +45,7 @@ def kept(store, directory=""):
 
 
 def held(store, path):
-    """Returns what the store has at a path, also if its name comes back by that; None if there never was one."""
+    """Returns what the store has at a path, and restores its name if it is dead. None if there never was one."""
     for parent in list(Path(path).parents)[-2::-1]:
         with suppress(Exists):
             store.mkdir(parent)

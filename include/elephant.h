@@ -64,7 +64,7 @@ enum elephant_code {
     /* The store refused the command. elephant_detail returns the detail of 13 and 27. */
     ELEPHANT_CLOCK_BACK = 3,       /* the moment is before now */
     ELEPHANT_CLOCK_END = 4,        /* the moment would be after the last one */
-    ELEPHANT_NO_ENTRY = 5,         /* no such name */
+    ELEPHANT_NO_ENTRY = 5,         /* a name of the path isn't there */
     ELEPHANT_NOT_DIRECTORY = 6,    /* the path has a file in place of a directory */
     ELEPHANT_IS_DIRECTORY = 7,     /* the path has a directory in place of a file */
     ELEPHANT_EXISTS = 8,           /* the name is taken */
@@ -74,7 +74,7 @@ enum elephant_code {
     ELEPHANT_FUTURE = 12,          /* the moment is after now */
     ELEPHANT_FORGOTTEN = 13,       /* the version was removed; detail: the greatest held number before it, or 0 */
     ELEPHANT_NO_VERSION = 14,      /* the file never had that version */
-    ELEPHANT_NO_HANDLE = 15,       /* no such handle */
+    ELEPHANT_NO_HANDLE = 15,       /* no open handle has that number */
     ELEPHANT_NOT_WRITER = 16,      /* the handle is for reading */
     ELEPHANT_TOO_BIG = 17,         /* the content would be longer than 1,048,576 bytes */
     ELEPHANT_DRAFTING = 18,        /* the file has a draft: a handle writes it */

@@ -1,4 +1,4 @@
-"""What `./elephant` and its tools share: where things are, what the built program was made of, and whether this machine can build it."""
+"""What `./elephant` and its tools share: paths, the sources of the built program, and what this machine needs to build it."""
 
 import argparse
 import ctypes
@@ -18,18 +18,18 @@ NAME = "elephant"
 # The proved program.
 PROGRAM = OUT / NAME
 PARTS = ("src", "specs", "proofs")
-# A check takes up to 3.5 GB, in MB.
+# A check takes up to 3.5 GB; this is in MB.
 CHECK_MEMORY = 3500
-# The status where this machine lacks something (as EX_UNAVAILABLE of sysexits.h). The program's own are 0 to 5.
+# The status if this machine lacks something (as EX_UNAVAILABLE of sysexits.h). The program's own are 0 to 5.
 UNAVAILABLE = 69
 
 
 class Unavailable(Exception):
-    """This machine lacks something: the message is one line that says what."""
+    """This machine lacks something: the message is one line that names it."""
 
 
 def say(text):
-    """Prints a line for the user, on standard error, where no answer of the program goes."""
+    """Prints a line for the user on standard error, which no answer of the program uses."""
     print(f"elephant: {text}", file=sys.stderr, flush=True)
 
 
@@ -45,12 +45,12 @@ def read_uses():
 
 
 def below(crate, uses):
-    """Returns all crates that the crate stands on."""
+    """Returns all crates below the crate."""
     return uses[crate].union(*(below(it, uses) for it in uses[crate]))
 
 
 def with_below(names):
-    """Returns these crates of the repository and all that they stand on. Names of other crates are passed over."""
+    """Returns these crates of the repository and all crates below them. It passes over names of other crates."""
     uses = read_uses()
     return set().union(*({it, *below(it, uses)} for it in names if it in uses))
 
@@ -67,8 +67,8 @@ def crate_rows(crates):
 
 
 def lay_out(room, crates, rows=()):
-    """Lays out a repository that holds only these crates of this one, without wrong bodies and tests' data, and a line of crates.txt
-    for each crate that the caller puts there beside them."""
+    """Makes a repository of only these crates of this one, without wrong bodies and tests' data. crates.txt gets a line for each crate
+    that the caller adds to them."""
     # rt takes the folder that holds .git for the top of a repository.
     (room / ".git").mkdir()
     (room / "crates.txt").write_text("".join([*crate_rows(crates), *(f"{it}\n" for it in rows)]), encoding="utf-8")
@@ -84,14 +84,14 @@ def lay_out(room, crates, rows=()):
 
 
 def gate_environment():
-    """Returns the environment for `rt ci`: as many checks at once as there are processors, and memory for. Left to itself it gives a
-    check up to four processors where no other waits; as a check uses little more than one, the next ones then wait for nothing."""
+    """Returns the environment for `rt ci`: as many checks at once as processors and memory allow. By default it gives a check up to four
+    idle processors; a check uses little more than one, so the next checks would wait for nothing."""
     checks = min(len(os.sched_getaffinity(0)), free_memory() // CHECK_MEMORY)
     return {"RT_JOBS": str(max(checks, 1)), **os.environ}
 
 
 def run_gate(room):
-    """Runs `rt ci` in a room, and returns whether all is proved, and what it said.."""
+    """Runs `rt ci` in such a repository, and returns whether all is proved, and what it printed."""
     pipes = {"stdin": subprocess.DEVNULL, "stdout": subprocess.PIPE, "stderr": subprocess.STDOUT, "encoding": "utf-8", "errors": "replace"}
     ran = subprocess.run(["rt", "ci"], cwd=room, env=gate_environment(), check=False, **pipes)
     return ran.returncode == 0, ran.stdout
@@ -106,7 +106,7 @@ def kit_file(path):
 
 
 def library_of(crate, top=ROOT):
-    """Returns where the gate leaves what it built of a crate of a repository."""
+    """Returns the folder of the gate's library of a crate of a repository."""
     return Path(top) / "crates" / crate / "out" / "rlib" / f"{crate}.rlib"
 
 
@@ -119,8 +119,8 @@ def has_libraries(crates):
 
 
 def prove_above(folder, name, uses, made=None, top=ROOT):
-    """Proves the library `name` in a folder, which uses these crates of a repository, over what the gate built of them, and, if `made`
-    is given, builds it there as a static library. Returns whether it is proved, and what was said."""
+    """Proves the library `name` in a folder, which uses these crates of a repository, over the gate's libraries. If `made` is given, it
+    also builds the library there as a static one. Returns whether it is proved, and what was printed."""
     kit = ["--extern", f"std={kit_file('rlibs/std.rlib')}", "-L", f"dependency={kit_file('rlibs')}"]
     own = [word for it in sorted(uses) for word in ("--extern", f"{it}={library_of(it, top)}")]
     own += [word for it in sorted(with_below(uses)) for word in ("-L", f"dependency={library_of(it, top).parent}")]
@@ -133,7 +133,7 @@ def prove_above(folder, name, uses, made=None, top=ROOT):
 
 
 def end_with_parent():
-    """Has the process that calls this ended when the one that started it is, also if that one is killed."""
+    """Makes the calling process end when its parent does, even if the parent is killed."""
     set_parent_death_signal = 1
     ctypes.CDLL(None).prctl(set_parent_death_signal, signal.SIGTERM)
 
@@ -203,7 +203,7 @@ def require_disk(megabytes, what):
 
 
 def write_whole(path, data, mode=0o644):
-    """Writes a file so that nobody ever finds half of it."""
+    """Writes a file so that no reader ever finds half of it."""
     path.parent.mkdir(exist_ok=True)
     with tempfile.NamedTemporaryFile("wb", dir=path.parent, prefix=f".{path.name}-", delete=False) as file:
         file.write(data)
@@ -212,8 +212,8 @@ def write_whole(path, data, mode=0o644):
 
 
 class Product:
-    """What is proved and built of a crate: files in out/, each with its mode, and a stamp of what they were made of: the commit, the
-    kit, and a sum and a path for each source. The stamp is written last, so without it nothing is there."""
+    """What is proved and built of a crate: files in out/, each with its mode, and a stamp of their sources: the commit, the kit, and a
+    sum and a path for each source. The stamp is written last, so without it the product doesn't count."""
 
     def __init__(self, what, crate, stamp, files, command):
         self.what, self.crate, self.stamp, self.files, self.command = what, crate, stamp, files, command
@@ -222,7 +222,7 @@ class Product:
         return source_sums(self.crate)
 
     def install(self, built, sums):
-        """Makes these bytes, which were built from sources with these sums, the files of out/."""
+        """Writes these bytes, built from sources with these sums, as the files of out/."""
         self.stamp.unlink(missing_ok=True)
         for path, mode in self.files.items():
             write_whole(path, built[path], mode)
@@ -247,7 +247,7 @@ class Product:
             return False, f"there is no proved {self.what} here: '{self.command}' proves and builds it"
         first, made_by, built = found
         changed = changed_since(self.sums(), built)
-        # Without rt the kit can't have been changed for another one that would count.
+        # Without rt no other kit can have replaced this one.
         if not changed and shutil.which("rt") and kit() != made_by:
             changed = [f"the kit ({made_by})"]
         if changed:
@@ -255,7 +255,7 @@ class Product:
             paths = f"{', '.join(changed[:3])}{more}"
             return False, f"the proved {self.what} is of other sources: {paths} changed since; '{self.command}' proves the present ones"
         if first != commit():
-            # Only files that the proof doesn't read have changed: the next start needn't look.
+            # The proof doesn't read the files that have changed: the next start needn't look again.
             self.write_stamp(built)
         return True, f"the proved {self.what} is that of the present sources"
 
@@ -264,7 +264,7 @@ BUILT_PROGRAM = Product("program", NAME, OUT / "stamp", {PROGRAM: 0o755}, "./ele
 
 
 def changed_since(sums, built):
-    """Returns the paths of the files that are new, changed or gone."""
+    """Returns the paths of the files that are new, changed or removed."""
     return sorted(it for it in {*sums, *built} if sums.get(it) != built.get(it))
 
 

@@ -1,18 +1,18 @@
 """Which definitions the public clauses of the crates reach: what tools/trust_lines compares with docs/TRUST.md.
 
 A **clause** is a signature, a `requires`, an `ensures`, a ghost member that a trait of another crate asks for, or what a contract sees
-of a type (`ghost Value`). How a type's private fields are seen (`view`) and what is kept of them (`invariant`) is none: the clauses of
-its calls say what a caller may know of the value. From a clause the closure goes by names: each name of a clause leads by the imports of
-its file to a definition of `specs/`, a type or a trait, and each name of that one further.
+of a type (`ghost Value`). The view of a type's private fields (`view`) and their invariant (`invariant`) are no clauses: the clauses of
+the type's calls say what a caller may know of the value. The closure follows names. The imports of a clause's file lead from each of its
+names to a definition of `specs/`, a type or a trait, and so on from the names of that one.
 """
 
 import re
 from typing import NamedTuple
 
-# Strings, characters and comments, in which no name stands.
+# Strings, characters and comments, which contain no names.
 RUST_NOISE = re.compile(r'//[^\n]*|b?"(?:\\.|[^"\\])*"|b?\'(?:\\.|[^\'\\])\'', re.S)
 SPEC_NOISE = re.compile(r'"(?:\\.|[^"\\])*"|--[^\n]*')
-# A name with what stands in it, as `event.Read` or `ele_model::Reply`; not one behind a dot, which is a field.
+# A name with its members, as `event.Read` or `ele_model::Reply`; not one after a dot, which is a field.
 CHAIN = re.compile(r"(?<![\w.'])[A-Za-z_][\w']*(?:-[A-Za-z_][\w']*)*(?:(?:\.|::)[A-Za-z_][\w']*)*")
 BINDERS = re.compile(r"[({|,]\s*((?:(?:mut )?[a-z_][\w']* )*(?:mut )?[a-z_][\w']*)\s*:(?!:)|λ ([^.→]*?)\.")
 # A field that gets a value, or is declared.
@@ -42,7 +42,7 @@ def chains_in(text, bound=()):
 
 
 def operators_in(text, names):
-    """Returns which of these names are operators whose every sign or word stands in the text."""
+    """Returns which of these names are operators whose every sign or word is in the text."""
     signs = set(re.split(r"[\s(){}\[\],;]+", text))
     return {(it,) for it in names if "◌" in it and signs.issuperset(filter(None, it.split("◌")))}
 
@@ -54,8 +54,8 @@ def bound_in(text):
 
 
 def imports_in(text):
-    """Returns what the `use` lines bring: for each name the path that it stands for, and whether it is given out again. A name that
-    stands for a whole module has a path too."""
+    """Returns what the `use` lines import: for each name its path, and whether it is exported again. A name of a whole module has a path
+    too."""
     found = {}
     for shared, _, path, names in IMPORT.findall(text):
         parts = re.split(r"\.|::", path.partition(" as ")[0].strip(" .:"))
@@ -147,7 +147,7 @@ def header_of(text):
 
 
 def inside_of(text):
-    """Returns what stands between an item's outer braces, at the margin."""
+    """Returns the text between an item's outer braces, at the margin."""
     lines = text.partition("{\n")[2].splitlines()[:-1]
     return "\n".join(it.removeprefix("    ") for it in lines)
 
@@ -173,7 +173,7 @@ class Source:
 
     def __init__(self, text):
         self.imports, self.given_out, self.modules, self.items = {}, {}, {}, []
-        # Those of clauses last, which win where a name comes twice.
+        # The imports of clauses are last, and win if a name is there twice.
         for piece in sorted(pieces_of(RUST_NOISE.sub('""', text)), key=lambda it: it.startswith("ghost")):
             if IMPORT.match(piece):
                 self.imports.update(imports_in(piece))
@@ -224,7 +224,7 @@ def members_of(text):
 
 
 class Repository:
-    """All definitions and sources below a folder of crates, and where names lead."""
+    """All definitions and sources below a folder of crates, and what names lead to."""
 
     def __init__(self, folder):
         self.folder, self.modules, self.sources = folder, {}, {}
@@ -260,7 +260,7 @@ class Repository:
         return None
 
     def of_path(self, crate, file, path):
-        """Returns what a path leads to that stands in a file of the crate, or None if that is outside of the crates."""
+        """Returns the item of a path in a file of the crate, or None if that is outside of the crates."""
         if not path:
             return None
         if path[0] == "Rattle":
@@ -299,13 +299,13 @@ class Repository:
         return set().union(*(self.reached_by(node.crate, node.file, it.clauses, it.imports) for it in items))
 
     def shown_of(self, node):
-        """Returns what says what a contract sees of a type or a trait: its `ghost Value`, or else its declaration."""
+        """Returns the item that says what a contract sees of a type or a trait: its `ghost Value`, or else its declaration."""
         items = [it for it in self.sources[node.crate, node.file].items if node.name == (it.of or it.name)]
         return [it for it in items if it.name == "Value"] or [it for it in items if not it.of]
 
     def kind_to_read(self, node):
-        """Returns for what a definition's file is to be read: of a type its declaration, or what a contract sees in its place, which
-        the file's contracts have too; nothing of a type without fields."""
+        """Returns which part of a definition's file to read: of a type its declaration, or what a contract sees in its place, which the
+        file's contracts have too; of a type without fields nothing."""
         if node.kind != "types":
             return node.kind
         shown = self.shown_of(node)
@@ -313,7 +313,7 @@ class Repository:
         return None if is_empty else "either" if shown[0].name == "Value" else "types"
 
     def surface(self, crate, file="lib"):
-        """Returns the items that a crate gives out."""
+        """Returns the items that a crate exports."""
         source = self.sources.get((crate, file)) or Source("")
         found = {self.named(crate, file, it.name) for it in source.named.values() if it.seen == "pub"}
         found |= {self.of_path(crate, file, path) for path in source.given_out.values()}

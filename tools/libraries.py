@@ -1,4 +1,4 @@
-"""The C library: how its two files are made from the crate `ele_c`, and how `./elephant install` lays them out.
+"""The C library: how its two files are made from the crate `ele_c`, and where `./elephant install` puts them.
 
 The kit's `rattle build` writes one position-independent object file. It calls the C library, and three functions of the kit that
 allocate memory. This module links these into the same object, makes every name but `elephant_*` local, and builds libelephant.a and libelephant.so from it.
@@ -40,7 +40,7 @@ def version():
 
 
 def run_kit(tool, *words):
-    """Runs a tool of the kit's LLVM, all of which are one file that looks at the name by which it is called."""
+    """Runs a tool of the kit's LLVM. All of them are one file, which looks at the name of its call."""
     llvm = building.kit_file("toolchain/bin/clang")
     ran = subprocess.run([tool, *map(str, words)], executable=llvm, capture_output=True, encoding="utf-8", errors="replace", check=False)
     if ran.returncode:
@@ -48,7 +48,7 @@ def run_kit(tool, *words):
 
 
 def build(top):
-    """Builds the crate's archive in a repository, `top`, where `rt ci` has proved the crates. Returns its path, and what was said.
+    """Builds the crate's archive in a repository, `top`, whose crates `rt ci` has proved. Returns its path, and what was printed.
 
     `rt ci` checks a static library and leaves no archive, and `rt lib` takes nothing that `rt ci` built below the crate. So the crate
     is proved once more as it is built, over the very libraries over which `rt ci` proved it."""
@@ -82,8 +82,8 @@ def build_and_install(sums):
 
 
 def installed(prefix, folder=OUT):
-    """Returns what is installed of the libraries in a folder: for each path below the prefix its mode, and its bytes, or no mode and the
-    name that it links to."""
+    """Returns the installed files of the libraries: for each path below the prefix its mode, and its bytes, or no mode and the target of
+    a link."""
     return {
         "include/elephant.h": (0o644, HEADER.read_bytes()),
         f"lib/{STATIC.name}": (0o644, (Path(folder) / STATIC.name).read_bytes()),
@@ -94,7 +94,7 @@ def installed(prefix, folder=OUT):
 
 
 def lay(path, mode, what):
-    """Writes what is to be installed, a file or a link, so that nobody ever finds half of it."""
+    """Writes a file or a link of an installation, so that no reader ever finds half of it."""
     path.parent.mkdir(parents=True, exist_ok=True)
     if mode is not None:
         building.write_whole(path, what, mode)

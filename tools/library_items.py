@@ -1,7 +1,7 @@
-"""How tools/library_page reads the sources of the library: which types and calls a crate gives out, with their comments.
+"""How tools/library_page reads the sources of the library: the types and calls that a crate exports, with their comments.
 
-A **call** is a public function or constant that a crate gives out, of a type or of none. The functions of traits, and laws and lemmas,
-which only a proof calls, are no calls here.
+A **call** is a public function or constant that a crate exports, of a type or of none. Functions of traits, and laws and lemmas, which
+only a proof calls, are no calls here.
 """
 
 import re
@@ -16,7 +16,7 @@ CLAUSE = re.compile(r"(requires|ensures|where)\b|\{")
 VARIANT = re.compile(r"    (\w+)(?:[,(]| \{)")
 # The names of files and functions that only a proof calls.
 OF_PROOFS = re.compile(r"laws$|lemma_")
-# A sentence on cost in time; sentences on memory, and what the page says instead.
+# Sentences on cost in time; sentences on memory, and what the page says instead.
 OF_TIME = re.compile(r"^Cost:|\btime of\b|\bconstant time\b|\bgrows? with\b|\blooks at (?:all|each|every)\b")
 OF_MEMORY = {re.compile(r"\b(?:it|this|a seat) takes no memory\b", re.I): "no memory", re.compile(r"\bwithout a copy\b"): "no copy"}
 
@@ -45,7 +45,7 @@ class Item(NamedTuple):
         return f"{self.owner}::{self.signature}" if self.owner and not is_method else self.signature
 
     def answers(self):
-        """Returns the type that the call answers."""
+        """Returns the type of the call's result."""
         return self.signature.rpartition(") -> ")[2] if ") -> " in self.signature else ""
 
     def does(self):
@@ -108,7 +108,7 @@ def variants_of(text, name):
 
 
 class Crate:
-    """What a crate gives out: its types, its calls in the order of its files, and the names of other crates' items."""
+    """What a crate exports: its types, its calls in the order of its files, and the names of other crates' items."""
 
     def __init__(self, folder):
         self.name = folder.name
@@ -124,7 +124,7 @@ class Crate:
 
 
 def fault_names(crates):
-    """Returns the names of all faults that calls answer: their types' and their variants'."""
+    """Returns the names of all faults that calls return: their types and their variants."""
     answers = [call.answers() for crate in crates for call in crate.calls]
     found = {name for it in answers if it.startswith("Result<") for name in re.findall(r"\w+", it.rpartition(", ")[2])}
     return found.union(*(variants_of(text, name) for crate in crates for text in crate.texts for name in found))

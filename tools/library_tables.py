@@ -29,7 +29,7 @@ def table_of(calls, names):
 
 
 def givers_of(name, crate, crates):
-    """Returns the crates that give out a type that this one declares."""
+    """Returns the crates that export a type that this one declares."""
     return ", ".join(f"`{it.name}`" for it in crates if it is crate or name in it.others)
 
 

@@ -1,4 +1,4 @@
-"""Random calls to two folders, of which one is a mount: both have to give the same answers, errors and bytes."""
+"""Random calls to two folders; one is a mount. Both have to return the same results, errors and bytes."""
 
 import ctypes
 import errno
@@ -33,7 +33,7 @@ class Folder:
         return os.path.join(self.top, *words)
 
     def call(self, name, words):
-        """Makes a call, and returns what it answers: a value, or an error's name."""
+        """Makes a call, and returns its result: a value, or an error's name."""
         try:
             return getattr(self, name)(*words)
         except OSError as fault:
@@ -92,7 +92,7 @@ class Folder:
 
     @staticmethod
     def told(found):
-        """What both folders have to tell alike of a file. A directory's size is its file system's own."""
+        """The attributes of a file that both folders have to agree on. A directory's size is its file system's own."""
         size = 0 if stat.S_ISDIR(found.st_mode) else found.st_size
         return oct(found.st_mode), found.st_nlink, size, found.st_uid, found.st_gid
 
@@ -151,7 +151,7 @@ class Folder:
             return file.read()
 
     def replace(self, path, data, mode):
-        """Saves as an editor does that writes a new file and renames it over the old one."""
+        """Saves as an editor that writes a new file and renames it over the old one."""
         new = [*path[:-1], ".new"]
         with open(self.path(new), "wb") as file:
             file.write(data)
@@ -159,7 +159,7 @@ class Folder:
         os.rename(self.path(new), self.path(path))
 
     def move_away(self, path, data):
-        """Saves as an editor does that renames the old file first."""
+        """Saves as an editor that renames the old file first."""
         old = [*path[:-1], path[-1] + "~"]
         os.rename(self.path(path), self.path(old))
         with open(self.path(path), "wb") as file:
@@ -168,7 +168,7 @@ class Folder:
             os.unlink(self.path(old))
 
     def tree(self, path=()):
-        """Everything that is in the folder."""
+        """Everything in the folder."""
         rows = []
         for name in self.list(path):
             here = [*path, name]
@@ -241,7 +241,7 @@ class Calls:
 
 
 def compare(mounted, ordinary, seed, count, say=print):
-    """Makes calls in both folders, and returns how many were answered otherwise."""
+    """Makes calls in both folders, and returns how many results differed."""
     left, right, calls, differing = Folder(mounted), Folder(ordinary), Calls(seed), 0
     for number in range(count):
         name, words = calls.draw(len(left.files))

@@ -1,4 +1,4 @@
-"""What is there after a mount was killed, after its journal was cut or filled up its disk, and after it was made anew."""
+"""The content of a folder after a kill of its mount, after a cut or a full disk of its journal, and after a rewrite."""
 
 import os
 import random
@@ -17,13 +17,14 @@ def _is_begun(folder, name):
 
 
 def faults_after(folder, notes):
-    """Returns which files don't have what they had when their last save ended, or what one that was begun would have made of them."""
+    """Returns the files that have neither the content of their last finished save nor that of a save that had begun."""
     wanted, deleted = {}, {}
     for line in notes.read_text(encoding="ascii").splitlines():
         word, name, number = line.split()
         allowed = wanted.setdefault(name, [None])
         if word == "begin":
-            # A file that is made soon after its name was deleted goes on with the past: until its save ends, it is as before the deletion.
+            # A file made soon after the deletion of its name continues the past: until its save ends, its content is that before the
+            # deletion.
             allowed += [number, *deleted.get(name, [])]
         else:
             deleted[name] = [it for it in allowed if it not in (None, "gone")] if number == "gone" else []
@@ -32,7 +33,7 @@ def faults_after(folder, notes):
     for name, allowed in wanted.items():
         found = _is_begun(folder, name)
         texts = [None if it in (None, "gone") else content(name, int(it)) for it in allowed]
-        # A save that was begun may have cut the file off, or written a front of it.
+        # A save that had begun may have cut the file to length 0, or written a prefix of it.
         is_front = len(allowed) > 1 and found is not None and any(it is not None and it.startswith(found) for it in texts)
         if found not in texts and not is_front:
             faults.append(f"{name} has {found if found is None else found[:60]!r}, and not save {allowed}")
@@ -40,12 +41,12 @@ def faults_after(folder, notes):
 
 
 def content(name, number):
-    """What save `number` of a file writes."""
+    """The content of save `number` of a file."""
     return f"{name} {number} ".encode() * (1 + number * 7919 % 3000)
 
 
 def kills(room, asked):
-    """Kills the mount at random moments while a program saves, and looks for everything that was saved before."""
+    """Kills the mount at random moments while a program saves, and checks everything that was saved before."""
     drawn, wrong, rounds = random.Random(asked.seed), 0, 50 if asked.long else 6
     mounted, notes = Mounted(room), Path(room, "notes")
     for number in range(rounds):
@@ -70,7 +71,8 @@ def kills(room, asked):
 
 
 def _tear(journal):
-    """Puts a begun change at the end of a journal, as a machine leaves it that stops within a write. The kill may have torn it already."""
+    """Adds a begun change to the end of a journal, as a machine that stops within a write leaves it. The kill may have torn it
+    already."""
     *_, last, behind = journal.read_bytes().split(b"\n")
     if behind or last[9:11] not in (b"= ", b"> "):
         return
@@ -101,7 +103,7 @@ def locked(room, asked):
 
 
 def full_disk(room, asked):
-    """On a small disk: what doesn't fit is refused with ENOSPC, the folder is read-only then, and what was saved is there."""
+    """On a small disk: what doesn't fit is refused with ENOSPC, the folder is then read-only, and what was saved is there."""
     disk, wrong = Path(room, "disk"), []
     disk.mkdir()
     if os.geteuid() or subprocess.run(["mount", "-t", "tmpfs", "-o", "size=6m", "tmpfs", disk], check=False).returncode:
@@ -161,7 +163,7 @@ def _expect(wrong, saved, folder):
 
 
 def journal_made_anew(room, asked):
-    """A journal that is made anew is shorter, and its folder is the same, now and in the past."""
+    """A rewritten journal is shorter, and its folder is the same, now and in the past."""
     wrong, count = [], 400 if asked.long else 60
     with Mounted(room) as mounted:
         mounted.ask("default", "/", "one")
@@ -190,7 +192,7 @@ def journal_made_anew(room, asked):
 
 
 def _everything(folder):
-    """Returns all contents, of now and of all versions that are held, by path."""
+    """Returns all contents, of now and of all held versions, by path."""
     found = {it.name: it.read_bytes() for it in folder.iterdir()}
     for path in (folder / ".elephant" / "versions").glob("*/*"):
         found[str(path.relative_to(folder))] = path.read_bytes()

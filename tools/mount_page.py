@@ -1,4 +1,4 @@
-"""Types docs/MOUNT.md: runs the commands of its blocks of `console`, and compares what they print with the page."""
+"""Runs the commands in the blocks of `console` of docs/MOUNT.md, and compares their output with the page."""
 
 import os
 import re
@@ -21,7 +21,7 @@ def commands_in(page):
 
 
 def page(room, asked):
-    """Types the page. Returns how many commands it has, and how many print something else."""
+    """Runs the page's commands. Returns how many there are, and how many outputs differ."""
     words = commands_in((ROOT / "docs" / "MOUNT.md").read_text(encoding="utf-8"))
     command = Path(room, "bin", "elephant-mount")
     command.parent.mkdir()

@@ -9,7 +9,7 @@ from mount_programs import next_second
 
 
 class Faults:
-    """Counts what was looked at, and says what was wrong."""
+    """Counts the checks, and prints the failed ones."""
 
     def __init__(self, name):
         self.name, self.made, self.wrong = name, 0, 0
@@ -25,7 +25,7 @@ class Faults:
 
 
 def refusal(call):
-    """Returns the error's name with which a call ends, or what it returns."""
+    """Returns the error's name of a call, or its result."""
     try:
         return call()
     except OSError as fault:
@@ -33,7 +33,7 @@ def refusal(call):
 
 
 def past(room, asked):
-    """The past is read as it was, is read only, isn't listed, and what was forgotten is refused."""
+    """The past reads as it was, is read only and isn't listed; a forgotten version is refused."""
     seen = Faults("past")
     with Mounted(room, "--clean-every", "0") as mounted:
         top, hidden = mounted.folder, mounted.folder / ".elephant"
@@ -90,7 +90,7 @@ def _forget(seen, mounted):
 
 
 def keeping(room, asked):
-    """The mount cleans by itself, and makes versions of what stays open."""
+    """The mount cleans by itself, and makes versions of files that stay open."""
     seen = Faults("keeping")
     with Mounted(room, "--clean-every", "1", "--every", "0.02") as mounted:
         mounted.ask("default", "/", "safe:1")

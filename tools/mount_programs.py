@@ -1,4 +1,4 @@
-"""What others' programs do in a mounted folder. Each check returns how many things it looked at, and what was wrong."""
+"""Other programs in a mounted folder. Each check returns how many things it checked, and how many were wrong."""
 
 import hashlib
 import io
@@ -14,18 +14,18 @@ GIT = {
     "GIT_AUTHOR_NAME": "a", "GIT_AUTHOR_EMAIL": "a@b", "GIT_COMMITTER_NAME": "a", "GIT_COMMITTER_EMAIL": "a@b", "GIT_CONFIG_NOSYSTEM": "1",
     "GIT_CONFIG_GLOBAL": "/dev/null",
 }
-# What the short form replays of the history. The long one replays all of it.
+# The part of the history that the short form replays. The long one replays all of it.
 SHORT_PATHS, SHORT_COMMITS = ["docs", "tools", "examples", "include"], 8
 STRESSORS = [
     "access", "chdir", "chmod", "dentry", "dir", "dirdeep", "dup", "fcntl", "flock", "fstat", "getdent", "link", "lockf", "locka", "mknod",
     "open", "rename", "sendfile", "symlink", "touch", "utime",
 ]
-# A store makes 10,000 directories and 100,000 files ever, and these would make more at once.
+# A store makes at most 10,000 directories and 100,000 files ever, and these would make more at once.
 LESS = {"dir": ["--dir-dirs", "64"], "dentry": ["--dentries", "64"], "dirdeep": ["--dirdeep-inodes", "500"]}
 
 
 def run(words, folder, **options):
-    """Runs a program, and returns its output. Raises CalledProcessError with what it said."""
+    """Runs a program, and returns its output. Raises CalledProcessError with its errors."""
     ran = subprocess.run(
         words, cwd=folder, env={**os.environ, **GIT}, capture_output=True, check=False, timeout=900, stdin=None if options else subprocess.DEVNULL,
         **options,
@@ -36,7 +36,8 @@ def run(words, folder, **options):
 
 
 def sums_of(folder):
-    """Returns a sum of each file below a folder, without git's own, by path, with whether it may be run. A link's is where it leads."""
+    """Returns a sum of each file below a folder, without git's own, by path, and whether the file may be run. A link's sum is its
+    target."""
     sums = {}
 
     def add(place, above):

@@ -1,4 +1,4 @@
-"""What POSIX and Linux say of calls, beside an ordinary folder; and what a mount does with files that are open, and when it ends."""
+"""The rules of POSIX and Linux, compared with an ordinary folder; and open files, and the end of a mount."""
 
 import ctypes
 import errno
@@ -43,7 +43,7 @@ def _opened(path, flags, call=lambda file: None):
         os.close(file)
 
 
-# What is done in a folder, and whose times it may change.
+# The deeds in a folder, and the names whose times they may change.
 DEEDS = {
     "write": lambda top: _opened(top / "f", os.O_WRONLY, lambda file: os.write(file, b"x")),
     "append": lambda top: _opened(top / "f", os.O_WRONLY | os.O_APPEND, lambda file: os.write(file, b"x")),
@@ -100,7 +100,7 @@ def _stats(top):
 
 
 def changes_of(top, deed):
-    """Returns what a deed answers and changes: of each name the mode, the links, the size, and which times are others than before."""
+    """Returns the result of a deed and its changes: the mode, the links and the size of each name, and which times differ from before."""
     top.mkdir()
     _lay_out(top)
     for name in _stats(top):
@@ -112,7 +112,7 @@ def changes_of(top, deed):
     for name, it in _stats(top).items():
         old = before.get(it.st_ino)
         times = [int(at) if at < 9 else "new" for at in (it.st_atime, it.st_mtime)]
-        if stat.S_ISDIR(it.st_mode):  # its size is each file system's own, and so is its time of access, as it is read here
+        if stat.S_ISDIR(it.st_mode):  # its size is each file system's own, and this read changes its time of access
             times[0] = None
         told[name] = oct(it.st_mode), it.st_nlink, times[0] and it.st_size, times, old is None or old.st_ctime_ns != it.st_ctime_ns
     return answer, told
@@ -139,7 +139,7 @@ def times(room, asked):
 
 
 def _kept(top):
-    """Returns what a mount keeps of each name."""
+    """Returns what a mount stores about each name."""
     return {
         name: (it.st_mode, it.st_nlink, it.st_uid, it.st_gid, it.st_size, it.st_atime_ns, it.st_mtime_ns, it.st_ctime_ns)
         for name, it in _stats(top).items() if name != "."
@@ -168,7 +168,7 @@ def listing(room, asked):
 
 
 def open_files(room, asked):
-    """Files that are open keep what they had, and nothing is written where a program doesn't mean it."""
+    """Open files keep their content, and nothing is written to another file than the program's."""
     seen = Faults("open files")
     with Mounted(room) as mounted:
         top, versions = mounted.folder, mounted.folder / ".elephant" / "versions"
@@ -209,7 +209,7 @@ def _send_raw(mounted, line):
 
 
 def ending(room, asked):
-    """Whatever ends a mount, what programs wrote is there: also what they mapped, and what they write after a lazy unmount."""
+    """Whatever ends a mount, what programs wrote is there: also through mappings, and after a lazy unmount."""
     seen = Faults("ending")
     mounted = Mounted(room)
     for way in (signal.SIGTERM, signal.SIGINT, signal.SIGHUP, "-z"):
@@ -245,7 +245,7 @@ def ending(room, asked):
 
 
 def _status_of(mounted):
-    """Returns the status of a mount that is to end, with its last lines if it isn't 0, or where its threads wait."""
+    """Returns the status of a mount that should end, with its last lines if it isn't 0, or where its threads wait in the kernel."""
     try:
         status = mounted.process.wait(60)
         return status and (status, mounted.log()[-1500:])
@@ -255,7 +255,7 @@ def _status_of(mounted):
 
 
 def users(room, asked):
-    """Another user may do as much as in an ordinary folder, may not read what its modes hide by the past, and sends no lines."""
+    """Another user may do as much as in an ordinary folder, may not read hidden files by the past, and sends no lines."""
     seen, ordinary = Faults("users"), Path(room, "ordinary")
     if os.geteuid():
         print("mount: only root can be another user, so no one else tried the folder")
@@ -285,7 +285,7 @@ def users(room, asked):
 
 
 def _as_nobody(*words):
-    """Runs a program as another user, and returns its status and what it said."""
+    """Runs a program as another user, and returns its status and output."""
     who = {"user": mount_users.NOBODY, "group": mount_users.NOBODY, "extra_groups": []}
     ran = subprocess.run(words, env=Mounted.environment(), capture_output=True, text=True, check=False, cwd="/", **who)
     return ran.returncode, ran.stdout + ran.stderr

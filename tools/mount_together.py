@@ -1,4 +1,4 @@
-"""Programs that write, a program that reads the past, lines, removals and new journals, all at once; and then a kill."""
+"""Programs that write, a program that reads the past, lines, removals and rewritten journals, all at once; and then a kill."""
 
 import errno
 import os
@@ -10,13 +10,13 @@ from mount_past import Faults
 from mounts import Mounted
 
 WRITERS = 4
-# What a reader of the past may be told of a version that was removed meanwhile.
+# What a reader of the past may get for a version that was removed meanwhile.
 MEANWHILE = (errno.ENODATA, errno.ENOENT, errno.ESTALE)
 LINES = (("due",), ("clean all",), ("usage",), ("rewrite",), ("policy", "/d0/f0", "all"), ("policy", "/d0/f0", "safe:2/2"), ("restorable",))
 
 
 class Run:
-    """What is done in a folder until a moment, with what was saved last and what was wrong."""
+    """The actions in a folder until a moment, with the last saved contents and the faults."""
 
     def __init__(self, mounted, seconds):
         self.mounted, self.end = mounted, time.monotonic() + seconds
@@ -69,7 +69,7 @@ class Run:
 
 
 def together(room, asked):
-    """Runs them, and looks for what was saved last, then and after a kill."""
+    """Runs them, and checks the last saved contents, then and after a kill."""
     seen = Faults("together")
     with Mounted(room, "--clean-every", "0.5", "--every", "0.02") as mounted:
         mounted.ask("default", "/", "safe:2/2")

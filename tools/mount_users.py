@@ -1,4 +1,4 @@
-"""What other users may do in a mounted folder: as much as in an ordinary one. Also the program that tries it, as such a user."""
+"""What other users may do in a mounted folder: as much as in an ordinary one. Also the program that tries it, as another user."""
 
 import errno
 import os
@@ -48,7 +48,7 @@ CALLS = {
 
 
 def told(call, *words):
-    """Returns what a call answers: a value, or an error's name."""
+    """Returns the result of a call: a value, or an error's name."""
     try:
         return call(*words)
     except OSError as fault:
@@ -56,7 +56,7 @@ def told(call, *words):
 
 
 def answers_of(python, top):
-    """Returns what the calls answer another user in a folder, as lines, and what is there then."""
+    """Returns the results of another user's calls in a folder, as lines, and what is there then."""
     ran = subprocess.run(
         [python, "-c", Path(__file__).read_text(encoding="utf-8"), top], user=NOBODY, group=NOBODY, extra_groups=[], capture_output=True, text=True, check=False, cwd="/",
         env={**os.environ, "PYTHONDONTWRITEBYTECODE": "1"},

@@ -1,4 +1,4 @@
-"""Saves files in a mounted folder until it is gone: `mount_worker.py FOLDER ROUND`. It notes on its output when a save begins and ends."""
+"""Saves files in a mounted folder until it is unmounted: `mount_worker.py FOLDER ROUND`. It prints when a save begins and ends."""
 
 import os
 import random
@@ -38,7 +38,7 @@ def save(folder, name, number, way):
 
 
 def main():
-    # From within the mount no name ever leads to the folder below it.
+    # Within the mount no name ever leads to the folder below it.
     os.chdir(sys.argv[1])
     folder, turn = Path("."), int(sys.argv[2])
     if not (folder / ".elephant").exists():

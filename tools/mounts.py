@@ -23,7 +23,7 @@ class Fault(Exception):
 
 
 def heed_signals():
-    """Has a mount heed the signals that end it. A shell script has the commands that it starts with `&` ignore SIGINT."""
+    """Makes a mount heed the signals that end it. A shell script makes commands that it starts with `&` ignore SIGINT."""
     for number in (signal.SIGINT, signal.SIGTERM, signal.SIGHUP):
         signal.signal(number, signal.SIG_DFL)
 
@@ -113,7 +113,7 @@ class Mounted:
         self.start()
 
     def kill(self):
-        """Ends it by a signal that it can't see, and takes away what is left of the mount."""
+        """Ends it by a signal that it can't handle, and unmounts the folder."""
         self.process.send_signal(signal.SIGKILL)
         self.process.wait()
         self._release()

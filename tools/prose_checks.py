@@ -9,12 +9,12 @@ from typing import NamedTuple
 from prose_names import WORD
 from prose_pages import MARK
 
-# In words. A span of code is one, a sign is none.
+# The longest sentence, in words. A span of code is one, a sign is none.
 LONGEST = 30
 COUNTED = re.compile(rf"[\w{MARK}]")
 # After these words `where` asks for a place.
 PLACES = "".join(f"(?<!{it} )" for it in ("know", "knows", "say", "says", "see", "show", "shows", "place", "places", "from"))
-# A word or turn, and what says it plainer.
+# A word or phrase, and a plainer one.
 WARNED = [
     (r"tells?|told|telling", "print, report, return, say"),
     (r"stands?|stood|standing", "is, are, has"),
@@ -33,7 +33,7 @@ WARNED = [
     (r"uses? no|gives? nothing back", "say first what it does"),
 ]
 TURNS = re.compile("|".join(rf"(?P<w{number}>\b(?:{pattern})\b)" for number, (pattern, _) in enumerate(WARNED)), re.I)
-# What follows a path in a crate that is named.
+# The words that name a crate after a path in it.
 OF_CRATE = re.compile(r"(?: \([^)]*\))? of `(?:crates/)?(\w+)`")
 KINDS = ("long", "words", "links", "names", "unlisted")
 TOP_PAGE = "README.md"
@@ -50,7 +50,7 @@ GROUPS = {
 
 
 class Finding(NamedTuple):
-    """A place of a page, of which kind it is, and what is wrong there."""
+    """A place of a page, the kind of its fault, and what is wrong there."""
 
     kind: str
     page: str

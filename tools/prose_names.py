@@ -31,11 +31,11 @@ MEMBERS = re.compile(r"\b(?:fn|const|ghost|type) (\w+)"), re.compile(r"^    (?:p
 ALIAS = re.compile(r"^pub type (\w+)(?:<[^=]*>)? = (?:\w+::)*(\w+)", re.M)
 # Programs of this tree; another one's options are its own.
 OWN = re.compile(r"(\./)?(elephant(-mount|-store)?|check)|(tools|bench|examples|\./tools|\./bench)/[\w/.]+")
-# What the tree names and doesn't keep: what it builds, and the machine's paths.
+# Names of the tree that it doesn't store: its build products, and the machine's paths.
 ELSEWHERE = re.compile(r"out/|\.git\b|/|~|\.elephant|\.undo")
 # Names of the language, its kit and of other programs, which no source of the tree declares.
 FOREIGN = re.compile(r"(std|core|alloc|Rattle)(::|\.|$)|(BufReader|BufWriter|Cursor|jiff_fmt|mremap|parse|--keep-[a-z-]+|gc\.\w+|prune_defer|CONTRACTS\.md)$")
-# What begins with a word in capitals is a pattern of names.
+# A name that begins with a word in capitals is a pattern.
 PATTERN = re.compile(r"[A-Z]+_[a-z]")
 
 

@@ -22,7 +22,7 @@ ABBREVIATION = re.compile(r"(?:\b(?:e\.g|i\.e|etc|vs|cf|resp))\.$")
 
 
 class Piece(NamedTuple):
-    """A paragraph, a list item, a heading or a cell, as it stands and as prose."""
+    """A paragraph, a list item, a heading or a cell, as it is and as prose."""
 
     line: int
     text: str
@@ -53,7 +53,7 @@ def masked(text):
 
 
 def prose_of(text):
-    """Returns what is read of a text: code as MARKs, and a link's text alone, at the same places."""
+    """Returns the prose of a text: code as MARKs, and only the text of a link, at the same places."""
     def shown(found):
         before = found.start(1) - found.start()
         return f"{'':{before}}{found[1]:<{len(found[0]) - before}}"
@@ -78,12 +78,12 @@ class Reader:
 
     def __init__(self):
         self.pieces, self.titles, self.codes = [], [], []
-        # The fence that ends a block, the lines of the piece that is being read, and where it began.
+        # The fence that ends a block, the lines of the current piece, and its first line.
         self.fence, self.lines, self.began = "", [], 0
         self.in_code, self.in_list = False, False
 
     def close(self):
-        """Ends the piece that is being read."""
+        """Ends the current piece."""
         self.add(self.began, "\n".join(self.lines))
         self.lines = []
 

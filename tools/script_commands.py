@@ -1,4 +1,4 @@
-"""The commands of scripts, as docs/SCRIPT.md tells them."""
+"""The commands of scripts, from docs/SCRIPT.md."""
 
 import re
 
@@ -9,7 +9,7 @@ LINE = re.compile(r"`([a-z]+(?: [a-z]+)?)((?: [A-Z]+)*)`")
 
 
 def read_commands():
-    """Returns each command with what may stand behind it, each time as the letters of its words: `mark` has G M, and G M U."""
+    """Returns each command with the letters of its words, once for each form: `mark` has G M, and G M U."""
     found = {}
     text = (ROOT / "docs" / "SCRIPT.md").read_text(encoding="utf-8")
     for row in TABLE.search(text)[1].splitlines():

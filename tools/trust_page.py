@@ -1,4 +1,4 @@
-"""What docs/TRUST.md lists and counts, and how that differs from what the public clauses reach."""
+"""The lists and counts of docs/TRUST.md, and how they differ from what the public clauses reach."""
 
 import re
 
@@ -9,7 +9,7 @@ SEEN = re.compile(r"\s*ghost (Value|view|invariant) ")
 SKIPPED = re.compile(r"\s*(//|--|#\[|(pub )?use |ghost use |$)")
 KINDS = ("types", "contracts", "whole")
 NO_CLAUSE = "No public clause cites this module"
-# The part of the page that whoever calls the core reads.
+# The part of the page for those who call the core.
 CORE = "The core"
 NO_READER = "No public clause that a reader of the core needs cites this module"
 LEFT_OUT = "- The clauses of "
@@ -51,8 +51,8 @@ def cells_of(line):
 
 
 def files_in(cell):
-    """Returns the files that a cell names, each with its kind, which follows in brackets; a name without a folder stands in the folder
-    of the one before it."""
+    """Returns the files that a cell names, each with its kind, which follows in brackets. A name without a folder is in the folder of the
+    one before it."""
     found, folder, waiting = [], "", []
     for name, kind in re.findall(rf"`([\w/]+)`|\(({'|'.join(KINDS)})", cell):
         if kind:
@@ -69,15 +69,15 @@ def files_in(cell):
 
 
 class Table:
-    """What was counted of the tables of a part of the page so far."""
+    """The sums of the tables of a part of the page so far."""
 
     def __init__(self, title):
         self.title, self.lines, self.minutes = title, 0, 0
 
 
 class Page:
-    """The lines of the page over a repository. A table whose rows have figures is for readers; one of two columns tells which files
-    aren't to be read, and why."""
+    """The lines of the page over a repository. A table whose rows have figures is for readers; a table of two columns says which files
+    not to read, and why."""
 
     def __init__(self, lines, repository):
         self.lines, self.repository = lines, repository
@@ -99,7 +99,7 @@ class Page:
         return counted({"contracts": contracts_in, "types": types_in}.get(kind, list)(lines))
 
     def count(self, line, table):
-        """Counts a row, and returns it with its figures put right. Lines that are no such rows stay."""
+        """Counts a row, and returns it with its figures corrected. Other lines stay."""
         cells = cells_of(line)
         if len(cells) < 4 or not cells[1].isdecimal():
             return line
@@ -110,7 +110,7 @@ class Page:
         return re.sub(r"^(\|[^|]*\|)[^|]*\|", rf"\1 {found} |", line)
 
     def put_right(self):
-        """Returns the lines with their figures and the unused words put right, and what was counted of each part."""
+        """Returns the lines with their figures and the unused words corrected, and the counts of each part."""
         tables, lines = [Table("")], []
         for line in self.lines:
             if line.startswith("## "):
@@ -121,7 +121,7 @@ class Page:
         return [re.sub(r"(?<=\*\*The core takes )\d+", str(core.minutes), line) for line in lines], tables
 
     def with_unused(self, line):
-        """Returns the line that tells which words of the core's files the contracts of its last row don't use, as it should be."""
+        """Returns the line that says which words of the core's files the contracts of its last row don't use, as it should be."""
         end = self.lines.index(line)
         begin = max(i for i, it in enumerate(self.lines[:end]) if it.startswith("## "))
         rows = [files_in(cells_of(it)[0]) for it in self.lines[begin:end] if len(cells_of(it)) > 3]
@@ -154,8 +154,8 @@ class Page:
         return needed
 
     def holes(self):
-        """Yields a line for each file that the page leaves out, or asks to be read though no public clause reaches it, and for each
-        file of definitions that begins with a false word on that."""
+        """Yields a line for each file that the page leaves out, or lists though no public clause reaches it, and for each file of
+        definitions whose first words on that are wrong."""
         needed = self.needed_of(self.repository.crates - self.left_out)
         for (kind, name), names in sorted(needed.items()):
             is_there = (kind, name) in self.read or kind == "either" and {("types", name), ("contracts", name)} & self.read

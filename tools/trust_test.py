@@ -1,4 +1,4 @@
-"""Tries tools/trust_lines on small made-up crates and pages: what is expected was reckoned from the texts by hand."""
+"""Tries tools/trust_lines on small made-up crates and pages; the expected values were worked out from the texts by hand."""
 
 import tempfile
 from pathlib import Path
@@ -7,8 +7,8 @@ from definitions import Module, Repository, Source, header_of, imports_in
 from trust_page import Page, contracts_in, counted, files_in, types_in
 
 FILES = {
-    # `measure` uses what comes from here under another name, a word that is given out again, a type and one of its variants. `depth` it
-    # binds itself, of `lost` it only speaks in a comment and in a text, and `spare` is a field there.
+    # `measure` uses imports under another name, a word that is exported again, a type and one of its variants. It binds `depth` itself,
+    # names `lost` only in a comment and in a text, and `spare` is a field there.
     "low/specs/Shape.antt": """-- What a shape is,
 -- over two lines.
 use Rattle.low.specs.declared.kind.Kind.{Kind}

@@ -1,7 +1,7 @@
 /* Answers the scripts of bench/beside_sqlite/compare from a database of SQLite in memory, as `elephant run` answers them.
  *
- * One table holds the files with their current contents. When a file gets another content, a trigger copies the one that it
- * had into the table of versions. A draft lies in this program and not in the database. Each event is a transaction of its
+ * One table holds the files with their current contents. When a file gets another content, a trigger copies the old
+ * one into the table of versions. This program holds the drafts, and the database doesn't. Each event is a transaction of its
  * own, or with the word `thousand` 1,000 lines are one. */
 #define _GNU_SOURCE
 #include <sqlite3.h>

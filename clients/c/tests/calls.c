@@ -1,4 +1,4 @@
-/* Each call once where all is well, and each code that it can answer. Expected values are those of docs/SCRIPT.md. */
+/* Each call once with success, and each code that it can return. Expected values are those of docs/SCRIPT.md. */
 
 #include "want.h"
 
@@ -7,7 +7,7 @@
 
 static const elephant_limits largest = {1000000000, 100000, 10000, 200000, 1000000, 1000000, 1000, 100000, 10000};
 
-/* What the path and its tag hold is the text. */
+/* The path and its tag mean a version with this text. */
 #define HOLDS(e, path, tag, number, text)                                          \
     do {                                                                           \
         char got[64];                                                              \
@@ -67,7 +67,7 @@ static void limits_above_the_largest_are_refused(void) {
     elephant_delete(e);
 }
 
-/* A closed handle answers each call, and what the call's pointers point to is left alone. */
+/* A closed handle returns a code for each call, and writes nothing at the call's pointers. */
 static void a_closed_handle_answers(void) {
     const int32_t closed = ELEPHANT_CLOSED;
     elephant *e;
@@ -237,7 +237,7 @@ static void names_are_refused_for_the_reason_that_holds(void) {
     CODE(ELEPHANT_NO_ENTRY, elephant_undelete(e, TEXT("/x"), &version));
     CODE(ELEPHANT_EXISTS, elephant_undelete(e, TEXT("/d/f"), &version));
     WANT(version == 7);
-    /* Paths that are none, also of no bytes and with bytes of any kind. */
+    /* Words that are no paths, also without bytes and with bytes of any kind. */
     CODE(ELEPHANT_BAD_PATH, elephant_create(e, "", 0, &number));
     CODE(ELEPHANT_BAD_PATH, elephant_create(e, TEXT("f"), &number));
     CODE(ELEPHANT_BAD_PATH, elephant_create(e, TEXT("//"), &number));
@@ -326,7 +326,7 @@ static void a_content_has_a_mebibyte_at_most(void) {
     WANT(length == LARGEST);
     OK(elephant_take(e, 0, got, LARGEST, &copied));
     WANT(copied == LARGEST && !memcmp(got, bytes, LARGEST));
-    /* The same in pieces, each with a room of its own size. */
+    /* The same in pieces, with buffers of several sizes. */
     for (uint64_t at = 0; at < LARGEST; at += copied) {
         char *piece = malloc(4099);
         WANT(piece);
@@ -345,7 +345,7 @@ static void a_content_has_a_mebibyte_at_most(void) {
     elephant_delete(e);
 }
 
-/* What the path and its tag hold from offset on is the text, straight into a room of so many bytes, and no byte behind it is written. */
+/* A straight read from the offset on gives this text, in a buffer of so many bytes, and writes no byte after it. */
 #define COPIES(e, path, tag, number, offset, room, whole, text)                                              \
     do {                                                                                                     \
         char *straight = malloc((room) + 1);                                                                 \
@@ -445,7 +445,7 @@ static void a_large_content_is_copied_whole_and_in_pieces(void) {
     OK(elephant_close_handle(e, handle, &version));
     OK(elephant_read_into(e, TEXT("/f"), ELEPHANT_NOW, 0, 0, got, LARGEST, &length, &copied));
     WANT(length == LARGEST && copied == LARGEST && !memcmp(got, bytes, LARGEST));
-    /* Rooms of each size about a block of 512 bytes, at each offset about one. */
+    /* Buffers of each size about a block of 512 bytes, at each offset about one. */
     for (uint64_t offset = 510; offset < 515; offset++)
         for (uint64_t room = 0; room < 1030; room++) {
             memset(got, '~', room + 1);
@@ -686,7 +686,7 @@ static void a_mark_keeps_what_was_current(void) {
     elephant_delete(e);
 }
 
-/* What was refused as full, by the detail. */
+/* The limit that was reached, from the detail. */
 #define FULL_OF(e, limit, call)                            \
     do {                                                   \
         uint64_t which;                                    \
@@ -754,7 +754,7 @@ static void a_history_is_kept_and_folded(void) {
     elephant_delete(e);
 }
 
-/* The line is answered by the text. */
+/* The answer to the line is the text. */
 static void says(elephant *e, const char *line, const char *text) {
     char got[256];
     uint64_t length, copied;
@@ -795,7 +795,7 @@ static void lines_are_answered_as_the_program_prints_them(void) {
     elephant_delete(e);
 }
 
-/* The text of what the last call was answered. */
+/* The text of the last call's answer. */
 static void told_as(elephant *e, const char *text) {
     char got[256];
     uint64_t length, copied;

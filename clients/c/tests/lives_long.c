@@ -1,5 +1,5 @@
-/* A store without a history asks for no more memory, however long it is asked: `lives_long ROUNDS`. Linked so that malloc, realloc
- * and free come by here. */
+/* A store without a history doesn't grow, however many calls it answers: `lives_long ROUNDS`. It is linked so that malloc, realloc
+ * and free call the functions here. */
 
 #include "want.h"
 #include <malloc.h>
@@ -59,7 +59,7 @@ static void ask(elephant *e) {
     OK(elephant_now(e, &number));
 }
 
-/* A session that changes nothing, and a save whose older version goes. */
+/* A session that changes nothing, and a save whose older version is removed. */
 static void work(elephant *e, uint64_t round) {
     uint64_t number, finished;
     char text[16];

@@ -1,10 +1,10 @@
-/* Refuses each allocation of each call in turn, once alone and once with all that follow. The call then answers ELEPHANT_NO_MEMORY,
- * all that its pointers point to is as it was, and so is the store: it answers each question as before. Then the call is made again,
- * with memory. Linked so that malloc and realloc come by here. */
+/* Refuses each allocation of each call in turn, once alone and once with all that follow. The call then returns ELEPHANT_NO_MEMORY
+ * and writes nothing at its pointers. The store is as it was: it answers each question as before. Then the test makes the call again,
+ * with memory. It is linked so that malloc and realloc call the functions here. */
 
 #include "want.h"
 
-/* How many allocations there are before the one that is refused, or none is if it is negative; and whether all that follow are too. */
+/* How many allocations succeed before one is refused (negative: all succeed), and whether all that follow are refused too. */
 static long left = -1;
 static int all_after;
 static unsigned long refused, seen, calls;
@@ -30,7 +30,7 @@ void *__wrap_realloc(void *at, size_t size) {
     return refuses() ? NULL : __real_realloc(at, size);
 }
 
-/* ---- What a store is: the answers to all questions ---- */
+/* ---- The state of a store: the answers to all questions ---- */
 
 #define MOST (1 << 16)
 
@@ -67,7 +67,7 @@ static struct told before, after;
 
 /* ---- The calls ---- */
 
-/* What calls write. A refused one leaves it as it was. */
+/* The results of calls. A refused call leaves them as they were. */
 static struct {
     uint64_t number, other;
     elephant_stat_row stat;
@@ -222,7 +222,7 @@ static void refuse_each(const struct attempt *it, uint32_t history) {
     while (refuse_one(it, growth, history)) growth++;
 }
 
-/* ---- Calls that aren't as the others ---- */
+/* ---- Other calls ---- */
 
 /* Making and opening a handle. */
 static void refuse_open(uint32_t history) {
@@ -253,7 +253,7 @@ static void refuse_open(uint32_t history) {
     }
 }
 
-/* A pass keeps what it removed. */
+/* Versions that a pass removed stay removed. */
 static void refuse_pass(uint32_t history) {
     for (long growth = 0;; growth++) {
         elephant *e = ready(history);
@@ -290,7 +290,7 @@ static size_t text_of(elephant *e, char *into, size_t room) {
     return copied;
 }
 
-/* A line is run, or stopped for want of memory. If there is no memory for the text of the answer either, elephant_tell has it later. */
+/* A line runs, or it stops without memory. If there is no memory for the text of the answer, elephant_tell makes it later. */
 static void refuse_line(const char *line) {
     static char whole[MOST], text[MOST];
     const char *stop = "stop 1 NoMemory\n";

@@ -6,12 +6,12 @@
 
 static char text[32];
 
-/* What the file holds after that save. */
+/* The content of the file after that save. */
 static size_t content_of(uint64_t number) {
     return (size_t)snprintf(text, sizeof text, "save %llu", (unsigned long long)number);
 }
 
-/* Saves the file once more, a second later, and checks the number of the new version. */
+/* Saves the file once more, a second later, and checks the new version's number. */
 static void save_as(elephant *e, uint64_t number) {
     uint64_t handle, version;
     size_t length = content_of(number);

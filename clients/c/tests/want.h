@@ -15,7 +15,7 @@
         }                                                                       \
     } while (0)
 
-/* The call answers that code. */
+/* The call returns that code. */
 #define CODE(code, call)                                                                                         \
     do {                                                                                                         \
         int32_t answered = (call);                                                                               \

@@ -479,8 +479,7 @@ class MountStore(Store):
 
 def changed_parts(old: bytes, new: bytes, is_changed: bool) -> list[tuple[int, int]]:
     """Returns the parts of the new content that differ from the old one, in whole blocks. If none differs but the content counts as
-    changed,
-    it returns the first byte."""
+    changed, it returns the first byte."""
     parts: list[tuple[int, int]] = []
     for start in range(0, len(new), BLOCK):
         end = min(start + BLOCK, len(new))
