@@ -3,7 +3,7 @@
 ghost use Rattle.std.specs.Prelude.{◌≡◌};
 ghost use Rattle.ele_tool_time.specs.ReadParts.{clock_of, is_utc, offset_of, with_sign, without, zone_of};
 
-use ele_moment::read_pair;
+use ele_moment::read_two_digits;
 
 /// How far a clock is from UTC, in minutes.
 #[derive(Clone, Copy, Debug, PartialEq, Eq)]
@@ -56,9 +56,9 @@ fn with_sign(sign: u8, minutes: u16) -> Option<Offset>
 fn read_clock(word: &[u8]) -> Option<u16>
     ensures { result ≡ clock_of word.now }
 {
-    let (hour, rest) = read_pair(word)?;
+    let (hour, rest) = read_two_digits(word)?;
     let rest = without(b':', rest);
-    let (minute, rest) = read_pair(rest)?;
+    let (minute, rest) = read_two_digits(rest)?;
     if rest.is_empty() && hour < 24 && minute < 60 {
         Some(60 * hour as u16 + minute as u16)
     } else {
