@@ -7,6 +7,7 @@ pub mod CleanKeepsKeys
 pub mod Cover
 pub mod Due
 pub mod Fate
+pub mod FateText
 pub mod FileUsage
 pub mod FileView
 pub mod GroupRows

@@ -1,8 +1,12 @@
 //! The rows of a world: its files, directories, names, versions, drafts, handles and groups.
+ghost use Rattle.std.specs.Prelude.{Some};
+ghost use Rattle.ele_model.specs.FateText.{mark_word};
+
 use ele_content::Cell;
 use ele_lists::{Keyed, ListOf};
 use ele_moment::{DirId, FileId, Handle, Moment, Name, VersionNo};
 use ele_policy::Policy;
+use std::fmt;
 
 /// A file: its policy, and the number that its next version gets.
 #[derive(Clone, Copy, Debug, PartialEq, Eq)]
@@ -116,11 +120,23 @@ impl Keyed for HandleRow {
 }
 
 /// A mark of a group: the moment that it marks, and its end, if it has one. It is in force before
-/// its end, and stays listed after it.
+/// its end, and stays listed after it. It displays as scripts print it, `5` or `5/60`.
 #[derive(Clone, Copy, Debug, PartialEq, Eq)]
 pub struct MarkRow {
     pub at: Moment,
     pub until: Option<Moment>,
+}
+
+impl fmt::Display for MarkRow {
+    ghost output = { λ mark. Some (mark_word mark) };
+
+    fn fmt<W: fmt::Write>(&self, f: &mut fmt::Formatter<W>) -> fmt::Result {
+        let at = self.at;
+        match self.until {
+            Some(until) => write!(f, "{at}/{until}"),
+            None => write!(f, "{at}"),
+        }
+    }
 }
 
 /// A group: its files in order of adding, and its marks in order of making.

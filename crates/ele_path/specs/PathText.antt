@@ -1,7 +1,8 @@
 -- The text of paths and tags.
-use Rattle.std.specs.Prelude.{ℕ, List, [], ◌∷◌, ◌++◌, codes}
+use Rattle.std.specs.Prelude.{ℕ, List, [], ◌∷◌, ◌++◌, Option, codes}
 use Rattle.std.specs.Fmt.{decimal}
 use Rattle.ele_path.specs.Path.{path_text}
+use Rattle.ele_path.specs.PathAt.{tag_at}
 use Rattle.ele_path.specs.declared.tagged.Tag.{Tag}
 use Rattle.ele_path.specs.declared.tagged.Tag.TheVariants.{Now, At, Number}
 
@@ -19,3 +20,7 @@ tag_text (Number number) = 35 ∷ decimal number
 -- the word of a path with a tag
 abbrev pub tagged_word : List (List ℕ) → Tag → List ℕ
 tagged_word names tag = path_word names ++ tag_text tag
+
+-- the word of a path at a moment, or now
+abbrev pub path_at_word : List (List ℕ) → Option ℕ → List ℕ
+path_at_word names moment = tagged_word names (tag_at moment)

@@ -1,5 +1,5 @@
 //! Paths: names from the root on. A contract sees a path as the list of its names.
-ghost use Rattle.std.specs.Prelude.{◌≡◌, ◌≤◌, ◌⊎◌, ◌↔◌, ◌++◌, ◌∷◌, [], ℕ, List, All, length, nat_eq, slice_get, Some, Ok, Err, IfOk, IfErr, OnOk, IsErrOf, ◌<◌};
+ghost use Rattle.std.specs.Prelude.{◌≡◌, ◌≤◌, ◌⊎◌, ◌↔◌, ◌++◌, ◌∷◌, [], ℕ, List, All, length, nat_eq, slice_get, Some, Ok, Err, IfOk, IfErr, OnOk, IsOk, IsErrOf, ◌<◌};
 ghost use Rattle.std.specs.Cmp.{on_per, on_equiv, partial_equiv_from_equiv};
 ghost use Rattle.std.specs.Cmp.Lexicographic.{pointwise, lists_per, lists_equiv, nat_list_eq_equiv};
 ghost use Rattle.ele_moment.specs.Name.{IsName};
@@ -34,6 +34,19 @@ impl Model for Path {
 impl Path {
     /// The most names of a path.
     const MOST_NAMES: usize = 32;
+
+    /// Makes the path of these names, from the root on. `BadPath` for more than 32. It takes no memory.
+    /// Cost: constant time.
+    pub fn new(names: Vec<Name>) -> Result<Path, PathFault>
+        ensures valid { IsOk result ↔ (length names.items ≤ 32) }
+        ensures value { IfOk result (λ path. path ≡ names.items) }
+    {
+        if names.len() > Path::MOST_NAMES {
+            return Err(PathFault::BadPath);
+        }
+        lemma_named(&names);
+        Ok(Path { names })
+    }
 
     /// Reads the path that a word spells: `/`, or names with a slash before each.
     ///
@@ -94,6 +107,16 @@ impl Path {
         ensures named { All IsName self.now }
     {
         &self.names
+    }
+}
+
+// For a proof: each of the names is a name.
+fn lemma_named(names: &[Name])
+    ensures { All IsName names.now }
+{
+    if let [first, rest @ ..] = names {
+        first.bytes();
+        lemma_named(rest);
     }
 }
 

@@ -1,7 +1,8 @@
 //! Paths at a moment. A contract sees one as the record of its path, a list of names, and its
 //! moment.
-ghost use Rattle.std.specs.Prelude.{◌≡◌, ◌⊎◌, ℕ, IsTrue, Option, Ok, Err, IfOk, IfErr};
+ghost use Rattle.std.specs.Prelude.{◌≡◌, ◌⊎◌, ℕ, IsTrue, Option, Some, Ok, Err, IfOk, IfErr};
 ghost use Rattle.ele_path.specs.Begins.{is_tag_text};
+ghost use Rattle.ele_path.specs.PathText.{path_at_word};
 ghost use Rattle.ele_path.specs.Tagged.{SpellsTag};
 ghost use Rattle.ele_path.specs.PathAt.{tag_at, SpellsPathAt, IsMomentFault, IsPathAtFault};
 ghost use Rattle.ele_path.specs.declared.path_at.PathAt.{PathAt};
@@ -11,8 +12,10 @@ use crate::path::Path;
 use crate::tagged::path_length;
 use ele_moment::{BadMoment, Moment};
 use std::alloc::Global;
+use std::fmt;
 
-/// A path, and the moment at which it is meant, or none for now.
+/// A path, and the moment at which it is meant, or none for now. It displays as its word,
+/// `/f` or `/f@12`.
 #[derive(Debug, Drop, PartialEq, Eq)]
 pub struct PathAt {
     pub path: Path,
@@ -20,6 +23,15 @@ pub struct PathAt {
 }
 
 impl PathAt {
+    /// Makes the path at the moment, or now if there is none.
+    /// Cost: constant time.
+    pub fn new(path: Path, moment: Option<Moment>) -> PathAt
+        ensures path { result.path ≡ path }
+        ensures moment { result.moment ≡ moment }
+    {
+        PathAt { path, moment }
+    }
+
     /// Reads the path and the moment that a word spells: a path, then nothing for now, or `@` and a
     /// moment.
     ///
@@ -38,6 +50,18 @@ impl PathAt {
         let path = Path::read(alloc, path)?;
         let moment = read_moment(tag)?;
         Ok(PathAt { path, moment })
+    }
+}
+
+impl fmt::Display for PathAt {
+    ghost output = { λ value. Some (path_at_word value.path value.moment) };
+
+    fn fmt<W: fmt::Write>(&self, f: &mut fmt::Formatter<W>) -> fmt::Result {
+        let path = &self.path;
+        match self.moment {
+            Some(moment) => write!(f, "{path}@{moment}"),
+            None => write!(f, "{path}"),
+        }
     }
 }
 

@@ -1,4 +1,5 @@
 pub mod Cause
+pub mod CauseText
 pub mod Floor
 pub mod Interval
 pub mod Ladder

@@ -1,6 +1,7 @@
 //! Why a policy lets a version go. A contract sees a cause, and a newer version, as plain data.
-ghost use Rattle.std.specs.Prelude.{◌≡◌, true, List, slice_get};
+ghost use Rattle.std.specs.Prelude.{◌≡◌, true, List, Some, slice_get};
 ghost use Rattle.ele_policy.specs.Cause.{IsCause};
+ghost use Rattle.ele_policy.specs.CauseText.{cause_text};
 ghost use Rattle.ele_policy.specs.RipeCase.{closing_of, alone};
 ghost use Rattle.ele_policy.specs.Ripe.{is_due_by};
 ghost use Rattle.ele_policy.specs.declared.cause.Newer.{Newer};
@@ -8,8 +9,9 @@ ghost use Rattle.ele_policy.specs.declared.cause.Newer.{Newer};
 use crate::interval::Interval;
 use crate::policy::Policy;
 use ele_moment::{Moment, VersionNo};
+use std::fmt;
 
-/// Why a policy lets a version go.
+/// Why a policy lets a version go. It is displayed in the words of `why`: `at once`, `by age 60` or `by 3 level 1`.
 #[derive(Clone, Copy, Debug, PartialEq, Eq)]
 pub enum Cause {
     /// It keeps no version that has ended.
@@ -55,6 +57,24 @@ pub fn cause_of(
             let level = ladder.level(at.seconds().saturating_sub(ended.seconds()));
             let by = nearest.number;
             Cause::Displaced { level, by }
+        }
+    }
+}
+
+impl fmt::Display for Cause {
+    ghost output = { λ cause. Some (cause_text cause) };
+
+    fn fmt<W: fmt::Write>(&self, f: &mut fmt::Formatter<W>) -> fmt::Result {
+        match self {
+            Cause::AtOnce => f.write_str("at once"),
+            Cause::Age(interval) => {
+                let seconds = interval.seconds();
+                write!(f, "by age {seconds}")
+            }
+            Cause::Displaced {
+                level,
+                by: VersionNo(by),
+            } => write!(f, "by {by} level {level}"),
         }
     }
 }

@@ -5,12 +5,12 @@ use Rattle.std.specs.Char.{is_ascii_digit}
 use Rattle.std.specs.List.{list_all}
 use Rattle.std.proofs.lemmas.Bool.{eqb-true}
 use Rattle.ele_moment.specs.ReadFields.{and_then}
-use Rattle.ele_moment.proofs.Timestamps.{some_is}
+use Rattle.ele_moment.proofs.Timestamps.{given, some_is}
 use Rattle.ele_tool_time.specs.ReadParts.{after_digits, after_fraction, after_some_digits, rest_of}
 use Rattle.ele_tool_time.specs.Time.{IsFraction}
 use Rattle.ele_tool_time.specs.Zone.{SpellsZone}
 use Rattle.ele_tool_time.specs.declared.zone.Offset.{Offset}
-use Rattle.ele_tool_time.proofs.Zones.{given, offset_long, zone_found, zone_again}
+use Rattle.ele_tool_time.proofs.Zones.{offset_long, zone_found, zone_again}
 
 -- a word is its digits, and what follows these
 record IsCut (w rest : List ℕ) : Type 0 where

@@ -4,44 +4,13 @@ use Rattle.std.specs.Prelude.{◌⊎◌, ◌||◌, nat_lt}
 use Rattle.std.proofs.lemmas.Bool.{ne_eqb, eqb-true}
 use Rattle.std.proofs.lemmas.Bool.Decides.{nat_tests}
 use Rattle.std.proofs.lemmas.Option.{cond_some}
-use Rattle.ele_moment.specs.ReadFields.{is_digit, and_then, pair_at}
+use Rattle.ele_moment.specs.ReadFields.{and_then}
 use Rattle.ele_moment.specs.Timestamp.{two_digits}
-use Rattle.ele_moment.proofs.Timestamps.{some_is}
+use Rattle.ele_moment.proofs.Timestamps.{given, pair_of, pair_takes, some_is}
 use Rattle.ele_tool_time.specs.ReadParts.{clock_at_end, clock_of, is_utc, offset_of, with_sign, without, zone_of}
 use Rattle.ele_tool_time.specs.Zone.{IsUtc, SpellsClock, SpellsOffset, SpellsZone}
 use Rattle.ele_tool_time.specs.declared.zone.Offset.{Offset}
 use Rattle.ele_tool_time.specs.declared.zone.Offset.TheVariants.{Ahead, Behind}
-
--- what follows from a second step that gave a value
-pub given : {A B : Type 0} {P : Type 0} (r : Option A) (f : A → Option B) (y : B) → and_then r f ≡ Some y → ((x : A) → r ≡ Some x → f x ≡ Some y → P) → P
-unfolding and_then
-given (Some x) f y h k = k x refl h
-given None f y h k = absurd cc
-
--- two digits are bytes from `0` to `9`
-digits : (a b : ℕ) → is_digit a && is_digit b ≡ true → (48 ≤ a) × (a < 58) × (48 ≤ b) × (b < 58)
-digits a b h = (grind (arith, nat_tests), grind (arith, nat_tests), grind (arith, nat_tests), grind (arith, nat_tests))
-
--- two digits in front of a word are those of the number that was read
-pair_takes : (w : List ℕ) (x : ℕ × List ℕ) → pair_at w ≡ Some x → w ≡ two_digits x.0 ++ x.1
-pair_takes [] x h = absurd cc
-pair_takes (a ∷ []) x h = absurd cc
-pair_takes (a ∷ b ∷ rest) x h =
-    let g = cond_some _ _ _ h in
-    let d = digits a b g.0 in
-    let n : x.0 ≡ 10 * (a - 48) + (b - 48) = ap (λ (p : ℕ × List ℕ). p.0) (sym g.1) in
-    let r : x.1 ≡ rest = ap (λ (p : ℕ × List ℕ). p.1) (sym g.1) in
-    let high : 48 + x.0 / 10 ≡ a = omega (arith, d.0, d.1, d.2, d.3, n) in
-    let low : 48 + x.0 % 10 ≡ b = omega (arith, d.0, d.1, d.2, d.3, n) in
-    cc
-
--- the tests and the value of two digits
-record IsPair (n : ℕ) : Type 0 where
-  tests : is_digit (48 + n / 10) && is_digit (48 + n % 10) ≡ true
-  value : 10 * (48 + n / 10 - 48) + (48 + n % 10 - 48) ≡ n
-
-pair_of : (n : ℕ) → n < 100 → IsPair n
-pair_of n h = record { tests = grind (arith, nat_tests); value = omega arith }
 
 -- a mark is there, or nothing is taken
 without_case : (mark c : ℕ) (rest : List ℕ) (b : Bool) → (c == mark) ≡ b → (c ∷ rest ≡ mark ∷ cond b rest (c ∷ rest)) ⊎ (c ∷ rest ≡ cond b rest (c ∷ rest))
@@ -84,7 +53,7 @@ clock_found w n h =
       minute = minute.0;
       hour_in = end.hour_in;
       minute_in = end.minute_in;
-      text = clock_text w hour minute (pair_takes w hour eh) (pair_takes _ minute em) end.none;
+      text = clock_text w hour minute (pair_takes w hour eh).1 (pair_takes _ minute em).1 end.none;
       worth = end.worth;
     }))
 

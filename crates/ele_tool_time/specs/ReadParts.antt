@@ -1,7 +1,8 @@
 -- How the parts of a time are read, step by step. No public clause cites this module.
 use Rattle.std.specs.Prelude.{ℕ, ◌+◌, ◌*◌, ◌==◌, ◌&&◌, ◌||◌, nat_lt, Bool, true, false, List, [], ◌∷◌, ◌++◌, take, drop, codes, Option, Some, None, if◌then◌else◌}
 use Rattle.std.specs.Char.{is_ascii_digit}
-use Rattle.ele_moment.specs.ReadFields.{pair_at, ◌>>=◌}
+use Rattle.ele_moment.specs.Pair.{pair_at}
+use Rattle.ele_moment.specs.ReadFields.{◌>>=◌}
 use Rattle.ele_tool_time.specs.declared.zone.Offset.{Offset}
 use Rattle.ele_tool_time.specs.declared.zone.Offset.TheVariants.{Ahead, Behind}
 

@@ -1,9 +1,9 @@
 //! Offsets from UTC, after a time of day. A contract sees a word as its bytes, and an offset as
 //! minutes ahead of UTC or behind it.
 ghost use Rattle.std.specs.Prelude.{◌≡◌};
-ghost use Rattle.std.specs.Option.{option_map};
-ghost use Rattle.ele_moment.specs.ReadFields.{is_digit, pair_at};
 ghost use Rattle.ele_tool_time.specs.ReadParts.{clock_of, is_utc, offset_of, with_sign, without, zone_of};
+
+use ele_moment::read_two_digits;
 
 /// How far a clock is from UTC, in minutes.
 #[derive(Clone, Copy, Debug, PartialEq, Eq)]
@@ -56,9 +56,9 @@ fn with_sign(sign: u8, minutes: u16) -> Option<Offset>
 fn read_clock(word: &[u8]) -> Option<u16>
     ensures { result ≡ clock_of word.now }
 {
-    let (hour, rest) = read_pair(word)?;
+    let (hour, rest) = read_two_digits(word)?;
     let rest = without(b':', rest);
-    let (minute, rest) = read_pair(rest)?;
+    let (minute, rest) = read_two_digits(rest)?;
     if rest.is_empty() && hour < 24 && minute < 60 {
         Some(60 * hour as u16 + minute as u16)
     } else {
@@ -74,23 +74,4 @@ fn without(mark: u8, word: &[u8]) -> &[u8]
         [first, rest @ ..] if *first == mark => rest,
         _ => word,
     }
-}
-
-// A number of two digits at the start of a word, and the rest of it.
-fn read_pair(word: &[u8]) -> Option<(u8, &[u8])>
-    ensures { option_map (λ x. (x.0, x.1.now)) result ≡ pair_at word.now }
-{
-    match word {
-        [tens, ones, rest @ ..] if is_digit(*tens) && is_digit(*ones) => {
-            Some((10 * (*tens - b'0') + (*ones - b'0'), rest))
-        }
-        _ => None,
-    }
-}
-
-// Whether the byte is a decimal digit.
-fn is_digit(byte: u8) -> bool
-    ensures { result ≡ is_digit byte }
-{
-    b'0' <= byte && byte <= b'9'
 }
