@@ -66,8 +66,8 @@ pub fn ask<C: Step, R: Wait>(
     Ok(shared.call(rt, seat, event))
 }
 
-/// The results of three calls of one seat and one of another, over a history of three events;
-/// whether an attempt of this one says that it is full; how many events the seat has seen, and how
+/// The results of three calls of one seat and one of another, over a history of three events. Then
+/// whether an attempt of this one says that it is full, how many events the seat has seen, and how
 /// many the closed history has.
 fn fill<C: Step, R: Wait>(rt: &R, alloc: Global, joins: bool) -> Result<Filled, Fail> {
     let (shared, mut one, mut other) = opened::<C>(alloc, 3)?;
@@ -86,8 +86,8 @@ fn fill<C: Step, R: Wait>(rt: &R, alloc: Global, joins: bool) -> Result<Filled, 
     Ok((answers, is_full, [told, shared.close(other)?.count()]))
 }
 
-/// How many events the seats of a fresh history and one that is split off have seen; which of four
-/// attempts of the first one succeed; and how many events the second one has seen then. The second
+/// How many events the seats of a fresh history and one that is split off have seen. Then which of
+/// four attempts of the first one succeed, and how many events the second one has seen. The second
 /// one never calls, and agrees with the first before that.
 fn attempt_four<C: Step>(alloc: Global) -> Result<Attempts, Fail> {
     let (shared, mut one, mut other) = opened::<C>(alloc, 1_000)?;

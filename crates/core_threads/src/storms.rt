@@ -17,9 +17,9 @@ use std::thread::{Threads, join};
 /// The result of a storm.
 type Ended = Result<u64, StormFault>;
 
-/// The result of a storm, and how many events the closed history has; whether its entries begin
-/// with the preparation, whether the rest are those of ten rounds, and whether an audit finds all
-/// answers equal.
+/// The result of a storm, and how many events the closed history has. Then whether its entries
+/// begin with the preparation, whether the rest are those of ten rounds, and whether an audit finds
+/// all answers equal.
 type Stormed = (Ended, u64, [bool; 3]);
 
 fn plan() -> Result<StormPlan, Fail> {
@@ -135,7 +135,7 @@ fn work_one<C: Step, R: Wait>(rt: &R, alloc: Global, worker: u32) -> Result<Ende
 }
 
 /// The results of storms: by flags, with limits for all events and for 20; counted; with one worker
-/// alone; with a held worker; and those of a writer and a cleaner by themselves.
+/// alone; with a held worker. And those of a writer and a cleaner by themselves.
 fn storms<C: Audit + Send, R: Threads + Wait + Sync>(
     rt: &R,
     alloc: Global,

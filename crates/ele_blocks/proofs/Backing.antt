@@ -1,4 +1,4 @@
--- How many slots of leaves name a block, as leaves come and go.
+-- How many slots of leaves name a block, as leaves are added and removed.
 use Rattle.ele_blocks.proofs.Words.{[], ap, arith, backing, Counted, drop, ids_of, leaf_at, List, nat_tests, None, Option, order, place_at, refl, Sets, Slot, slots_in, Some, Store, suc, sym, take, times, unwrap_or, value_of, zero, ℕ, ⊎_elim, ◌+◌, ◌<◌, ◌∙◌, ◌∷◌, ◌≡◌, ◌≤◌, ◌-◌}
 use Rattle.ele_blocks.proofs.Trades.{times-split, times-ids}
 

@@ -6,7 +6,7 @@ use Rattle.std.proofs.lemmas.Simd.{map-map}
 pub renews_as : (s t : Store) (w : ℕ) (p q : ℕ → Bool) (was now : Layout) → ((slot : ℕ) → q slot ≡ p slot) → Renews s t w p was now → Renews s t w q was now
 renews_as s t w p q was now same h = grind (arith, nat_tests)
 
--- ---- a map of this content, where the slots that pass the test are renewed
+-- ---- a map of this content, in which the slots that pass the test are renewed
 
 module _ (s t : Store) (m new : Layout) (w : ℕ) (test : ℕ → Bool) (after : List ℕ) (n : ℕ) (hands : Hands s t (λ q. times q m.leaves) (λ q. times q new.leaves)) (leaves : AreSized 16 (leaf_at t) n new.leaves) (renews : Renews s t w test m new) (content : content_of (shown t new) ≡ after) (bytes : AreSized 512 bytes_of new.size (shown t new)) (short : new.size ≤ longest_content) where
   count : length (shown t new) ≡ slot_count new.size
@@ -134,7 +134,7 @@ module _ (s : Store) (m : Layout) (w : ℕ) (lives : LivesIn s m) where
       let same : content_of (shown s m) ≡ content_after_write (content_of (shown s m)) o x = grind (arith, none, nil_from_length x, length-content s m lives.whole, append-nil, take-append-drop) in
       rw (← size) (stays (meets (min o m.size) (o + length x)) (content_after_write (content_of (shown s m)) o x) (cells_after_write w o x (shown s m)) (λ slot. grind (arith, nat_tests, none)) same (written_cells s m w o m.size x lives size))
 
--- ---- a truncate that fills is a write of no bytes behind the end
+-- ---- a truncate that fills is a write of no bytes after the end
 
 grown_content : (content : List ℕ) (size : ℕ) → length content ≤ size → content_after_write content size [] ≡ content_after_truncate content size
 grown_content content size le = grind (arith, nat_tests, drop_all, append-nil)

@@ -45,7 +45,7 @@ module _ {X : Type 0} where
   pub sets_new : (values new : List (Option X)) (counts : List ℕ) (id : ℕ) (value : X) → id < length counts → get_or new id None ≡ Some value → ((other : ℕ) → other ≢ id → get_or new other None ≡ get_or values other None) → Sets (counted values counts) (counted new (set counts id 1)) id (Some (record { value = value; owners = 1 }))
   sets_new vs new cs id v lt is others = grind (arith, place-counted, get_or-set_same, get_or-set_other)
 
-  -- whatever stands has an owner afterwards, if what changed has
+  -- each value has an owner afterwards, if what changed has
   pub owned_after : (old new : List (Option (Counted X))) (id : ℕ) (place : Option (Counted X)) → Owned old → Sets old new id place → IfSome place (λ p. 0 < p.owners) → Owned new
   owned_after old new id place owned sets has q = grind (arith, nat_tests)
 

@@ -16,7 +16,7 @@ none_stand : (s : Blocks) → ((q : ℕ) → is_some (place_at s q) ≡ false) �
 none_stand [] h = refl
 none_stand (x ∷ xs) h = grind (arith, sum_by-cons (λ (y : Option (Counted (List ℕ))). cond (is_some y) 1 0) x xs, h 0, none_stand xs (λ q. h (suc q)))
 
--- where exactly the numbers of a list stand, as many stand as the list has different ones
+-- if exactly the numbers of a list are used, they are as many as the list has different ones
 standing_different : (ids : List ℕ) (s : Blocks) → ((q : ℕ) → is_some (place_at s q) ≡ list_any (λ (y : ℕ). eqb y q) ids) → count_by is_some s ≡ different eqb ids
 standing_different [] s h = none_stand s h
 standing_different (x ∷ xs) s h = grind (arith, nat_tests, standing_different xs s, standing_different xs (set s x None), taken_out s x, get_or-set_same, get_or-set_other, get_or_past, length-set, h x, self_eq x)
@@ -34,7 +34,7 @@ leaf_names : (s : Store) (leaf id : ℕ) (ms : List Layout) → 0 < named leaf m
 leaf_names s leaf id [] lt = absurd (omega (arith, lt))
 leaf_names s leaf id (m ∷ ms) lt = grind (arith, slots_least s m.leaves leaf id, leaf_names s leaf id ms, times-append id (ids_of (slots_of s m)) (blocks_of s ms))
 
--- in a store that owes the maps a block is owned where they name it
+-- in a store that owes the maps a block has an owner if they name it
 named_owned : (s : Store) (maps : List Layout) → Owned s.leaves → Owes s maps → (id : ℕ) → 0 < owners_at s id → 0 < times id (blocks_of s maps)
 named_owned s maps owned owes id lt = let by = backing_some s.leaves id (omega (arith, lt, owes.backed id)) in grind (arith, owned by.leaf, by, leaf_names s by.leaf id maps, owes.counted by.leaf)
 

@@ -17,7 +17,7 @@ pub hands_with : (s t : Store) (was now was2 now2 z : ℕ → ℕ) → Hands s t
 hands_with s t was now was2 now2 z h e f = grind (arith, e, f)
 
 module _ (s t : Store) (leaf : ℕ) (there : 0 < owners s.leaves leaf) where
-  -- where its slots and all blocks stay
+  -- if its slots and all blocks stay
   alone : (was now : List ℕ) (place : Option (Counted (List Slot))) → t.blocks ≡ s.blocks → Sets s.leaves t.leaves leaf place → value_of place ≡ value_of (place_at s.leaves leaf) → Trades s.leaves t.leaves was now → Hands s t (λ q. times q was) (λ q. times q now)
   alone was now place same sets value trades = grind (arith, nat_tests, same, value, trades.owed, trades.kept, λ (id : ℕ). backing_sets s.leaves t.leaves leaf place id sets, cells_each s t)
 
@@ -78,7 +78,7 @@ stay_in s t was now [] h owned there = record { leaves = refl; slots = refl; cel
 stay_in s t was now (x ∷ xs) h owned there =
     grind (arith, nat_tests, h.same x, h.shows x, owned x, there x, stay_in s t was now xs h (λ q lt. owned q (omega (arith, lt))) (λ q lt. there q (omega (arith, lt))), map-append)
 
--- what backs stands
+-- blocks that back are there
 pub backed_there : (s : Store) (ids : List ℕ) → AreBacked s (slots_in s ids) → AreThere s (slots_in s ids)
 backed_there s ids backed b some = omega (arith, backed b some, slots_backed s ids b some)
 

@@ -20,7 +20,7 @@ pub in_back : (n : Named) (xs ys : List Named) → IsIn n ys → IsIn n (xs ++ y
 in_back n [] ys i = i
 in_back n (x ∷ xs) ys i = inr (in_back n xs ys i)
 
--- where a name of a map comes from
+-- the slot of a map's name
 pub record IsSlot (n : Named) (file first : ℕ) (slots : List Slot) : Type 0 where
   pub place : ℕ
   pub cell : Slot

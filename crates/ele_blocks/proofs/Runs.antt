@@ -7,7 +7,7 @@ use Rattle.ele_blocks.proofs.Renewals.{times_laid}
 laid_apart : {X : Type 0} (first at : ℕ) (new front middle back : List X) → first ≡ length front + at → at ≤ length middle → (at + length new ≤ length middle) ⊎ (back ≡ []) → laid_over first new (front ++ (middle ++ back)) ≡ front ++ (laid_over at new middle ++ back)
 laid_apart first at new front middle back is within fit = grind (arith, fit, is, drop-append-le, append-nil, take-append-add front (middle ++ back) at, take-append-le at middle back within, drop-append-add front (middle ++ back) (at + length new), append_assoc)
 
--- new slots by a writer over the first slots of a map: those that stand there are renewed
+-- new slots by a writer over the first slots of a map: those are renewed
 laid_renews : (s t : Store) (was now : Layout) (w first kept : ℕ) (fresh : List ℕ) → LivesIn s was → first ≤ kept → kept ≤ length (slots_of s was) → ((id : ℕ) → 0 < owners_at s id → times id fresh ≡ 0) → ((id : ℕ) → times id fresh ≤ 1) → slots_of t now ≡ laid_over first (map (slot_by w) fresh) (take kept (slots_of s was)) → Renews s t w (is_between first (first + length fresh)) was now
 laid_renews s t was now w first kept fresh lives le kept_le new one is =
     let old = take kept (slots_of s was) in

@@ -1,4 +1,4 @@
--- Lists in pieces of c items, of which the last may be shorter.
+-- Lists in pieces of c items; the last may be shorter.
 use Rattle.ele_blocks.proofs.Words.{[], add-one, ap, append-nil, append_cancel_left, AreSized, arith, drop, drop-drop, drop-take, drop_min, drop_more, fills, first_chunks, flat_map, flat_map-append, get_or, laid_over, length, length-append, length-drop, length-take, length-take-le, List, map, min, mul-suc, nat_tests, nil_from_length, refl, suc, sym, take, take-append-add, take-append-drop, take-nil, take-take, take_all, take_min, true, zero, ℕ, ◌*◌, ◌++◌, ◌+◌, ◌-◌, ◌<◌, ◌∙◌, ◌∷◌, ◌≡◌, ◌≤◌, ◌⊎◌}
 
 -- the test is what it tests

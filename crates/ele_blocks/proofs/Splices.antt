@@ -20,18 +20,18 @@ pieces_taken n xs lt = grind (arith, nat_tests, length-take, chunks_taken)
 pub length-spliced : (content : List ℕ) (offset : ℕ) (bytes : List ℕ) → length (content_after_write content offset bytes) ≡ max (length content) (offset + length bytes)
 length-spliced content offset bytes = grind (arith, nat_tests, length-append, length-take, length-replicate, length-drop)
 
--- what stands behind the bytes stays
+-- what is after the bytes stays
 spliced-back : (content : List ℕ) (offset : ℕ) (bytes : List ℕ) (n : ℕ) → offset + length bytes ≤ n → drop n (content_after_write content offset bytes) ≡ drop n content
 spliced-back content offset bytes n le = grind (arith, drop-append-add (take offset content ++ replicate (offset - length content) 0 ++ bytes) (drop (offset + length bytes) content) (n - (offset + length bytes)), length-append, length-take, length-replicate, drop-drop)
 
--- so a splice is the part of q bytes from p on, between what stood before it and behind it
+-- so a splice is the part of q bytes from p on, between what was before it and after it
 pub spliced_part : (content : List ℕ) (offset p q r : ℕ) (bytes : List ℕ) → p ≤ offset → p ≤ length content → offset + length bytes ≤ r → r ≡ p + q → content_after_write content offset bytes ≡ take p content ++ (take q (drop p (content_after_write content offset bytes)) ++ drop r content)
 spliced_part content offset p q r bytes from le past is =
     let after = content_after_write content offset bytes in grind (arith, nat_tests, spliced-back content offset bytes r past, length-take, take-append-le, length-append, take-take, take-append-drop p after, take-append-drop q (drop p after), drop-drop q p after)
 
 -- ---- what a write makes of each piece
 
--- the bytes stand in their places, and in all others what stood there, or zero
+-- the bytes are at their places, and at all others what was there, or zero
 spliced_at : (content : List ℕ) (offset : ℕ) (bytes : List ℕ) (k : ℕ) → get_or (content_after_write content offset bytes) k 0 ≡ cond (is_between offset (offset + length bytes) k) (get_or bytes (k - offset) 0) (get_or content k 0)
 spliced_at content offset bytes k = grind (arith, nat_tests, length-append, length-take, length-replicate, get_or_append_left, get_or-append_right, get_or-take, get_or-replicate, get_or-drop, get_or_past)
 

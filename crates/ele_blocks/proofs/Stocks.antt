@@ -22,7 +22,7 @@ named_few s leaf (m ∷ ms) h = grind (arith, nat_tests, times-le-length, leaves
 abbrev pub late : Store → List Tagged → ℕ
 late s ts = tally (λ t. cond (is_below s t) 0 1) ts
 
--- the first maps have given way, and these stood beside them
+-- the first maps are replaced, and these were beside them
 module _ (s t : Store) (was now : List Layout) (moves : Moves s t was now) (rest : List Tagged) (owes : Owes s (was ++ layouts_of rest)) where
   pub its_leaves : (m : Layout) → ((leaf : ℕ) → named leaf was + times leaf m.leaves ≤ owners s.leaves leaf) → StayIn s t m.leaves
   its_leaves m owned = stay_in s t _ _ m.leaves moves.hands (λ leaf some. omega (arith, owned leaf, some)) (λ leaf some id names. omega (arith, owes.backed id, backing_least s.leaves leaf id, names))

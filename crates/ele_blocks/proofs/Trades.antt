@@ -10,11 +10,11 @@ times-le-length q [] = omega arith
 times-le-length q (x ∷ xs) = grind (arith, nat_tests, times-le-length q xs)
 
 module _ {X : Type 0} where
-  -- one place changes, and the owners there by those that go and come
+  -- one place changes, and its owners by those that are removed and added
   trades_set : (old new : List (Option (Counted X))) (id : ℕ) (b : Option (Counted X)) (was now : List ℕ) → Sets old new id b → ((q : ℕ) → eqb id q ≡ false → (times q was ≡ 0) × (times q now ≡ 0)) → owners_of b + times id was ≡ owners old id + times id now → (times id was < owners old id → value_of b ≡ value_at old id) → Trades old new was now
   trades_set old new id b was now h apart count keeps = record { owed = λ q. grind (arith, nat_tests, h.changed, h.others q, apart q, count); kept = λ q. grind (arith, nat_tests, h.changed, h.others q, keeps) }
 
-  -- a value is kept under a number that stood for nothing
+  -- a value is kept under an unused number
   pub trades_put : (old new : List (Option (Counted X))) (id : ℕ) (x : X) → place_at old id ≡ None → Sets old new id (Some (record { value = x; owners = 1 })) → Trades old new [] (id ∷ [])
   trades_put old new id x vacant h = grind (arith, nat_tests, trades_set)
 

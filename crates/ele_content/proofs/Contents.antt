@@ -27,7 +27,7 @@ pub content_of-written : (writer offset : ℕ) (bytes : List ℕ) (cells : List 
 unfolding cells_after_write
 content_of-written writer offset bytes cells = slots_whole _ (content_after_write (content_of cells) offset bytes) _ refl
 
--- it ends where the longer of both ends
+-- it ends with the longer of both
 pub length-spliced : (content : List ℕ) (offset most : ℕ) (bytes : List ℕ) → length content ≤ most → offset + length bytes ≤ most → length (content_after_write content offset bytes) ≤ most
 length-spliced content offset most bytes short fits =
     simp (length-append, length-take, length-replicate, length-drop) (omega arith)
@@ -46,7 +46,7 @@ content_of-truncated writer size cells = slots_whole _ (content_after_truncate (
 pub truncated_short : (writer size : ℕ) (cells : List Cell) → size ≤ longest_content → length (content_of (cells_after_truncate writer size cells)) ≤ longest_content
 truncated_short writer size cells fits = rw (content_of-truncated, length-resized) fits
 
--- slots side by side are filled, where they are as many as the rest of the content has
+-- slots side by side are filled, if they are as many as the rest of the content has
 slots_fill : (writer : ℕ → ℕ) (content : List ℕ) (from count n : ℕ) → n ≡ length content - 512 * from → count ≡ slot_count n → fill_slots n (map (slot_cell writer content) (range_with_len from count)) ≡ true
 slots_fill writer content from zero n is few = let none : n ≡ 0 = omega arith in rw none refl
 slots_fill writer content from (suc count) n is few =

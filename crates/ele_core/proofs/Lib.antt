@@ -2,5 +2,5 @@
 pub mod Meant
 -- a handle that begins a draft
 pub mod Opened
--- where a pass ends
+-- how a pass ends
 pub mod Passes

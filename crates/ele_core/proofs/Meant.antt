@@ -18,7 +18,7 @@ stat_is w t file info told = by (version_meant w.files w.versions file t) refl t
   by (Ok row) meant h = let own = (is_meant w.files w.versions file t row meant).own in cc
   by (Err refusal) meant h = absurd cc
 
--- the file's row of that number is found by it, so what is read of it are its cells
+-- the file's row of that number is found by it, so a read returns its cells
 pub numbered : (w : World) (file number : ℕ) (row : VersionRow) → version_meant w.files w.versions file (tag.Number number) ≡ Ok row → find (is_version file number) w.versions ≡ Some row
 numbered w file number row meant = numbered_found w.versions file number row (made_of w.files w.versions file number row meant)
 

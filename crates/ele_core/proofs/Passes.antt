@@ -1,4 +1,4 @@
--- Where a pass ends.
+-- How a pass ends.
 use Rattle.ele_core.specs.Does.{removed}
 use Rattle.ele_model.proofs.Basics.{◌≡◌, ◌<◌, ℕ, Option, None, Some, false, arith, nat_tests, refl, subst}
 use Rattle.ele_model.proofs.PassEnds.{pass_finishes}

@@ -10,13 +10,11 @@ use crate::Core;
 use ele_model::{Fate, FileId, KeyList, Moment, NoMemory, VersionNo};
 
 impl Core {
-    /// Returns what becomes of the version, and why: the first case that holds. The version is
-    /// current; a handle reads it; a mark in force covers it; its policy keeps it, until a moment
-    /// or for good; or it is due, since a moment. None if the version isn't held. It takes no
-    /// memory.
+    /// Returns what becomes of the version, and why: the first case of `Fate` that holds. None if
+    /// the version isn't held. It takes no memory.
     ///
-    /// Each version has exactly one fate (`one_fate` of `ele_world::laws::fate`). The fate is `Due`
-    /// exactly if the scan has the version's key (`due_fate`).
+    /// Each held version has exactly one fate (`one_fate` of `ele_world::laws::fate`). The fate is
+    /// `Due` exactly if the scan has the version's key (`due_fate`).
     /// Cost: the logarithms of files and versions, and the file's groups with their marks; of a
     /// marked version also all groups, up to the first whose mark covers it.
     pub fn fate(&self, file: FileId, number: VersionNo) -> Option<Fate>

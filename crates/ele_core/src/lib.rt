@@ -111,9 +111,9 @@ impl Core {
         }
     }
 
-    /// Returns the current moment. Its contract also says that the world is well formed, that its
-    /// limits are allowed, and that each file has a live name, a held version or a draft. So the
-    /// laws of `ele_world` hold.
+    /// Returns the current moment. Its contract also says that the world is well formed, and that
+    /// its limits are allowed. Each file has a live name, a held version or a draft. So the laws of
+    /// `ele_world` hold.
     /// Cost: constant time.
     pub fn now(&self) -> Moment
         ensures value { result ≡ self.now.world.now }

@@ -51,7 +51,7 @@ pub only_in_order : (queue keys : List Key) → IsInOrder queue → ((k : Key) �
 only_in_order queue keys up same =
     same_keys queue (in_order keys) up (IsInOrder-in_order keys) (λ k. same k ∙ sym (has_key-in_order k keys))
 
--- no key is ripe by the moment where all are ripe later
+-- no key is ripe by the moment if all are ripe later
 none_ripe : (moment : ℕ) (keys : List Key) → AllByRecursion (λ k. is_ripe_by moment k ≡ false) keys → filter (is_ripe_by moment) keys ≡ []
 none_ripe moment [] all = refl
 none_ripe moment (k ∷ ks) all = rw all.0 (none_ripe moment ks all.1)
@@ -65,7 +65,7 @@ unfolding IsStrictlySortedBy
 unripe_after moment x xs up late =
     none_ripe moment xs (all-weaker (λ y. key_cmp x y ≡ Less) (λ y. is_ripe_by moment y ≡ false) xs (λ y. still_unripe moment x y late) up.0)
 
--- in a list in order, the ripe keys stand in front
+-- in a list in order, the ripe keys are first
 pub ripe_in_front : (moment : ℕ) (keys : List Key) → IsInOrder keys → take_while (is_ripe_by moment) keys ≡ filter (is_ripe_by moment) keys
 unfolding IsStrictlySortedBy
 ripe_in_front moment [] up = refl

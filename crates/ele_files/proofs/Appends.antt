@@ -1,4 +1,4 @@
--- A file's next version is appended: the first one of a new file, or a held one that comes again.
+-- A file's next version is appended: the first one of a new file, or a held one that is restored.
 use Rattle.ele_files.proofs.Words.{AllByRecursion, AllLater, AllSessions, Append, Bool, Draft, File, FileRow, GotFile, HasAppended, Held, IsDraftKept, IsFileKept, IsLocal, IsRowOf, IsRowPast, IsStocked, Keeps, Layout, List, LogRow, None, Some, StockLaws, Store, VersionRow, World, [], after_change, all-both, all_found, all-map, all-push, all-weaker, ap, append_nil, arith, bucket_changes, content_of, empty_layout, ended_at, ended_rows, false, file_row, find, find-at, flat_map, flat_map-append, held_in, insert_before, is_file, is_id, is_live, is_version, is_version_after, later-push, length, local-after, local-insert_before, local-update_first, map, map-all, map-append, named_live, nat_tests, next_of, next_of-numbered_other, next_of-push, next_row, not_found, numbered_on, refl, row_in, row_stock, rows_in, rows_of, shown, stock_of, subst, sym, true, update_first, update_first-at, with_file, with_name, with_rows, ℕ, ◌++◌, ◌+◌, ◌-◌, ◌<◌, ◌∙◌, ◌∷◌, ◌≡◌, ◌≢◌, Became, HeldRows, IsPast, IsSome, LivesIn, Moves, Stays, cells_of_version, get_or, has_number, list_any, position, set}
 use Rattle.ele_files.proofs.Endings.{closed_kept, of_rows, its_kept, its_past}
 use Rattle.ele_files.proofs.Exchanges.{after, rise_over, files_over, rows_over, IsReached, reached}
@@ -7,7 +7,7 @@ use Rattle.ele_files.proofs.Stock.{over, row_added, file_added, row_copied, row_
 use Rattle.ele_model.specs.declared.rows.Target.TheVariants as target
 use Rattle.ele_model.specs.World as world
 
--- what comes in behind all
+-- what is added after all
 insert_end : {X : Type 0} (p : X → Bool) (y : X) (xs : List X) → AllByRecursion (λ x. p x ≡ false) xs → insert_before p y xs ≡ xs ++ y ∷ []
 insert_end p y [] none = refl
 insert_end p y (x ∷ xs) none = rw none.0 (ap (λ zs. x ∷ zs) (insert_end p y xs none.1))
@@ -62,7 +62,7 @@ module _ (s : Store) (files : List File) (id : ℕ) (f g : File) (found : find (
   appended_shows a w rows time lives =
       grind (arith, nat_tests, rows, shows_next a, next_found files id (Some f) found, is)
 
--- ---- a file comes without a version, and gets its first
+-- ---- a file is added without a version, and gets its first
 
 pub fresh_kept : (f : File) → f.next ≡ 1 → f.log.rows ≡ [] → IsFileKept f
 fresh_kept f next none = record { next = omega (arith, next); rows = rw none tt; order = rw none (record { ends = tt; order = tt }) }

@@ -8,11 +8,11 @@ use Rattle.ele_files.proofs.Exchanges.{IsReached, reached}
 use Rattle.ele_model.specs.World as world
 use Rattle.ele_model.specs.declared.rows.Reads.TheVariants as reads
 
--- the map that comes out with the handle
+-- the map that the close returns
 abbrev pub given : AllSessions → ℕ → Option Layout
 given ss handle = option_and_then (λ answer. answer.1) (closing ss handle)
 
--- the sessions without the handle, and without the file's draft where no other writes it
+-- the sessions without the handle, and without the file's draft if no other writes it
 abbrev pub without_handle : AllSessions → ℕ → ℕ → Bool → AllSessions
 without_handle ss handle file stays = record ss { drafts = left_drafts stays file ss.drafts; handles = left_handles ss handle }
 
@@ -31,7 +31,7 @@ module _ (s : Store) (files : List File) (ss : AllSessions) (handle : ℕ) where
   -- ---- the handle is left
 
   module _ (kept : Keeps s files ss) where
-    -- the map that comes out lives in the store
+    -- the returned map lives in the store
     pub given_lives : (m : Layout) → given ss handle ≡ Some m → LivesIn s m
     given_lives m = by (reads_by ss.handles handle) where
       ends : (file : ℕ) (b : Bool) (o : Option Draft) → find (is_draft file) ss.drafts ≡ o → (file_closing b o).1 ≡ Some m → LivesIn s m
@@ -106,7 +106,7 @@ module _ (s : Store) (files : List File) (ss : AllSessions) (handle file opened 
   pub not_missing : position (is_id file) files ≡ None → ⊥
   not_missing missing = omega (arith, d_kept.there, its_next, next_found files file None (no_file files file (sym missing)))
 
-  -- the file at its place, with room for the version
+  -- the file at its place, with reserved memory for the version
   module _ (i : ℕ) (f : File) (place : Some i ≡ position (is_id file) files) (is : f ≡ get_or files i f) (log : HeldRows) (rows_stay : log.rows ≡ f.log.rows) where
     abbrev at : IsReached files file i f
     at = reached files file i f place is

@@ -1,4 +1,4 @@
--- How far a copy of rows has come, or a count of the places of a map.
+-- The progress of a copy of rows, or of a count of the places of a map.
 use Rattle.ele_files.proofs.Words.{AllByRecursion, AllLater, Bool, Cell, Draft, DraftRow, File, Layout, List, LivesIn, LogRow, None, Option, Slot, Some, StockLaws, Store, [], all-got, all-weaker, ap, append_assoc, arith, bytes_at, cell_of, draft_in, eqb, filter, find, found_passes, get_or, get_or_from_slice_get, length, map, map-append, nat_tests, option_map, row_in, shown, slice_get, slice_get_within, slots_of, subst, suc, sym, take, take_more, true, zero, ℕ, ◌++◌, ◌+◌, ◌<◌, ◌∙◌, ◌∷◌, ◌≡◌, ◌≤◌, log_bytes, sum_by_cons, AllSessions, Counts, Keeps, Meets, Place, Usage, VersionRow, all_found, append_nil, bytes_in, cond, different, draft_of, file_usage, filter-buckets, flat_map, flat_map-map, flat_map_single, is_among, is_id, is_key, is_place, is_version_of, length-map, length-split, length-take-le, list_any, list_any-append, log_places, not, option_map_or, places, places_from, refl, rows_in, sum-map, sum_by-map, sum_by-same, ◌*◌, ◌^◌, Named, Tagged, file_stock, flat_map-append, names_from, names_in, names_of, stock_of}
 use Rattle.ele_files.proofs.Rows.{its_id}
 use Rattle.ele_files.proofs.Stock.{logs_live}
@@ -12,7 +12,7 @@ module _ {X Y : Type 0} (g : X → Y) where
   taken-next xs i x h = ap (map g) (take_more xs i x (slice_get_within xs i x h)) ∙ (map-append g (take i xs) (get_or xs i x ∷ []) ∙ ap (λ y. map g (take i xs) ++ g y ∷ []) (get_or_from_slice_get xs i x x h))
 
 module _ {X : Type 0} where
-  -- where keys rise, an element is the first of its key
+  -- if keys rise, an element is the first of its key
   pub found-got : (key : X → ℕ) (xs : List X) (i : ℕ) (x : X) → AllLater (λ y z. key y < key z) xs → slice_get xs i ≡ Some x → find (λ y. eqb (key y) (key x)) xs ≡ Some x
   found-got key [] i x rise h = absurd cc
   found-got key (y ∷ ys) zero x rise h = grind (arith, nat_tests, h)
@@ -43,7 +43,7 @@ module _ (s : Store) (drafts : List Draft) (rise : AllLater (λ (x y : Draft). x
 
 -- ---- different places
 
--- a place behind others counts unless it is one of them
+-- a place after others counts unless it is one of them
 different-push : (places : List Place) (place : Place) → different is_place (places ++ place ∷ []) ≡ different is_place places + cond (is_among places place) 0 1
 different-push [] place = refl
 different-push (x ∷ xs) place = grind (arith, nat_tests, list_any-append, different-push xs place)

@@ -1,4 +1,4 @@
--- A file of which nothing is held.
+-- A file without held versions and draft.
 use Rattle.ele_files.proofs.Words.{AllLater, AllSessions, Bool, Draft, File, IsDraftKept, IsFileKept, IsTrue, Keeps, List, LogRow, None, Some, Store, [], all-both, all-remove_first, all-weaker, ap, arith, false, false≢true, file_row, find, find-buckets, find_position, find-remove_first, flat_map, found_passes, get_or, held_in, is_bare, is_file, is_id, is_some, is_version_of, later-remove_first, list_any, map, nat_tests, not, option_and_then, position, refl, remove, remove_first, remove_first-map, remove_first-position, row_in, rows_in, stock_of, sym, true, without_file, ℕ, ◌<◌, ◌↔◌, ◌∙◌, ◌∷◌, ◌≡◌, ◌≢◌}
 use Rattle.ele_files.proofs.Tagged.{any_found}
 use Rattle.ele_files.proofs.Stock.{IsSeen, file_dropped}

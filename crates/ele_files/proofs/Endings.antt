@@ -26,7 +26,7 @@ pub no_end : (o : Option ℕ) → is_some o ≡ false → o ≡ None
 no_end o h = grind arith
 
 module _ (next now : ℕ) (new : LogRow) (number : new.number ≡ next) (closed : new.closed ≡ now) where
-  -- no row stands behind that before the next one
+  -- no row is after the one before the next
   none_behind : (x : LogRow) (rows : List LogRow) → x.number + 1 ≡ next → AllByRecursion (Precedes x) rows → AllByRecursion (IsRowOf next) rows → AllByRecursion (λ row. Precedes row new) rows
   none_behind x [] is later known = tt
   none_behind x (y ∷ rows) is later known = absurd (let a = later.0.number in let b = known.0.number in omega arith)
@@ -77,7 +77,7 @@ module _ (s : Store) (files : List File) (a : AllSessions) (kept : Keeps s files
   pub its_few : (n : ℕ) → AllByRecursion (λ row. row.next < n) (held_in s files a).files → f.next < n
   its_few n few = all_found (is_id file) (λ x. x.next < n) files f at.found (map-all file_row (λ row. row.next < n) files few)
 
-  -- with room the rows are the same
+  -- with reserved memory the rows are the same
   module _ (log : HeldRows) (rows_stay : log.rows ≡ f.log.rows) where
     abbrev k : File
     k = record f { log = log }

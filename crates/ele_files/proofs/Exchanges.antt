@@ -66,7 +66,7 @@ pub record IsReached (files : List File) (id i : ℕ) (f : File) : Type 0 where
 pub reached : (files : List File) (id i : ℕ) (f : File) → Some i ≡ position (is_id id) files → f ≡ get_or files i f → IsReached files id i f
 reached files id i f place is = grind (arith, nat_tests, set-first, find_position)
 
--- the file at its place, where no row has the number any more
+-- the file at its place, if no row has the number any more
 module _ (s : Store) (files : List File) (a : AllSessions) (kept : Keeps s files a) (id number i : ℕ) (f : File) (place : Some i ≡ position (is_id id) files) (is : f ≡ get_or files i f) (these : HeldRows) (rows : these.rows ≡ filter (is_other number) f.log.rows) where
   abbrev at : IsReached files id i f
   at = reached files id i f place is
@@ -135,7 +135,7 @@ module _ (s : Store) (files : List File) (a : AllSessions) (kept : Keeps s files
 abbrev governed : Policy → File → File
 governed policy f = record f { policy = policy }
 
--- what each element shows stays where it shows the same once it has changed
+-- what each element shows stays if it shows the same after its change
 pub flat_map-same : {X Y : Type 0} (h : X → List Y) (p : X → Bool) (g : X → X) (xs : List X) → ((x : X) → h (g x) ≡ h x) → flat_map h (update_first p g xs) ≡ flat_map h xs
 flat_map-same h p g [] same = refl
 flat_map-same h p g (x ∷ xs) same = grind (arith, nat_tests, flat_map-same h p g xs same)

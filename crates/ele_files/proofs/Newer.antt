@@ -1,4 +1,4 @@
--- What is told of versions behind one, and how many they are, as the log of their file shows it.
+-- The infos of versions after one, and how many they are, as the log of their file shows it.
 use Rattle.ele_files.proofs.Words.{AllLater, AllSessions, File, IsFileKept, Keeps, List, LogRow, None, Option, Precedes, Some, Store, VersionRow, all_found, ap, arith, back-map, enough_newer, false, file_row, filter, find, find-filter, find-map, flat_map, is_after, is_id, is_newer_of, is_version_of, later-map, later-weaker, nat_lt, nat_tests, newer_held, newer_own, option_map, option_map_or, refl, reverse, row_in, rows_in, slice_get, stamps_in, info_of, sym, with_newer, with_newer_own, ℕ, ◌-◌, ◌<◌, ◌∙◌, ◌≡◌, ◌≢◌}
 use Rattle.ele_files.proofs.Stock.{row_lives}
 use Rattle.ele_files.proofs.Tagged.{list_shown, none_shown, own, own_rows}
@@ -56,7 +56,7 @@ module _ (s : Store) (files : List File) (a : AllSessions) (kept : Keeps s files
         ∙ back-map stamps_in f.log.rows newer
         ∙ ap (option_map stamps_in) (sym is)
 
-    -- whether so many are newer, where one fewer are newer than the row
+    -- whether so many are newer, if one fewer are newer than the row
     pub enough_shown : (number count : ℕ) → count ≢ 0 → (o : Option LogRow) → o ≡ slice_get (reverse f.log.rows) (count - 1) → nat_le count (newer_held versions file number) ≡ option_map_or (λ (row : LogRow). nat_lt number row.number) o false
     enough_shown number count some o is =
         ap (λ n. nat_le n (newer_held versions file number)) (grind (arith, some))
@@ -69,7 +69,7 @@ module _ (s : Store) (files : List File) (a : AllSessions) (kept : Keeps s files
     pub enough_in_log : (number count : ℕ) → (nat_le count 0 || option_map_or (λ (row : LogRow). nat_lt number row.number) (slice_get (reverse f.log.rows) (count - 1)) false) ≡ nat_le count (newer_held versions file number)
     enough_in_log number count = grind (arith, nat_tests, enough_shown number count)
 
-    -- what stands beside a version, by one look at its file
+    -- what is beside a version, by one look at its file
     pub beside_shown : (h : Held) (info : VersionInfo) (live : Bool) (beside : Beside) → h.files ≡ map file_row files → h.versions ≡ versions → beside.next ≡ option_map stamps_in (find (is_after info.number) f.log.rows)
         → beside.case ≡ case_of (rule_in f.policy live).policy info.closed (option_map (λ (info : VersionInfo). info.closed) beside.next) (nat_le (rule_in f.policy live).newer (newer_held versions file info.number))
         → IsBeside h file info live beside

@@ -1,4 +1,4 @@
--- A handle that writes a file comes, and with the file's first handle a draft.
+-- A handle that writes a file is opened, and with the file's first handle a draft.
 use Rattle.ele_files.proofs.Words.{Held, AllSessions, Bool, Draft, File, IsDraftKept, IsFileKept, IsRowOf, Keeps, Layout, List, LivesIn, LogRow, MatchBool, Moves, None, OnErr, OnOk, Opens, Option, Result, Some, Stays, Store, Tagged, [], all_found, all-insert_before, ap, arith, draft_in, draft_stock, empty_layout, false, file_row, find, first_draft, flat_map, held_in, insert_before, insert_before-map, is_draft, is_draft_after, is_id, has_number, is_version, length, length-append, length-map, list_any, map, nat_tests, new_draft, next_of, opened_by, option_map_or, refl, row_stock, rows_in, shown, stock_of, sum_by, sym, true, ℕ, ◌+◌, ◌-◌, ◌∙◌, ◌∷◌, ◌≡◌}
 use Rattle.ele_files.proofs.Stock.{row_copied, row_same, IsSeen, held_stays, draft_begun, row_lives}
 use Rattle.ele_files.proofs.Rows.{its_id, next_found, version_of, any_draft}

@@ -1,4 +1,4 @@
--- How far a copy of a content has come.
+-- The progress of a copy of a content.
 use Rattle.ele_blocks.specs.LivesIn.{fills}
 use Rattle.ele_files.proofs.Words.{Cell, Layout, List, LivesIn, Slot, Some, Store, [], ap, append_nil, arith, bytes_at, cell_of, content_of, length, nat_tests, option_map, refl, shown, slice_get, slots_of, sym, take, true, zero, suc, ℕ, ◌*◌, ◌++◌, ◌+◌, ◌-◌, ◌∙◌, ◌∷◌, ◌≡◌, ◌≤◌, StockLaws}
 use Rattle.ele_files.specs.Copied.{IsCopied}

@@ -1,4 +1,4 @@
--- What the rows show of the files and drafts behind them.
+-- The rows of the files and drafts.
 use Rattle.ele_files.proofs.Words.{AllByRecursion, AllLater, Draft, File, IsPast, IsRowPast, List, LogRow, None, Option, Some, Store, VersionRow, all-any, all_found, all-map, all-none, all-weaker, any-map, ap, arith, draft_in, ended_at, ended_by, ended_rows, eqb, false, file_row, find, find-buckets, find-map, find-none, flat_map, flat_map-all, found_passes, is_file, is_id, has_number, is_version, list_any, map, map-all, nat_tests, next_of, option_and_then, option_map, option_map_or, position, refl, row_in, rows_in, sym, true, update_first, update_first-map, ℕ, ◌-◌, ◌<◌, ◌∙◌, ◌≡◌, ◌≢◌}
 use Rattle.ele_sessions.specs.Sessions as sessions
 use Rattle.ele_model.specs.World.{is_draft}
@@ -37,7 +37,7 @@ same_number s id file number is row = let e : eqb id file ≡ true = grind (arit
 pub ended_shown : (s : Store) (f : File) (now file : ℕ) → f.id ≡ file → map (row_in s f.id) (ended_rows f now) ≡ update_first (is_version file (f.next - 1)) (ended_at now) (rows_in s f)
 ended_shown s f now file is = sym (update_first-map (row_in s f.id) (is_version file (f.next - 1)) (has_number (f.next - 1)) (same_number s f.id file (f.next - 1) is) (ended_at now) (ended_by now) (λ row. refl) f.log.rows)
 
--- each row of a file is past where its versions are
+-- each row of a file is past if its versions are
 pub file_past : (s : Store) (files : List File) (id : ℕ) (f : File) (now : ℕ) → find (is_id id) files ≡ Some f → AllByRecursion (IsPast now) (flat_map (rows_in s) files) → AllByRecursion (IsRowPast now) f.log.rows
 file_past s files id f now found past = all-weaker (λ row. IsPast now (row_in s f.id row)) (IsRowPast now) f.log.rows (λ row p. record { closed = p.closed; ended = p.ended }) (map-all (row_in s f.id) (IsPast now) f.log.rows (all_found (is_id id) (λ x. AllByRecursion (IsPast now) (rows_in s x)) files f found (flat_map-all (rows_in s) (IsPast now) files past)))
 

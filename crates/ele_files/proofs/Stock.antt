@@ -1,4 +1,4 @@
--- The maps of files and drafts as one stock, where one file or one draft has changed, and what they show through another store.
+-- The maps of files and drafts as one stock, after a change of one file or one draft, and what they show through another store.
 use Rattle.ele_files.proofs.Words.{AllByRecursion, AllSessions, Bool, Draft, File, Keeps, List, LivesIn, LogRow, SameStock, Some, Store, Tagged, [], all_found, all-left, all-right, all-split, arith, draft_stock, ended_rows, file_stock, find, flat_map, flat_map-all, insert_before, is_draft, is_id, map, map-all, nat_tests, refl, remove_first, row_stock, stock_of, sum_by, sum_by-append, sum_by-around, sum_by_cons, sum_by-flat_map, sum_by-insert_before, sum_by-map, sum_by-remove_first, sum_by-update_first, sum_by-update_same, sum_by_push, update_first, ℕ, ◌++◌, ◌+◌, ◌∷◌, ◌≡◌, Held, ShowsSame, draft_in, held_in, row_in, rows_in, Moves, Stays, shown, ◌≤◌}
 
 -- a file with the rows and the next number of g
@@ -19,7 +19,7 @@ module _ (files : List File) (drafts : List Draft) where
     pub draft_begun : (d : Draft) → SameStock (stock_of files (insert_before p d drafts)) (draft_stock d ∷ stock_of files drafts)
     draft_begun d = record { sums = λ k. omega (arith, total k files (insert_before p d drafts), total k files drafts, sum_by_cons k (draft_stock d) (stock_of files drafts), sum_by-insert_before (λ x. k (draft_stock x)) p d drafts) }
 
-  -- a file comes without rows
+  -- a file is added without rows
   pub file_added : (f : File) → f.log.rows ≡ [] → SameStock (stock_of files drafts) (stock_of (files ++ f ∷ []) drafts)
   file_added f none = grind (arith, nat_tests, total, sum_by_push)
 

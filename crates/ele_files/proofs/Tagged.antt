@@ -1,4 +1,4 @@
--- What is told of versions and drafts, as the log of their file shows it: the version that a tag means, the newest, the next closing.
+-- The infos of versions and drafts, as the log of their file shows it: the version that a tag means, the newest, the next closing.
 use Rattle.ele_files.proofs.Words.{AllByRecursion, AllSessions, Bool, Err, File, Keeps, List, LivesIn, LogRow, None, Ok, Option, Refusal, Some, VersionInfo, Store, Tag, VersionRow, [], all_found, ap, arith, eqb, false≢true, file_row, filter, filter-buckets, find, find-filter, find-map, flat_map, found_passes, had_closed, had_life, has_closed_by, held_or_forgotten, is_before, is_id, has_number, is_version, is_version_of, last_number, last_passing, lives_at, map, nat_tests, option_map, option_map_or, refl, result_map_both, row_in, row_living, row_meant, row_numbered, rows_in, stamps_in, info_of, sym, told_or_forgotten, true, version_living, version_meant, version_numbered, ℕ, ◌-◌, ◌∙◌, ◌∷◌, ◌≡◌, Bor, Draft, Layout, cells_of_version, draft_in, held_in, is_some, is_some-copied, list_any, option_copied, shown, IsFileKept, IsRowOf, all-weaker, filter-all, is_after, is_newer_of, newest_of, next_closing}
 use Rattle.ele_files.proofs.Rows.{file_of, next_found, tagged, version_of, any_draft}
 use Rattle.ele_files.proofs.Stock.{logs_live, row_lives}
@@ -39,7 +39,7 @@ module _ (s : Store) (files : List File) (a : AllSessions) (kept : Keeps s files
   pub none_lived : (moment : ℕ) → find (is_id file) files ≡ None → find (had_life file moment) versions ≡ None
   none_lived moment none = sym (find-filter (had_life file moment) (is_version_of file) versions (λ row e. grind (arith, nat_tests))) ∙ ap (find (had_life file moment)) (none_shown none)
 
-  -- the last of what is told of the file's versions
+  -- the last of the infos of the file's versions
   pub newest_told : option_map info_of (newest_of versions file) ≡ last (map info_of (filter (is_version_of file) versions))
   newest_told = ap (option_map info_of) (sym (last-kept (is_version_of file) versions)) ∙ sym (last-map (λ _. true) info_of (λ _. true) (filter (is_version_of file) versions) (λ row. refl))
 
@@ -84,7 +84,7 @@ module _ (s : Store) (files : List File) (a : AllSessions) (kept : Keeps s files
     meant_shown (tag.At moment) = living_shown moment
     meant_shown (tag.Number number) = rw (next_found files file (Some f) found) (grind (arith, numbered_shown number))
 
-    -- what is told of each
+    -- the info of each
     pub list_shown : map info_of (filter (is_version_of file) versions) ≡ map stamps_in f.log.rows
     list_shown = ap (map info_of) own_rows ∙ each f.log.rows (all_found (is_id file) (λ f. AllByRecursion (λ (row : LogRow). LivesIn s row.cells) f.log.rows) files f found (logs_live s files a kept)) where
       each : (rows : List LogRow) → AllByRecursion (λ (row : LogRow). LivesIn s row.cells) rows → map info_of (map (row_in s f.id) rows) ≡ map stamps_in rows
@@ -114,7 +114,7 @@ module _ (s : Store) (files : List File) (a : AllSessions) (kept : Keeps s files
     pub closing_shown : (number : ℕ) (o : Option LogRow) → o ≡ find (is_after number) f.log.rows → next_closing versions file number ≡ option_map (λ (row : LogRow). row.closed) o
     closing_shown number o is = rw (is, find_shown (is_newer_of file number) (is_after number) (λ row e. grind (arith, nat_tests)) (λ row. rw own refl)) (grind arith)
 
--- what was told is what was found
+-- the info is that of the row that was found
 pub told_found : (found before : Option LogRow) (info : VersionInfo) → told_or_forgotten found before ≡ Ok info → option_map stamps_in found ≡ Some info
 told_found found before info is = grind (arith, is)
 

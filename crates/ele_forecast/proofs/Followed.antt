@@ -1,4 +1,4 @@
--- A version with newer ones behind it: when it ripens, and why it goes then.
+-- A version with newer ones after it: when it ripens, and why it is let go then.
 use Rattle.ele_forecast.proofs.Words.{◌≡◌, ℕ, ◌&&◌, ◌||◌, Bool, true, false, not, List, [], ◌++◌, append-nil, Option, Some, refl, ap, sym, subst, ◌∙◌, IsSome, arith, nat_tests, nat_le, ◌==◌, option_map_or, option_and_then, list_any}
 use Rattle.ele_forecast.proofs.Words.{Policy, Case, IsRipe, alone, case_of, cond, counts_newer, None, candidates, earliest_of, is_due_by, VersionRow, FileView, beside, MarkRow, ends_over, keeps_at, due_in, ripe_in, IsFollowed, IsReasonOf, TellsOf, Forecast, Why}
 use Rattle.ele_forecast.proofs.Words.{IsLawful, last_moment, ◌≤◌, meets_floor, ripe_case}
@@ -41,7 +41,7 @@ module _ (v : FileView) (row : VersionRow) where
         ∙ ap (λ (x : Option ℕ). ripe_with [] [] (Some policy) x) ends
         ∙ ap (earliest_of (is_due_by policy row.closed (beside v row) ended)) (append-nil (candidates policy ended))
 
--- where a case has a ripe moment, the nearest newer closing tells it
+-- if a case has a ripe moment, the nearest newer closing determines it
 pub told_alone : (case : Case) (ended m : ℕ) → ripe_case case ended ≡ Some m → ripe_by case.policy case.closed (alone case.next_closed) ended ≡ Some m
 told_alone case ended m is = by (case.enough || not (counts_newer case.policy)) is where
   by : (b : Bool) → cond b (ripe_by case.policy case.closed (alone case.next_closed) ended) None ≡ Some m → ripe_by case.policy case.closed (alone case.next_closed) ended ≡ Some m
@@ -89,7 +89,7 @@ module _ (policy : Policy) (v : FileView) (row next : VersionRow) (newer : ℕ) 
         let own = subst (λ (c : ℕ). under c next.closed) (sym closes) (subst (under closed) (sym ends) is_ripe) in
         own (beside v row) is.case ∙ sym (ripe_is v row policy next.closed is.policy_is is.unread is.unmarked is.ended)
 
-    -- and so a forecast of it tells of it
+    -- and so its forecast describes it
     pub tells_of : (number : ℕ) (why : Why) (forecast : Forecast) → forecast ≡ record { number = number; closed = closed; ended = Some ended; ripe = found; why = why }
         → IsRipe (case_of policy closed (Some ended) (meets_floor policy true newer)) ended found → (ripe_in v row ≡ found → IsReasonOf v row why) → TellsOf v row forecast
     tells_of number why forecast parts is_ripe reason =

@@ -16,17 +16,17 @@ kept_step policy at n [] place c e = absurd (cc)
 kept_step policy at n (x ∷ cs) zero c e = let same : x ≡ c = cc in grind (arith, nat_tests)
 kept_step policy at n (x ∷ cs) (suc place) c e = kept_step policy at n cs place c e
 
--- those behind one come no earlier
+-- those after one are no earlier
 pub rise_behind : (cs : List ℕ) (place c : ℕ) → AllLater ◌≤◌ cs → slice_get cs place ≡ Some c → AllLater ◌≤◌ (c ∷ drop (suc place) cs)
 rise_behind [] place c rising e = absurd (cc)
 rise_behind (x ∷ cs) zero c rising e = let same : x ≡ c = cc in subst (λ (y : ℕ). AllLater ◌≤◌ (y ∷ cs)) same rising
 rise_behind (x ∷ cs) (suc place) c rising e = rise_behind cs place c rising.1 e
 
--- and they are all that stands behind it
+-- and they are all that is after it
 pub all_behind : (cs : List ℕ) (place : ℕ) → take (length cs - place) (drop place cs) ≡ drop place cs
 all_behind cs place = take_all (length cs - place) (drop place cs) (omega (arith, length-drop place cs))
 
--- ---- those that have come
+-- ---- those up to the moment
 
 -- they are the first ones
 pub first_come : (at : ℕ) (cs : List ℕ) → AllLater ◌≤◌ cs → take (length (come_by at cs)) cs ≡ come_by at cs
@@ -63,7 +63,7 @@ module _ (policy : Policy) (closed : List ℕ) (v : FileView) (is : IsFileOf pol
   abbrev numbers : List VersionRow → List ℕ
   numbers rows = map (λ row. row.number) rows
 
-  -- of the rows behind some
+  -- of the rows after some
   kept_are : (n : ℕ) (cs : List ℕ) (before rows : List VersionRow) → v.rows ≡ before ++ rows → AllLater Precedes v.rows → map life_of rows ≡ lives_from n cs → kept_from policy at n cs ≡ numbers (filter kept rows)
   kept_are n [] before [] whole precede lives = refl
   kept_are n [] before (row ∷ rows) whole precede lives = absurd (cc)
@@ -95,7 +95,7 @@ are_kept policy cs at rising w file now is =
 -- ---- the loop over them
 
 module _ (policy : Policy) (at : ℕ) (cs : List ℕ) (place : ℕ) (numbers : List ℕ) (so_far : numbers ++ kept_from policy at (place + 1) (drop place cs) ≡ kept_from policy at 1 cs) where
-  -- the numbers that come when one has been looked at
+  -- the rest of the numbers when one has been looked at
   pub kept_on : (c : ℕ) (newer : List ℕ) (b : Bool) (more : List ℕ) → slice_get cs place ≡ Some c → newer ≡ drop (place + 1) cs → b ≡ not (goes policy at c newer) → more ≡ cond b (numbers ++ (place + 1) ∷ []) numbers
       → more ++ kept_from policy at (place + 1 + 1) (drop (place + 1) cs) ≡ kept_from policy at 1 cs
   kept_on c newer b more there behind test after =

@@ -1,6 +1,6 @@
 -- the words and lemmas that proofs here use
 mod Words
--- a version with a next one behind it
+-- a version with a next one
 mod Followed
 -- the version of a closing
 mod Lives
@@ -8,5 +8,5 @@ mod Lives
 mod Rising
 -- the versions that stay at a moment
 mod Kept
--- what is told of one version after another
+-- the forecasts of one version after another
 mod Told

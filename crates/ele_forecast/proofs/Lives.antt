@@ -1,4 +1,4 @@
--- The version of a closing: where it stands among its file's rows, and what stands behind it.
+-- The version of a closing: its place among its file's rows, and the rows after it.
 use Rattle.ele_forecast.proofs.Words.{◌≡◌, ℕ, zero, suc, ◌+◌, ◌<◌, ◌≤◌, false, true, Bool, List, [], ◌∷◌, ◌++◌, Option, Some, None, refl, ap, sym, subst, ◌∙◌, arith, nat_tests, filter, find, map, slice_get, AllByRecursion, AllLater, length}
 use Rattle.ele_forecast.proofs.Words.{all-weaker, later-around, find-at, Policy, meets_floor, VersionRow, FileView, beside, closings, is_newer, is_numbered, IsFileOf, IsFollowed, Life, life_of, lives_from, IsForecastOf, TellsOf, Forecast}
 use Rattle.ele_model.proofs.Views.{Precedes, newer_is}
@@ -22,7 +22,7 @@ all_behind m d n [] (row ∷ rows) e below all = absurd (cc)
 all_behind m d n (c ∷ cs) [] e below all = absurd (cc)
 all_behind m d n (c ∷ cs) (row ∷ rows) e below all = grind (arith, nat_tests, all_behind m d (n + 1) cs rows)
 
--- each stands before those behind it
+-- each is before those after it
 pub precede : (n : ℕ) (cs : List ℕ) (rows : List VersionRow) → map life_of rows ≡ lives_from n cs → AllLater ◌≤◌ cs → AllLater Precedes rows
 precede n [] [] e rising = tt
 precede n [] (row ∷ rows) e rising = absurd (cc)
@@ -40,7 +40,7 @@ precede n (c ∷ d ∷ cs) (row ∷ next ∷ rows) e rising =
 
 -- ---- the row of one of them
 
--- the row of the closing at that place, and the closings behind it
+-- the row of the closing at that place, and the closings after it
 pub record IsPlaced (cs : List ℕ) (rows : List VersionRow) (place number closed : ℕ) : Type 0 where
   pub before : List VersionRow
   pub row : VersionRow
@@ -86,7 +86,7 @@ placed n (c ∷ cs) (row ∷ rows) (suc place) closed e rising there =
       many = let more = k.many in omega arith;
     }
 
--- ---- what stands about it
+-- ---- what is beside it
 
 module _ (policy : Policy) (cs : List ℕ) (v : FileView) (is : IsFileOf policy cs v) (rising : AllLater ◌≤◌ cs) (place closed : ℕ) (there : slice_get cs place ≡ Some closed) where
   pub own : IsPlaced cs v.rows place (place + 1) closed
@@ -128,7 +128,7 @@ module _ (policy : Policy) (cs : List ℕ) (v : FileView) (is : IsFileOf policy 
   }
 
   module _ (ended : ℕ) (next : slice_get cs (suc place) ≡ Some ended) where
-    -- the row behind it
+    -- the row after it
     pub record IsNext (behind : List VersionRow) : Type 0 where
       pub next_row : VersionRow
       pub others : List VersionRow
@@ -175,7 +175,7 @@ module _ (policy : Policy) (cs : List ℕ) (v : FileView) (is : IsFileOf policy 
       told = told own.row behind_it.next_row (followed newer are) closes behind_it.closed_then behind_it.its_number;
     }
 
--- a closing doesn't come before the one ahead of it
+-- a closing isn't before the previous one
 pub next_rises : (cs : List ℕ) (place closed ended : ℕ) → AllLater ◌≤◌ cs → slice_get cs place ≡ Some closed → slice_get cs (suc place) ≡ Some ended → closed ≤ ended
 next_rises [] place closed ended rising there next = absurd (cc)
 next_rises (c ∷ []) place closed ended rising there next = absurd (cc)

@@ -8,12 +8,12 @@ below_end c (d ∷ cs) last m rising e below =
     let next = rising.0.0 in let first = rest.0 in
     (omega arith, rest)
 
--- none of them is behind the last
+-- none of them is after the last
 pub below_last : (cs : List ℕ) (last m : ℕ) → AllLater ◌≤◌ cs → slice_get cs (length cs - 1) ≡ Some last → last ≤ m → AllByRecursion (λ x. x ≤ m) cs
 below_last [] last m rising e below = tt
 below_last (c ∷ cs) last m rising e below = let place : length cs ≡ suc (length cs) - 1 = omega arith in below_end c cs last m rising (ap (slice_get (c ∷ cs)) place ∙ e) below
 
--- another behind them or none
+-- another after them or none
 pub pushed : (b : Bool) (cs : List ℕ) (c : ℕ) → AllLater ◌≤◌ cs → AllByRecursion (λ x. x ≤ c) cs → AllLater ◌≤◌ (cond b (cs ++ c ∷ []) cs)
 pushed true cs c rising below = later-push ◌≤◌ cs c rising below
 pushed false cs c rising below = rising

@@ -1,17 +1,17 @@
--- What is told of one version after another.
+-- The forecasts of one version after another.
 use Rattle.ele_forecast.proofs.Words.{◌≡◌, ℕ, zero, suc, ◌+◌, ◌≤◌, List, [], ◌∷◌, ◌++◌, Some, ap, sym, ◌∙◌, arith, append_assoc, append-nil, map, slice_get, AllByRecursion, length, drop}
 use Rattle.ele_forecast.proofs.Words.{Policy, FileView, IsFileOf, Life, lives_from, IsForecastOf, Forecast}
 use Rattle.ele_lists.proofs.Alls.{all-append}
 use Rattle.std.proofs.lemmas.List.{drop_all, map-append}
 use Rattle.ele_forecast.specs.ForecastOf.{AreForecasts, told_life}
 
--- the life at a place, and those behind it
+-- the life at a place, and those after it
 lives_step : (n : ℕ) (cs : List ℕ) (place c : ℕ) → slice_get cs place ≡ Some c → lives_from n (drop place cs) ≡ (n, c, slice_get cs (suc place)) ∷ lives_from (n + 1) (drop (suc place) cs)
 lives_step n [] place c e = absurd (cc)
 lives_step n (x ∷ cs) zero c e = let same : x ≡ c = cc in ap (λ (y : ℕ). lives_from n (y ∷ cs)) same
 lives_step n (x ∷ cs) (suc place) c e = lives_step n cs place c e
 
--- so far it was told, and the lives from there on are left
+-- the forecasts so far are made, and the lives from there on remain
 pub record ToldSoFar (policy : Policy) (closings : List ℕ) (place : ℕ) (forecasts : List Forecast) : Type 0 where
   pub lives : map told_life forecasts ++ lives_from (place + 1) (drop place closings) ≡ lives_from 1 closings
   pub tell : (v : FileView) → IsFileOf policy closings v → AllByRecursion (IsForecastOf v) forecasts

@@ -13,8 +13,8 @@ pub fn pass_leaves_staying()
     laws::pass_leaves_kept();
 }
 
-/// Whatever clean events a run has, a finished pass at its end leaves exactly the versions of a
-/// file that stay by the closings that the run's other events made.
+/// Take a run with any clean events. A finished pass at its end leaves exactly the versions of a
+/// file that stay by the closings of the run's other events.
 pub fn cleaned_whenever()
     ensures { CleanedWhenever }
 {

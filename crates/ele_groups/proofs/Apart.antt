@@ -1,4 +1,4 @@
--- Numbers of which none stands twice in a list, where one is taken out.
+-- Numbers that a list has once each, after one is removed.
 use Rattle.ele_groups.proofs.Basics.{◌≡◌, ℕ, ◌==◌, true, false, not, ◌&&◌, List, [], ◌∷◌, refl, arith, filter, list_any, AllByRecursion, nat_tests, remove_first, list_any-remove_first, found_passes}
 use Rattle.ele_groups.proofs.Words.{AreApart}
 
@@ -25,7 +25,7 @@ kept_all : (k : ℕ) (xs : List ℕ) → AllByRecursion (λ y. (k == y) ≡ fals
 kept_all k [] all = refl
 kept_all k (x ∷ xs) all = grind (arith, nat_tests, kept_all k xs)
 
--- what is taken out once is taken out wherever it stands
+-- one removal removes the number from the list
 pub filtered : (k : ℕ) (xs : List ℕ) → AreApart xs → remove_first (λ x. x == k) xs ≡ filter (λ x. not (x == k)) xs
 filtered k [] apart = refl
 filtered k (x ∷ xs) apart = grind (arith, nat_tests, is_same, kept_all, filtered k xs apart.1)

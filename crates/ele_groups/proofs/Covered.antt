@@ -96,7 +96,7 @@ module _ (except : Option Except) (file closed : ℕ) (ended : Option ℕ) (es :
     item_there : (m : Membership) (these : List Membership) → list_any (λ other. bytes_eq other.name m.name) (m ∷ these) ≡ true
     item_there m these = grind (arith, nat_tests, bytes_eq-Decides)
 
-    -- groups among the file's, of which one covers or none
+    -- groups among the file's, one of them covering or none
     by_groups : (d : Cover) (these : List Membership) → ((name : List ℕ) → list_any (λ other. bytes_eq other.name name) these ≡ true → has memberships file name ≡ true)
         → (list_any (reaching d) these ≡ false → list_any (passes d) (values_of es) ≡ false)
         → list_any (reaching d) these ≡ list_any (passes d) (values_of es)

@@ -1,4 +1,4 @@
--- The row that stands under a name: found, changed, or taken out.
+-- The row under a name: found, changed, or removed.
 use Rattle.ele_groups.proofs.Basics.{◌≡◌, ℕ, Bool, true, false, List, [], ◌∷◌, ◌++◌, Some, None, is_some, refl, arith, find, insert_entry, list_any, AllByRecursion, keys_of, values_of, set_value, remove_entry, option_map, option_map_or, bytes_eq, nat_tests, bytes_eq-Decides, update_first, remove_first, IsDistinct, false≢true}
 use Rattle.ele_groups.proofs.Words.{GroupRow, IsNamed, changed_at, is_group, new_group, row_at}
 
@@ -17,7 +17,7 @@ own_name a = (bytes_eq-Decides a a).1 refl
 pub turned : (a b : List ℕ) → bytes_eq a b ≡ bytes_eq b a
 turned a b = grind (arith, nat_tests, same_name a b, same_name b a, own_name)
 
--- a new group stands under its own name
+-- a new group is under its own name
 pub named_new : (name : List ℕ) → IsNamed (name, new_group name)
 named_new name = λ n. turned name n
 
@@ -38,7 +38,7 @@ module _ (name : List ℕ) where
   named_without [] named = tt
   named_without (e ∷ es) named = grind (arith, nat_tests, named, named_without es named.1)
 
-  -- a new name goes behind the others
+  -- a new name is added after the others
   pub pushed : (row : GroupRow) (es : Entries) → row_at es name ≡ None → insert_entry bytes_eq es name row ≡ es ++ (name, row) ∷ []
   pushed row [] free = refl
   pushed row (e ∷ es) free = grind (arith, nat_tests, pushed row es)

@@ -16,14 +16,14 @@ pub placed_gone : (file : ℕ) (name : List ℕ) (f : GroupRow → GroupRow) (ol
     → AreOf (row_at (changed_at name f es)) new
 placed_gone file name f old new es placed changed members = record { each = λ q n. grind (arith, nat_tests, changed q n, placed.each q n, same_name name n, members q, changed_elsewhere name f es n) }
 
--- a file that came and went again
+-- a file that was added and removed again
 pub placed_undone : (file : ℕ) (name : List ℕ) (old mid new : Memberships) (at : List ℕ → Option GroupRow) → AreOf at old → has_file file (at name) ≡ false
     → ((q : ℕ) (n : List ℕ) → has mid q n ≡ (has old q n || (file == q && bytes_eq name n)))
     → ((q : ℕ) (n : List ℕ) → has new q n ≡ (has mid q n && not (file == q && bytes_eq name n)))
     → AreOf at new
 placed_undone file name old mid new at placed fresh put taken = record { each = λ q n. grind (arith, nat_tests, put q n, taken q n, placed.each q n, same_name name n) }
 
--- a group comes, without files
+-- a group is added, without files
 pub placed_new : (name : List ℕ) (old : Memberships) (at to : List ℕ → Option GroupRow) → AreOf at old → at name ≡ None
     → ((n : List ℕ) → to n ≡ cond (bytes_eq name n) (Some (new_group name)) (at n))
     → AreOf to old

@@ -36,7 +36,7 @@ pub any_is_found : (k : ℕ) (xs : List MarkRow) → list_any (is_mark k) xs ≡
 any_is_found k [] = refl
 any_is_found k (x ∷ xs) = grind (arith, nat_tests, any_is_found k xs)
 
--- so it is where none is under the time
+-- so it is if none is under the time
 pub none_there : (made : List MarkRow) (times : BTreeMap ℕ MarkRow) → AreTimed made times → (time : ℕ) → get nat_cmp times time ≡ None → list_any (is_mark time) made ≡ false
 none_there made times timed time none = any_is_found time made ∙ ap is_some (sym (timed.same time) ∙ none)
 
@@ -123,7 +123,7 @@ between_more xs apart from next mark before first = exceeds_same _ _ (λ d.
     ∙ reaches_more from next mark.at d before first.late xs (none_between next mark.at xs first.least)
     ∙ rw (its_own d mark xs apart first.stands, ← exceeds_by from (Some next) d xs) (sym (exceeds_longer (cover_by from (Some next) xs) (cover_until mark.until) d)))
 
--- where none lies further on
+-- if none is further on
 reaches_done : (from next until : ℕ) (d : Cover) → from ≤ next → (nat_le next until || (next == from)) ≡ true → (xs : List MarkRow) → AllByRecursion (IsNotBetween next until) xs → list_any (reaches from (Some until) d) xs ≡ list_any (reaches from (Some next) d) xs
 reaches_done from next until d before on [] all = refl
 reaches_done from next until d before on (x ∷ xs) all = grind (arith, nat_tests, reaches_done from next until d before on xs all.1)

@@ -168,8 +168,8 @@ impl Groups {
         cover(&self.rows, &self.memberships, file, &span)
     }
 
-    /// Returns how long the marks of the group of that name hold what was current from `closed`
-    /// until `ended`, or still is, of a file that it has. It takes no memory.
+    /// Returns how long the marks of the group of that name hold a version that was current from
+    /// `closed` until `ended`, or still is. The group has the version's file. It takes no memory.
     pub fn cover_by_group(&self, name: &Name, closed: Moment, ended: Option<Moment>) -> Cover
         ensures { result ≡ option_map_or (λ row. cover_by closed ended row.marks)
             (group_named self.now name.now) Free }

@@ -9,11 +9,11 @@ use Rattle.ele_headline.proofs.Words.{Event, FileRow, File, VersionRow}
 
 -- ---- a number that was given isn't given again
 
--- where it is of the file, the row numbers on behind the version
+-- if it is of the file, the row's next number is after the version
 abbrev pub IsBehind : ℕ → ℕ → FileRow → Type 0
 IsBehind file number row = row.id ≡ file → number < row.next
 
--- the file's number was given, and its row, if it is still there, numbers on behind the version
+-- the file's number was given, and its row, if it is still there, has a next number after the version
 pub record IsPast (w : World) (file number : ℕ) : Type 0 where
   pub given : file ≤ w.made.files
   pub first : 1 ≤ number
@@ -50,7 +50,7 @@ pub data Moves (event : Event) (first : World) (now : ℕ) (rows : List VersionR
 abbrev pub row_of : World → ℕ → ℕ → Option VersionRow
 row_of w file number = find (is_version file number) w.versions
 
--- a change of an element where p passes, that t doesn't see, changes the one found or none
+-- a change, which t doesn't see, of an element that passes p, changes the one found or none
 pub found_updated : {X : Type 0} (p t : X → Bool) (f : X → X) (xs : List X) → ((x : X) → t (f x) ≡ t x) → (find t (update_first p f xs) ≡ find t xs) ⊎ (find t (update_first p f xs) ≡ option_map f (find t xs))
 found_updated p t f [] same = inl refl
 found_updated p t f (x ∷ xs) same = grind (arith, nat_tests, found_updated p t f xs same)

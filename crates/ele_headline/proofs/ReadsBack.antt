@@ -19,7 +19,7 @@ use Rattle.ele_model.proofs.Versions.{IsFound, all_found}
 abbrev HaveCells : List Cell → Option VersionRow → Type 0
 HaveCells cells found = IfSome found (λ row. row.cells ≡ cells)
 
--- the version's number was given, and where it is held it has the cells
+-- the version's number was given, and if it is held it has the cells
 record IsFixed (w : World) (file number : ℕ) (cells : List Cell) : Type 0 where
   past : IsPast w file number
   same : HaveCells cells (find (is_version file number) w.versions)

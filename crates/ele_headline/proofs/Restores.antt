@@ -1,4 +1,4 @@
--- The list of restorable names is in order and has a name just where it may come back.
+-- The list of restorable names is in order and has a name exactly if it is restorable.
 use Rattle.ele_model.proofs.Basics.{nat_tests, arith, ◌≡◌, ℕ, ◌==◌, ◌&&◌, Bool, true, false, List, [], ◌∷◌, map, Option, Some, None, refl, ap, sym, subst, cons_option, ◌∙◌, find, AllByRecursion, filter_map, keys_of, lookup, is_at, option_map, passing, bytes_eq, bytes_eq-Decides, unsigned_tied, is_eq-slice_cmp, Less, eq_by_cmp_equiv, IsDistinct-from_sorted}
 use Rattle.ele_model.proofs.Words.{World, may_return, name_cmp, newest_rows, returning}
 use Rattle.ele_headline.proofs.Words.{DeadName, NameRow, Target}

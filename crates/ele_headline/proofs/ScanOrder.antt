@@ -1,4 +1,4 @@
--- The scan is in order, and has a key just where its version is due from then on.
+-- The scan is in order, and has a key exactly if its version is due from then on.
 use Rattle.ele_model.proofs.Basics.{nat_tests, arith, ◌≡◌, ℕ, ◌==◌, ◌&&◌, ◌||◌, ◌∙◌, Bool, true, false, List, [], ◌∷◌, Option, Some, None, refl, cond, cons_option, option_map, find, AllByRecursion, AllLater, all-weaker, not_found, filter_map, option_map_or}
 use Rattle.ele_model.proofs.Words.{World, Key, ArePlaced, Versions, has_key, is_key, is_version, key_of, HasParts}
 use Rattle.std.proofs.Math.Bool.{or-false}

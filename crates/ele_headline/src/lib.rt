@@ -66,7 +66,7 @@ pub fn scan_lists()
     laws::policies_are_lawful();
 }
 
-/// The list of restorable names has each name once, in order, and exactly the names whose newest
+/// The list of restorable names has each name once, in order. It has exactly the names whose newest
 /// row is dead and whose target may have a name again.
 pub fn restorable_lists()
     ensures { RestorableLists }

@@ -54,7 +54,7 @@ ends-update_last moment (row ∷ next ∷ rows) can ends = (ends.0, ends-update_
 pub in_order_ended : (moment : ℕ) (rows : List VersionRow) → IsSomeAnd (last_of rows) (CanEndAt moment) → AreInOrder rows → AreInOrder (update_last (ended_at moment) rows)
 in_order_ended moment rows can order = assumption (ends-update_last moment rows can order.ends, later-update_last Precedes (ended_at moment) rows (λ earlier later h. record { number = h.number; ended = h.ended }) order.order)
 
--- a row that ended when a later one closed doesn't live where that one had closed
+-- a row that ended when a later one closed doesn't live at moments by which that one had closed
 ended_by : (moment : ℕ) (row later : VersionRow) → Precedes row later → has_closed_by moment later ≡ true → ends_after moment row ≡ false
 ended_by moment row later precedes closed = grind (arith, nat_tests, closed, precedes.ended)
 
@@ -70,7 +70,7 @@ last_is_some p rows = ap is_some (sym (last_reversed p rows)) ∙ find_last-is_s
 pub lives_is_last : (moment : ℕ) (rows : List VersionRow) → AllLater Precedes rows → find (lives_at moment) rows ≡ passing (ends_after moment) (last_passing (has_closed_by moment) rows)
 lives_is_last moment rows order = find_last (has_closed_by moment) (ends_after moment) rows (later-weaker Precedes (λ row later. has_closed_by moment row ≡ true → has_closed_by moment later ≡ true → ends_after moment row ≡ false) rows (λ row later precedes both closed. ended_by moment row later precedes closed) order)
 
--- a row that ended when a later one closed isn't the one that lives where the later one does
+-- a row that ended when a later one closed isn't the one that lives at moments at which the later one does
 pub lives_alone : (moment : ℕ) (rows : List VersionRow) → AllLater Precedes rows → AllByRecursion (λ row. lives_at moment row ≡ true → find (lives_at moment) rows ≡ Some row) rows
 lives_alone moment [] order = tt
 lives_alone moment (row ∷ rows) order =

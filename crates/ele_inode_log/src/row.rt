@@ -6,8 +6,8 @@ use ele_moment::{Moment, VersionNo};
 use ele_rows::{Change, Cut};
 
 /// A version of a file: its number, the moments at which it was opened, closed and ended, if it has
-/// ended, and its content. A store holds the content's blocks, and the row owns a share of them:
-/// who takes the row out of a log has to give up its cells there.
+/// ended, and its content. A store holds the content's blocks, and the row owns a share of them.
+/// Who takes the row out of a log has to give up its cells there.
 #[derive(Debug, Drop)]
 pub struct VersionRow {
     pub number: VersionNo,

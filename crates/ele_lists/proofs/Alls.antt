@@ -15,7 +15,7 @@ module _ {X : Type 0} (P : X → Type 0) where
   all-right [] ys all = all
   all-right (x ∷ xs) ys all = all-right xs ys all.1
 
-  -- before, at and behind one element
+  -- before, at and after one element
   pub all-around : (xs : List X) (x : X) (ys : List X) → AllByRecursion P (xs ++ x ∷ ys) → AllByRecursion P xs × P x × AllByRecursion P ys
   all-around [] x ys all = (tt, all.0, all.1)
   all-around (z ∷ xs) x ys all = let rest = all-around xs x ys all.1 in ((all.0, rest.0), rest.1, rest.2)
@@ -27,7 +27,7 @@ module _ {X : Type 0} (P : X → Type 0) where
   all-exchange [] x y ys one all = (one, all.1)
   all-exchange (z ∷ xs) x y ys one all = (all.0, all-exchange xs x y ys one all.1)
 
-  -- what holds of each element, wherever it stands, holds of all
+  -- what holds of each element, at any place, holds of all
   pub all-split : (xs : List X) → ((before : List X) (x : X) (behind : List X) → xs ≡ before ++ x ∷ behind → P x) → AllByRecursion P xs
   all-split xs each = by [] xs refl where
     by : (before rest : List X) → xs ≡ before ++ rest → AllByRecursion P rest
@@ -87,7 +87,7 @@ module _ {X : Type 0} (R : X → X → Type 0) where
   later-right [] ys later = later
   later-right (x ∷ xs) ys later = later-right xs ys later.1
 
-  -- how an element stands to those before and behind it
+  -- how an element relates to those before and after it
   pub later-around : (xs : List X) (x : X) (ys : List X) → AllLater R (xs ++ x ∷ ys) → AllByRecursion (λ z. R z x) xs × AllByRecursion (R x) ys
   later-around [] x ys later = (tt, later.0)
   later-around (z ∷ xs) x ys later = let rest = later-around xs x ys later.1 in ((all-mid (R z) xs x ys later.0, rest.0), rest.1)

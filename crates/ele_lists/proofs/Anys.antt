@@ -7,7 +7,7 @@ module _ {X : Type 0} where
   any-weaker p q [] weaker h = absurd cc
   any-weaker p q (x ∷ xs) weaker h = grind (arith, any-weaker p q xs)
 
-  -- an element that passes only where a later one does can go
+  -- an element that passes only if a later one does can be removed
   pub any-without : (p : X → Bool) (xs : List X) (gone : X) (ys : List X) → (p gone ≡ true → list_any p ys ≡ true) → list_any p (xs ++ gone ∷ ys) ≡ list_any p (xs ++ ys)
   any-without p [] gone ys other = grind arith
   any-without p (x ∷ xs) gone ys other = ap (λ b. p x || b) (any-without p xs gone ys other)

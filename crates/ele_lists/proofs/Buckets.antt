@@ -25,7 +25,7 @@ module _ {X : Type 0} (tag : X → ℕ) (k : ℕ) where
     pub local-remove_first : IsLocal tag k (remove_first p)
     local-remove_first = record { past = λ xs ys all. remove_first-skip p xs ys (lesser_fail xs all); short = λ xs ys all. remove_first-front p xs ys (greater_fail ys all) }
 
-  -- a row comes in before the first that passes: none of a lesser tag does, and each of a greater one
+  -- a row is inserted before the first that passes: none of a lesser tag does, and each of a greater one
   pub local-insert_before : (r : X → Bool) (y : X) → ((x : X) → tag x < k → r x ≡ false) → ((x : X) → k < tag x → r x ≡ true) → IsLocal tag k (insert_before r y)
   local-insert_before r y before behind = grind (arith, nat_tests, insert_before-skip, all-weaker, insert_before-front)
 

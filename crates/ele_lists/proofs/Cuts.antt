@@ -1,7 +1,7 @@
--- A list cut at an element: at the first that passes, at a place, or where one comes in; and what finds and changes do there.
+-- A list cut at an element: at the first that passes, at a place, or at an insertion; and what finds and changes do there.
 use Rattle.ele_lists.proofs.Basics.{AllByRecursion, Bool, List, Some, [], ap, arith, cond, false, find, insert_before, list_any, refl, remove_first, true, update_first, ◌++◌, ◌∙◌, ◌∷◌, ◌≡◌}
 
--- the first that passes, with what stands before and behind it
+-- the first that passes, with what is before and after it
 pub record IsCut {X : Type 0} (p : X → Bool) (xs : List X) (x : X) : Type 0 where
   pub before : List X
   pub behind : List X
@@ -19,7 +19,7 @@ module _ {X : Type 0} (p : X → Bool) where
         record { before = y ∷ rest.before; behind = rest.behind; whole = ap (λ zs. y ∷ zs) rest.whole; passes = rest.passes; none = (e, rest.none) }
   ] refl
 
-  -- where one passes, it is found
+  -- if one passes, it is found
   pub any-found : (xs : List X) → list_any p xs ≡ true → (x : X) × (find p xs ≡ Some x)
   any-found [] h = absurd cc
   any-found (x ∷ xs) h = elim (p x) as (λ b. p x ≡ b → (y : X) × (cond b (Some x) (find p xs) ≡ Some y)) [
@@ -32,7 +32,7 @@ module _ {X : Type 0} (p : X → Bool) where
   find-without [] x ys fails = rw fails refl
   find-without (z ∷ xs) x ys fails = ap (λ o. cond (p z) (Some z) o) (find-without xs x ys fails)
 
-  -- where none passes in front, a find or a change happens behind
+  -- if none before it passes, a find or a change happens after it
   pub find-skip : (xs ys : List X) → AllByRecursion (λ x. p x ≡ false) xs → find p (xs ++ ys) ≡ find p ys
   find-skip [] ys none = refl
   find-skip (x ∷ xs) ys none = rw none.0 (find-skip xs ys none.1)
@@ -59,7 +59,7 @@ module _ {X : Type 0} (p : X → Bool) where
   pub remove_first-at : (before : List X) (x : X) (behind : List X) → AllByRecursion (λ y. p y ≡ false) before → p x ≡ true → remove_first p (before ++ x ∷ behind) ≡ before ++ behind
   remove_first-at before x behind none passes = remove_first-skip before (x ∷ behind) none ∙ rw passes refl
 
-  -- where none passes at all, nothing is changed
+  -- if none passes at all, nothing is changed
   pub update_first-unfound : (f : X → X) (xs : List X) → AllByRecursion (λ x. p x ≡ false) xs → update_first p f xs ≡ xs
   update_first-unfound f [] none = refl
   update_first-unfound f (x ∷ xs) none = rw none.0 (ap (λ zs. x ∷ zs) (update_first-unfound f xs none.1))
@@ -68,7 +68,7 @@ module _ {X : Type 0} (p : X → Bool) where
   remove_first-unfound [] none = refl
   remove_first-unfound (x ∷ xs) none = rw none.0 (ap (λ zs. x ∷ zs) (remove_first-unfound xs none.1))
 
-  -- where none passes behind, a change happens in front
+  -- if none after it passes, a change happens before it
   pub update_first-front : (f : X → X) (xs ys : List X) → AllByRecursion (λ x. p x ≡ false) ys → update_first p f (xs ++ ys) ≡ update_first p f xs ++ ys
   update_first-front f [] ys none = update_first-unfound f ys none
   update_first-front f (x ∷ xs) ys none = grind (arith, update_first-front f xs ys)
@@ -77,13 +77,13 @@ module _ {X : Type 0} (p : X → Bool) where
   remove_first-front [] ys none = remove_first-unfound ys none
   remove_first-front (x ∷ xs) ys none = grind (arith, remove_first-front xs ys)
 
-  -- where all behind pass, what comes in stands in front of them
+  -- if all after it pass, an insertion is before them
   pub insert_before-front : (y : X) (xs ys : List X) → AllByRecursion (λ x. p x ≡ true) ys → insert_before p y (xs ++ ys) ≡ insert_before p y xs ++ ys
   insert_before-front y [] [] all = refl
   insert_before-front y [] (z ∷ ys) all = grind arith
   insert_before-front y (x ∷ xs) ys all = grind (arith, insert_before-front y xs ys)
 
-  -- an update of what is found, where it is the same after it
+  -- an update of what is found, if it is the same after it
   pub update_first-same : (f : X → X) (xs : List X) (x : X) → find p xs ≡ Some x → f x ≡ x → update_first p f xs ≡ xs
   update_first-same f [] x found same = refl
   update_first-same f (y ∷ xs) x found same = grind (arith, update_first-same f xs x)

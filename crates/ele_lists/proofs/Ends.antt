@@ -29,13 +29,13 @@ module _ {X : Type 0} where
   all-last P (y ∷ []) x h all = let same : y ≡ x = cc in rw (← same) all.0
   all-last P (y ∷ z ∷ xs) x h all = all-last P (z ∷ xs) x h all.1
 
-  -- the last of the first list stands before all of the second
+  -- the last of the first list is before all of the second
   pub later-across : (R : X → X → Type 0) (xs ys : List X) (x : X) → AllLater R (xs ++ ys) → last_of xs ≡ Some x → AllByRecursion (R x) ys
   later-across R [] ys x later is = absurd cc
   later-across R (z ∷ []) ys x later is = let same : z ≡ x = cc in rw (← same) later.0
   later-across R (z ∷ w ∷ xs) ys x later is = later-across R (w ∷ xs) ys x later.1 is
 
-  -- an update of the last element; nothing stands behind it, so it needs only what the others stand to it
+  -- an update of the last element; nothing is after it, so it needs only the relation of the others to it
   pub all-update_last : (P : X → Type 0) (f : X → X) (xs : List X) → ((x : X) → P x → P (f x)) → AllByRecursion P xs → AllByRecursion P (update_last f xs)
   all-update_last P f [] keeps all = tt
   all-update_last P f (x ∷ []) keeps all = (keeps x all.0, tt)
@@ -70,7 +70,7 @@ module _ {X : Type 0} (p : X → Bool) where
   find_last-end (y ∷ []) x is passes = grind (arith, find_last-cons y [])
   find_last-end (y ∷ z ∷ xs) x is passes = grind (arith, find_last-cons y (z ∷ xs), find_last-end (z ∷ xs) x)
 
-  -- of a list cut in two, all passing before the cut and none behind it
+  -- of a list cut in two, all passing before the cut and none after it
   pub find_last-parted : (before behind : List X) → AllByRecursion (λ x. p x ≡ true) before → AllByRecursion (λ x. p x ≡ false) behind → find p (reverse (before ++ behind)) ≡ last_of before
   find_last-parted before behind passes fails = grind (arith, reverse-append, before, behind, find-append, not_found, all-reverse, last_passing, passes)
 

@@ -35,7 +35,7 @@ module _ {K X : Type 0} {cmp : K → K → Ordering} (o : IsTotalOrder cmp) wher
   lookup-insert_entry q [] k v = grind (arith, (eq_by_cmp_equiv o).symm q k)
   lookup-insert_entry q (e ∷ es) k v = grind (arith, (eq_by_cmp_equiv o).symm q k, (eq_by_cmp_equiv o).symm e.0 q, o.congr k e.0 q, o.congr k q e.0, lookup-insert_entry q es k v)
 
-  -- they are the same, where keys that compare alike are
+  -- they are the same, if keys that compare as equal are the same
   pub entries_same : CmpEqualImpliesEq cmp → (es fs : List (K × X)) → IsStrictlySortedBy cmp (keys_of es) → IsStrictlySortedBy cmp (keys_of fs) → ((q : K) → lookup (is_at (cmp q)) es ≡ lookup (is_at (cmp q)) fs) → es ≡ fs
   unfolding IsStrictlySortedBy
   entries_same exact [] [] up also same = refl

@@ -32,7 +32,7 @@ module _ {X : Type 0} (p t : X → Bool) where
   find-update_other f [] apart = refl
   find-update_other f (x ∷ xs) apart = grind (arith, find-update_other f xs)
 
-  -- what no other passes is found where it is put
+  -- an element whose test no other passes is found at its place
   pub find-inserted : (y : X) (xs : List X) → t y ≡ true → AllByRecursion (λ x. t x ≡ false) xs → find t (insert_before p y xs) ≡ Some y
   find-inserted y [] own none = rw own refl
   find-inserted y (x ∷ xs) own none = grind (arith, find-inserted y xs)
@@ -43,7 +43,7 @@ module _ {X : Type 0} (p : X → Bool) where
   find-update_none f [] fails only = refl
   find-update_none f (x ∷ xs) fails only = grind (arith, not_found p xs, all-weaker (λ y. p x ≡ true → p y ≡ false) (λ y. p y ≡ false) xs, find-update_none f xs)
 
-  -- between elements, where the first of two passes before its change
+  -- between elements, if the first of two passes before its change
   pub later-update_found : (R : X → X → Type 0) (f : X → X) (xs : List X) → ((x y : X) → p x ≡ true → R x y → R (f x) y) → ((x y : X) → R x y → R x (f y)) → AllLater R xs → AllLater R (update_first p f xs)
   later-update_found R f [] first second later = tt
   later-update_found R f (x ∷ xs) first second later = grind (arith, all-weaker (R x) (R (f x)) xs, all-update_first p (R x) (R x) f xs, later-update_found R f xs)

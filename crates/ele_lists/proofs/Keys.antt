@@ -18,7 +18,7 @@ module _ {X : Type 0} (key : X → ℕ) where
   rises-le : (xs : List X) → Rises key xs → IsNonDecreasingBy key xs
   rises-le xs rises = λ i j d le lt. grind (arith, later-place (λ x y. key x < key y) xs i j d rises)
 
-  -- a row of the key stands at its place
+  -- a row of the key is at its place
   pub place-there : (xs : List X) (this i : ℕ) (x : X) → Rises key xs → i < length xs → ((d : X) → x ≡ get_or xs i d) → key x ≡ this → position (stands_by key this) xs ≡ Some i
   place-there xs this i x rises lt is same =
       position-is (stands_by key this) xs i x lt (λ k less. grind (arith, nat_tests, later-place (λ x y. key x < key y) xs k i x rises less lt, is x)) (grind (arith, nat_tests, is x))
@@ -33,7 +33,7 @@ module _ {X : Type 0} (key : X → ℕ) where
     least : (k : ℕ) (d : X) → i ≤ k → k < length xs → this ≤ key (get_or xs k d)
     least k d le lt = let h = cut.1 k d le lt in grind (arith, nat_tests)
 
-    -- a row stands there
+    -- a row is there
     module _ (x : X) (rises : Rises key xs) (lt : i < length xs) (is : (d : X) → x ≡ get_or xs i d) where
       pub place-found : key x ≡ this → position (stands_by key this) xs ≡ Some i
       place-found same = position-is (stands_by key this) xs i x lt (λ k less. grind (arith, nat_tests, below k x less)) (grind (arith, nat_tests, is x))
@@ -56,7 +56,7 @@ module _ {X : Type 0} (key : X → ℕ) where
       pub end-gap : i ≤ length xs → unwrap_or (position (is_behind key this) xs) (length xs) ≡ i
       end-gap within = grind (arith, position-none (is_behind key this) xs (λ k d lt. grind (arith, nat_tests, below k d)))
 
--- the others, where the row of a key is taken out
+-- the others, if the row of a key is removed
 pub remove_first-key : {X : Type 0} (key : X → ℕ) (this : ℕ) (xs : List X) → Rises key xs → remove_first (stands_by key this) xs ≡ filter (λ x. not (stands_by key this x)) xs
 remove_first-key key this [] rises = refl
 remove_first-key key this (x ∷ xs) rises = grind (arith, nat_tests, filter-all, stands_by, all-weaker, remove_first-key key this xs)

@@ -7,7 +7,7 @@ module _ {X : Type 0} where
     last_has P [] x all h = absurd cc
     last_has P (y ∷ ys) x all h = grind (arith, last_has P ys)
 
-    -- where each that passes fails q as soon as a later one passes, the last decides
+    -- if each that passes fails q as soon as a later one passes, the last decides
     pub find_last : (q : X → Bool) (xs : List X) → AllLater (λ x y. p x ≡ true → p y ≡ true → q x ≡ false) xs → find (λ x. p x && q x) xs ≡ passing q (last_passing p xs)
     find_last q [] apart = refl
     find_last q (x ∷ xs) apart = elim (last_passing p xs) as (λ o. last_passing p xs ≡ o → find (λ x. p x && q x) (x ∷ xs) ≡ passing q (option_or o (cond (p x) (Some x) None))) [

@@ -2,7 +2,7 @@
 use Rattle.ele_lists.proofs.Basics.{Bool, List, None, Some, [], arith, false, find, get_or, insert, insert_before, insert_end, length, list_any, nat_tests, position, refl, remove, remove_first, set, suc, unwrap_or, update_first, zero, ℕ, ◌++◌, ◌-◌, ◌∷◌, ◌≡◌, ◌≤◌}
 
 module _ {X : Type 0} (p : X → Bool) where
-  -- where the first one that passes is known
+  -- if the first one that passes is known
   pub update_first-position : (f : X → X) (xs : List X) (i : ℕ) (d : X) → position p xs ≡ Some i → update_first p f xs ≡ set xs i (f (get_or xs i d))
   update_first-position f [] i d h = grind (arith, nat_tests)
   update_first-position f (x ∷ xs) i d h = grind (arith, nat_tests, update_first-position f xs (i - 1) d)
@@ -24,7 +24,7 @@ module _ {X : Type 0} (p : X → Bool) where
   find-position [] i d h = grind (arith, nat_tests)
   find-position (x ∷ xs) i d h = grind (arith, nat_tests, find-position xs (i - 1) d)
 
-  -- where none passes
+  -- if none passes
   pub list_any-position : (xs : List X) → position p xs ≡ None → list_any p xs ≡ false
   list_any-position [] h = refl
   list_any-position (x ∷ xs) h = grind (arith, nat_tests, list_any-position xs)
@@ -49,7 +49,7 @@ module _ {X : Type 0} (p : X → Bool) where
   pub set-first : (f : X → X) (xs : List X) (i : ℕ) (x y : X) → position p xs ≡ Some i → x ≡ get_or xs i x → y ≡ f x → set xs i y ≡ update_first p f xs
   set-first f xs i x y found is made = grind (arith, update_first-position f xs i x)
 
-  -- an insertion at the first place that passes, or at the end where none does
+  -- an insertion at the first place that passes, or at the end if none does
   pub insert_before-place : (y : X) (xs : List X) → insert_before p y xs ≡ insert xs (unwrap_or (position p xs) (length xs)) y
   insert_before-place y xs = grind (arith, insert_none y xs, insert_at y xs, insert_end xs y)
 

@@ -1,4 +1,4 @@
--- Finds, tests and changes of a view of a list, as those of the list itself; and whether something is there behind a reference.
+-- Finds, tests and changes of a view of a list, as those of the list itself; and whether a reference has something.
 use Rattle.ele_lists.proofs.Basics.{Bool, Bor, List, None, Option, Some, [], ap, arith, find, insert_before, is_some, list_any, map, option_copied, option_map, refl, remove_first, update_first, ◌||◌, ◌∷◌, ◌≡◌}
 
 module _ {X Y : Type 0} (h : X → Y) (p : Y → Bool) where
@@ -24,7 +24,7 @@ module _ {X Y : Type 0} (h : X → Y) (p : Y → Bool) (q : X → Bool) (same : 
   insert_before-map y [] = refl
   insert_before-map y (x ∷ xs) = grind (arith, same x, insert_before-map y xs)
 
--- what is there behind a reference
+-- the value of a reference
 pub is_some-copied : {X : Type 0} (o : Option (Bor X)) → is_some (option_copied o) ≡ is_some o
 is_some-copied None = refl
 is_some-copied (Some x) = refl

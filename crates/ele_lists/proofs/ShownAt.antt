@@ -9,7 +9,7 @@ pub remove-place : {X : Type 0} (q : X → Bool) (xs : List X) (i : ℕ) → pos
 remove-place q xs i at = sym (remove_at q xs i at)
 
 module _ {X Y : Type 0} (g : X → Y) (p : Y → Bool) where
-  -- where an element passes
+  -- if an element passes
   pub find-shown : (xs : List X) (i : ℕ) (at : position (λ x. p (g x)) xs ≡ Some i) (x : X) → x ≡ get_or xs i x → find p (map g xs) ≡ Some (g x)
   find-shown xs i at x is = grind (arith, find-map g p xs, find-position (λ x. p (g x)) xs i x)
 
@@ -32,7 +32,7 @@ module _ {X Y : Type 0} (g : X → Y) (p : Y → Bool) where
   pub find-missing : (xs : List X) (none : position (λ x. p (g x)) xs ≡ None) → find p (map g xs) ≡ None
   find-missing xs none = grind (arith, find-map g p xs, find-none (λ x. p (g x)) xs)
 
-  -- an element comes in before the first that passes, or at the end
+  -- an element is inserted before the first that passes, or at the end
   pub insert-shown : (xs : List X) (i : ℕ) (y : X) → unwrap_or (position (λ x. p (g x)) xs) (length xs) ≡ i → map g (insert xs i y) ≡ insert_before p (g y) (map g xs)
   insert-shown xs i y is = grind (arith, insert_before-place (λ x. p (g x)) y xs, insert_before-map g p (λ x. p (g x)) (λ x. refl) y xs)
 

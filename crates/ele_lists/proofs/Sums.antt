@@ -72,7 +72,7 @@ pub length-split : {X : Type 0} (t : X → Bool) (xs : List X) → length xs ≡
 length-split t [] = refl
 length-split t (x ∷ xs) = grind (arith, length-split t xs)
 
--- of those that pass one is fewer, where the removed one does
+-- one fewer passes if the removed one does
 pub length-filter_removed : {X : Type 0} (t p : X → Bool) (xs : List X) → length (filter t (remove_first p xs)) + option_map_or (λ x. cond (t x) 1 0) (find p xs) 0 ≡ length (filter t xs)
 length-filter_removed t p [] = omega arith
 length-filter_removed t p (x ∷ xs) = grind (arith, length-filter_removed t p xs)

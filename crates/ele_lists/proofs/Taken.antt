@@ -1,4 +1,4 @@
--- What holds of the first so many elements, and of the one that stands behind them.
+-- What holds of the first so many elements, and of the one after them.
 use Rattle.ele_lists.proofs.Basics.{AllByRecursion, Bool, IfSome, List, Some, [], ap, arith, drop, false, find, get_or, length, list_any, refl, slice_get, suc, sym, take, true, zero, ℕ, ◌++◌, ◌+◌, ◌<◌, ◌∙◌, ◌∷◌, ◌≡◌, ◌≤◌}
 use Rattle.std.proofs.lemmas.List.{drop_more, take-append-drop}
 
@@ -20,13 +20,13 @@ module _ {X : Type 0} where
   all-one_more P (x ∷ xs) zero all is = (is, tt)
   all-one_more P (x ∷ xs) (suc place) all is = (all.0, all-one_more P xs place all.1 is)
 
-  -- the first that passes, where none before it does
+  -- the first that passes, if none before it does
   pub find-first_at : (p : X → Bool) (xs : List X) (place : ℕ) (x : X) → AllByRecursion (λ y. p y ≡ false) (take place xs) → slice_get xs place ≡ Some x → p x ≡ true → find p xs ≡ Some x
   find-first_at p [] place x none is passes = absurd cc
   find-first_at p (y ∷ ys) zero x none is passes = let same : y ≡ x = cc in rw (same, passes) refl
   find-first_at p (y ∷ ys) (suc place) x none is passes = rw none.0 (find-first_at p ys place x none.1 is passes)
 
-  -- and none, where the first so many are all
+  -- and none, if the first so many are all
   pub any-none_taken : (p : X → Bool) (xs : List X) (place : ℕ) → length xs ≤ place → AllByRecursion (λ x. p x ≡ false) (take place xs) → list_any p xs ≡ false
   any-none_taken p [] place past all = refl
   any-none_taken p (x ∷ xs) zero past all = absurd (omega arith)

@@ -12,9 +12,9 @@ use Rattle.ele_model.proofs.Meant.{is_meant, meant_held, is_at}
 use Rattle.ele_model.proofs.Writers.{written_more}
 use Rattle.ele_model.proofs.Walks.{file_there, last_leads, file_live, file_of, last_names}
 
--- ---- what a dead name last stood for may have its name again
+-- ---- the last target of a dead name may have its name again
 
--- what is true of what each name stands for is so of what a dead name last stood for
+-- what is true of each name's target is true of a dead name's last target
 lost_is : (P : Target → Type 0) (rows : List NameRow) (directory : ℕ) (name : List ℕ) (lost : Target) → AllByRecursion (λ row. P row.target) rows → last_target rows directory name ≡ Ok lost → P lost
 lost_is P rows directory name lost all h = grind (arith, nat_tests, last_has (is_named directory name) (λ row. P row.target) rows)
 
@@ -35,11 +35,11 @@ begun w file = grind (arith, nat_tests, list_any-insert_before)
 pub takes : (w : World) (key : Key) → HasParts w → first_due w ≡ Some key → MayClean CleanOne w w key.file key.number
 takes w key k first = grind (arith, nat_tests, k.holds Versions, first_is_due w key (k.holds Versions).placed first, due_has_ended w, found_passes, due_is_unread)
 
--- the draft becomes a version, once the last handle and the draft have gone
+-- the draft becomes a version, once the last handle and the draft are removed
 finishes : (w : World) (handle file : ℕ) (draft : DraftRow) → HasParts w → find (is_draft file) w.drafts ≡ Some draft → MayAppend (after_changes w (ShutHandle handle ∷ EndDraft file ∷ [])) file draft.opened draft.cells
 finishes w handle file draft k found = grind (arith, nat_tests, k.holds Drafts, k.holds Counted, all-found, found_passes, length-remove_first)
 
--- a version that is held may come again
+-- a version that is held may be restored
 reverts : (w : World) (file number : ℕ) (row : VersionRow) → HasParts w → 0 < next_of w.files file → version_meant w.files w.versions file (tag.Number number) ≡ Ok row → MayMakeVersion w → MayAppend w file w.now row.cells
 reverts w file number row k there meant room = grind (arith, nat_tests, k.holds Versions, is_meant w.files w.versions file (tag.Number number) row, all-found, written_more row.number (next_of w.files file) row.cells)
 

@@ -1,5 +1,5 @@
--- Which ripe moments change where a file has a version more: the new one's own, and that of the held one which with it has as many
--- newer ones as the file's rule asks for; where that asks for none that of the newest held one, which ends unless it had, and gets a
+-- Which ripe moments change when a file gets a version: the new one's own, and that of the held one which with it has as many
+-- newer ones as the file's rule asks for; if it asks for none, that of the newest held one, which ends unless it had, and gets a
 -- neighbour.
 use Rattle.ele_model.proofs.Basics.{◌≡◌, ℕ, ◌+◌, ◌-◌, ◌<◌, ◌==◌, Bool, true, false, cond, ◌&&◌, ◌||◌, List, [], ◌∷◌, Some, None, is_none, refl, ap, sym, subst, ◌∙◌, arith, find, option_and_then, option_map, option_map_or, unwrap_or, AllByRecursion}
 use Rattle.ele_model.proofs.Basics.{nat_tests, Option, ◌≤◌, nat_le, nat_lt, list_any, zero, suc, sum_by-cons, all-none, all-not_found, AllLater, insert_before, update_first, later-weaker, all-insert_before, all-update_first, all-weaker, all-found, found_passes, not_found, find-insert_before}
@@ -19,7 +19,7 @@ use Rattle.ele_model.proofs.Readers.{unread_unheld}
 use Rattle.ele_model.proofs.RipeAt.{ripe_at_is}
 use Rattle.ele_model.proofs.Views.{IsLife, lives_in, policies_of}
 
--- what is found in front is so still where an element comes in behind it
+-- an element that is found before another one is still found when an element is added after it
 find-insert_behind : {X : Type 0} (p q : X → Bool) (y : X) (xs : List X) (x : X) → AllLater (λ x z. p x ≡ true → p z ≡ true) xs → find q xs ≡ Some x → p x ≡ false → find q (insert_before p y xs) ≡ Some x
 find-insert_behind p q y [] x later found before = absurd cc
 find-insert_behind p q y (z ∷ xs) x later found before = grind (arith, nat_tests, all-found q (λ x. p z ≡ true → p x ≡ true) xs, find-insert_behind p q y xs x)
@@ -36,7 +36,7 @@ count-weaker : {X : Type 0} (p q : X → Bool) (xs : List X) → ((x : X) → q 
 count-weaker p q [] weaker = omega arith
 count-weaker {X} p q (x ∷ xs) weaker = grind (arith, nat_tests, sum_by-cons (λ (y : X). cond (p y) 1 0) x xs, sum_by-cons (λ (y : X). cond (q y) 1 0) x xs, weaker x, count-weaker p q xs weaker)
 
--- and fewer, where one passes the first alone
+-- and fewer, if one passes only the first test
 count-fewer : {X : Type 0} (p q : X → Bool) (xs : List X) (y : X) → ((x : X) → q x ≡ true → p x ≡ true) → p y ≡ true → q y ≡ false → (t : X → Bool) → find t xs ≡ Some y → count_by q xs < count_by p xs
 count-fewer p q [] y weaker first second t found = absurd cc
 count-fewer {X} p q (x ∷ xs) y weaker first second t found = grind (arith, nat_tests, sum_by-cons (λ (z : X). cond (p z) 1 0) x xs, sum_by-cons (λ (z : X). cond (q z) 1 0) x xs, weaker x, count-weaker p q xs weaker, count-fewer p q xs y weaker first second t)
@@ -67,7 +67,7 @@ pub record MayGrow (w : World) (file : ℕ) : Type 0 where
 pub may_grow : (w : World) (file : ℕ) → HasParts w → 0 < next_of w.files file → MayGrow w file
 may_grow w file k there = record { there = there; versions = k.holds Versions; readers = k.holds Readers; policies = policies_of w k }
 
--- the next version of the file, and the one that with it has enough newer ones; where none is asked for the newest
+-- the next version of the file, and the one that with it has enough newer ones; if the rule asks for none, the newest
 abbrev pub touches : World → ℕ → ℕ → ℕ → Bool
 touches w file f n = (f == file) && ((n == next_of w.files file) || has_newer w.versions file (least_newer w file - 1) n)
 
@@ -118,7 +118,7 @@ module _ (w : World) (file opened : ℕ) (cells : List Cell) (k : MayGrow w file
   none_behind : next_closing appended.versions file next ≡ None
   none_behind = grind (arith, nat_tests, find-insert_before behind (is_newer_of file next) new (with_end w file), none_past w.files w.now (with_end w file) file next ended.each)
 
-  -- it has its moment where it ends at once
+  -- it has its moment if it ends at once
   pub next_after : (policy : Policy) → policy_of w.files file ≡ Some policy → ripe_at appended file next ≡ cond (is_live w file) None (case_moment cover (case_of policy w.now None true) w.now)
   next_after policy governed =
       let unread = unread_unheld w.versions w.handles file next k.readers (any_none (is_version file next) w.versions none_there) in
@@ -178,7 +178,7 @@ module _ (w : World) (file opened : ℕ) (cells : List Cell) (k : MayGrow w file
       none_now : next_closing w.versions file n ≡ None
       none_now = ap (option_map (λ (x : VersionRow). x.closed)) (not_found (is_newer_of file n) w.versions none_newer)
 
-      -- the new one is the next behind it
+      -- the new one is the next after it
       next_behind : next_closing appended.versions file n ≡ Some w.now
       next_behind =
           let before = its.before in
@@ -192,7 +192,7 @@ module _ (w : World) (file opened : ℕ) (cells : List Cell) (k : MayGrow w file
       not_last : (n + 1 == next) ≡ false
       not_last = grind (arith, nat_tests, found_passes (is_newer_of file n) w.versions newer.0 newer.1, all-found (is_newer_of file n) (IsVersion w.files w.now) w.versions newer.0 newer.1 k.versions.each)
 
-      -- what stands behind it is as before
+      -- the rows after it are as before
       next_still : next_closing appended.versions file n ≡ next_closing w.versions file n
       next_still =
           let is = first_passing (is_newer_of file n) (with_end w file) (list_any-update_first p (is_newer_of file n) (ended_at w.now) w.versions (λ x h. refl) ∙ any-count (is_newer_of file n) w.versions ∙ grind (arith, nat_tests, some)) in
@@ -200,7 +200,7 @@ module _ (w : World) (file opened : ℕ) (cells : List Cell) (k : MayGrow w file
           ap (option_map (λ (x : VersionRow). x.closed)) (find-insert_behind behind (is_newer_of file n) new (with_end w file) is.0 (later-weaker ArePlaced (λ x z. behind x ≡ true → behind z ≡ true) (with_end w file) (λ x z placed is. behind_too file next x z is placed) ended.placed) is.1 before ∙ sym is.1)
           ∙ next_closing-ended p w.now w.versions file n
 
-    -- the one that with the new one has enough, or is the newest where none is asked for
+    -- the one that with the new one has enough, or is the newest if the rule asks for none
     module _ (rule : Rule) (ruled : rule_of w file ≡ Some rule) (least : newer_held w.versions file n ≡ rule.newer - 1) where
       force : IsInForce rule
       force = in_force w file rule ordered ruled

@@ -1,4 +1,4 @@
--- What a clean answers and leaves, where the first due version is known.
+-- The reply to a clean and the world after it, if the first due version is known.
 use Rattle.ele_model.proofs.Basics.{[], ◌∷◌, Option}
 use Rattle.ele_model.proofs.Words.{Key, Take, DropIdle, Tell, Make, IfFound, outcome, World, Reply, Nothing, Removed}
 

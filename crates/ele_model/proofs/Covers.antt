@@ -1,4 +1,4 @@
--- For how long marks keep: as long as the longest of them does, in whatever order they stand.
+-- How long marks hold: as long as the longest of them does, in any order.
 use Rattle.ele_model.proofs.Basics.{nat_tests, arith, ◌≡◌, ℕ, ◌+◌, ◌<◌, ◌==◌, nat_lt, cond, Bool, true, false, ◌&&◌, ◌||◌, List, [], ◌∷◌, ◌++◌, Option, Some, None, refl, sym, length, get_or, take, take_more, append-nil, list_any, list_any-append, option_map_or, filter, filter-append, filter_map, flat_map, flat_map-append}
 use Rattle.ele_model.proofs.Words.{Cover, Always, Free, Until, GroupRow, MarkRow, covers_moment, cover_by, cover_of, cover_until, ends_over, is_member, keeps_at, lasts, longer, marks_over}
 
@@ -17,7 +17,7 @@ exceeds Always Always = false
 pub exceeds_longer : (a b d : Cover) → exceeds (longer a b) d ≡ (exceeds a d || exceeds b d)
 exceeds_longer a b d = grind (arith, nat_tests)
 
--- so a cover is told by what it exceeds
+-- so a cover is determined by what it exceeds
 pub exceeds_same : (a b : Cover) → ((d : Cover) → exceeds a d ≡ exceeds b d) → a ≡ b
 exceeds_same a b same = grind (arith, nat_tests, same a, same b)
 

@@ -1,4 +1,4 @@
--- What the making of a file comes to: a row behind the files, the names and the versions.
+-- The result of making a file: a row after the files, the names and the versions.
 use Rattle.ele_model.proofs.Basics.{◌≡◌, ℕ, ◌+◌, ◌<◌, true, List, [], ◌∷◌, ◌++◌, None, arith, AllByRecursion, nat_tests, list_any-append, all-weaker, append-nil, update_first-at, update_first-unfound, insert_before-skip}
 use Rattle.ele_model.proofs.Words.{Policy, with_name, after_change, MakeFile, Files, Versions, HasParts, World, is_live, is_file, is_version_after, numbered_on, FileRow, NameRow, File, VersionRow}
 use Rattle.ele_model.proofs.Files.{next_of-given, next_of-new}

@@ -1,4 +1,4 @@
--- What the dropping of a file comes to: it goes with its names, where nothing was left of it, or nothing changes.
+-- The result of dropping a file: it is removed with its names if it had nothing else, or nothing changes.
 use Rattle.ele_model.proofs.Basics.{◌≡◌, ◌==◌, ℕ, Bool, true, false, not, List, refl, arith, AllByRecursion, list_any, nat_tests, remove_first, all-none, find-remove_first, list_any-filter, filter, all-filter, filter-passes, later-filter, all-weaker}
 use Rattle.ele_model.proofs.Basics.{all-both, all-remove_first, later-remove_first, length-remove_first-le, any-filtered, length-split}
 use Rattle.ele_model.proofs.Words.{DropIdle, is_idle, without_file, after_change, is_version_of, World, is_file, next_of, policy_of, is_live, has_draft, is_draft, is_target_file, DraftRow, FileRow, NameRow, VersionRow, IsNameRow, AreApart, AreOthers}
@@ -14,7 +14,7 @@ pub record IsIdle (w : World) (file : ℕ) : Type 0 where
 pub idle_is : (w : World) (file : ℕ) → is_idle w file ≡ true → IsIdle w file
 idle_is w file h = record { nameless = grind (arith, h); unheld = grind (arith, h); undrafted = grind (arith, h) }
 
--- what holds where it goes and where it stays
+-- what is true both if it is removed and if it stays
 pub dropped : (Q : World → Type 0) (w : World) (file : ℕ) → (IsIdle w file → Q (without_file w file)) → (is_idle w file ≡ false → Q w) → Q (after_change w (DropIdle file))
 dropped Q w file goes stays = grind (arith, nat_tests, idle_is)
 

@@ -42,7 +42,7 @@ module _ (w : World) (row : VersionRow) where
     unfolding ripe_of
     ripe-told ended ripe end is = grind (arith, nat_tests, is, filter-both (is_newer row) (is_version_of row.file) w.versions, ripe_told v row, numbers_are w.handles row.file row.number, due_from_ripe_of w row)
 
--- what looks away is told the same beside anything
+-- a policy that ignores newer versions decides the same beside any of them
 pub looks_away_tells : (policy : Policy) (live : Bool) (closed ended : ℕ) (newer : List ℕ) → ignores_newer policy live ≡ true
     → ripe_by policy closed (record { newer = []; live = live }) ended ≡ ripe_by policy closed (record { newer = newer; live = live }) ended
 unfolding ripe_by

@@ -11,7 +11,7 @@ pub find-update_still : {X Y : Type 0} (p t : X → Bool) (sees : Option X → Y
 find-update_still p t sees f [] keeps same = refl
 find-update_still p t sees f (x ∷ xs) keeps same = grind (arith, nat_tests, find-update_still p t sees f xs keeps same)
 
--- where each fails, none passes
+-- if each fails, none passes
 pub any_none : {X : Type 0} (p : X → Bool) (xs : List X) → AllByRecursion (λ x. p x ≡ false) xs → list_any p xs ≡ false
 any_none p [] all = refl
 any_none p (x ∷ xs) all = rw all.0 (any_none p xs all.1)

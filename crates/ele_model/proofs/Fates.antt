@@ -7,13 +7,13 @@ use Rattle.ele_model.proofs.GroupMarks.{marks_tell}
 use Rattle.ele_model.proofs.Readers.{numbers_are}
 use Rattle.ele_model.specs.Fate.{newer_version, newer_versions}
 
--- it is protected where a handle reads it, or a mark covers it
+-- it is protected if a handle reads it, or a mark covers it
 pub protected_told : (w : World) (row : VersionRow) (at : ℕ) → is_protected (file_view w row.file) row at ≡ (is_open w.handles row.file row.number || is_marked w.groups row.file row.closed row.ended at)
 protected_told w row at = rw (numbers_are w.handles row.file row.number, marks_tell w.groups row.file row.closed row.ended at) refl
 
 -- ---- the next held version of a held one
 
--- it is the file's next row behind the number
+-- it is the file's next row after the number
 newer_found : (w : World) (row : VersionRow) → find (is_newer_of row.file row.number) w.versions ≡ find (is_newer row) (file_view w row.file).rows
 newer_found w row = sym (find-filter_both (is_newer row) (is_version_of row.file) w.versions)
 

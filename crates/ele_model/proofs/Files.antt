@@ -4,7 +4,7 @@ use Rattle.ele_model.proofs.Basics.{not_found}
 use Rattle.ele_model.proofs.Words.{FileRow, Policy, numbered_on, set_policy, IsFile, is_file, next_of, policy_of}
 use Rattle.ele_model.proofs.Elements.{find-update_still, find-updated}
 
--- a file that is there keeps its number when rows are added behind
+-- a file that is there keeps its number when rows are added after it
 pub next_of-push : (files : List FileRow) (row : FileRow) (file : ℕ) → 0 < next_of files file → next_of (files ++ row ∷ []) file ≡ next_of files file
 next_of-push files row file h = grind (arith, nat_tests, find-append)
 

@@ -16,7 +16,7 @@ marks_tell rows file closed ended at = any_over (keeps_at closed ended at) (is_m
 pub marked_lasts : (rows : List GroupRow) (file closed : ℕ) (ended : Option ℕ) (at : ℕ) → is_marked rows file closed ended at ≡ lasts (cover_of rows file closed ended) at
 marked_lasts rows file closed ended at = sym (marks_tell rows file closed ended at) ∙ lasts_by closed ended at (marks_over rows file)
 
--- where a file is forgotten, any other has the marks that it had
+-- if a file is forgotten, any other has the marks that it had
 pub marks_forgotten : (rows : List GroupRow) (file other : ℕ) → (other == file) ≡ false → marks_over (forgotten file rows) other ≡ marks_over rows other
 marks_forgotten [] file other apart = refl
 marks_forgotten (row ∷ rows) file other apart = grind (arith, nat_tests, list_any-filter (λ member. member == other) (λ member. not (member == file)) row.members, marks_forgotten rows file other apart)

@@ -1,4 +1,4 @@
--- Which ripe moments change where marks of groups come and go: those of versions that they cover, and no other.
+-- Which ripe moments change when marks of groups are added and removed: those of versions that they cover, and no other.
 use Rattle.ele_model.proofs.Basics.{◌≡◌, ℕ, true, false, cond, List, [], ◌∷◌, Option, Some, None, ap, sym, subst, ◌∙◌, arith, ◌&&◌, ◌==◌, Bool, find, list_any, option_map_or, bytes_eq, false≢true, nat_tests, AllLater, all-found}
 use Rattle.ele_model.proofs.Words.{DropGroup, AddMember, RemoveMember, AddMark, RemoveMark, after_change, ripe_at, covers_moment, group_named, has_mark, has_member, is_group, is_marked_at, is_member, with_mark, with_member, without_group}
 use Rattle.ele_model.proofs.Words.{without_mark, without_member, Cover, cover_of, cover_until, cover_with, cover_without, longer, members_of, marks_of, free_moment, Groups, IsGroup, HasParts, World, is_open, is_version, Counts, GroupRow, MarkRow, VersionRow}
@@ -13,7 +13,7 @@ is_covered marks versions file number = option_map_or (λ row. list_any (covers_
 abbrev pub is_touched : List ℕ → List ℕ → List VersionRow → ℕ → ℕ → Bool
 is_touched files marks versions file number = list_any (λ member. member == file) files && is_covered marks versions file number
 
--- a version's moment is another only where it is touched; there it is told by that cover
+-- a version's moment is another only if it is touched; then that cover determines it
 pub record MarksMove (w v : World) (cover : ℕ → ℕ → Option ℕ → Cover) (files marks : List ℕ) : Type 0 where
   pub others : (file number : ℕ) → is_touched files marks w.versions file number ≡ false → ripe_at v file number ≡ ripe_at w file number
   pub own : (file number : ℕ) → is_touched files marks w.versions file number ≡ true
@@ -48,7 +48,7 @@ module _ (w : World) (k : HasParts w) where
   abbrev named : AllLater (λ (earlier : GroupRow) later. bytes_eq earlier.name later.name ≡ false) w.groups
   named = (k.holds Groups).named
 
-  -- a group of which something is told is there
+  -- a group that has a file or a mark is there
   group_there : (p : GroupRow → Bool) (name : List ℕ) → option_map_or p (group_named w.groups name) false ≡ true → (row : GroupRow) × (find (is_group name) w.groups ≡ Some row) × IsGroup w.files w.now row
   group_there p name h = grind (arith, nat_tests, k.holds Groups, false≢true, all-found)
 

@@ -1,4 +1,4 @@
--- The directories that names stand in.
+-- The directories of names.
 use Rattle.ele_model.proofs.Basics.{◌≡◌, ℕ, ◌≤◌, Bool, true, ◌==◌, ◌||◌, List, [], ◌∷◌, ◌++◌, Ok, refl, arith, AllByRecursion, list_any, false≢true, nat_tests, list_any-append, all-push, all-weaker, all-found, found_passes, list_any-update_first}
 use Rattle.ele_model.proofs.Basics.{any-found, update_first}
 use Rattle.ele_model.proofs.Words.{is_name_of_directory, dies, parent_now, has_directory, is_directory, is_reached, IsDirectoryThere, IsHoused, Directories, Homes, HasParts, AreHoused, IsOfLive, World, root, DirectoryRow, NameRow, Target, File}
@@ -15,7 +15,7 @@ any_less p xs y from h = grind (arith, nat_tests, list_any-append, false≢true)
 pub ended_more : (names : List NameRow) (named : NameRow) (versions : List VersionRow) → AllByRecursion (IsOfLive names) versions → AllByRecursion (IsOfLive (names ++ named ∷ [])) versions
 ended_more names named versions each = grind (arith, nat_tests, all-weaker, list_any-append)
 
--- ---- where a path's last name stands
+-- ---- the directory of a path's last name
 
 -- a directory there that a path leads to
 abbrev IsHome : List DirectoryRow → List NameRow → Target → Type 0
@@ -29,7 +29,7 @@ parent_home w path at k found =
 
 -- ---- a name more
 
--- each name stands as it did, and the new one in a directory that is there
+-- each name is where it was, and the new one is in a directory that is there
 pub named_housed : (directories more : List DirectoryRow) (names : List NameRow) (named : NameRow)
     → ((id : ℕ) → has_directory directories id ≡ true → has_directory more id ≡ true)
     → has_directory directories named.directory ≡ true → is_reached names named.directory ≡ true → IsDirectoryThere more named.target

@@ -44,7 +44,7 @@ module _ (w : World) (directory : ℕ) (name : List ℕ) (empty : (id : ℕ) →
   abbrev after : List NameRow
   after = update_first p (dies w.now) w.names
 
-  -- the name that dies isn't that of a directory in which a live name stands
+  -- the name that dies isn't that of a directory that has a live name
   abbrev IsSpared : Option Target → ℕ → Type 0
   IsSpared o id = o ≡ Some (Directory id) → ⊥
 

@@ -16,7 +16,7 @@ AreNamedApart earlier later = bytes_eq earlier.name later.name ≡ false
 
 -- ---- beside other changes
 
--- where each file that is there stays there, and the time doesn't fall
+-- if each file that is there stays there, and the time doesn't fall
 pub groups_on : (made : ℕ) (files after : List FileRow) (now to : ℕ) (rows : List GroupRow) → now ≤ to → ((file : ℕ) → 0 < next_of files file → 0 < next_of after file) → AreGroups made files now rows → AreGroups made after to rows
 groups_on made files after now to rows le still are = grind (arith, nat_tests, all-weaker)
 
@@ -24,7 +24,7 @@ there_without : (files after : List FileRow) (file : ℕ) (members : List ℕ) �
 there_without files after file [] still all = tt
 there_without files after file (x ∷ xs) still all = grind (arith, nat_tests, there_without files after file xs still all.1)
 
--- where each other file that is there stays there, and the file leaves its groups
+-- if each other file that is there stays there, and the file leaves its groups
 pub groups_forgotten : (made : ℕ) (files after : List FileRow) (now file : ℕ) (rows : List GroupRow) → ((other : ℕ) → (other == file) ≡ false → 0 < next_of files other → 0 < next_of after other) → AreGroups made files now rows → AreGroups made after now (forgotten file rows)
 groups_forgotten made files after now file rows still are = grind (arith, nat_tests, all-map (forgets file) (IsGroup after now) rows, all-weaker (IsGroup files now) (λ row. IsGroup after now (forgets file row)) rows, there_without files after file, (λ (row : GroupRow). later-filter AreTwo AreTwo (λ member. not (member == file)) row.members), later-map (forgets file) AreNamedApart rows, length-map rows (forgets file))
 

@@ -15,11 +15,11 @@ use Rattle.ele_model.proofs.Writers.{written_more}
 pub current_ended : (file other number next now : ℕ) (rows : List VersionRow) → (file == other) ≡ false → list_any (is_current other next) (update_first (is_version file number) (ended_at now) rows) ≡ list_any (is_current other next) rows
 current_ended file other number next now rows apart = grind (arith, nat_tests, list_any-update_first)
 
--- what is behind a later row is later
+-- a row after a later row is later
 pub behind_too : (file number : ℕ) (x z : VersionRow) → is_version_after file number x ≡ true → ArePlaced x z → is_version_after file number z ≡ true
 behind_too file number x z e placed = let after = placed.after in grind (arith, nat_tests)
 
--- ---- the versions where the one before the next has an end
+-- ---- the versions, if the one before the next has an end
 
 module _ (w : World) (file : ℕ) (are : AreVersions w.files w.now w.versions) where
   pub ended_versions : AreVersions w.files w.now (with_end w file)
@@ -29,7 +29,7 @@ module _ (w : World) (file : ℕ) (are : AreVersions w.files w.now w.versions) w
   pub ended_own : AllByRecursion (λ row. (row.file ≡ file → IsEndedBy w.now row) × IsVersion w.files w.now row) (with_end w file)
   ended_own = all-both _ _ (with_end w file) (file_ended w.files w.now file w.versions are.placed are.each) ended_versions.each
 
-  -- so the next one stands at its place
+  -- so the next one is at its place
   pub next_placed : (opened : ℕ) (cells : List Cell) → AllLater ArePlaced (with_version w file opened cells).versions
   next_placed opened cells = later-insert_before (is_version_after file (next_of w.files file)) ArePlaced (λ row. (row.file ≡ file → IsEndedBy w.now row) × IsVersion w.files w.now row) (next_version w file opened cells) (with_end w file)
       (λ row h before. grind (arith, nat_tests)) (λ row h behind. grind (arith, nat_tests, false≢true)) (behind_too file (next_of w.files file)) ended_own ended_versions.placed

@@ -1,5 +1,5 @@
--- What marks stand over a file after a change of groups, and for how long they keep: with more members or marks longer where these
--- cover, and with fewer as long as what is left.
+-- Which marks a file has after a change of groups, and how long they hold: with more members or marks longer where these
+-- cover, and with fewer as long as the others.
 use Rattle.ele_model.proofs.Basics.{◌≡◌, ℕ, ◌==◌, Bool, true, false, not, ◌&&◌, ◌||◌, List, [], ◌∷◌, Option, Some, None, refl, ap, sym, ◌∙◌, arith, filter, find, map, AllByRecursion, list_any, option_map_or, bytes_eq}
 use Rattle.ele_model.proofs.Basics.{nat_tests, list_any-append, bytes_eq-Decides, AllLater, update_first, remove_first, found_passes}
 use Rattle.ele_model.proofs.Words.{GroupRow, MarkRow, Cover, covers_moment, cover_by, cover_of, cover_until, cover_with, cover_without, group_named, is_group, is_mark, is_marked, is_member, keeps_at, longer, marks, marks_left, removes, unmarks, with_mark, with_member, without_group, without_mark, without_member, marks_of, members_of}
@@ -18,7 +18,7 @@ any_taken : {X : Type 0} (q p : X → Bool) (xs : List X) → list_any q xs ≡ 
 any_taken q p [] = refl
 any_taken {X} q p (x ∷ xs) = grind (arith, nat_tests, any_taken q p xs)
 
--- of numbers, of which none stands twice, one taken out
+-- one removed from numbers that are there once each
 abbrev AreApart : List ℕ → Type 0
 AreApart xs = AllLater (λ earlier later. (earlier == later) ≡ false) xs
 
@@ -83,7 +83,7 @@ module _ (q : MarkRow → Bool) where
   over_dropped [] name file = refl
   over_dropped (row ∷ rows) name file = grind (arith, nat_tests, over_dropped rows name file)
 
-  -- ---- what is left out
+  -- ---- marks that are left out
 
   -- some mark passes of some group that has the file, those aside that are left out
   abbrev pub is_rest : List GroupRow → List ℕ → Option ℕ → ℕ → Bool
@@ -146,14 +146,14 @@ marked_more rows name file closed ended at mark = over_marked (keeps_at closed e
 -- ---- for how long marks keep
 
 module _ (file closed : ℕ) (ended : Option ℕ) where
-  -- a cover is told by what its marks reach
+  -- a cover is determined by what its marks reach
   pub told_over : (rows : List GroupRow) (d : Cover) → exceeds (cover_of rows file closed ended) d ≡ is_over (reaches closed ended d) rows file
   told_over rows d = exceeds_by closed ended d _ ∙ any_over (reaches closed ended d) (is_member file) (λ row. row.marks) rows
 
   pub told_rest : (rows : List GroupRow) (name : List ℕ) (left : Option ℕ) (d : Cover) → exceeds (cover_without rows name left file closed ended) d ≡ is_rest (reaches closed ended d) rows name left file
   told_rest rows name left d = exceeds_by closed ended d _ ∙ any_over (reaches closed ended d) (is_member file) (marks_left name left) rows
 
-  -- marks of which none covers reach nothing
+  -- marks reach nothing if none covers
   reach_none : (d : Cover) (xs : List MarkRow) → list_any (covers_moment closed ended) (map (λ mark. mark.at) xs) ≡ false → list_any (reaches closed ended d) xs ≡ false
   reach_none d [] none = refl
   reach_none d (x ∷ xs) none = grind (arith, nat_tests, reach_none d xs)
@@ -173,7 +173,7 @@ module _ (file closed : ℕ) (ended : Option ℕ) where
   no_member member [] apart = refl
   no_member member (x ∷ xs) apart = grind (arith, nat_tests, no_member member xs apart)
 
-  -- with a mark more, where it covers and where not
+  -- with one more mark, if it covers and if it doesn't
   pub mark_longer : (rows : List GroupRow) (name : List ℕ) (mark : MarkRow) → touches file closed ended (members_of rows name) (mark.at ∷ []) ≡ true → cover_of (with_mark name mark rows) file closed ended ≡ longer (cover_until mark.until) (cover_of rows file closed ended)
   mark_longer rows name mark is = exceeds_same _ _ (λ d. grind (arith, nat_tests, told_over (with_mark name mark rows) d, told_over rows d, over_marked (reaches closed ended d) rows name file mark, exceeds_longer (cover_until mark.until) (cover_of rows file closed ended) d))
 
@@ -202,7 +202,7 @@ module _ (file closed : ℕ) (ended : Option ℕ) where
   pub drop_apart : (rows : List GroupRow) (name : List ℕ) → touches file closed ended (members_of rows name) (marks_of rows name) ≡ false → cover_of (without_group name rows) file closed ended ≡ cover_of rows file closed ended
   drop_apart rows name is = exceeds_same _ _ (λ d. grind (arith, nat_tests, told_over (without_group name rows) d, told_over rows d, over_dropped (reaches closed ended d) rows name file, reach_group d rows name))
 
-  -- what is left is what stands without those that are left out
+  -- the rest are the marks without those that are left out
   module _ (rows : List GroupRow) (name : List ℕ) (named : AllLater (λ (earlier : GroupRow) later. bytes_eq earlier.name later.name ≡ false) rows) where
     pub unmark_still : (k : ℕ) (row : GroupRow) → find (is_group name) rows ≡ Some row → AreMarksApart row.marks → cover_of (without_mark name k rows) file closed ended ≡ cover_without rows name (Some k) file closed ended
     unmark_still k row found apart = exceeds_same _ _ (λ d. told_over (without_mark name k rows) d ∙ rest_unmarked (reaches closed ended d) rows name file named k row found apart ∙ sym (told_rest rows name (Some k) d))

@@ -1,5 +1,5 @@
 -- What each change of an event needs: what it needs of the world, by what the event's types say of it; and a version leaves only
--- where it was due.
+-- if it was due.
 use Rattle.ele_model.proofs.Basics.{◌≡◌, ℕ, ◌≤◌, true, false, List, [], ◌∷◌, Some, is_none, find}
 use Rattle.ele_model.proofs.Words.{last_moment, Change, Time, SetDirectoryDefault, SetFilePolicy, Take, after_change, is_due_at, Plan, IsEvent, IsPolicy, World, is_version, is_open, Event, CleanOne, VersionRow}
 use Rattle.ele_model.proofs.PlanOutcomes.{InAll}
@@ -28,6 +28,6 @@ abbrev pub MayAll : Event → World → World → List Change → Type 0
 MayAll event first w [] = Unit {0}
 MayAll event first w (change ∷ changes) = MayBy event first w change × MayAll event first (after_change w change) changes
 
--- where the checks pass, the changes may be made
+-- if the checks pass, the changes may be made
 abbrev pub MayPlan : Event → World → Plan → Type 0
 MayPlan event w plan = InAll (λ reply changes. MayAll event w w changes) plan

@@ -1,4 +1,4 @@
--- Which ripe moments change where names come, go or move: with a file's last name that of its last version, and those of versions
+-- Which ripe moments change when names are added, removed or moved: with a file's last name that of its last version, and those of versions
 -- that had too few newer ones.
 use Rattle.ele_model.proofs.Basics.{◌≡◌, ℕ, ◌-◌, Bool, Option, true, false, ◌==◌, ◌&&◌, List, Some, None, refl, ap, ◌∙◌, arith, cond, false≢true, find, is_some, nat_le, option_and_then, option_map, option_map_or, nat_tests, find-update_other, list_any-update_fails, list_any-update_found}
 use Rattle.ele_model.proofs.Words.{Policy, dies, ended_at, case_moment, case_of, newer_held, rule_in, rule_of, with_end, after_change, EndFileName, File, is_live_name, is_live_name_of, live_target, ripe_at, file_view, cover_of, next_closing, Versions, HasParts, World, policy_of, next_of, is_live, is_open, is_version}
@@ -9,7 +9,7 @@ use Rattle.ele_model.proofs.Neighbours.{AreInOrder, least_newer, found_kept, fou
 use Rattle.ele_model.proofs.RipeAt.{ripe_at_is, unended}
 use Rattle.ele_model.proofs.Views.{policies_of}
 
--- where files, versions, handles and groups stay, so do the moments of a file whose rule asks for as many newer ones
+-- if files, versions, handles and groups stay, so do the moments of a file whose rule asks for as many newer ones
 pub moments_stay : (w v : World) → AreInOrder w.files w.versions → v.files ≡ w.files → v.versions ≡ w.versions → v.handles ≡ w.handles → v.groups ≡ w.groups
     → (file number : ℕ) → least_newer v file ≡ least_newer w file → ripe_at v file number ≡ ripe_at w file number
 moments_stay w v ordered files versions handles groups file number floor = grind (arith, nat_tests, found_moment)
@@ -22,7 +22,7 @@ are_enough policy live newer = option_map_or (λ rule. nat_le rule.newer newer) 
 abbrev asked : Option Policy → Bool → ℕ
 asked policy live = option_map_or (λ rule. rule.newer) (option_map (λ p. rule_in p live) policy) 0
 
--- where it asks for as many, as many are enough
+-- if it asks for as many, as many are enough
 asked_same : (policy : Option Policy) (live then : Bool) (newer after : ℕ) → asked policy then ≡ asked policy live → after ≡ newer → are_enough policy then after ≡ are_enough policy live newer
 asked_same None live then newer after same held = refl
 asked_same (Some policy) live then newer after same held = rw (held) (ap (λ least. nat_le least newer) same)
@@ -78,7 +78,7 @@ module _ (w : World) (directory : ℕ) (name : List ℕ) (file : ℕ) where
       by true = refl
       by false = find-update_other (is_version file last) (is_version f n) (ended_at w.now) w.versions (λ row is. grind (arith, nat_tests, apart, is))
 
-    -- those of all other versions stay, where the rule asks for as many newer ones
+    -- those of all other versions stay, if the rule asks for as many newer ones
     pub other_moments : least_newer after f ≡ least_newer w f → ripe_at after f n ≡ ripe_at w f n
     other_moments asks = found_moment w after f n (in_order_of w k) (ended_in_order k) (λ closed ended. refl) refl (asked_same (policy_of w.files f) (is_live w f) (is_live after f) (newer_held w.versions f n) (newer_held after.versions f n) asks same_newer) refl same_next same_found
 
@@ -93,7 +93,7 @@ module _ (w : World) (directory : ℕ) (name : List ℕ) (file : ℕ) where
     unfolding ripe_of
     no_moment = ripe_at_is w file last ∙ ap (option_and_then (ripe_of w)) current.found ∙ unended (file_view w current.row.file) current.row current.no_end
 
-    -- without a newer one beside it, where none is asked for
+    -- without a newer one beside it, if the rule asks for none
     pub ended_moment : HasParts w → is_live after file ≡ false → (policy : Policy) → policy_of w.files file ≡ Some policy
         → ripe_at after file last ≡ cond (is_open w.handles file last) None (case_moment (cover_of w.groups file) (case_of policy current.row.closed None true) w.now)
     ended_moment k dead policy governed =

@@ -17,7 +17,7 @@ all_apart files now names directory name named each free d n b = grind (arith, n
 pub names_more : (files : List FileRow) (now : ℕ) (names : List NameRow) (directory : ℕ) (name : List ℕ) (target : Target) → is_some (live_target names directory name) ≡ false → IsThere files target → AreNames files now names → AreNames files now (names ++ born_row directory name target now ∷ [])
 names_more files now names directory name target free there are = grind (arith, nat_tests, all-push (IsNameRow files now) names, later-push AreApart names, all_apart files now names directory name (born_row directory name target now))
 
--- no live name stands for it, if it is a directory
+-- no live name means it, if it is a directory
 abbrev pub IsUnnamed : List NameRow → Target → Type 0
 IsUnnamed names (File file) = Unit {0}
 IsUnnamed names (Directory id) = AllByRecursion (λ row. is_live_directory id row ≡ false) names

@@ -11,7 +11,7 @@ use Rattle.ele_model.proofs.RipeAt.{ripe_at_is}
 use Rattle.ele_model.proofs.RipeMoments.{ripe_if, ripe_told}
 use Rattle.ele_model.proofs.Views.{IsLife, policies_of, policy_is, lives_in, view_in, closings_in_order}
 
--- what ripe moments rest on: the policies are lawful, and each file's versions stand in order
+-- what ripe moments rest on: the policies are lawful, and each file's versions are in order
 pub record AreInOrder (files : List FileRow) (versions : List VersionRow) : Type 0 where
   pub policies : AllByRecursion (λ row. IsLawful row.policy) files
   pub lives : AllByRecursion IsLife versions
@@ -53,7 +53,7 @@ module _ (cover : ℕ → Option ℕ → Cover) (rule : Rule) (is : IsInForce ru
   case_unmet newer unmet =
       ap (option_and_then (ripe_past (cover case.closed (Some ended)))) (is.lawful.ripe_unmet case ended newer is.live (enough_told rule.policy is.live newer ∙ ap (λ least. nat_le least newer) (sym is.newer_is) ∙ unmet))
 
-  -- where some are asked for it doesn't matter which is the next
+  -- if the rule asks for some, it doesn't matter which is the next
   pub case_floored : (other : Option ℕ) → 1 ≤ rule.newer → case_moment cover (record case { policy = rule.policy }) ended ≡ case_moment cover (record case { policy = rule.policy; next_closed = other }) ended
   case_floored other some =
       ap (option_and_then (ripe_past (cover case.closed (Some ended)))) (is.lawful.ripe_counted case ended other (by is.live (rw is.newer_is at some))) where
@@ -87,7 +87,7 @@ module _ (w : World) (row : VersionRow) where
   abbrev own_beside : Beside
   own_beside = beside (file_view w row.file) row
 
-  -- as many closings stand beside it as newer versions of its file are held
+  -- as many closings are beside it as newer versions of its file are held
   newer_told : length own_beside.newer ≡ newer_held w.versions row.file row.number
   newer_told =
       length-map (filter (is_newer row) (filter (is_version_of row.file) w.versions)) (λ (r : VersionRow). r.closed)
@@ -98,14 +98,14 @@ module _ (w : World) (row : VersionRow) where
   next_told : slice_get own_beside.newer 0 ≡ next_closing w.versions row.file row.number
   next_told = grind (arith, nat_tests, slice_get-map, slice_get-filter, find-filter_both)
 
-  -- so its case is the one that its file's rows tell
+  -- so its case is that of its file's rows
   case_told : (policy : Policy) → case_beside policy row.closed own_beside ≡ case_in (rule_in policy (is_live w row.file)) w.versions row.file row.number row.closed
   case_told policy =
       ap (λ next. case_of policy row.closed next (meets_floor policy (is_live w row.file) (length own_beside.newer))) next_told
       ∙ ap (case_of policy row.closed (next_closing w.versions row.file row.number))
       (enough_told policy (is_live w row.file) (length own_beside.newer) ∙ ap (nat_le (rule_in policy (is_live w row.file)).newer) newer_told)
 
-  -- and its moment is told by this
+  -- and this determines its moment
   abbrev under_rule : Rule → Option ℕ
   under_rule rule = option_and_then (case_moment (cover_of w.groups row.file) (case_in rule w.versions row.file row.number row.closed)) row.ended
 
@@ -123,7 +123,7 @@ module _ (w : World) (row : VersionRow) where
 abbrev nothing : Option ℕ
 nothing = None
 
--- where the file's version of that number is this row
+-- if the file's version of that number is this row
 module _ (w : World) (ordered : AreInOrder w.files w.versions) (file number : ℕ) where
   abbrev row_under : Rule → VersionRow → Option ℕ
   row_under rule row = option_and_then (case_moment (cover_of w.groups file) (case_in rule w.versions file number row.closed)) row.ended
@@ -153,7 +153,7 @@ module _ (w : World) (ordered : AreInOrder w.files w.versions) (file number : �
   pub moment_is : (rule : Rule) → rule_of w file ≡ Some rule → ripe_at w file number ≡ cond (is_open w.handles file number) None (moment_under (cover_of w.groups file) rule w.versions file number)
   moment_is rule is = ripe_at_near ∙ ap (λ (r : Option Rule). cond (is_open w.handles file number) None (option_and_then (λ rule. moment_under (cover_of w.groups file) rule w.versions file number) r)) is
 
--- where none is asked for, there are enough
+-- if the rule asks for none, there are enough
 pub none_asked : (newer : ℕ) → nat_le 0 newer ≡ true
 none_asked newer = grind (arith, nat_tests)
 
@@ -195,7 +195,7 @@ module _ (versions : List VersionRow) (file number : ℕ) where
   abbrev pub IfHeld : (VersionRow → Type 0) → Type 0
   IfHeld P = (row : VersionRow) → find (is_version file number) versions ≡ Some row → P row
 
-  -- where both are the same of the version, so is its moment
+  -- if both are the same for the version, so is its moment
   pub moment_same : (t u : ℕ → Option ℕ → Cover) (rule : Rule) → IfHeld (λ row. t row.closed row.ended ≡ u row.closed row.ended) → moment_under t rule versions file number ≡ moment_under u rule versions file number
   moment_same t u rule same = grind (arith, nat_tests)
 
@@ -216,7 +216,7 @@ found_moment w v file number before after marked policy met opens next same = gr
 
 -- ---- the next held version
 
--- an end leaves it where it is
+-- an end leaves it at its place
 pub next_closing-ended : (p : VersionRow → Bool) (now : ℕ) (rows : List VersionRow) (file number : ℕ) → next_closing (update_first p (ended_at now) rows) file number ≡ next_closing rows file number
 next_closing-ended p now [] file number = refl
 next_closing-ended p now (x ∷ xs) file number = grind (arith, nat_tests, next_closing-ended p now xs file number)
@@ -228,7 +228,7 @@ newer_held-ended p now rows file number = sum_by-update_same (λ (x : VersionRow
 pub none_past : (files : List FileRow) (now : ℕ) (rows : List VersionRow) (file number : ℕ) → AllByRecursion (IsVersion files now) rows → next_of files file ≤ number + 1 → next_closing rows file number ≡ None
 none_past files now rows file number each past = grind (arith, nat_tests, not_found, all-weaker)
 
--- where the floor was met it is so still, a moment that was there stays
+-- if the floor was met and still is, a moment that was there stays
 pub found_kept : (w v : World) (file number : ℕ) → AreInOrder w.files w.versions → AreInOrder v.files v.versions
     → ((closed : ℕ) (ended : Option ℕ) → cover_of v.groups file closed ended ≡ cover_of w.groups file closed ended)
     → policy_of v.files file ≡ policy_of w.files file → (has_enough w file number ≡ true → has_enough v file number ≡ true) → is_open v.handles file number ≡ is_open w.handles file number

@@ -1,4 +1,4 @@
--- The held version of a file that has so many newer ones: among the file's rows it stands so many from the end.
+-- The held version of a file that has so many newer ones: among the file's rows it is so many from the end.
 use Rattle.ele_model.proofs.Basics.{AllLater, List, all-any, arith, eqb, false, filter, later-filter, nat_lt, nat_tests, option_map_or, refl, suc, sym, ℕ, ◌<◌, ◌∙◌, ◌≡◌}
 use Rattle.ele_model.proofs.Words.{ArePlaced, VersionRow, is_version_of, newer_held, newest_of, with_newer}
 use Rattle.ele_lists.proofs.Alls.{later-weaker}
@@ -12,7 +12,7 @@ use Rattle.std.proofs.Common.{count_by, leb, reverse, slice_get}
 abbrev pub number_of : VersionRow → ℕ
 number_of row = row.number
 
--- a file's rows stand by number
+-- a file's rows are in order of numbers
 pub own_rise : (versions : List VersionRow) (file : ℕ) → AllLater ArePlaced versions → Rises number_of (filter (is_version_of file) versions)
 own_rise versions file placed = later-filter ArePlaced (λ earlier later. earlier.number < later.number) (is_version_of file) versions (λ x y own its is. let after = is.after in grind (arith, nat_tests)) placed
 
@@ -31,7 +31,7 @@ module _ (versions : List VersionRow) (file : ℕ) where
         ∙ find-same_all (λ row. eqb (newer_held versions file row.number) newer) (λ row. eqb (count_by (is_behind number_of row.number) own) newer) own (all-any _ own (λ row. rw (newer_own row.number) refl))
         ∙ found-back number_of own newer rise
 
-    -- at least so many and one are newer, where the one that has so many newer ones is
+    -- at least so many and one are newer, if there is one that has so many newer ones
     pub enough_newer : (number : ℕ) → leb (suc newer) (newer_held versions file number) ≡ option_map_or (λ (row : VersionRow). nat_lt number row.number) (with_newer versions file newer) false
     enough_newer number =
         rw (newer_own number, with_newer_own)

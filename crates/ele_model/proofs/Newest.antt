@@ -1,4 +1,4 @@
--- The newest row of each name, and the names that may come back among those whose newest row is dead.
+-- The newest row of each name, and the restorable names among those whose newest row is dead.
 use Rattle.ele_model.proofs.Basics.{nat_tests, arith, ◌≡◌, ℕ, ◌+◌, ◌<◌, Bool, List, [], ◌∷◌, length, map, get_or, take, fold, Option, refl, ap, sym, subst, ◌∙◌, filter, find, is_some, unwrap_or, AllByRecursion, filter_map, keys_of}
 use Rattle.ele_model.proofs.Basics.{values_of, lookup, insert_entry, is_at, option_map, nat_cmp, is_eq, IsTotalOrder, nat_cmp_total, unsigned_tied, eq_by_cmp_equiv, slice_cmp, nat_list_cmp_total, then_total, on_total, fold-append, take_more}
 use Rattle.ele_model.proofs.Basics.{lookup-filter-values, IsDistinct-from_sorted, CmpEqualImpliesEq, exact_pairs, exact_unsigned, exact_bytes, lookup-map_values, keys_of-map_values, is_eq-slice_cmp, last_passing, entries_same, filter_map-map, sorted-filter_entries, all-insert_entry}
@@ -28,7 +28,7 @@ next_is files file = grind (arith, nat_tests)
 pub newest_more : (xs : List NameRow) (i : ℕ) (x : NameRow) → i < length xs → x ≡ get_or xs i x → newest_rows (take (i + 1) xs) ≡ more (newest_rows (take i xs)) x
 newest_more xs i x lt is = rw (take_more xs i x lt, ← is, fold-append more [] (take i xs) (x ∷ [])) refl
 
--- of their values those that may come back
+-- the restorable ones of their values
 pub restorable_values : (w : World) → filter_map (returning w) (values_of (newest_rows w.names)) ≡ restorable w
 unfolding restorable
 restorable_values w = filter_map-map (returning w) (λ (e : Entry). e.1) (newest_rows w.names)
@@ -62,7 +62,7 @@ last_same d n (row ∷ rows) = grind (arith, nat_tests, unsigned_tied row.direct
 pub newest_last : (rows : List NameRow) (d : ℕ) (n : List ℕ) → lookup (is_at (name_cmp (d, n))) (newest_rows rows) ≡ last_passing (is_named d n) rows
 newest_last rows d n = rw (inserted_found name_total key_of (λ row. row) (d, n) rows [], last_same d n rows) (grind (arith, nat_tests))
 
--- ---- those that are dead, with what they stood for
+-- ---- those that are dead, with what they meant
 
 abbrev pub is_dead : NameRow → Bool
 is_dead row = is_some row.death
@@ -78,7 +78,7 @@ dead_found rows d n =
     lookup-map_values (λ (row : NameRow). row.target) (is_at (name_cmp (d, n))) (dead_of (newest_rows rows))
     ∙ rw (lookup-filter-values (eq_by_cmp_equiv name_total) is_dead (d, n) (newest_rows rows) (IsDistinct-from_sorted name_cmp (keys_of (newest_rows rows)) (sorted_rows rows)), inserted_found name_total key_of (λ row. row) (d, n) rows [], last_same d n rows) (grind (arith, nat_tests))
 
--- ---- those that may come back
+-- ---- the restorable ones
 
 abbrev returning_entry : World → Key × Target → Option DeadName
 returning_entry w e = returning_name w (e.0.0, e.0.1, e.1)
@@ -90,7 +90,7 @@ dead_return w (e ∷ newest) own = grind (arith, nat_tests, dead_return w newest
 abbrev as_entry : ℕ × List ℕ × Target → Key × Target
 as_entry item = ((item.0, item.1), item.2)
 
--- of the dead names, each once and in order, with what each last stood for, those that may come back
+-- of the dead names, each once and in order, with what each last meant, the restorable ones
 pub restorable_is : (w : World) (items : List (ℕ × List ℕ × Target)) → IsStrictlySortedBy name_cmp (keys_of (map as_entry items)) → ((d : ℕ) (n : List ℕ) → lookup (is_at (name_cmp (d, n))) (map as_entry items) ≡ last_dead w.names d n)
     → filter_map (returning_name w) items ≡ restorable w
 unfolding restorable

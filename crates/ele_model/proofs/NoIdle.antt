@@ -1,5 +1,5 @@
--- No event leaves a file of which nothing is left. In a well-formed world a live file has a version, so what counts is whether
--- each file has a version or a draft.
+-- After an event each file has a live name, a held version or a draft. In a well-formed world a live file has a version, so what counts is
+-- whether each file has a version or a draft.
 use Rattle.ele_model.proofs.Basics.{rules, ◌≡◌, ◌==◌, ℕ, Bool, true, false, not, ◌||◌, List, [], ◌∷◌, arith, AllByRecursion, list_any, false≢true, not-true, nat_tests, update_first, remove_first, filter-passes, all-push, all-weaker, all-both}
 use Rattle.ele_model.proofs.Basics.{all-update_first, all-remove_first, found_passes, list_any-update_first, list_any-insert_before, list_any-remove_first, any-found, remove_first-key}
 use Rattle.ele_model.proofs.Words.{Change, Cell, Policy, Take, MakeFile, SetFilePolicy, EndFileName, EndDraft, DropIdle, ShutHandle, StartDraft, after_change, is_idle, numbered_on, set_policy, with_file, with_name, with_version, without_file, is_version_of, IsEvent}
@@ -69,7 +69,7 @@ idle_gone w file k but = dropped AreBusy w file (λ idle. gone) (λ busy. grind 
   gone = all-weaker (λ row. (not (row.id == file) ≡ true) × ((row.id == file) ≡ false → has_rows w row.id ≡ true)) (λ row. has_rows w row.id ≡ true) (remove_first (is_file file) w.files) (λ row h. h.1 (not-true (row.id == file) h.0))
       (all-both _ _ (remove_first (is_file file) w.files) others (all-remove_first (is_file file) (λ row. (row.id == file) ≡ false → has_rows w row.id ≡ true) w.files but))
 
--- no file is idle exactly where each has rows
+-- no file is idle exactly if each has rows
 busy_all : (w : World) → HasParts w → HasNoIdle w → AreBusy w
 busy_all w k none = all-weaker (λ row. is_idle w row.id ≡ false) (λ row. has_rows w row.id ≡ true) w.files (λ row h. busy_is w row.id k h) none
 

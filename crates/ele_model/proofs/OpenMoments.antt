@@ -1,4 +1,4 @@
--- Which ripe moments change where handles come and go: that of a version that a handle reads, and no other.
+-- Which ripe moments change when handles open and close: that of a version that a handle reads, and no other.
 use Rattle.ele_model.proofs.Basics.{nat_tests, arith, ◌≡◌, ℕ, ◌||◌, true, false, cond, None, refl, ◌∙◌, Ok, list_any-append, remove_first, list_any-remove_first}
 use Rattle.ele_model.proofs.Words.{after_change, OpenHandle, ShutHandle, ripe_at, Reads, cover_of, free_moment, World, is_handle, is_open, reads_by, reads_version}
 use Rattle.ele_model.proofs.Neighbours.{AreInOrder, found_moment, ripe_at_near}
@@ -29,6 +29,6 @@ module _ (w : World) (number : ℕ) (reads : Reads) (is : reads_by w.handles num
   pub shut_others : AreInOrder w.files w.versions → (f n : ℕ) → reads_version f n reads ≡ false → ripe_at (after_change w (ShutHandle number)) f n ≡ ripe_at w f n
   shut_others ordered f n other = found_moment w (after_change w (ShutHandle number)) f n ordered ordered (λ closed ended. refl) refl refl (open_still f n other) refl refl
 
--- what the handle read has none still where another handle reads it, and else the one that it has unread
+-- the version that the handle read still has none if another handle reads it, and else the one that it has unread
 pub shut_own : (w : World) (handle file number : ℕ) → AreInOrder w.files w.versions → ripe_at (after_change w (ShutHandle handle)) file number ≡ cond (is_open (remove_first (is_handle handle) w.handles) file number) None (free_moment w (cover_of w.groups file) file number)
 shut_own w handle file number ordered = ripe_at_near (after_change w (ShutHandle handle)) ordered file number

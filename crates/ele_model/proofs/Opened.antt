@@ -1,4 +1,4 @@
--- What opening a handle comes to, whether the file has a draft or not.
+-- The result of opening a handle, whether the file has a draft or not.
 use Rattle.ele_model.proofs.Basics.{ℕ, cond, List, [], ◌∷◌, ◌++◌, insert_before}
 use Rattle.ele_model.proofs.Words.{new_draft, World, has_draft, is_draft_after, DraftRow, Draft}
 

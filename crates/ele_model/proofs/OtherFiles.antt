@@ -1,4 +1,4 @@
--- The rows of other files stay where one file's rows change.
+-- The rows of other files stay when one file's rows change.
 use Rattle.ele_model.proofs.Basics.{◌≡◌, ℕ, not, List, [], ◌∷◌, length, refl, arith, eqb, filter, nat_tests, update_first, remove_first, insert_before, found_passes, filter-update_first, filter-remove_first, filter-insert_before}
 use Rattle.ele_model.proofs.Words.{Kind, DraftRow, FileRow, VersionRow, numbered_on, ended_at, is_of, is_file_of, World, is_draft, is_file, is_version, is_version_after}
 use Rattle.ele_model.proofs.Opened.{with_draft}

@@ -1,4 +1,4 @@
--- A pass, one clean event after another: where nothing disturbs it it removes the due versions, and no others.
+-- A pass, one clean event after another: if nothing disturbs it, it removes the due versions, and no others.
 use Rattle.ele_model.proofs.Basics.{nat_tests, arith, ◌≡◌, ℕ, suc, zero, true, not, List, Option, Some, None, refl, ap, ◌∙◌, IfSome, all-weaker, find-cut, filter-all, ◌+◌, ◌<◌, length, add-one, IsSome, cases_lt, length-remove_first, length-split}
 use Rattle.ele_model.proofs.Words.{CleanOne, Key, VersionRow, is_due_at, kept_rows, after_cleans, IsPass, first_due, Take, after_change, clean_step, HasParts, World, is_version, IsCleaned, HasRemoved, IsFinished}
 use Rattle.ele_model.specs.Scan.{due_key}
@@ -27,7 +27,7 @@ pub cleaned_keeps_kept : (n : ℕ) (w : World) → HasParts w → (kept_rows (af
 cleaned_keeps_kept zero w k = (refl, k)
 cleaned_keeps_kept (suc n) w k = grind (arith, nat_tests, cleaned_keeps_kept n ((clean_step w).1) (step_keeps w CleanOne tt k), step_keeps w CleanOne tt k, clean_keeps_kept w k)
 
--- ---- where the scan is empty nothing is due
+-- ---- if the scan is empty, nothing is due
 
 pub nothing_due : (w : World) → HasParts w → first_due w ≡ None → kept_rows w ≡ w.versions
 unfolding due_key

@@ -1,9 +1,9 @@
--- What holds of all that a plan may come to holds of what it comes to.
+-- What is true of all possible outcomes of a plan is true of its outcome.
 use Rattle.ele_model.proofs.Basics.{arith, ◌≡◌, true, false, List, [], Some, None, Ok, refl, rules, nat_tests, Bool, ◌||◌, ◌∷◌, false≢true}
 use Rattle.ele_model.proofs.Words.{Change, after_changes, Plan, Tell, Make, Unless, When, Need, IfFound, refused, outcome, World, Refusal, Reply, asks, plan, step, Event, Read, Refused}
 use Rattle.ele_model.specs.ReadersStay.{ReadersStay, needs_memory}
 
--- of each answer with its changes, where the checks pass
+-- of each answer with its changes, if the checks pass
 abbrev pub InAll : (Reply → List Change → Type 0) → Plan → Type 0
 InAll Q (Tell reply) = Q reply []
 InAll Q (Make reply changes) = Q reply changes

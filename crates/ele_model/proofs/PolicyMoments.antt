@@ -1,4 +1,4 @@
--- Which ripe moments change where a file gets another policy: those of its own versions, and no other.
+-- Which ripe moments change when a file gets another policy: those of its own versions, and no other.
 use Rattle.ele_model.proofs.Basics.{arith, nat_tests, ◌≡◌, ℕ, ◌<◌, ◌==◌, false, cond, Option, None, ap}
 use Rattle.ele_model.proofs.Words.{is_file, set_policy, Policy, IsLawful, SetFilePolicy, after_change, ripe_at, file_view, ripe_numbered, cover_of, moment_under, rule_in, HasParts, World, is_live, is_open, next_of}
 use Rattle.ele_model.proofs.Elements.{find-updated}

@@ -1,4 +1,4 @@
--- What the files of each kind use where a file gets another policy: what it uses goes from the one kind to the other.
+-- What the files of each kind use when a file gets another policy: what it uses moves from the one kind to the other.
 use Rattle.ele_model.proofs.Basics.{nat_tests, ◌≡◌, ◌==◌, ℕ, ◌+◌, false, cond, List, length, Some, refl, arith, filter, find, length-filter, update_first, sum_by-update_first, sum_by-found}
 use Rattle.ele_model.proofs.Words.{Kind, Policy, kind_of, is_kind, only_at, plus, IsWithin, SetFilePolicy, set_policy, after_change, FileRow, file_usage, is_of, is_file_of, HasParts, World, is_file, policy_of}
 use Rattle.ele_model.specs.Usage.{usage_of}

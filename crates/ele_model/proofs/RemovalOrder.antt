@@ -14,7 +14,7 @@ closings-append : (xs ys : List VersionRow) → closings (xs ++ ys) ≡ closings
 closings-append = map-append (λ (row : VersionRow). row.closed)
 
 module _ (v : FileView) (xs : List VersionRow) (row : VersionRow) (ys : List VersionRow) (placed : AllLater Precedes (xs ++ row ∷ ys)) (life : IsLife row) (governed : IfSome v.policy IsLawful) where
-  -- on whichever side of the row it stands
+  -- on either side of the row
   pub others_stay : (x : VersionRow) (at : ℕ) → Precedes x row ⊎ Precedes row x → due_in (with_rows v (xs ++ row ∷ ys)) row at ≡ true → due_in (with_rows v (xs ++ row ∷ ys)) x at ≡ due_in (with_rows v (xs ++ ys)) x at
   others_stay x at (inl before) due = grind (arith, nat_tests, newer_before x xs row ys placed before, newer_without x xs row ys placed before, closings-append (filter (is_newer x) xs) (row ∷ ys), closings-append (filter (is_newer x) xs) ys, newer_is xs row ys placed)
   others_stay x at (inr after) due = grind (arith, newer_behind x xs row ys after)
@@ -26,7 +26,7 @@ module _ (v : FileView) (xs : List VersionRow) (row : VersionRow) (ys : List Ver
 
 -- ---- from one file to all
 
--- where it is of the row's file, a version stands before the row or behind it
+-- a version of the row's file is before the row or after it
 abbrev pub IsBeside : VersionRow → VersionRow → Type 0
 IsBeside row x = x.file ≡ row.file → Precedes x row ⊎ Precedes row x
 

@@ -1,4 +1,4 @@
--- The ripe moment of a version that is found by its number, and the scan as the moments that have come.
+-- The ripe moment of a version that is found by its number, and the scan as the moments up to now.
 use Rattle.ele_model.proofs.Basics.{◌≡◌, ℕ, ◌≤◌, Bool, true, false, ◌&&◌, ◌++◌, List, [], ◌∷◌, Option, Some, None, refl, ap, ◌∙◌, arith, find, nat_le, option_and_then, AllByRecursion, filter_map, list_any, option_map_or, nat_tests, AllLater, found_passes, find-filter_both}
 use Rattle.ele_model.proofs.Words.{Time, after_change, Key, has_key, is_key, is_ripe_by, last_moment, MarkRow, Policy, candidates, earliest_of, ends_over, VersionRow, ripe_at, is_moment, FileView, file_view, is_version_of, is_numbered, due_in, ripe_in, IsDueFromRipe, ArePlaced, HasParts, World, is_version}
 use Rattle.ele_model.specs.Due.{is_due, is_due_at, ripe_of}
@@ -24,7 +24,7 @@ pub is_due_is : (w : World) (file number : ℕ) → HasParts w → is_due w file
 unfolding is_due
 is_due_is w file number k = grind (arith, nat_tests, ripe_at_is, ripens w k, now_of)
 
--- ---- the ripe moment is told by the moments at which the version is due
+-- ---- the ripe moment is determined by the moments at which the version is due
 
 -- the earliest of the moments that these parts name
 abbrev by_parts : FileView → VersionRow → Option Policy → Option ℕ → List MarkRow → Option ℕ
@@ -54,12 +54,12 @@ module _ (file number : ℕ) (g h : VersionRow → Bool) (same : (x : VersionRow
   any-numbered [] placed = refl
   any-numbered (x ∷ xs) placed = grind (arith, nat_tests, same x, none-numbered x xs, any-numbered xs placed.1)
 
--- a row has the key if its number is the key's and its moment, which has come, too
+-- a row has the key if its number is the key's and its moment, up to now, is the key's too
 has_due_key : (w : World) (k : Key) (row : VersionRow) → w.now ≤ last_moment → IsDueFromRipe w row → option_map_or (is_key k) (due_key w row) false ≡ (is_version k.file k.number row && (is_ripe_by w.now k && is_moment k.ripe (ripe_of w row)))
 unfolding due_key
 has_due_key w k row fits from = grind (arith, nat_tests)
 
--- the due rows have just the keys whose moment has come: where each row is due from its ripe moment on
+-- the due rows have just the keys whose moment is up to now: each row is due from its ripe moment on
 pub scan_members_from : (w : World) → w.now ≤ last_moment → ((row : VersionRow) → IsDueFromRipe w row) → AllLater ArePlaced w.versions → (k : Key)
     → has_key k (filter_map (due_key w) w.versions) ≡ (is_ripe_by w.now k && is_moment k.ripe (ripe_at w k.file k.number))
 scan_members_from w fits from placed k =

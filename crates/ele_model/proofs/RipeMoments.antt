@@ -1,4 +1,4 @@
--- A held version is due from its ripe moment on, which its next held version and the marks that cover it tell.
+-- A held version is due from its ripe moment on, which its next held version and the marks that cover it determine.
 use Rattle.ele_model.proofs.Basics.{AllByRecursion, ◌≡◌, ℕ, ◌≤◌, ◌&&◌, ◌||◌, ◌++◌, ◌==◌, Bool, true, false, not, cond, List, [], ◌∷◌, nat_tests, Option, Some, None, refl, ap, sym, subst, ◌∙◌, nat_le, max, option_and_then, IfSome, list_any, list_any-append, option_map_or, all-split, all-any, arith}
 use Rattle.ele_model.proofs.Words.{Cover, Always, Free, Until, Policy, is_due_by, candidates, earliest_of, last_moment, IsLawful, VersionRow, FileView, file_view, beside, cover_by, due_in, ends_over, is_protected, keeps_at, lasts, ripe_in, ripe_past, IsDueFromRipe, RipeIsAnswer, HasParts, World, policy_of}
 use Rattle.ele_policy.specs.RipeCase.{ripe_by}
@@ -26,7 +26,7 @@ earliest_is_one d m (at ∷ moments) is = by (earliest_of d moments) refl (λ n 
   by None none before = grind (arith, nat_tests)
   by (Some n) some before = let rest = before n some in grind (arith, nat_tests, rest.stands, rest.fits, rest.passes)
 
--- of a test that holds from a moment on, which stands among them, it is that moment
+-- for a test that holds from a moment on, which is among them, it is that moment
 earliest_from : (d : ℕ → Bool) (t : ℕ) → t ≤ last_moment → ((at : ℕ) → at ≤ last_moment → d at ≡ nat_le t at) → (moments : List ℕ) → list_any (λ at. at == t) moments ≡ true → earliest_of d moments ≡ Some t
 earliest_from d t fits from [] stands = absurd cc
 earliest_from d t fits from (at ∷ moments) stands = by (at == t) refl (earliest_of d moments) refl (earliest_from d t fits from moments) where
@@ -136,7 +136,7 @@ past_free Free (Some m) none fits = refl
 past_free Always (Some m) none fits = grind (arith, none 0)
 past_free (Until end) (Some m) none fits = grind (arith, nat_tests, none 0, fits m refl)
 
--- what its policy tells
+-- what its policy decides
 free_ripe : (v : FileView) (row : VersionRow) (policy : Policy) (ended : ℕ) → ((at : ℕ) → is_protected v row at ≡ false) → IsLawful policy → v.policy ≡ Some policy → row.ended ≡ Some ended → ripe_in v row ≡ ripe_by policy row.closed (beside v row) ended
 free_ripe v row policy ended free given filed ends =
     ripe_told v row (subst (λ p. IfSome p IsLawful) (sym filed) given)

@@ -39,7 +39,7 @@ among_rows versions drafts file slot writer = grind (arith, nat_tests, list_any-
 pub new_places-cons : (others : List Place) (place : Place) (rest : List Place) → new_places others (place ∷ rest) ≡ cond (is_among others place) 0 1 + new_places others rest
 new_places-cons others place rest = grind (arith, nat_tests)
 
--- in front of others a row adds those that are new
+-- a row before others adds those that are new
 different_row : (f s : ℕ) (cells : List Cell) (others : List Place) → different is_place (places_from f s cells ++ others) ≡ new_places others (places_from f s cells) + different is_place others
 different_row f s [] others = omega arith
 different_row f s (cell ∷ cells) others = grind (arith, nat_tests, list_any-append (λ p. is_place p (record { file = f; slot = s; writer = cell.writer })) (places_from f (s + 1) cells) others, none_before f (s + 1) cells (record { file = f; slot = s; writer = cell.writer }), new_places-cons, different_row f (s + 1) cells others)
@@ -53,7 +53,7 @@ module _ (t : ℕ → Bool) where
 
 -- ---- one row after another
 
--- the bytes of what is left of the cells
+-- the bytes of the rest of the cells
 pub cell_bytes : (cells : List Cell) (i : ℕ) (cell : Cell) → i < length cells → cell ≡ get_or cells i cell → length (content_of (drop i cells)) ≡ length cell.bytes + length (content_of (drop (i + 1) cells))
 cell_bytes cells i cell lt is = grind (arith, nat_tests, drop_more, flat_map-cons, length-append)
 
@@ -61,11 +61,11 @@ cell_bytes cells i cell lt is = grind (arith, nat_tests, drop_more, flat_map-con
 pub row_bytes : (t : ℕ → Bool) (versions : List VersionRow) (i : ℕ) (row : VersionRow) → i < length versions → row ≡ get_or versions i row → bytes_in (filter (λ r. t r.file) (drop i versions)) ≡ cond (t row.file) (length (content_of row.cells)) 0 + bytes_in (filter (λ r. t r.file) (drop (i + 1) versions))
 row_bytes t versions i row lt is = grind (arith, nat_tests, drop_more versions i row lt, bytes_in-cons)
 
--- the slots of what is left of the cells
+-- the slots of the rest of the cells
 pub cell_places : (others : List Place) (file : ℕ) (cells : List Cell) (i : ℕ) (cell : Cell) → i < length cells → cell ≡ get_or cells i cell → new_places others (places_from file i (drop i cells)) ≡ cond (is_among others (record { file = file; slot = i; writer = cell.writer })) 0 1 + new_places others (places_from file (i + 1) (drop (i + 1) cells))
 cell_places others file cells i cell lt is = grind (arith, nat_tests, drop_more, new_places-cons, places_from)
 
--- the places of what is left of the versions
+-- the places of the rest of the versions
 pub version_places : (t : ℕ → Bool) (versions : List VersionRow) (drafts : List DraftRow) (i : ℕ) (row : VersionRow) → i < length versions → row ≡ get_or versions i row → different_of t (drop i versions) drafts ≡ cond (t row.file) (new_places (places (take (length versions - (i + 1)) (drop (i + 1) versions)) drafts) (places_from row.file 0 row.cells)) 0 + different_of t (drop (i + 1) versions) drafts
 version_places t versions drafts i row lt is = grind (arith, nat_tests, drop_more versions i row lt, flat_map-cons, append_assoc, different_row row.file 0 row.cells, passing_new t (drop (i + 1) versions) drafts row.file 0 row.cells, take_all (length versions - (i + 1)) (drop (i + 1) versions), length-drop (i + 1) versions)
 

@@ -1,4 +1,4 @@
--- What rows use: those of some files and those of the others, and where the rows of one file change.
+-- What rows use: those of some files and those of the others, and when the rows of one file change.
 use Rattle.ele_model.proofs.Basics.{◌≡◌, ◌==◌, ℕ, ◌+◌, Bool, false, not, cond, List, [], ◌∷◌, length, map, refl, arith, filter, filter-swap, flat_map, nat_tests, flat_map-cons, filter-append, sum_by-cons, list_any-filter, length-split}
 use Rattle.ele_model.proofs.Words.{Usage, plus, nothing, Cell, content_of, Place, is_place, different, VersionRow, DraftRow, places_from, places, bytes_in}
 
@@ -52,7 +52,7 @@ module _ {R : Type 0} (file_of : R → ℕ) (file : ℕ) (t : ℕ → Bool) wher
   own_passing [] = grind (arith)
   own_passing (x ∷ xs) = grind (arith, nat_tests, own_passing xs)
 
-  -- of the other files the same rows pass, where two tests differ at the file alone
+  -- the same rows of the other files pass if two tests differ only at the file
   module _ (t' : ℕ → Bool) (same : (id : ℕ) → (id == file) ≡ false → t' id ≡ t id) where
     others_same : (xs : List R) → filter (λ x. t' (file_of x)) (filter (λ x. not (file_of x == file)) xs) ≡ filter (λ x. t (file_of x)) (filter (λ x. not (file_of x == file)) xs)
     others_same [] = refl
@@ -61,11 +61,11 @@ module _ {R : Type 0} (file_of : R → ℕ) (file : ℕ) (t : ℕ → Bool) wher
     others_pass : (xs ys : List R) → filter (λ x. not (file_of x == file)) ys ≡ filter (λ x. not (file_of x == file)) xs → filter (λ x. not (file_of x == file)) (filter (λ x. t' (file_of x)) ys) ≡ filter (λ x. not (file_of x == file)) (filter (λ x. t (file_of x)) xs)
     others_pass xs ys e = rw (filter-swap (λ x. not (file_of x == file)) (λ x. t' (file_of x)) ys, filter-swap (λ x. not (file_of x == file)) (λ x. t (file_of x)) xs, e) (others_same xs)
 
--- what passes is the file's own, where it passes, and what passes of the others
+-- what passes is the file's own, if the file passes, and that of the others
 pub passing_split : (file : ℕ) (t : ℕ → Bool) (versions : List VersionRow) (drafts : List DraftRow) → passing t versions drafts ≡ plus (cond (t file) (own_usage file versions drafts) nothing) (passing (λ id. not (id == file)) (filter (λ r. t r.file) versions) (filter (λ r. t r.file) drafts))
 passing_split file t versions drafts = grind (arith, nat_tests, split_usage (λ id. id == file) (filter (λ r. t r.file) versions) (filter (λ r. t r.file) drafts), own_passing (λ (r : VersionRow). r.file) file t versions, own_passing (λ (r : DraftRow). r.file) file t drafts)
 
--- so where rows and tests differ at one file alone, its own goes and comes
+-- so if rows and tests differ only at one file, only its own rows are removed and added
 pub file_moves : (file : ℕ) (t t' : ℕ → Bool) → ((id : ℕ) → (id == file) ≡ false → t' id ≡ t id) → (versions versions' : List VersionRow) (drafts drafts' : List DraftRow)
     → filter (λ r. not (r.file == file)) versions' ≡ filter (λ r. not (r.file == file)) versions → filter (λ r. not (r.file == file)) drafts' ≡ filter (λ r. not (r.file == file)) drafts
     → plus (passing t' versions' drafts') (cond (t file) (own_usage file versions drafts) nothing) ≡ plus (passing t versions drafts) (cond (t' file) (own_usage file versions' drafts') nothing)

@@ -25,7 +25,7 @@ only_at_is k kind usage = grind (arith, nat_tests)
 
 -- ---- a new file
 
--- a file that is added behind, where its number is new, is found by its policy, and each other as before
+-- a file with a new number that is added at the end is found by its policy, and each other as before
 kind_added : (given versions : ℕ) (files : List FileRow) (row : FileRow) (k : Kind) (id : ℕ) → AllByRecursion (IsFile given versions) files → given < row.id → is_file_of (files ++ row ∷ []) k id ≡ cond (id == row.id) (is_kind k (kind_of row.policy)) (is_file_of files k id)
 kind_added given versions [] row k id all new = grind (arith, nat_tests)
 kind_added given versions (x ∷ xs) row k id all new = grind (arith, nat_tests, kind_added given versions xs row k id all.1 new)

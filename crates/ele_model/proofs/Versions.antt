@@ -24,7 +24,7 @@ pub record IsEndedBy (now : ℕ) (row : VersionRow) : Type 0 where
 pub other_ended : (files : List FileRow) (now : ℕ) (row : VersionRow) → IsVersion files now row → (row.number + 1 ≡ next_of files row.file → ⊥) → IsEndedBy now row
 other_ended files now row h not_last = grind (arith, nat_tests)
 
--- behind the last stands none of the file
+-- after the last there is none of the file
 none_later : (files : List FileRow) (now file : ℕ) (x : VersionRow) (xs : List VersionRow) → is_version file (next_of files file - 1) x ≡ true → AllByRecursion (ArePlaced x) xs → AllByRecursion (IsVersion files now) xs → AllByRecursion (λ row. row.file ≡ file → IsEndedBy now row) xs
 none_later files now file x xs e placed all = all-weaker (λ y. ArePlaced x y × IsVersion files now y) (λ row. row.file ≡ file → IsEndedBy now row) xs (λ y h same. absurd (grind (arith, nat_tests))) (all-both (ArePlaced x) (IsVersion files now) xs placed all)
 

@@ -53,14 +53,14 @@ view_is w k file = view_in w file (policies_of w k) (lives_of w k) (placed_of w 
 
 -- ---- the newer rows
 
--- they are those behind
+-- they are those after it
 pub newer_is : (xs : List VersionRow) (row : VersionRow) (ys : List VersionRow) → AllLater Precedes (xs ++ row ∷ ys) → filter (is_newer row) (xs ++ row ∷ ys) ≡ ys
 newer_is xs row ys placed = grind (arith, nat_tests, later-around Precedes xs, filter-append, filter-none, all-weaker, filter-all)
 
 all_behind : (x row : VersionRow) (ys : List VersionRow) → Precedes x row → AllByRecursion (Precedes row) ys → filter (is_newer x) ys ≡ ys
 all_behind x row ys before all = grind (arith, nat_tests, filter-all, all-weaker (Precedes row))
 
--- of one before the row: some before the row, the row, and all behind it
+-- of one before the row: some before the row, the row, and all after it
 pub newer_before : (x : VersionRow) (xs : List VersionRow) (row : VersionRow) (ys : List VersionRow) → AllLater Precedes (xs ++ row ∷ ys) → Precedes x row → filter (is_newer x) (xs ++ row ∷ ys) ≡ filter (is_newer x) xs ++ row ∷ ys
 newer_before x xs row ys placed before = grind (arith, nat_tests, filter-append (is_newer x) xs (row ∷ ys), all_behind x row ys before, later-around Precedes xs row ys placed)
 
@@ -68,7 +68,7 @@ newer_before x xs row ys placed before = grind (arith, nat_tests, filter-append 
 pub newer_without : (x : VersionRow) (xs : List VersionRow) (row : VersionRow) (ys : List VersionRow) → AllLater Precedes (xs ++ row ∷ ys) → Precedes x row → filter (is_newer x) (xs ++ ys) ≡ filter (is_newer x) xs ++ ys
 newer_without x xs row ys placed before = grind (arith, nat_tests, filter-append (is_newer x) xs ys, all_behind x row ys before (later-around Precedes xs row ys placed).1, later-around Precedes xs row ys placed)
 
--- of one behind the row: the same with it and without
+-- of one after the row: the same with it and without
 pub newer_behind : (x : VersionRow) (xs : List VersionRow) (row : VersionRow) (ys : List VersionRow) → Precedes row x → filter (is_newer x) (xs ++ row ∷ ys) ≡ filter (is_newer x) (xs ++ ys)
 newer_behind x xs row ys after = grind (arith, nat_tests, filter-append)
 
@@ -84,7 +84,7 @@ closings_rise (x ∷ xs) lives placed = grind (arith, nat_tests, all-map (λ row
 pub own_rows : (before : List VersionRow) (row : VersionRow) (behind : List VersionRow) → filter (is_version_of row.file) (before ++ row ∷ behind) ≡ filter (is_version_of row.file) before ++ row ∷ filter (is_version_of row.file) behind
 own_rows before row behind = grind (arith, nat_tests, filter-append)
 
--- so those of what stands beside a version of a world never fall either, from its own on
+-- so the closings beside a version of a world never fall either, from its own on
 pub closings_in_order : (w : World) (before : List VersionRow) (row : VersionRow) (behind : List VersionRow) → IsView (file_view w row.file) → w.versions ≡ before ++ row ∷ behind
     → AllLater ◌≤◌ (row.closed ∷ (beside (file_view w row.file) row).newer)
 closings_in_order w before row behind view whole = grind (arith, nat_tests, own_rows before row behind, closings_rise (row ∷ filter (is_version_of row.file) behind), newer_is (filter (is_version_of row.file) before) row (filter (is_version_of row.file) behind), all-right IsLife (filter (is_version_of row.file) before) (row ∷ filter (is_version_of row.file) behind), later-right Precedes (filter (is_version_of row.file) before) (row ∷ filter (is_version_of row.file) behind))

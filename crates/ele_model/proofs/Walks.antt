@@ -1,4 +1,4 @@
--- What a path leads to, where it stands, and where a name is added.
+-- What a path leads to, the place of its last name, and what an added name changes.
 use Rattle.ele_model.proofs.Basics.{◌≡◌, ℕ, suc, zero, ◌+◌, ◌-◌, ◌<◌, true, false, List, [], ◌∷◌, ◌++◌, length, take, Some, Result, Ok, refl, ap, ◌∙◌, arith, find, is_some, nil_from_length, slice_get_within, slice_get, AllByRecursion, list_any}
 use Rattle.ele_model.proofs.Basics.{false≢true, nat_tests, find-append, bytes_eq-Decides, all-found, found_passes, any-found}
 use Rattle.ele_model.proofs.Words.{Refusal, FileRow, NameRow, Target, File, Directory, born_row, is_live_name, live_target, walk, walk_now, file_at, file_now, directory_now, parent_now, IsNameRow, IsThere, next_of, root, is_live_name_of}
@@ -36,7 +36,7 @@ target_live rows directory name target = grind (arith, nat_tests, live_row, foun
 pub file_live : (rows : List NameRow) (path : List (List ℕ)) (file : ℕ) → file_now rows path ≡ Ok file → list_any (is_live_name_of file) rows ≡ true
 file_live rows path file h = walk_to (IsLive rows) rows (target_live rows) (Directory root) (File file) path tt (file_of (walk_now rows path) file h)
 
--- ---- walks, where a name is added
+-- ---- walks after a name is added
 
 pub live_target-push : (rows : List NameRow) (row : NameRow) (directory : ℕ) (name : List ℕ) (target : Target) → live_target rows directory name ≡ Some target → live_target (rows ++ row ∷ []) directory name ≡ Some target
 live_target-push rows row directory name target h = grind (arith, nat_tests, find-append)

@@ -18,8 +18,8 @@ use Rattle.ele_model.specs.World.{World, is_open, is_version}
 
 -- ---- why it is marked
 
--- for a version of the file that closed and ended then: the mark is the first one that covers it and is in force at the moment; its group
--- is the first one, in order of making, that has the file and has such a mark
+-- for a version of the file that closed and ended then: the group is the first one, in order of making, that has the file and a mark that
+-- covers the version and is in force at the moment. The mark is the first of these
 pub record IsMarkedBy (groups : List GroupRow) (file closed : ℕ) (ended : Option ℕ) (at : ℕ) (name : List ℕ) (mark : MarkRow) : Type 0 where
   pub group : GroupRow
   pub first_group : find (λ g. is_member file g && has_covering closed ended at g) groups ≡ Some group

@@ -1,5 +1,5 @@
--- Questions about groups beside the core's promises: the files and the marks of a group, and how long marks hold a version if some marks
--- are left out or the group gets a file more. No public clause that a reader of the core needs cites this module: `ele_groups` uses it.
+-- Questions about groups beside the core's promises: the files and the marks of a group. Also how long marks hold a version without some of
+-- them, or with one more file in a group. No public clause that a reader of the core needs cites this module: `ele_groups` uses it.
 use Rattle.std.specs.Prelude.{ℕ, ◌==◌, ◌&&◌, not, Bool, true, List, [], Option, filter, map}
 use Rattle.std.specs.List.{flat_map}
 use Rattle.std.specs.Option.{option_map_or}

@@ -18,8 +18,8 @@ IsDueFromRipe w row = (at : ℕ) → at ≤ last_moment → is_due_at w row at �
 abbrev pub DueFromRipe : Type 0
 DueFromRipe = (w : World) → IsWellFormed w → AllByRecursion (IsDueFromRipe w) w.versions
 
--- the ripe moment of a version that has ended and isn't protected is the answer of `ripe`, for its end and for its case, as its file's
--- policy sees it beside the newer held ones
+-- a version that has ended and isn't protected: its ripe moment is the answer of `ripe` for its end and its case. The case is what its
+-- file's policy sees beside the newer held ones
 abbrev pub RipeIsAnswer : World → VersionRow → Type 0
 RipeIsAnswer w row =
     let v = file_view w row.file in

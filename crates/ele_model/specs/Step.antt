@@ -145,8 +145,8 @@ plan w (Truncate handle size) =
     Need (file_by w.handles handle) (λ file.
     Unless (nat_lt longest_content size) TooBig
     (Make Done (TruncateDraft file size ∷ [])))
--- the handle closes; with a file's last writer a changed draft becomes the next version, and any other draft is removed, and a file without
--- live name, version and draft with it; a writer has a draft, so the reply for the case of none is never given
+-- the handle closes. With a file's last writer a changed draft becomes the next version. Any other draft is removed, and a file without
+-- live name, version and draft with it. A writer has a draft, so the reply for the case of none is never given
 plan w (Close handle) =
     Need (reads_by w.handles handle) (λ read.
     IfFound (draft_read read) (Make (Closed None) (ShutHandle handle ∷ [])) (λ file.

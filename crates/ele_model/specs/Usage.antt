@@ -35,7 +35,7 @@ places versions drafts =
 abbrev pub bytes_in : List VersionRow → ℕ
 bytes_in versions = sum (map (λ row. length (content_of row.cells)) versions)
 
--- the files of the kind, their versions, the bytes of these, and how many different blocks they and the drafts have: a slot that several
+-- the files of the kind, their versions, the bytes of these, and how many different blocks they and the drafts have. A slot that several
 -- have from one writer is one block
 unfoldable pub usage_of : World → Kind → Usage
 usage_of w k =

@@ -18,7 +18,7 @@ is_live_name directory name row = (row.directory == directory) && (bytes_eq row.
 abbrev pub live_target : List NameRow → ℕ → List ℕ → Option Target
 live_target rows directory name = option_map (λ row. row.target) (find (is_live_name directory name) rows)
 
--- the walk along the names from a target, with a function for what a name in a directory means: a name without a target is NoEntry, and one
+-- the walk along the names from a target, with a function for what a name in a directory means. A name without a target is NoEntry, and one
 -- after a file is NotDirectory
 abbrev pub walk_by : (ℕ → List ℕ → Option Target) → Target → List (List ℕ) → Result Target Refusal
 walk_by leads at [] = Ok at

@@ -89,7 +89,7 @@ abbrev pub IsDirectoryThere : List DirectoryRow → Target → Type 0
 IsDirectoryThere directories (File file) = Unit {0}
 IsDirectoryThere directories (Directory directory) = has_directory directories directory ≡ true
 
--- the directory of the name is there, and so is a directory that it means; a live name is in the root or in a directory that has a live
+-- the directory of the name is there, and so is a directory that it means. A live name is in the root or in a directory that has a live
 -- name
 pub record IsHoused (directories : List DirectoryRow) (names : List NameRow) (row : NameRow) : Type 0 where
   pub home : has_directory directories row.directory ≡ true
@@ -114,8 +114,8 @@ pub record IsContent (cells : List Cell) : Type 0 where
 abbrev pub AreWrittenBy : ℕ → List Cell → Type 0
 AreWrittenBy number cells = AllByRecursion (λ cell. cell.writer ≤ number) cells
 
--- a held version's file is there, and its next number is greater; the version closed by now, and if it has ended it ended by now and not
--- before it closed; only the version before the next one may have no end
+-- a held version's file is there, and its next number is greater. The version closed by now, and if it has ended it ended by now and not
+-- before it closed. Only the version before the next one may have no end
 pub record IsVersion (files : List FileRow) (now : ℕ) (row : VersionRow) : Type 0 where
   pub first : 1 ≤ row.number
   pub numbered : row.number < next_of files row.file
@@ -187,7 +187,7 @@ IsOfLive names row = row.ended ≡ None → list_any (is_live_name_of row.file) 
 abbrev pub HaveEnded : World → Type 0
 HaveEnded w = AllByRecursion (IsOfLive w.names) w.versions
 
--- a group's files are there, and it has each once; its marks' moments are before now and before the mark's end, and it has at most one mark
+-- a group's files are there, and it has each once. Its marks' moments are before now and before the mark's end, and it has at most one mark
 -- at a moment
 pub record IsGroup (files : List FileRow) (now : ℕ) (row : GroupRow) : Type 0 where
   pub there : AllByRecursion (λ member. 0 < next_of files member) row.members

@@ -18,8 +18,9 @@ use ele_moment::{DirId, Moment, Name, NoMemory};
 use ele_policy::Kind;
 use ele_usage::Usage;
 
-/// All rows and counts of a world. Directories and files are ordered by id, names and groups by
-/// order of making, versions by file and then by number, drafts by file, handles by number.
+/// All rows and counts of a world. Directories and files are in order of ids, names and groups in
+/// order of making. Versions are in order of files and then of numbers, drafts in order of files,
+/// and handles in order of numbers.
 #[derive(Debug, Drop, PartialEq, Eq)]
 pub struct Flat {
     pub now: Moment,

@@ -44,9 +44,9 @@ pub trait Step: Drop {
     fn flat(&self) -> Result<Flat, NoMemory>
         ensures { IfOk result (λ flat. flat ≡ world self.now) };
 
-    /// Returns the current moment. Its contract also says that the world is well formed, that its
-    /// limits are allowed, and that each file has a live name, a held version or a draft. So the
-    /// laws of this crate hold.
+    /// Returns the current moment. Its contract also says that the world is well formed, and that
+    /// its limits are allowed. Each file has a live name, a held version or a draft. So the laws of
+    /// this crate hold.
     fn now(&self) -> Moment
         ensures value { result ≡ (world self.now).now }
         ensures formed { IsWellFormed (world self.now) }

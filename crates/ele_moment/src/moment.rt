@@ -38,7 +38,7 @@ impl Model for Moment {
 }
 
 impl Moment {
-    /// 1970-01-01T00:00:00Z, the first time of every clock.
+    /// 1970-01-01T00:00:00Z, at which every clock starts.
     /// Cost: constant time.
     pub const START: Moment = Moment { seconds: 0 };
 

@@ -12,7 +12,7 @@ placed_same names at to places same placed = record {
   chained = chained_same is_of at to places.of_file (λ g s. ap (λ o. option_map_or (is_of g) o false) (same s)) placed.chained;
 }
 
--- a row that comes and goes again leaves the places as they were
+-- a row that is added and removed again leaves the places as they were
 pub placed_back : (names : List (ℕ × List ℕ)) (es : List (ℕ × NameRow)) (n : ℕ) (row : NameRow) → value_at es n ≡ None → (places : Places)
     → AreIndexed names (λ s. cond (is_at (nat_cmp n) s) None (cond (is_at (nat_cmp n) s) (Some row) (value_at es s))) places → AreIndexed names (value_at es) places
 placed_back names es n row fresh places placed = placed_same names _ (value_at es) places (λ s. grind (arith, nat_tests, fresh)) placed

@@ -6,7 +6,7 @@ use Rattle.ele_names.proofs.Numbers.{named_place, one_place}
 pub equal : (a b : ℕ) → (a == b) ≡ true → a ≡ b
 equal a b h = grind (arith, nat_tests)
 
--- rows of one name stand in one directory and have one name
+-- rows of one name are in one directory and have one name
 pub same_name : (d : ℕ) (n : List ℕ) (row other : NameRow) → is_named d n row ≡ true → is_named d n other ≡ true → (row.directory ≡ other.directory) × (row.name ≡ other.name)
 same_name d n row other a b = grind (arith, nat_tests, bytes_eq, equal, bytes_eq-Decides)
 
@@ -64,7 +64,7 @@ module _ (names : List (ℕ × List ℕ)) (table : Table) (is : IsTable names ta
     abbrev at : ℕ → Option NameRow
     at = value_at table.rows.entries
 
-    -- a row of the name stands at its birth
+    -- a row of the name is at its birth
     stands : (s : ℕ) (row : NameRow) → at s ≡ Some row → is_named d n row ≡ true → has_at row.birth s ≡ true
     stands s row there named = grind (arith, nat_tests, placed_named)
 

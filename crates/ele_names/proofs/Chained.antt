@@ -1,4 +1,4 @@
--- The members of each group, where a newer one comes or the newest goes.
+-- The members of each group, when a newer one is added or the newest is removed.
 use Rattle.ele_names.proofs.Words.{◌≡◌, ℕ, zero, suc, ◌≤◌, ◌<◌, ◌^◌, Bool, true, false, cond, List, [], ◌∷◌, ◌++◌, length, take, slice_get, slice_set, IsSome, Option, Some, None, refl, sym, ◌∙◌, arith, is_at, nat_eq, option_map_or, nat_cmp, false≢true, nat_tests, RowLists, AreChained, HasOlder, IsLastBelow, Gains, Keeps, Loses, is_member, newest_in, at_itself, ◌-◌}
 use Rattle.ele_names.proofs.Live.{same_serial}
 
@@ -8,7 +8,7 @@ apart n s h = grind (arith, nat_tests)
 after : (n s : ℕ) → is_at (nat_cmp n) s ≡ false → n ≤ s → n < s
 after n s h le = grind (arith, nat_tests)
 
--- elements before a place, where the list is cut there and grows again, or that place is set
+-- elements before a place, if the list is cut there and grows again, or that place is set
 module _ {X : Type 0} where
   pub cut_kept : (xs ys : List X) (n s : ℕ) (x : X) → s < n → slice_get xs s ≡ Some x → slice_get (take n xs ++ ys) s ≡ Some x
   cut_kept [] ys n s x lt is = absurd cc
@@ -19,7 +19,7 @@ module _ {X : Type 0} where
   own_pushed [] x n is = rw (← is) refl
   own_pushed (y ∷ xs) x n is = grind (arith, nat_tests, own_pushed xs x (n - 1))
 
--- what is seen of an element, where one is set
+-- what is seen of an element, if one is set
 module _ {X Y : Type 0} (f : Option X → Y) where
   pub set_seen : (xs : List X) (n : ℕ) (v : X) → n < length xs → (s : ℕ) → f (slice_get (slice_set xs n v) s) ≡ cond (nat_eq n s) (f (Some v)) (f (slice_get xs s))
   set_seen [] n v lt s = absurd (omega (arith, lt))
@@ -33,7 +33,7 @@ module _ {X Y : Type 0} (f : Option X → Y) where
 last_same : (p q : ℕ → Bool) (bound : ℕ) (o : Option ℕ) → ((s : ℕ) → s < bound → q s ≡ p s) → IsLastBelow p bound o → IsLastBelow q bound o
 last_same p q bound x0 same last = grind (arith, nat_tests, same, last)
 
--- where nothing passes between two bounds, the last below the one is that below the other
+-- if nothing passes between two bounds, the last below the one is that below the other
 module _ (p : ℕ → Bool) (low high : ℕ) (le : low ≤ high) (none : (s : ℕ) → low ≤ s → s < high → p s ≡ false) where
   last_lower : (o : Option ℕ) → IsLastBelow p high o → IsLastBelow p low o
   last_lower x0 last = grind (arith, nat_tests, none, last)
@@ -49,7 +49,7 @@ module _ {X : Type 0} (belongs : ℕ → X → Bool) where
     older = λ g s is. let prior = was.older g s (sym (same g s) ∙ is) in record { number = prior.number; there = prior.there; last = last_same (is_member belongs at g) (is_member belongs to g) s prior.number (λ k lt. same g k) prior.last };
   }
 
-  -- and so are chains that tell the same
+  -- and so are chains with the same members
   pub chained_told : (at : ℕ → Option X) (old new : RowLists) → ((g : ℕ) → newest_in new g ≡ newest_in old g) → new.older ≡ old.older → AreChained belongs at old → AreChained belongs at new
   chained_told at old new newest older was = grind (arith, nat_tests, newest, was.newest, was.older)
 
@@ -73,7 +73,7 @@ module _ {X : Type 0} (belongs : ℕ → X → Bool) where
       before : (g s : ℕ) → s < number → is_member belongs entered g s ≡ is_member belongs at g s
       before g s lt = rw (apart number s lt) refl
 
-      -- nothing else comes behind the others
+      -- nothing else is added at the end
       pub none_behind : (g s : ℕ) → number < s → is_member belongs entered g s ≡ false
       none_behind g s over = grind (arith, nat_tests, none_stands g s)
 
@@ -122,7 +122,7 @@ module _ {X : Type 0} (belongs : ℕ → X → Bool) where
       equal : (g : ℕ) → nat_eq group g ≡ true → group ≡ g
       equal g h = grind (arith, nat_tests)
 
-      -- no member of its group stands there, or behind
+      -- no member of its group is there, or after it
       gone : (s : ℕ) → number ≤ s → is_member belongs left group s ≡ false
       gone s le = grind (arith, nat_tests, is_at, nat_cmp, option_map_or, after)
 

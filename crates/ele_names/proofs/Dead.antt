@@ -1,4 +1,4 @@
--- Names that are told in no order, each once, and then put in that of their bytes.
+-- Names that are collected in any order, each once, and then sorted by their bytes.
 use Rattle.ele_names.proofs.Words.{Inside, IsKept, names_of, rows_of, last_dead, tied_itself, map-append, AllByRecursion, Bool, Equal, Greater, IsDistinct, IsDistinct-head, IsDistinct-tail, IsStrictlySortedBy, Less, List, None, Option, Ordering, Some, Target, [], ap, arith, by_name, false, is_at, is_eq, is_some, keys_of, length, list_any, lookup, map, name_cmp, name_eq, nat_tests, option_map_or, refl, sym, true, true≢false, ℕ, ◌++◌, ◌+◌, ◌<◌, ◌∙◌, ◌∷◌, ◌≡◌}
 use Rattle.ele_names.proofs.Numbers.{exact, itself}
 use Rattle.ele_names.proofs.Told.{dead_begun, name_exact, name_total}
@@ -59,7 +59,7 @@ pub found_sorted : (was now : List Item) → IsPermutation was now → IsDistinc
     → (k : Key) → lookup (is_at (name_cmp k)) (map by_name now) ≡ lookup (is_at (name_cmp k)) (map by_name was)
 found_sorted was now moves apart k = lookup_permutation (eq_by_cmp_equiv name_total) (map by_name was) (map by_name now) (IsPermutation-map by_name was now moves) (still was now moves apart) (is_at (name_cmp k)) (λ x y at. (eq_by_cmp_equiv name_total).congr k x y at)
 
--- an entry more behind the others
+-- one more entry after the others
 lookup_past : (test : Key → Bool) (entries : List (Key × Target)) (e : Key × Target) → test e.0 ≡ false → lookup test (entries ++ e ∷ []) ≡ lookup test entries
 lookup_past test [] e fails = grind (arith, lookup)
 lookup_past test (f ∷ fs) e fails = grind (arith, lookup, lookup_past test fs e)
@@ -84,7 +84,7 @@ not_at k key differ = by (name_cmp k key) refl
     by Equal is = absurd (true≢false (sym (rw (← name_exact k key is) (itself k)) ∙ differ))
 
 module _ (about : Key → Option Target) where
-  -- of the names to come nothing is told, and of every other what there is
+  -- of the remaining names nothing is collected, and of every other name what there is
   pub record AreSettled (rest : List Key) (items : List Item) : Type 0 where
     pub differ : IsDistinct name_eq rest
     pub apart : IsDistinct (eq_by_cmp name_cmp) (items_keys items)
@@ -98,7 +98,7 @@ module _ (about : Key → Option Target) where
     alone : list_any (name_eq key) left ≡ false
     alone = none_is key left (IsDistinct-head name_eq key left was.differ)
 
-    -- a name to come is another one
+    -- a remaining name is another one
     other : (k : Key) → list_any (name_eq k) left ≡ true → name_eq k key ≡ false
     other k there = by (name_eq k key) refl
       where
@@ -143,7 +143,7 @@ module _ (about : Key → Option Target) where
     settled_next None is = passed is
     settled_next (Some target) is = told target is
 
--- at first no name is told
+-- at first no name is collected
 module _ (a : Inside) (kept : IsKept a.table a.live_names) where
   pub settled_begun : IsDistinct name_eq (names_of a.live_names) → AreSettled (λ k. last_dead (rows_of a.table) k.0 k.1) (names_of a.live_names) []
   settled_begun differ = record {

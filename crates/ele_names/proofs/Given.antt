@@ -8,7 +8,7 @@ use Rattle.ele_names.proofs.Numbers.{at_place, exact, missing, present}
 abbrev stands_in : ℕ → ℕ × List ℕ → Bool
 stands_in d name = nat_eq name.0 d
 
--- the element behind a list
+-- the element after a list
 got_pushed : {X : Type 0} (xs : List X) (x : X) (s : ℕ) → slice_get (xs ++ x ∷ []) s ≡ cond (is_at (nat_cmp (length xs)) s) (Some x) (slice_get xs s)
 got_pushed xs x s = grind (arith, nat_tests, slice_got (xs ++ x ∷ []) s x, length_append xs (x ∷ []), get_or_push xs x x s, get_or_append_left xs (x ∷ []) x s, slice_got xs s x, slice_get_past (xs ++ x ∷ []) s, slice_get_past xs s)
 
@@ -36,7 +36,7 @@ module _ (old new : LiveNames) (d : ℕ) (n : List ℕ) where
   pub same_live : live_at old d n ≡ None → ((k : ℕ × List ℕ) → get name_eq new.by_name k ≡ cond (name_eq (d, n) k) (Some None) (get name_eq old.by_name k)) → (e : ℕ) (m : List ℕ) → live_at new e m ≡ live_at old e m
   same_live dead updated e m = grind (arith, nat_tests, updated (e, m), exact (d, n) (e, m), dead)
 
--- a name behind the others goes again
+-- a name after the others is removed again
 pub popped : {X : Type 0} (xs ys : List X) (x : X) (o : Option X) → IsSome o → xs ++ x ∷ [] ≡ ys ++ option_to_list o → ys ≡ xs
 popped xs ys x (Some y) some is = (same_from_push ys xs y x (sym is)).0
 popped xs ys x None some is = absurd (false≢true some)

@@ -23,7 +23,7 @@ module _ (a : Inside) (kept : IsKept a.table a.live_names) where
     c : IsSplitAt es s row
     c = split_at es s row kept.is_table.rising at
 
-    -- what is live of its name is what it stands for
+    -- the live target of its name is its target
     pub live_target_is : (d : ℕ) (n : List ℕ) → is_live_name d n row ≡ true → live_target (rows_of a.table) d n ≡ Some row.target
     live_target_is d n live = rw c.values ((leaves_without row c.before c.behind (rw c.values at kept.is_table.apart)).its d n live)
 

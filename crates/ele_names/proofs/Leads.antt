@@ -1,7 +1,7 @@
--- Where a path leads, by the place of its last name.
+-- What a path leads to, by the place of its last name.
 use Rattle.ele_names.proofs.Words.{◌≡◌, ℕ, ◌-◌, List, length, slice_get, take, arith, nat_tests, [], ◌∷◌, Ok, Err, Some, None, ap, ◌∙◌, refl, option_map_or, NoEntry, NameRow, Target, Directory, live_target, parent_now, walk_now, root, parent_is, walk-on, StopsAtPlace}
 
--- a path leads to what its last name stands for
+-- a path leads to what its last name means
 pub leads_by_place : (rows : List NameRow) (path : List (List ℕ)) (at : ℕ × List ℕ) → parent_now rows path ≡ Ok at → walk_now rows path ≡ option_map_or (λ target. Ok target) (live_target rows at.0 at.1) (Err NoEntry)
 leads_by_place rows path at found =
     let parent = parent_is rows path at found in

@@ -1,4 +1,4 @@
--- The live rows by directory and name, and counts of them, where one comes or goes.
+-- The live rows by directory and name, and counts of them, when one is added or removed.
 use Rattle.ele_names.proofs.Words.{◌≡◌, ℕ, Bool, true, false, cond, List, Some, None, Option, is_none, refl, sym, ◌∙◌, arith, option_map, nat_cmp, is_at, nat_tests, NameRow, Target, is_named, is_live_name, live_target, Live, LiveNames, AreCounted, AreNumbered, Leaves, live_at, live_in, ◌+◌, ◌-◌, ◌==◌, ◌&&◌, not, nat_lt, [], ◌∷◌, ◌++◌, count_by, list_any, AllByRecursion, AllLater, all-append, later-around, all-any, all-weaker, sum_by-around, sum_by-same, any_count, IsKept, Table, live_of, rows_of, Directory, File, is_live_name_of, is_target_file, is_live_in, is_target_directory, is_live_directory, is_live_of, Follows, target_eq}
 use Rattle.ele_names.proofs.Apart.{named_dead, named_live, named_and_live, same_name}
 use Rattle.ele_names.proofs.Numbers.{itself}
@@ -54,7 +54,7 @@ module _ (row : NameRow) (serial : ℕ) (at : ℕ → Option NameRow) (old new :
       → AreNumbered to new
   numbered_without to there elsewhere others = record { each = λ d n live is. grind (arith, nat_tests, others d n live is, was.each d n live, elsewhere live.serial, same_serial serial live.serial) }
 
--- a live row of the name stands at the serial number
+-- a live row of the name is at the serial number
 pub record LiveRow (at : ℕ → Option NameRow) (d : ℕ) (n : List ℕ) (s : ℕ) : Type 0 where
   pub row : NameRow
   pub there : at s ≡ Some row
@@ -110,7 +110,7 @@ module _ (row : NameRow) (before behind : List NameRow) (apart : AllLater Follow
   pub leaves_dead : (dead : NameRow) → is_none dead.death ≡ false → Leaves row (before ++ row ∷ behind) (before ++ dead ∷ behind)
   leaves_dead dead died = grind (arith, nat_tests, named, target_around, named_dead, its, sum_by-around, is_live_in, dead_one, is_none, is_live_of, target_eq)
 
--- nothing passes where the count is 0
+-- nothing passes if the count is 0
 pub none_counted : {X : Type 0} (p : X → Bool) (xs : List X) → not (list_any p xs) ≡ (count_by p xs == 0)
 none_counted p xs = grind (arith, nat_tests, not, any_count, count_by, nat_lt)
 
@@ -122,7 +122,7 @@ directory_names table live_names kept d = grind (arith, nat_tests, kept.targets 
 pub file_names : (table : Table) (live_names : LiveNames) → IsKept table live_names → (f : ℕ) → live_of table.places (File f) ≡ count_by (is_live_name_of f) (rows_of table)
 file_names table live_names kept f = grind (arith, nat_tests, kept.targets (File f), sum_by-same, is_live_of, is_live_name_of, all-any, is_none, target_eq, is_target_file)
 
--- the counts by target, where a live row comes
+-- the counts by target, when a live row is added
 pub target_with : (t : Target) (row : NameRow) (was now : List NameRow) → Leaves row now was → is_none row.death ≡ true → (old new : ℕ) → old ≡ count_by (is_live_of t) was → new ≡ old + cond (target_eq row.target t) 1 0
     → new ≡ count_by (is_live_of t) now
 target_with t row was now leaves live_names old new counts changed = omega (arith, changed, counts, live_one (target_eq row.target t) (is_none row.death) live_names, leaves.of_target t)

@@ -1,10 +1,10 @@
--- The newest row of each name, and those before it, where one comes or goes.
+-- The newest row of each name, and those before it, when one is added or removed.
 use Rattle.ele_names.proofs.Words.{◌≡◌, ℕ, ◌<◌, ◌^◌, ◌&&◌, ◌==◌, ◌≤◌, length, slice_get_past, true, false, cond, Some, None, arith, nat_tests, nat_eq, nat_cmp, unsigned_tied, has, is_entry, IsLastOf, AreBelow, BirthIndex, Born, is_up_to, newest_of, has_birth}
 
 entry_is : (n b t q r s : ℕ) → is_entry nat_cmp n b t q r s ≡ (nat_eq n q && (b == r) && (t == s))
 entry_is n b t q r s = grind (arith, nat_tests, unsigned_tied)
 
--- a later row is later than all that come no later than an earlier one
+-- a later row is later than all that aren't later than an earlier one
 later_up : (b t r s : ℕ) (e : Born) → is_up_to b t e ≡ false → is_up_to r s e ≡ true → is_up_to r s (record { birth = b; serial = t }) ≡ true
 later_up b t r s e later up = grind (arith, nat_tests)
 

@@ -10,7 +10,7 @@ module _ {X : Type 0} where
   from_few n [] = omega arith
   from_few n (x ∷ xs) = grind (arith, from_few (suc n) xs)
 
-  -- a place behind all others
+  -- a place after all others
   pub from_push : (n : ℕ) (xs : List (Option X)) (v : X) (m : ℕ) → m ≡ n + length xs → entries_from n (xs ++ Some v ∷ []) ≡ entries_from n xs ++ (m, v) ∷ []
   from_push n [] v m is = grind arith
   from_push n (x ∷ xs) v m is = grind (arith, from_push (suc n) xs v m)
@@ -84,7 +84,7 @@ module _ {X : Type 0} where
       pub place_set : (v : X) → entries_from 0 (slice_set xs i (Some v)) ≡ insert_entry nat_cmp (entries_from 0 xs) i v
       place_set v = from_set 0 xs i i v (omega arith) some
 
-  -- where there is no place, there is no row
+  -- if there is no place, there is no row
   pub none_taken : (xs : List (Option X)) → (0 < length xs → ⊥) → entries_from 0 xs ≡ []
   none_taken [] none = refl
   none_taken (x ∷ xs) none = absurd (none (omega arith))

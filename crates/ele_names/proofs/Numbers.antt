@@ -16,12 +16,12 @@ one_place (x ∷ xs) k q inside = grind (arith, nat_tests, exact q x, exact k x,
 pub named_place : (names : List (ℕ × List ℕ)) (d : ℕ) (n : List ℕ) (row : NameRow) → is_named d n row ≡ true → number_in names row ≡ place_in names d n
 named_place names d n row named = ap (λ (k : ℕ × List ℕ). place_in names k.0 k.1) (exact (row.directory, row.name) (d, n) named)
 
--- a name with a number stands there
+-- a name is at the place of its number
 pub at_place : (names : List (ℕ × List ℕ)) (d : ℕ) (n : List ℕ) → place_in names d n < length names → slice_get names (place_in names d n) ≡ Some (d, n)
 at_place [] d n inside = absurd (omega (arith, inside))
 at_place (x ∷ xs) d n inside = grind (arith, nat_tests, exact (d, n) x, at_place xs d n)
 
--- and of names that differ no other one stands there
+-- and if names differ, no other one is there
 there_is : (names : List (ℕ × List ℕ)) (i : ℕ) (k : ℕ × List ℕ) → IsDistinct name_eq names → slice_get names i ≡ Some k → place_in names k.0 k.1 ≡ i
 there_is [] i k apart is = absurd cc
 there_is (x ∷ xs) zero k apart is = grind (arith, nat_tests, itself k)
@@ -52,7 +52,7 @@ pub place_within : (names : List (ℕ × List ℕ)) (d : ℕ) (n : List ℕ) →
 place_within names d n = grind (arith, nat_tests, place_in, prefix_len-le-length, not, name_eq)
 
 module _ (names : List (ℕ × List ℕ)) where
-  -- a name more behind the others leaves them their numbers
+  -- one more name after the others leaves them their numbers
   pub keeps_pushed : (k : ℕ × List ℕ) → KeepsPlaces names (names ++ k ∷ [])
   keeps_pushed k = grind (arith, nat_tests, place_in, position_or_len_push, name_eq, length_append)
 
@@ -76,7 +76,7 @@ module _ {S : Type 0} (by_name : HashMap (ℕ × List ℕ) (Option (Live Target)
   pub missing : place_in (keys by_name) d n ≡ length (keys by_name) → get name_eq by_name (d, n) ≡ None
   missing end = grind (arith, nat_tests, get, name_eq, among, place_in, keys, is_some, nat_lt, true≢false)
 
--- the value of a name stands at the place of its number
+-- the value of a name is at the place of its number
 module _ {X : Type 0} (k : ℕ × List ℕ) where
   pub valued : (es : List ((ℕ × List ℕ) × X)) → place_in (keys_of es) k.0 k.1 < length (keys_of es) → slice_get (values_of es) (place_in (keys_of es) k.0 k.1) ≡ lookup (name_eq k) es
   valued [] inside = absurd (omega (arith, inside))

@@ -1,10 +1,10 @@
--- Names that are told one after the other, with what they stand for.
+-- Names that are collected one after the other, with what they mean.
 use Rattle.ele_names.proofs.Words.{nat_cmp_total, nat_le, IfSome, ◌≡◌, ◌⊎◌, ℕ, ◌<◌, ◌^◌, Bool, true, false, List, [], ◌∷◌, length, map, slice_get, Some, None, Option, is_some, refl, sym, ap, ◌∙◌, arith, option_map, option_map_or, Ordering, nat_cmp, is_eq, IsTotalOrder, slice_cmp, is_at, insert_entry, list_any, lookup, false≢true, tied_itself, nat_list_cmp_total, on_total, then_total, CmpEqualImpliesEq, exact_bytes, exact_pairs, exact_unsigned, slice_get_within, passing, lookup-insert_entry, Target, target_at, last_dead, Inside, by_name, name_cmp, IsKept, rows_of, name_eq, names_of, place_in, nat_eq, option_and_then, cases_lt, nat_tests, IsLastBelow, is_member, newest_in}
 use Rattle.ele_names.proofs.Apart.{covering_is_newest, born_by_end, equal, none_known}
 use Rattle.ele_names.proofs.Numbers.{exact, known, any_known, at_place}
 
 module _ {K : Type 0} (cmp : K → K → Ordering) (about : K → Option Target) where
-  -- what there is to tell about a key is told, or still to come
+  -- the value of a key is collected, or is among the remaining ones
   abbrev pub AreTold : (K → Bool) → List (K × Target) → Type 0
   AreTold rest entries = (k : K) → (lookup (is_at (cmp k)) entries ≡ about k) ⊎ ((lookup (is_at (cmp k)) entries ≡ None) × (rest k ≡ true))
 
@@ -16,7 +16,7 @@ module _ {K : Type 0} (cmp : K → K → Ordering) (about : K → Option Target)
       → AreTold rest entries → AreTold left (option_map_or (insert_entry cmp entries key) target entries)
   told_one total exact rest left entries key target parts its told k = grind (arith, nat_tests, is_eq, tied_itself, lookup, is_at, option_map_or, insert_entry, lookup-insert_entry, exact)
 
--- the number of the name is not above that of the next to come
+-- the number of the name is not above that of the next one
 abbrev pub is_left : List (ℕ × List ℕ) → ℕ → Option ℕ → List ℕ → Bool
 is_left names d next n = option_map_or (λ r. nat_le (place_in names d n) r) next false
 
@@ -28,7 +28,7 @@ module _ (a : Inside) (kept : IsKept a.table a.live_names) where
   abbrev names : List (ℕ × List ℕ)
   names = names_of a.live_names
 
-  -- a name that was never given stood for nothing
+  -- a name that was never given meant nothing
   never_at : (moment d : ℕ) (n : List ℕ) → place_in names d n ≡ length names → target_at (rows_of a.table) moment d n ≡ None
   never_at moment d n unknown = ap (option_map (λ row. row.target)) (covering_is_newest d n (rows_of a.table) kept.is_table.apart moment None (none_known names a.table kept.is_table d n moment unknown))
 
@@ -50,7 +50,7 @@ module _ (a : Inside) (kept : IsKept a.table a.live_names) where
     some : (bound : ℕ) (o : Option ℕ) → IsLastBelow in_directory bound o → IfSome o (λ r. in_directory r ≡ true)
     some bound x0 last = grind (arith, nat_tests, last)
 
-    -- the next to come is of the directory
+    -- the next one is of the directory
     pub list_first : (next : Option ℕ) → next ≡ newest_in a.live_names.in_directory d → IfSome next (λ r. in_directory r ≡ true)
     list_first next is = grind (arith, nat_tests, is, some (2 ^ 64) next, kept.listed.each.newest d)
 
@@ -70,14 +70,14 @@ module _ (a : Inside) (kept : IsKept a.table a.live_names) where
       pub list_smaller : IfSome next (λ s. s < r)
       list_smaller = grind (arith, nat_tests, last)
 
-      -- the name of a number is told, or one before it
+      -- the name of a number is collected, or one before it
       pub list_next : (k : List ℕ) → is_left names d (Some r) k ≡ true → (k ≡ name.1) ⊎ (is_left names d next k ≡ true)
       list_next k left = grind (arith, nat_tests, its, is, not_above in_directory r (place_in names d k) next last, listed k, slice_get_within names r name, at_place names d k)
 
   pub dead_begun : AreTold name_cmp (λ k. last_dead (rows_of a.table) k.0 k.1) (λ k. list_any (name_eq k) names) []
   dead_begun k = grind (arith, nat_tests, known names k.0 k.1, any_known names k.0 k.1, never_dead k.0 k.1)
 
--- of the names to come, a name is the next or behind it
+-- of the remaining names, a name is the next or after it
 pub dead_next : (key : ℕ × List ℕ) (names : List (ℕ × List ℕ)) (k : ℕ × List ℕ) → list_any (name_eq k) (key ∷ names) ≡ true → (k ≡ key) ⊎ (list_any (name_eq k) names ≡ true)
 dead_next key names k left = grind (arith, nat_tests, name_eq, list_any, exact)
 

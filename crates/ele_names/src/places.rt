@@ -1,6 +1,6 @@
-//! Where each row is, by the number of its name and among the rows of its file, and how many live
-//! rows each file and directory has. A contract sees a row for each serial number that has a place,
-//! and the counts.
+//! The place of each row, by the number of its name and among the rows of its file. Also the number
+//! of live rows of each file and directory. A contract sees a row for each serial number that has a
+//! place, and the counts.
 ghost use Rattle.std.specs.Prelude.{◌≡◌, ◌≤◌, ◌<◌, ◌+◌, ◌-◌, ◌^◌, ℕ, List, Option, cond, Some, None, OnOk, OnErr, false, true, is_none};
 ghost use Rattle.std.specs.Ordering.{nat_cmp};
 ghost use Rattle.std.specs.BTreeMap.{is_at};
@@ -18,8 +18,8 @@ use ele_moment::{DirId, NoMemory};
 use ele_rows::Tally;
 use std::alloc::Global;
 
-/// The rows of each name by birth; the rows of each file from the newest back, with a count of the
-/// live ones; and the count of live rows of each directory.
+/// The rows of each name by birth, and those of each file from the newest back with a count of the
+/// live ones. Also the count of live rows of each directory.
 #[derive(Drop)]
 pub struct Places {
     pub by_name: BirthIndex,

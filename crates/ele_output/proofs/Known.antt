@@ -52,7 +52,7 @@ pub puts_sent : (a b : Outlet) → b.writer ≡ a.writer → Sends a.known b.kno
 puts_sent a b w s none =
     record { same = w; sent = s.sent; rest = s.rest; parts = append-nil a.held ∙ s.parts; written = s.written; stays = s.stays; holds = λ g. s.whole g ∙ sym none }
 
--- bytes were handed over at once, where none were held
+-- bytes are written at once, if the buffer is empty
 pub puts_direct : (a b : Outlet) (bytes : List ℕ) → b.writer ≡ a.writer → a.held ≡ [] → Sends a.known b.known bytes a.has_failed b.has_failed → b.held ≡ [] → Puts a b bytes
 puts_direct a b bytes w from s none =
     record { same = w; sent = s.sent; rest = s.rest; parts = ap (λ (z : List ℕ). z ++ bytes) from ∙ s.parts; written = s.written; stays = s.stays; holds = λ g. s.whole g ∙ sym none }
@@ -63,11 +63,11 @@ pub record HasPut (old new : Outlet) (whole rest : List ℕ) : Type 0 where
   pub parts : whole ≡ front ++ rest
   pub done : Puts old new front
 
--- all of it is left, told otherwise
+-- the rest is all of it, in another form
 pub put_none : {a : Outlet} {whole rest : List ℕ} → whole ≡ rest → HasPut a a whole rest
 put_none {a} e = record { front = []; parts = e; done = puts_nil a }
 
--- the rest is told otherwise
+-- the rest in another form
 pub put_as : {a b : Outlet} {whole rest more : List ℕ} → HasPut a b whole rest → rest ≡ more → HasPut a b whole more
 put_as h e = record { front = h.front; parts = h.parts ∙ ap (λ (z : List ℕ). h.front ++ z) e; done = h.done }
 
@@ -89,13 +89,13 @@ put_last h p = puts_as (sym h.parts) (puts_then h.done p)
 pub put_all : {a b : Outlet} {whole rest : List ℕ} → HasPut a b whole rest → rest ≡ [] → Puts a b whole
 put_all h e = puts_as (sym (h.parts ∙ ap (λ (z : List ℕ). h.front ++ z) e ∙ append-nil h.front)) h.done
 
--- all that was put is written, where nothing was held before and all was handed over
+-- all output is written, if the buffer was empty before and is written now
 pub all_written : {a b : Outlet} {text : List ℕ} → a.held ≡ [] → Puts a b text → IsHandedOver b → Appends a.known b.known text
 all_written {a} {b} {text} none p over =
     let same : text ≡ p.sent = ap (λ (z : List ℕ). z ++ text) (sym none) ∙ p.parts ∙ ap (λ (z : List ℕ). p.sent ++ z) (p.holds over.1 ∙ over.0) ∙ append-nil p.sent in
     rw same p.written
 
--- and otherwise a front of it
+-- and otherwise a prefix of it
 pub front_written : {a b : Outlet} {text : List ℕ} → a.held ≡ [] → Puts a b text → AppendsFront a.known b.known text
 front_written {a} {b} {text} none p =
     record { front = p.sent; back = p.rest; parts = ap (λ (z : List ℕ). z ++ text) (sym none) ∙ p.parts; written = p.written }
@@ -109,32 +109,32 @@ pub puts_over : {A E : Type 0} {a b : Outlet} {x : List ℕ} (c : Outlet) (r : R
 puts_over c (Ok v) p h = (puts_no_more p h.0, h.1)
 puts_over c (Err e) p h = puts_no_more p h
 
--- so they are written, or a front of them where that fails
+-- so they are written, or a prefix of them if that fails
 pub handed_over : {A E : Type 0} (a b c : Outlet) {old new : Option (List ℕ)} {text : List ℕ} (r : Result A E)
     → a.held ≡ [] → Puts a b text → HandsOver b c [] r → a.known ≡ old → c.known ≡ new → WritesText text old new r
 handed_over a b c (Ok x) none p h was is = rw (sym was, sym is) (all_written none (puts_no_more p h.0) h.1)
 handed_over a b c (Err e) none p h was is = rw (sym was, sym is) (front_written none (puts_no_more p h))
 
--- fronts of what is written: all of it
+-- prefixes of what is written: all of it
 pub whole_front : (old new : Option (List ℕ)) (bytes : List ℕ) → Appends old new bytes → AppendsFront old new bytes
 whole_front old new bytes is = record { front = bytes; back = []; parts = sym (append-nil bytes); written = is }
 
--- bytes, and then a front of more
+-- bytes, and then a prefix of more
 pub front_behind : (old mid new : Option (List ℕ)) (bytes more : List ℕ) → Appends old mid bytes → AppendsFront mid new more → AppendsFront old new (bytes ++ more)
 front_behind old mid new bytes more all is =
     record { front = bytes ++ is.front; back = is.back; parts = ap (λ (ys : List ℕ). bytes ++ ys) is.parts ∙ sym (append_assoc bytes is.front is.back); written = Appends-trans old mid new bytes is.front all is.written }
 
--- a front of bytes is one of these and more
+-- a prefix of bytes is one of these and more
 pub front_of_more : (old new : Option (List ℕ)) (bytes more : List ℕ) → AppendsFront old new bytes → AppendsFront old new (bytes ++ more)
 front_of_more old new bytes more is =
     record { front = is.front; back = is.back ++ more; parts = ap (λ (ys : List ℕ). ys ++ more) is.parts ∙ append_assoc is.front is.back more; written = is.written }
 
--- a text that was written, or a front of it
+-- a text that was written, or a prefix of it
 pub text_front : {A E : Type 0} (old new : Option (List ℕ)) (text : List ℕ) (r : Result A E) → WritesText text old new r → AppendsFront old new text
 text_front old new text (Ok x) h = whole_front old new text h
 text_front old new text (Err e) h = h
 
--- the whole, where that is no fault
+-- the whole, if there is no fault
 pub text_whole : {A E : Type 0} (old new : Option (List ℕ)) (text : List ℕ) (r : Result A E) → WritesText text old new r → is_err r ≡ false → Appends old new text
 text_whole old new text (Ok x) h ok = h
 text_whole old new text (Err e) h ok = absurd cc

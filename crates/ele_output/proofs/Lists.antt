@@ -8,7 +8,7 @@ pub joined_are : {A : Type 0} (byte : ℕ) (v : A → List ℕ) (first : List �
 joined_are {A} byte v first [] = sym (append-nil first)
 joined_are {A} byte v first (x ∷ xs) = ap (λ (rest : List ℕ). first ++ byte ∷ rest) (joined_are byte v (v x) xs)
 
--- at a place, what stands there is next
+-- the next element at a place is the one there
 pub here : {A : Type 0} (line : A → List ℕ) (xs : List A) (i : ℕ) (d : A) → i < length xs → flat_map line (drop i xs) ≡ line (get_or xs i d) ++ flat_map line (drop (i + 1) xs)
 here {A} line xs i d lt = ap (λ (ys : List A). flat_map line ys) (drop_more xs i d lt)
 

@@ -9,7 +9,7 @@ use Rattle.ele_path.proofs.TaggedFaults.{tagged_faultless, one_tagged_fault}
 abbrev pub tagged_at : PathAt → TaggedPath
 tagged_at value = record { path = value.path; tag = tag_at value.moment }
 
--- a moment behind `@` is one
+-- a moment after `@` is one
 pub moment_only : {E : Type 0} (text rest : List ℕ) (moment : ℕ) → text ≡ 64 ∷ rest → ((m : ℕ) → SpellsMoment rest m → ◌≡◌ {A = Result ℕ E} (Ok moment) (Ok m)) → (other : Option ℕ) → SpellsTag text (tag_at other) → ◌≡◌ {A = Result (Option ℕ) PathAtFault} (Ok (Some moment)) (Ok other)
 moment_only text rest moment is only None h = absurd (subst (λ text. SpellsTag text Now) is h)
 moment_only text rest moment is only (Some m) h =
@@ -37,7 +37,7 @@ one_at_fault word (Path a) (Path b) x y = ap Path (one_tagged_fault word a b x.0
 pub one_meaning : OneMeaning
 one_meaning = record { one_path = one_path; faultless_path = spelled_faultless; tagged_parts = spelled_parts; faultless_tagged = tagged_faultless; one_tagged_fault = one_tagged_fault; faultless_at = at_faultless; one_at_fault = one_at_fault }
 
--- what is wrong behind a path
+-- the fault after a path
 pub fault_behind : (word : List ℕ) (names : List (List ℕ)) (fault : PathAtFault) → SpellsPath (path_part word) names → IsMomentFault (tag_part word) fault → IsPathAtFault word fault
 fault_behind word names Numbered path bad = record { names = names; rest = bad.0; path = path; tag = bad.1 }
 fault_behind word names (Path fault) path bad = (of_tag names path bad.2, λ numbered. absurd (omega (arith, ap (λ text. get_or text 0 0) (sym bad.1 ∙ numbered.tag))))

@@ -6,7 +6,7 @@ use Rattle.ele_path.proofs.Names.{is_name-decides}
 abbrev pub faults_from : ℕ → List (List ℕ) → List PathFault
 faults_from n pieces = filter_map (λ (before, piece). piece_fault before piece) (enumerate_from n pieces)
 
--- a name behind fewer than 32 others is no fault
+-- a name after fewer than 32 others is no fault
 name_passes : (n : ℕ) (name : List ℕ) → n < 32 → IsName name → piece_fault n name ≡ None
 name_passes n [] h is = absurd (omega (arith, is.some))
 name_passes n (byte ∷ bytes) h is =
@@ -43,12 +43,12 @@ text_of : (pieces : List (List ℕ)) → 0 < length pieces → path_text pieces 
 text_of [] some = absurd (omega arith)
 text_of (piece ∷ pieces) some = joined piece pieces
 
--- the pieces, each with a slash in front
+-- the pieces, each with a slash before it
 pub text_of_pieces : (text : List ℕ) → path_text (pieces_of text) ≡ 47 ∷ text
 text_of_pieces text =
     text_of (pieces_of text) (omega (arith, length-slice_split (λ byte. eqb byte 47) text)) ∙ ap (λ bytes. 47 ∷ bytes) (join_with_byte-slice_split 47 text)
 
--- behind names, the next piece has the first fault, if it has one
+-- after names, the next piece has the first fault, if it has one
 pub next_fault : (pieces names : List (List ℕ)) (n : ℕ) (piece : List ℕ) (fault : PathFault) → IsPath names → names ≡ take n pieces → n < length pieces → piece ≡ get_or pieces n piece → piece_fault (length names) piece ≡ Some fault → slice_get (piece_faults pieces) 0 ≡ Some fault
 next_fault pieces names n piece fault is front more here bad =
     let rest = drop (n + 1) pieces in
@@ -60,6 +60,6 @@ next_fault pieces names n piece fault is front more here bad =
     let count : 0 + length names ≡ length names = omega arith in
     ap (λ xs. slice_get (piece_faults xs) 0) cut ∙ ap (λ faults. slice_get faults 0) (pass ∙ ap (λ m. faults_from m (piece ∷ rest)) count ∙ ap (λ f. cons_option f (faults_from (length names + 1) rest)) bad)
 
--- one more name behind fewer than 32
+-- one more name after fewer than 32
 pub one_more : (names : List (List ℕ)) (name : List ℕ) → IsPath names → length names < 32 → IsName name → IsPath (names ++ name ∷ [])
 one_more names name is few more = record { short = omega (arith, length-append names (name ∷ [])); named = All-push IsName names name is.named more }

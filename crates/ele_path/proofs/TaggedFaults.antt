@@ -1,4 +1,4 @@
--- The faults of words of paths with tags: none where one is spelled, and else one.
+-- The faults of words of paths with tags: none if one is spelled, and else one.
 use Rattle.ele_path.proofs.Basics.{◌≡◌, ℕ, ◌∷◌, List, subst, arith, nat_tests, Some}
 use Rattle.ele_path.proofs.Words.{PathFault, Tag, Now, At, Number, TaggedPath, path_fault, SpellsPath, SpellsTag, SpellsTaggedPath, path_part, tag_part, IsTagFault, IsTaggedFault, of_path, of_tag, no_moment, no_number}
 use Rattle.ele_path.proofs.Spelled.{spelled_faultless}

@@ -14,7 +14,7 @@ cut_fits word = prefix_len-le-length (λ b. not (is_mark b)) word
 unmarked_step : (byte : ℕ) (word : List ℕ) → is_mark byte ≡ false → (path_part (byte ∷ word) ≡ byte ∷ path_part word) × (tag_part (byte ∷ word) ≡ tag_part word)
 unmarked_step byte word plain = grind (arith, nat_tests, position_or_len, is_mark, suc)
 
--- behind the path the text of a tag begins
+-- the text of a tag begins after the path
 pub tag_begins : (word : List ℕ) → is_tag_text (tag_part word) ≡ true
 tag_begins [] = refl
 tag_begins (byte ∷ word) = elim (is_mark byte) as (λ b. is_mark byte ≡ b → is_tag_text (tag_part (byte ∷ word)) ≡ true) [
@@ -42,7 +42,7 @@ path_unmarked text names h = grind (arith, nat_tests, is_mark, names_unmarked)
 tag_marked : (text : List ℕ) (tag : Tag) → SpellsTag text tag → is_tag_text text ≡ true
 tag_marked text tag h = grind (arith, nat_tests)
 
--- a text without a mark, and that of a tag behind it, are cut between the two
+-- a text without a mark, and that of a tag after it, are cut between the two
 cut_between : (text tag : List ℕ) → HasNoMark text → is_tag_text tag ≡ true → (text ≡ path_part (text ++ tag)) × (tag ≡ tag_part (text ++ tag))
 cut_between [] [] none begins = (refl, refl)
 cut_between [] (mark ∷ tag) none begins = rw begins (refl, refl)
@@ -75,7 +75,7 @@ one_value word value names tag h path only =
 pub no_tag_fault : (word : List ℕ) (value : TaggedPath) (fault : PathFault) → SpellsTaggedPath word value → ((t : Tag) → SpellsTag (tag_part word) t → ◌≡◌ {A = Result Tag PathFault} (Err fault) (Ok t)) → ⊥
 no_tag_fault word value fault h only = let read = only value.tag (spelled_parts word value h).1 in cc
 
--- a moment behind `@` is one tag
+-- a moment after `@` is one tag
 pub at_only : {E : Type 0} (text rest : List ℕ) (moment : ℕ) → text ≡ 64 ∷ rest → ((m : ℕ) → SpellsMoment rest m → ◌≡◌ {A = Result ℕ E} (Ok moment) (Ok m)) → (tag : Tag) → SpellsTag text tag → ◌≡◌ {A = Result Tag PathFault} (Ok (At moment)) (Ok tag)
 at_only text rest moment is only tag h = behind tag (subst (λ text. SpellsTag text tag) is h) where
   behind : (tag : Tag) → SpellsTag (64 ∷ rest) tag → ◌≡◌ {A = Result Tag PathFault} (Ok (At moment)) (Ok tag)
@@ -86,6 +86,6 @@ at_only text rest moment is only tag h = behind tag (subst (λ text. SpellsTag t
 pub at_fault : {E : Type 0} (text rest : List ℕ) (e : E) → text ≡ 64 ∷ rest → ((m : ℕ) → SpellsMoment rest m → ◌≡◌ {A = Result ℕ E} (Err e) (Ok m)) → IsTagFault text BadMoment
 at_fault text rest e is only = no_moment rest is (λ m spells. let read = only m spells in cc) refl
 
--- what is behind another mark than `@` is behind `#`
+-- what is after another mark than `@` is after `#`
 pub number_fault : (text rest : List ℕ) (mark : ℕ) → is_tag_text text ≡ true → text ≡ mark ∷ rest → (mark ≡ 64 → ⊥) → ((n : ℕ) → SpellsNumber rest n → ◌≡◌ {A = Option ℕ} None (Some n)) → IsTagFault text BadPath
 number_fault text rest mark begins is other only = no_number rest (grind (arith, nat_tests)) (λ n spells. let read = only n spells in cc) refl

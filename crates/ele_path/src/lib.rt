@@ -1,5 +1,5 @@
-//! Paths of names, and the tags after them. A contract sees a path as the list of its names, each a
-//! list of bytes, and a path with a tag as the record of both.
+//! Paths of names, and the tags after them. A contract sees a path as the list of its names, which
+//! are lists of bytes. It sees a path with a tag as the record of both.
 #![tactic(auto)]
 
 mod fault;

@@ -35,7 +35,7 @@ found : (m : ℕ) (moments : List ℕ) → nat_le m last_moment ≡ true → lis
 found m [] fits there = absurd cc
 found m (at ∷ moments) fits there = grind (arith, nat_tests, not_before m moments, found m moments fits)
 
--- it is the threshold, where this is among them
+-- it is the threshold, if this is among them
 pub earliest_from : (m : ℕ) (moments : List ℕ) → list_any (λ at. at == m) moments ≡ true → earliest_of (nat_le m) moments ≡ in_time m
 earliest_from m moments there = grind (arith, nat_tests, found, too_late)
 

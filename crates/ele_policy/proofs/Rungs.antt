@@ -9,7 +9,7 @@ use Rattle.ele_policy.specs.Places.{IsFilled}
 use Rattle.ele_policy.specs.SharesNest.{SharesNest}
 use Rattle.ele_policy.proofs.Nesting.{climbed, nests}
 
--- a ladder that is written over the front of 8 unused places
+-- a ladder that is written over the first of 8 unused places
 pub filled : (rungs : List Rung) → IsLadder rungs → IsFilled (record { rungs = rungs ++ drop (length rungs) (replicate 8 (0, 0)); count = length rungs })
 filled rungs is =
     let places = drop-replicate {X = Rung} (length rungs) 8 (0, 0) in

@@ -1,4 +1,4 @@
--- A policy lets a version go from one age on, which its case tells.
+-- A policy lets a version go from one age on, which its case determines.
 use Rattle.std.proofs.Common.{length-append, ◌≡◌, ℕ, ◌+◌, ◌-◌, ◌≤◌, ◌==◌, ◌&&◌, ◌||◌, Bool, true, false, not, cond, List, [], ◌∷◌, ◌++◌, Option, Some, None, refl, ap, sym, subst, ◌∙◌, arith, zero, suc}
 use Rattle.std.specs.Prelude.{nat_le, find, slice_get, option_and_then, IfSome, IfNone}
 use Rattle.std.specs.List.{list_any}
@@ -149,7 +149,7 @@ lets_go_without policy live xs gone ys closed age gone_age given longer goes = g
 lets_go_fewer : (policy : Policy) (live : Bool) (xs : List ℕ) (more : ℕ) (ys : List ℕ) (closed age : ℕ) → lets_go policy closed (record { newer = xs ++ ys; live = live }) age ≡ true → lets_go policy closed (record { newer = xs ++ more ∷ ys; live = live }) age ≡ true
 lets_go_fewer policy live xs more ys closed age goes = grind (arith, nat_tests, any-with, length-append xs ys, length-append xs (more ∷ ys))
 
--- ---- told by the case
+-- ---- determined by the case
 
 same_found : (f g : Rung → Bool) (rungs : List Rung) → ((rung : Rung) → f rung ≡ g rung) → find f rungs ≡ find g rungs
 same_found f g [] same = refl
@@ -164,7 +164,7 @@ waits_alone : (interval floor closed : ℕ) (nearest : Option ℕ) → wait (Saf
 waits_alone interval floor closed None = refl
 waits_alone interval floor closed (Some n) = refl
 
--- the wait is the same beside all that may stand so
+-- the wait is the same beside all versions of that case
 pub case_tells : (policy : Policy) (closed : ℕ) (nearest : Option ℕ) (enough : Bool) (beside : Beside) → IsBeside (case_of policy closed nearest enough) beside → wait policy closed beside ≡ wait_case (case_of policy closed nearest enough)
 case_tells (Safe interval floor) closed nearest enough beside is = grind (arith, nat_tests, is.enough, waits_alone interval floor closed nearest)
 case_tells One closed nearest enough beside is = grind (arith, nat_tests)
@@ -199,7 +199,7 @@ module _ (case : Case) (ended : ℕ) (given : IsPolicy case.policy) where
   pub is_ripe : (r : Option ℕ) → r ≡ ripe_case case ended → IsRipe case ended r
   is_ripe r is beside stands = is ∙ sym (ripe_seen beside stands)
 
-  -- beside all that may stand so, the version is due from the ripe moment on, or never
+  -- beside all versions of that case, the version is due from the ripe moment on, or never
   due_seen : (at : ℕ) (wait_is : Option ℕ) (beside : Beside) → IsBeside case beside → wait_case case ≡ wait_is → is_due_by case.policy case.closed beside ended at ≡ (nat_le ended at && reached wait_is (at - ended))
   due_seen at wait_is beside stands is = ap (λ b. nat_le ended at && b) (lets_go_from case.policy case.closed beside (at - ended) given ∙ ap (λ o. reached o (at - ended)) (tells beside stands ∙ is))
 
@@ -229,7 +229,7 @@ module _ (case : Case) (ended : ℕ) (given : IsPolicy case.policy) where
 
 -- ---- the laws of one policy's cases
 
--- with a floor whether enough are held tells all
+-- with a floor it only matters whether enough are held
 ripe_counted : (policy : Policy) (case : Case) (ended : ℕ) (other : Option ℕ) → IsPolicy policy → 1 ≤ floor_of policy → ripe_case (record case { policy = policy }) ended ≡ ripe_case (record case { policy = policy; next_closed = other }) ended
 ripe_counted (Safe interval floor) case ended other given some =
     case_is (record case { policy = Safe interval floor }) ended given

@@ -13,8 +13,8 @@ pub record Beside : Type 0 where
   pub newer : List ℕ
   pub live : Bool
 
--- the policy lets go a version that closed then, so many seconds after its end: under a ladder if a newer one is in its span, at the level
--- of its age; under Keep Safe if enough newer ones are beside it
+-- the policy lets go a version that closed then, so many seconds after its end. A ladder does so if a newer one is in its span, at the
+-- level of its age; Keep Safe does so after its interval if enough newer ones are beside it
 abbrev pub lets_go : Policy → ℕ → Beside → ℕ → Bool
 lets_go One closed beside age = true
 lets_go All closed beside age = false

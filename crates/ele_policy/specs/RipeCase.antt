@@ -41,8 +41,8 @@ case_of policy closed next enough = record { policy = policy; closed = closed; n
 abbrev pub case_beside : Policy → ℕ → Beside → Case
 case_beside policy closed beside = case_of policy closed (slice_get beside.newer 0) (meets_floor policy beside.live (length beside.newer))
 
--- a version of the case has this beside it: the newer closings aren't before its own and are in order, the next one is the first of them,
--- and they are enough or not, as the case says
+-- a version of the case has this beside it: the newer closings are in order and aren't before its own. The next closing is the first of
+-- them, and they are enough or not, as the case says
 pub record IsBeside (case : Case) (beside : Beside) : Type 0 where
   pub in_order : AllLater ◌≤◌ (case.closed ∷ beside.newer)
   pub next : slice_get beside.newer 0 ≡ case.next_closed

@@ -1,9 +1,9 @@
--- The element that has so many behind it, in chunks.
+-- The element that has so many after it, in chunks.
 use Rattle.ele_lists.proofs.Basics.{Global, List, Some, Vec, [], append-nil, append_assoc, arith, length, reverse, slice_get, suc, take, zero, ℕ, ◌++◌, ◌+◌, ◌-◌, ◌<◌, ◌∷◌, ◌≡◌, ◌≤◌}
 use Rattle.ele_lists.proofs.Backs.{back-far, back-near}
 use Rattle.ele_rows.proofs.Basics.{flat}
 
--- of chunks the last holds it, or else it stands so many fewer from the end of those before
+-- the last chunk holds it, or else it is so many fewer from the end of those before
 module _ {X : Type 0} (cs : List (Vec X Global)) (i : ℕ) (here : Vec X Global) (is : slice_get cs i ≡ Some here) where
   flat-more : flat (take (i + 1) cs) ≡ flat (take i cs) ++ here.items
   flat-more = by cs i is where

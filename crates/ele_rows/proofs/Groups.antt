@@ -41,7 +41,7 @@ abbrev pub greatest : {G : Type 0} → G → Bound (G × ℕ × ℕ)
 greatest g = Included (g, 18446744073709551615, 18446744073709551615)
 
 module _ {G : Type 0} {cmp : G → G → Ordering} (o : IsTotalOrder cmp) (index : Index G) (g : G) (r s : ℕ) where
-  -- what stands there is found among all of the group
+  -- what is there is found among all of the group
   pub found_of_group : r < 2 ^ 64 → s < 2 ^ 64 → has cmp index g r s ≡ true
       → list_any (λ e. e.2 == s) (keys_between (entry_cmp cmp) (least g) (greatest g) index.entries) ≡ true
   found_of_group fits small there =

@@ -2,7 +2,7 @@
 mod Basics
 -- rows of rising keys, parted at a key
 pub mod Parted
--- the element that has so many behind it, in chunks
+-- the element that has so many after it, in chunks
 mod Backs
 -- values by serial number
 pub mod Serials

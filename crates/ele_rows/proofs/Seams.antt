@@ -20,7 +20,7 @@ module _ {X : Type 0} (P : X → Type 0) where
   all-drop (x ∷ xs) (suc i) all = all-drop xs i (λ k d low high. all (suc k) d (omega arith) (omega arith))
 
 module _ {X : Type 0} (p : X → Bool) where
-  -- where a test sinks, a binary search finds its last
+  -- if a test sinks, a binary search finds its last
   pub sinks-parted : (xs : List X) → AllLater (Sinks p) xs → IsPartitionedBy p xs
   sinks-parted xs sinks = λ i j d le lt h. grind (arith, later-place (Sinks p) xs i j d sinks)
 
@@ -30,7 +30,7 @@ module _ {X : Type 0} (p : X → Bool) where
   all-sink (y ∷ []) x sinks is h = grind arith
   all-sink (y ∷ z ∷ xs) x sinks is h = (all-last (Sinks p y) (z ∷ xs) x is sinks.0 h, all-sink (z ∷ xs) x sinks.1 is h)
 
-  -- none passes behind one that fails
+  -- none passes after one that fails
   all-behind : (x : X) (xs : List X) → p x ≡ false → AllByRecursion (Sinks p x) xs → AllByRecursion (λ y. p y ≡ false) xs
   all-behind x xs fails sinks = all-weaker (Sinks p x) (λ y. p y ≡ false) xs (λ y sink. grind arith) sinks
 
@@ -56,7 +56,7 @@ module _ {X : Type 0} where
   pub rows-here : (cs : List (Vec X Global)) (i : ℕ) (here : Vec X Global) → slice_get cs i ≡ Some here → rows_at cs i ≡ here.items
   rows-here cs i here is = ap (λ o. option_map_or (λ (chunk : Vec X Global). chunk.items) o []) is
 
-  -- where a chunk has a row, there is a chunk
+  -- if a chunk has a row, there is a chunk
   pub has_chunk : (cs : List (Vec X Global)) (i j : ℕ) → j < length (rows_at cs i) → i < length cs
   has_chunk [] i j h = grind arith
   has_chunk (c ∷ cs) i j h = grind (arith, has_chunk cs (i - 1) j)
@@ -69,7 +69,7 @@ module _ {X : Type 0} where
   pub chunk_read : (cs : List (Vec X Global)) (i j : ℕ) (here : Vec X Global) → j < length (rows_at cs i) → here ≡ get_or cs i here → slice_get cs i ≡ Some here
   chunk_read cs i j here place is = slice_get_read cs (length cs) i here refl (has_chunk cs i j place) is
 
-  -- what stands from a place on is the row there and what stands behind it
+  -- the rows from a place on are the row there and those after it
   pub behind_more : (cs : List (Vec X Global)) (i j : ℕ) (x : X) → slice_get (rows_at cs i) j ≡ Some x → behind_place cs i j ≡ x ∷ behind_place cs i (suc j)
   behind_more cs i j x is = grind (arith, taken_on (rows_at cs i) j x)
 
@@ -77,7 +77,7 @@ module _ {X : Type 0} where
   first_on [] rest j h = absurd (omega arith)
   first_on (x ∷ xs) rest j h = grind (arith, first_on xs rest (j - 1))
 
-  -- the row at a place stands first behind it
+  -- the row at a place is the first from there on
   pub first_behind : (cs : List (Vec X Global)) (i j : ℕ) → (i < length cs → j < length (rows_at cs i)) → slice_get (behind_place cs i j) 0 ≡ slice_get (rows_at cs i) j
   first_behind cs i j within = grind (arith, nat_tests, slice_get_past, drop_all, suc, rows_at, first_on, flat)
 
@@ -147,7 +147,7 @@ module _ {X : Type 0} (p : X → Bool) where
   abbrev pub chunk_ends : Vec X Global → Bool
   chunk_ends chunk = ends_before p chunk.items
 
-  -- the chunks that end before a cut come first
+  -- the chunks that end before a cut are first
   sinks_past : (c : Vec X Global) (x : X) → last_of c.items ≡ Some x → (ds : List (Vec X Global)) → AreFilled ds → AllByRecursion (Sinks p x) (flat ds) → AllByRecursion (Sinks chunk_ends c) ds
   sinks_past c x is [] filled all = tt
   sinks_past c x is (d ∷ ds) filled all =
@@ -165,7 +165,7 @@ module _ {X : Type 0} (p : X → Bool) where
   all_before [] filled sinks before = tt
   all_before (c ∷ cs) filled sinks before = grind (arith, nat_tests, ends, all-append, flat, all-sink, later-left, later-right, all_before cs)
 
-  -- the place of the first row behind a cut, from the first chunk that doesn't end before it
+  -- the place of the first row after a cut, from the first chunk that doesn't end before it
   module _ (cs : List (Vec X Global)) (i : ℕ) (filled : AreFilled cs) (sinks : AllLater (Sinks p) (flat cs)) (bound : i ≤ length cs) (ended : AllByRecursion (λ c. chunk_ends c ≡ true) (take i cs)) where
     both : AllLater (Sinks p) (flat (take i cs) ++ (rows_at cs i ++ flat (drop (suc i) cs)))
     both = rw (← flat_split cs i) sinks
@@ -204,7 +204,7 @@ module _ {X : Type 0} where
     lesser : (xs : List X) → AllByRecursion (λ x. below x ≡ true) xs → AllByRecursion (λ x. stands_by key this x ≡ false) xs
     lesser xs all = all-weaker (λ x. below x ≡ true) (λ x. stands_by key this x ≡ false) xs (λ x h. grind (arith, nat_tests, h)) all
 
-    -- a row of the key, of which there is none before it
+    -- a row of the key, with none of that key before it
     module _ (cs : List (Vec X Global)) (i j : ℕ) (x : X) (is : slice_get (rows_at cs i) j ≡ Some x) (same : key x ≡ this) where
       whole : flat cs ≡ before_place cs i j ++ x ∷ behind_place cs i (suc j)
       whole = place_split cs i j ∙ ap (λ xs. before_place cs i j ++ xs) (behind_more cs i j x is)

@@ -27,7 +27,7 @@ module _ {X : Type 0} where
   unfolding IsStrictlySortedBy
   rest_rises e es up = up.1
 
-  -- the value is the first, or one behind it
+  -- the value is the first, or one after it
   pub head_or_later : (e : ℕ × X) (es : List (ℕ × X)) (s : ℕ) (v : X) → IsRising (e ∷ es) → value_at (e ∷ es) s ≡ Some v → ((s ≡ e.0) × (e.1 ≡ v)) ⊎ ((e.0 < s) × (value_at es s ≡ Some v))
   head_or_later e es s v up h = grind (arith, exact_unsigned, after_head e es s v)
 
@@ -53,7 +53,7 @@ module _ {X : Type 0} where
       | inr behind ↦ grind (arith, is_last es s v (rest_rises e es up) behind.1 passes (λ t w h. last t w (after_head e es t w up h).1))
     ]
 
-  -- the values before and behind that of a serial number, and what a change of it or its removal leaves
+  -- the values before and after that of a serial number, and what a change of it or its removal leaves
   pub record IsSplitAt (es : List (ℕ × X)) (n : ℕ) (v : X) : Type 0 where
     pub before : List X
     pub behind : List X

@@ -17,8 +17,8 @@ use ele_lists::Keyed;
 use std::alloc::{AllocError, Global};
 use std::marker::Model;
 
-/// The largest capacity of a chunk, in rows: so large that a million rows make few chunks, and so
-/// small that a removal moves few rows.
+/// The largest capacity of a chunk, in rows. It is so large that a million rows make few chunks,
+/// and so small that a removal moves few rows.
 pub(crate) const LONGEST_CHUNK: usize = 64;
 
 /// The smallest capacity of a chunk, in rows. Most lists stay short, and each takes no more memory

@@ -8,8 +8,8 @@ ghost use Rattle.ele_lists.specs.Keys.{Rises, stands_by, is_behind};
 use crate::cut::Cut;
 use ele_lists::Keyed;
 
-/// Returns the place of the row with that key, or else the place to insert one: before the first
-/// row of a greater key, or at the end if there is none.
+/// Returns the place of the row with that key, or else the place to insert one. That is before the
+/// first row of a greater key, or at the end.
 pub fn place_of<T: Keyed>(rows: &[T], key: u64) -> Result<usize, usize>
     requires { Rises T.key rows.now }
     ensures found { IfOk result (λ at. position (stands_by T.key key) rows.now ≡ Some at) }

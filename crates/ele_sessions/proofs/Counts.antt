@@ -1,4 +1,4 @@
--- How many handles read a thing, before and after a handle comes or goes.
+-- How many handles read a thing, before and after a handle is opened or closed.
 use Rattle.ele_sessions.proofs.Basics.{◌≡◌, ℕ, ◌+◌, Bool, cond, nat_lt, List, [], ◌∷◌, ◌++◌, Some, sym, ap, ◌∙◌, append-nil, count_by, sum_by, list_any, find, remove_first, all-any, sum_by-around, sum_by-remove_first, sum_by-same, any-count, arith, nat_tests}
 use Rattle.ele_sessions.proofs.Words.{reads_eq, reading, writes, reads_version, is_handle, is_open, is_writer, HandleRow, Reads, Version}
 use Rattle.ele_model.specs.declared.rows.Reads.TheVariants.{Draft}

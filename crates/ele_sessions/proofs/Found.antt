@@ -16,7 +16,7 @@ module _ (es : List Entry) (file i : ℕ) where
   pub missing_draft : IsGap file_in file es i → find (is_draft file) (drafts_of es) ≡ None
   missing_draft gap = find-missing draft_in (is_draft file) es gap.missing
 
-  -- nothing is missing where the draft is there
+  -- nothing is missing if the draft is there
   pub not_missing : IsGap file_in file es i → list_any (is_draft file) (drafts_of es) ≡ true → ⊥
   not_missing gap there = false≢true (sym (no_draft gap) ∙ there)
 

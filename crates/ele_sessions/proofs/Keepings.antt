@@ -1,4 +1,4 @@
--- That the fields keep their order and counts when a handle comes or goes.
+-- That the fields keep their order and counts when a handle is opened or closed.
 use Rattle.ele_sessions.proofs.Basics.{IfOk, Result, ◌≡◌, ℕ, ◌+◌, ◌-◌, true, Ok, Err, refl, cond, nat_lt, List, [], ◌∷◌, ◌++◌, Some, ap, ◌∙◌, arith, list_any, find, length-append, nat_tests, remove_first, counted, Tally, length-remove_first-le}
 use Rattle.ele_sessions.proofs.Words.{FoundHandle, StandsAt, Layout, Store, RewritesDraft, Resizes, has_length, left_drafts, Keeps, reads_eq, reading, AreOrderly, Draft, AllSessions, is_handle, is_writer, is_draft, reads_by, file_by, HandleRow, Reads, Refusal}
 use Rattle.ele_model.specs.declared.rows.Reads.TheVariants as reads
@@ -15,7 +15,7 @@ pub record IsRead (hs : List HandleRow) (number : ℕ) (what : Reads) : Type 0 w
 pub written_by : (hs : List HandleRow) (number file : ℕ) → Ok file ≡ file_by hs number → Ok (reads.Draft file) ≡ reads_by hs number
 written_by hs number file is = grind (arith, nat_tests, is, reads_by)
 
--- what is read through a handle that stands there
+-- what a handle at that place reads
 pub stood_reads : (hs : List HandleRow) (found : FoundHandle) → StandsAt hs found → Ok found.row.reads ≡ reads_by hs found.row.number
 stood_reads hs found stands = rw stands.row refl
 
@@ -58,7 +58,7 @@ module _ (s : AllSessions) (counts : Tally Reads) (keeps : Keeps s counts) where
       pub writer_keeps : (file : ℕ) → what ≡ reads.Draft file → Keeps (record s { drafts = left_drafts (list_any (is_writer file) rest) file s.drafts; handles = rest }) counts'
       writer_keeps file is = left_keeps (left_drafts (list_any (is_writer file) rest) file s.drafts) (writer_left s keeps.orderly number its.handle its.found file (its.is ∙ is))
 
-      -- whether the draft stays, as the counts tell it once the handle is gone
+      -- whether the draft stays, by the counts after the handle is removed
       pub stays_now : (file : ℕ) → nat_lt 0 (counted reads_eq counts' (reads.Draft file)) ≡ list_any (is_writer file) rest
       stays_now file = ap (nat_lt 0) (counted_left (reads.Draft file)) ∙ any-writer file rest
 

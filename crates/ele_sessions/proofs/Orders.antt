@@ -1,4 +1,4 @@
--- That drafts and handles stay orderly when a handle comes or goes.
+-- That drafts and handles stay orderly when a handle is opened or closed.
 use Rattle.ele_sessions.proofs.Basics.{◌≡◌, ℕ, ◌+◌, ◌<◌, true, false, not, eqb, List, [], ◌∷◌, ◌++◌, Some, refl, sym, ◌∙◌, arith, AllByRecursion, list_any, find, filter, nat_tests, update_first, remove_first, insert_before, filter-passes, all-push, all-weaker, all-both, all-none, all-update_first, all-insert_before, all-remove_first, all-found, found_passes, later-push, later-update_first, later-remove_first, later-insert_before, list_any-update_first, list_any-insert_before, list_any-remove_first, remove_first-key, list_any-append}
 use Rattle.ele_sessions.proofs.Words.{Layout, rewritten_by, left_drafts, with_draft, Rises, IsReadable, AreOrderly, Draft, AllSessions, is_draft, is_draft_after, is_handle, writes, is_writer, HandleRow, Reads}
 use Rattle.ele_model.specs.declared.rows.Reads.TheVariants as reads

@@ -27,7 +27,7 @@ pub each_set : (F : ℕ → View → Type 0) (vs : List View) (id : ℕ) (w : Vi
     → (j : ℕ) (u : View) → get_elem? (set vs id w) j ≡ some u → F j u
 each_set F vs id w each new j u at = ⊎_elim (λ t. subst (λ k. F k u) (sym t.0) (subst (λ z. F id z) t.1 new)) (λ t. each j u t.1) (at_set vs id j w u at)
 
--- the same where what holds of the others has changed
+-- the same if what is true of the others has changed
 pub each_new : (F G : ℕ → View → Type 0) (vs : List View) (id : ℕ) (w : View) → ((j : ℕ) (u : View) → get_elem? vs j ≡ some u → F j u) → ((j : ℕ) (u : View) → j ≢ id → F j u → G j u) → G id w
     → (j : ℕ) (u : View) → get_elem? (set vs id w) j ≡ some u → G j u
 each_new F G vs id w each over new j u at = ⊎_elim (λ t. subst (λ k. G k u) (sym t.0) (subst (λ z. G id z) t.1 new)) (λ t. over j u t.0 (each j u t.1)) (at_set vs id j w u at)

@@ -34,7 +34,7 @@ idle_ran m n e r i (log, news, is, right) =
       legal = legal_more m.0.opening log (own_call m.0 (entry e r)) news.legal right;
     }
 
--- a look behind another one
+-- a look after another one
 news_again : (v w : View) (log more : List Call) → IsNews v log → w ≡ looking false v log → IsNews w more → IsNews v more
 news_again v w log more first is second =
     let news : IsNews (looking false v log) more = subst (λ (x : View). IsNews x more) is second in

@@ -40,13 +40,13 @@ pub stays : (before after : Past) (stop : Stop) → MayStop before stop after �
 stays before after NoMemory may = may.1
 stays before after HistoryFull may = may.1
 
--- the events of a history with room
+-- the events of a history below its limit
 pub few : (h o : Past) (log : List Call) → h ≡ history_after o log → HasRoom h → AreBounds h.base.limits → events_after o log < 2 ^ 62
 few h o log e room bounds =
     let n : count_of h ≡ count_of (history_after o log) = ap count_of e in
     omega (arith, bounds.events, length-append o.entries (entries_of log), length-entries_of log)
 
--- the history comes out and another goes in
+-- the history is taken out and another put in
 pub handed : (m a b : Me Kind View) (y : Kind) (v0 v1 : Past) → HasTurn m → m.1 ≡ (0, y) ∷ rest m.1 → a ≡ (m.0, (0, None) ∷ rest m.1) → b ≡ (a.0, (0, Some v1) ∷ rest a.1) → y ≡ Some v0
     → (v0 ≡ history_after m.0.opening m.0.seen) × (◌≡◌ {A = Me Kind View} b (m.0, (0, Some v1) ∷ []))
 handed m a b y v0 v1 turn out first second is =

@@ -182,7 +182,7 @@ own_of-two a b (t ∷ ts) p q =
     let nb = not_own b t ts q in
     rw (has-append a b t.by, na.0, nb.0) (own_of-two a b ts na.1 nb.1)
 
--- what no number of both owns behind a beginning
+-- what no number of both owns after a prefix
 own_of-longer : (a b : List ℕ) (log xs : List Call) → StartsWith log xs → own_of a log ≡ own_of a xs → own_of b log ≡ own_of b xs → own_of (a ++ b) log ≡ own_of (a ++ b) xs
 own_of-longer a b log xs (r, e) p q =
     let pa = nothing_more (own_of a xs) (own_of a r) (sym (own_of-append a xs r) ∙ ap (own_of a) (sym e) ∙ p) in

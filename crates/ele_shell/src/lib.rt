@@ -1,6 +1,6 @@
-//! Runs scripts over a core, bytes in and text out; audits its answers; and exports the calls for
-//! many threads by their names over a core. A contract sees the bytes that the reader gives and
-//! those that the writer takes, if these are known.
+//! Runs scripts over a core, bytes in and text out, and audits its answers. It also exports the
+//! calls for many threads. A contract sees the bytes that the reader gives and those that the
+//! writer takes, if these are known.
 #![tactic(auto)]
 
 ghost use Rattle.std.specs.Prelude.{◌≡◌, None, IfErr, IfOk, IsErrOf};
@@ -21,11 +21,11 @@ pub use ele_storm::{Flags, Meet, MeetEnd, StormFault, StormPlan, storm, work};
 use std::alloc::Global;
 use std::io::{Read, Write};
 
-/// Runs the script that the reader gives: writes the reply to each whole line, and returns how many
-/// lines there were, with a last one that has no line feed. It writes no reply to an empty line,
-/// and never runs a last line without its line feed. For a line of more than 8,192 bytes the reply
-/// says only that it is too long. The core and the input buffer are in `alloc`. The writer is not
-/// flushed.
+/// Runs the script that the reader gives. It writes the reply to each whole line, and returns how
+/// many lines there were, with a last one that has no line feed. It writes no reply to an empty
+/// line, and never runs a last line without its line feed. For a line of more than 8,192 bytes the
+/// reply says only that it is too long. The core and the input buffer are in `alloc`. The writer is
+/// not flushed.
 ///
 /// Before it reads again, it has written the replies to all whole lines that it got.
 ///

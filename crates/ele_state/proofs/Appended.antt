@@ -1,4 +1,4 @@
--- Which keys the versions have, once a file has its next version: two came, and all others stayed.
+-- Which keys the versions have, after a file got its next version: two are added, and all others stay.
 use Rattle.ele_model.proofs.Basics.{all-not_found}
 use Rattle.ele_model.proofs.Versions.{IsFound}
 use Rattle.ele_state.proofs.Words.{AllLater, ArePlaced, Bool, Cell, Cover, IsLawful, IsQueued, Key, List, MayGrow, KeyChange, None, Option, Policy, Some, VersionRow, World, all-found, all_found, and-false, ap, arith, cond, cover_of, Case, Rule, case_moment, case_of, is_some, ripe_case, ripe_past, sym, few_enough, least_newer, option_map, rule_in, rule_of, false, false≢true, find, found_passes, gained_moment, gaining_is, gaining_was, has_key, has_newer, held_before, is_entry, is_live, is_moment, comes, is_open, is_version, is_version_of, nat_tests, new_keys, newer_held, next_after, next_before, next_of, not, one_with_newer, option_and_then, option_map_or, or-false, others_after, policy_is, policy_of, refl, ripe_at, rows_of, touches, true, unwrap_or, with_newer, with_version, ◌&&◌, ◌-◌, ◌<◌, ◌==◌, ◌||◌, ◌∙◌, ◌≡◌, ℕ}
@@ -6,7 +6,7 @@ use Rattle.ele_state.proofs.Changes.{any_is, found_is, passing}
 
 -- ---- what the version gets that gains
 
--- the moment came, or was there, and not both
+-- the moment was added, or was there, and not both
 record IsGained (m : ℕ) (was came is : Option ℕ) : Type 0 where
   is_now : is_moment m is ≡ (is_moment m came || is_moment m was)
   wasnt : is_moment m came ≡ true → is_moment m was ≡ false
@@ -47,11 +47,11 @@ module _ (versions : List VersionRow) (file newer : ℕ) where
   pub one_has : (row : VersionRow) → AllLater ArePlaced versions → with_newer versions file newer ≡ Some row → HasNewer row
   one_has row placed is = grind (arith, nat_tests, found_passes its versions row is, all-found its (IsFound versions) versions row is (all_found versions placed))
 
-  -- no version has so many where none is found
+  -- no version has so many if none is found
   pub none_has : (n : ℕ) → with_newer versions file newer ≡ None → has_newer versions file newer n ≡ false
   none_has n none = grind (arith, nat_tests, any_is (is_version file n) versions, passing (is_version file n) versions, found_is (is_version file n) (λ row. its row ≡ false) versions (all-not_found its versions none))
 
-  -- and where one is, it alone has
+  -- and if one is, only that one has
   pub one_alone : (row : VersionRow) (n : ℕ) → HasNewer row → has_newer versions file newer n ≡ (n == row.number)
   one_alone row n has = by (find (is_version file n) versions) refl where
     by : (o : Option VersionRow) → find (is_version file n) versions ≡ o → has_newer versions file newer n ≡ (n == row.number)
@@ -103,7 +103,7 @@ module _ (w : World) (file opened : ℕ) (cells : List Cell) (k : MayGrow w file
 
   -- ---- the queue
 
-  -- the keys that come, where that is the one that gains
+  -- the keys that are added, if that is the version that gains
   abbrev comes_with : Bool → Option VersionRow → Key → Bool
   comes_with live o j = is_entry file (option_map_or (λ (row : VersionRow). row.number) o 0) (option_and_then came o) j || (is_entry file next (own live) j || false)
 
@@ -162,20 +162,20 @@ module _ (w : World) (file opened : ℕ) (cells : List Cell) (k : MayGrow w file
     abbrev keys : List KeyChange
     keys = new_keys w.groups (rows_of w) policy (is_live w file) file w.now again
 
-    -- with the keys that come there are those of all versions
+    -- with the added keys the queue has those of all versions
     pub appended_keys : (j : Key) → (comes keys j || ripens w j) ≡ ripens appended j
     appended_keys j = rw gives (has_now j gaining refl ∙ rw (← touches_with j.file j.number gaining refl) (grind (arith, nat_tests, others_after w file opened cells k j.file j.number)))
 
     pub appended_queue : (queue after : List Key) → IsQueued w queue → ((j : Key) → has_key j after ≡ (comes keys j || has_key j queue)) → IsQueued appended after
     appended_queue queue after queued edited j = edited j ∙ ap (λ b. comes keys j || b) (queued j) ∙ appended_keys j
 
-    -- none of which was there
+    -- none of them was there
     pub none_there : (j : Key) → comes keys j ≡ true → ripens w j ≡ false
     none_there j is = absent (is_live w file) j gaining refl (rw gives at is)
 
 -- ---- keys that are refused
 
--- none of which was there, so the queue is as it was where they are taken out
+-- none of them was there, so the queue is as it was if they are removed
 module _ (keys : List KeyChange) (before : List Key) (absent : (j : Key) → comes keys j ≡ true → has_key j before ≡ false) where
   pub refused : (after : List Key) → ((j : Key) → has_key j after ≡ (not (comes keys j) && has_key j before)) → (j : Key) → has_key j after ≡ has_key j before
   refused after went j = grind (arith, nat_tests, went j, absent j)

@@ -38,7 +38,7 @@ some_versions versions bytes = record { files = 0; versions = versions; bytes = 
 pub plus-cancel : (a b x : Usage) → plus a x ≡ plus b x → a ≡ b
 plus-cancel a b x e = grind (arith, nat_tests)
 
--- where so many versions and bytes came and went, and the book has them
+-- if so many versions and bytes were added and removed, and the book has them
 pub owed : (file : ℕ) (h now : Held) (book : Book) (came_versions came_bytes gone_versions gone_bytes : ℕ) → ChangesOnly file (held_world h) (held_world now)
     → length now.versions + gone_versions ≡ length h.versions + came_versions
     → bytes_in now.versions + gone_bytes ≡ bytes_in h.versions + came_bytes
@@ -50,7 +50,7 @@ owed file h now book cv cb gv gb changes versions bytes known k = grind (arith, 
 changes_drafts : (file : ℕ) (w v : World) → v.files ≡ w.files → v.versions ≡ w.versions → other_drafts file v.drafts ≡ other_drafts file w.drafts → ChangesOnly file w v
 changes_drafts file w v files versions drafts = grind (arith, nat_tests)
 
--- where files, versions and the drafts of other files are the same
+-- if files, versions and the drafts of other files are the same
 pub drafts_owed : (rows : Rows) (file : ℕ) (now : Held) (before : ℕ) → IsTracked rows → before ≡ blocks_of rows.files → now.files ≡ rows.files.files → now.versions ≡ rows.files.versions → other_drafts file now.drafts ≡ other_drafts file rows.files.drafts → IsOwed now rows.book file before
 drafts_owed rows file now before tracked is files versions drafts =
     rw is (owed file rows.files now rows.book 0 0 0 0 (changes_drafts file (held_world rows.files) (held_world now) files versions drafts) (rw versions refl) (rw versions refl) (λ k. rw (tracked.book k) refl))

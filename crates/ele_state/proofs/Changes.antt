@@ -1,7 +1,7 @@
--- Moments that change, and the keys that come and go by it.
+-- Changes of moments, and the keys that they add and remove.
 use Rattle.ele_state.proofs.Words.{AllByRecursion, IfSome, all-found, found_passes, AreChanges, Bool, IsQueued, Key, KeyChange, List, None, Option, Some, World, [], arith, comes, false, find, goes, has_key, is_some, if_changed, is_alone, is_entry, is_one, list_any, list_any-append, nat_tests, not, refl, ripe_at, sym, true, ℕ, ◌&&◌, ◌++◌, ◌||◌, ◌∙◌, ◌∷◌, ◌≡◌, ap}
 
--- one passes where one is found
+-- one passes if one is found
 pub any_is : {X : Type 0} (p : X → Bool) (xs : List X) → list_any p xs ≡ is_some (find p xs)
 any_is p [] = refl
 any_is {X} p (x ∷ xs) = grind (arith, nat_tests, any_is p xs)
@@ -22,7 +22,7 @@ found_is {X} p P xs all = by (find p xs) refl where
 pub none_any : {X : Type 0} (p : X → Bool) (xs : List X) → find p xs ≡ None → list_any p xs ≡ false
 none_any p xs none = any_is p xs ∙ ap is_some none
 
--- where a version had no key, one comes
+-- if a version had no key, one is added
 pub brought : (k : Key) (file number : ℕ) (is : Option ℕ) → comes (if_changed (Some (record { file = file; number = number; was = None; is = is }))) k ≡ is_entry file number is k
 brought k file number is = grind (arith, nat_tests)
 
@@ -49,7 +49,7 @@ module _ (was is : ℕ → ℕ → Option ℕ) where
   pub same_change : (touched other : ℕ → ℕ → Bool) (xs : List KeyChange) → ((file number : ℕ) → touched file number ≡ other file number) → AreChanges other was is xs → AreChanges touched was is xs
   same_change touched other xs same are = record { come = λ k. are.come k ∙ ap (λ b. b && is_alone is was k) (sym (same k.file k.number)); go = λ k. are.go k ∙ ap (λ b. b && is_alone was is k) (sym (same k.file k.number)) }
 
-  -- or of more, where none of those has another
+  -- or of more, if none of those has another
   pub wider : (touched wide : ℕ → ℕ → Bool) (xs : List KeyChange) → ((file number : ℕ) → touched file number ≡ true → wide file number ≡ true) → ((file number : ℕ) → wide file number ≡ true → touched file number ≡ false → is file number ≡ was file number) → AreChanges touched was is xs → AreChanges wide was is xs
   wider touched wide xs more same are = record {
     come = λ k. grind (arith, nat_tests, are.come k, more k.file k.number, same k.file k.number);
@@ -71,14 +71,14 @@ module _ (w v : World) (touched : ℕ → ℕ → Bool) (was is : ℕ → ℕ �
   go : (k : Key) → goes changes k ≡ is_alone (ripe_at w) (ripe_at v) k
   go k = grind (arith, nat_tests, are.go k, move.had k.file k.number, move.has k.file k.number, move.others k.file k.number)
 
-  -- once the keys have come that come, and those have gone that go, it follows
+  -- after the additions and the removals of keys the queue is up to date
   pub moved_queue : (between after : List Key) → ((k : Key) → has_key k between ≡ (comes changes k || has_key k queue)) → ((k : Key) → has_key k after ≡ (not (goes changes k) && has_key k between)) → IsQueued v after
   moved_queue between after came went k = grind (arith, nat_tests, came k, went k, come k, go k, queued k)
 
-  -- and where they are refused, it is as it was
+  -- and if they are refused, it is as it was
   pub refused_queue : (after : List Key) → ((k : Key) → has_key k after ≡ (not (comes changes k) && has_key k queue)) → IsQueued w after
   refused_queue after back k = grind (arith, nat_tests, back k, come k, queued k)
 
-  -- so it is where they came and were taken out again
+  -- so it is if they were added and removed again
   pub returned_queue : (between after : List Key) → ((k : Key) → has_key k between ≡ (comes changes k || has_key k queue)) → ((k : Key) → has_key k after ≡ (not (comes changes k) && has_key k between)) → IsQueued w after
   returned_queue between after came back k = grind (arith, nat_tests, came k, back k, come k, queued k)

@@ -6,7 +6,7 @@ use Rattle.ele_model.specs.declared.rows.HandleRow.{HandleRow}
 use Rattle.ele_sessions.specs.Found.{StandsAt}
 use Rattle.ele_sessions.specs.declared.found_handle.FoundHandle.{FoundHandle}
 
--- what is read through a handle that stands there
+-- what a handle at that place reads
 pub stood_reads : (rows : List HandleRow) (found : FoundHandle) → StandsAt rows found → reads_by rows found.row.number ≡ Ok found.row.reads
 stood_reads rows found stands = rw stands.row refl
 
@@ -17,14 +17,14 @@ writes_file rows handle file reads = ap file_written reads
 module _ (w : World) (handle file : ℕ) (reads : reads_by w.handles handle ≡ Ok (Draft file)) where
   -- ---- before the draft becomes a version
 
-  -- the handle and the draft have gone
+  -- the handle and the draft are removed
   abbrev pub over : World
   over = after_changes w (ShutHandle handle ∷ EndDraft file ∷ [])
 
   over_queue : HasParts w → (queue : List Key) → IsQueued w queue → IsQueued over queue
   over_queue formed queue queued k = queued k ∙ ap (is_moment k.ripe) (sym (shut_others w handle (Draft file) reads (in_order_of w formed) k.file k.number refl))
 
-  -- the same keys come
+  -- the same keys are added
   over_keys : (policy : Policy) (live : Bool) → new_keys over.groups (rows_of over) policy live file w.now false ≡ new_keys w.groups (rows_of w) policy live file w.now false
   over_keys policy live = grind (arith, nat_tests, open_still w handle (Draft file) reads)
 
@@ -47,7 +47,7 @@ module _ (w : World) (handle file : ℕ) (reads : reads_by w.handles handle ≡ 
     pub file_there : HasParts w → 0 < next_of w.files file
     file_there formed = grind (arith, nat_tests, is_final, all-found, found_passes, formed.holds Drafts)
 
-    -- the keys that come with it are those of all versions
+    -- the keys that are added with it are those of all versions
     pub finished_queue : (formed : HasParts w) (policy : Policy) → policy_of w.files file ≡ Some policy → (queue after : List Key) → IsQueued w queue → ((j : Key) → has_key j after ≡ (comes (new_keys w.groups (rows_of w) policy (is_live w file) file w.now false) j || has_key j queue)) → IsQueued (after_changes w (finishing (rows_of w) handle file opened)) after
     finished_queue formed policy filed queue after queued edited =
         let kept = all_keep (Close handle) w w (ShutHandle handle ∷ EndDraft file ∷ []) tt (tt, (is_final.alone, tt)) formed in
@@ -65,7 +65,7 @@ module _ (w : World) (handle file : ℕ) (reads : reads_by w.handles handle ≡ 
   abbrev shut : World
   shut = after_changes w (ShutHandle handle ∷ [])
 
-  -- so it stays where the draft does
+  -- so it stays if the draft does
   stays : HasParts w → after_change shut (DropIdle file) ≡ shut
   stays formed = dropped (λ v. v ≡ shut) shut file (λ idle. absurd (false≢true (sym idle.undrafted ∙ drafted_by formed))) (λ busy. refl)
 
@@ -96,7 +96,7 @@ module _ (w : World) (handle file : ℕ) (reads : reads_by w.handles handle ≡ 
   pub left_queue : HasParts w → (queue : List Key) → IsQueued w queue → IsQueued (after_changes w (leaving handle file goes)) queue
   left_queue formed queue queued k = grind (arith, nat_tests, shut_others w handle (Draft file) reads (in_order_of w formed) k.file k.number refl, queued k)
 
--- ---- what is told of the file
+-- ---- the answers about the file
 
 pub number_told : (o : Option FileRow) (n : ℕ) → Some n ≡ option_map (λ (row : FileRow). row.next) o → n ≡ option_map_or (λ (row : FileRow). row.next) o 0
 number_told x0 n e = grind (arith, nat_tests)

@@ -15,7 +15,7 @@ HasAdded now file before book bytes = (k : Kind) → sums_of book k ≡ plus (su
 ends : (after before was : Usage) (own : Bool) (bytes : ℕ) → after ≡ plus before (cond own (one_version bytes) nothing) → before ≡ was → plus after (cond own nothing nothing) ≡ plus was (cond own (one_version bytes) nothing)
 ends after before was x3 bytes has same = grind (arith, nat_tests, and_nothing)
 
--- the file has a version more, its draft may have gone, and no other file has changed
+-- the file has a version more, its draft may be removed, and no other file has changed
 module _ (rows : Rows) (file : ℕ) (new : VersionRow) (drafts : List DraftRow) (handles : List HandleRow) (own : new.file ≡ file) (others : other_drafts file drafts ≡ other_drafts file rows.files.drafts) where
   abbrev w : World
   w = world_of rows

@@ -32,7 +32,7 @@ AreNamedApart rows = AllLater (λ (earlier : GroupRow) later. bytes_eq earlier.n
 own_name : (name : List ℕ) → bytes_eq name name ≡ true
 own_name name = (bytes_eq-Decides name name).1 refl
 
--- no name stands twice, so the group at a place is the one of its name
+-- each name is there once, so the group at a place is the one of its name
 named_at : (rows : List GroupRow) (place : ℕ) (row : GroupRow) → AreNamedApart rows → slice_get rows place ≡ Some row → group_named rows row.name ≡ Some row
 named_at [] place row apart is = absurd (cc)
 named_at (x ∷ xs) zero row apart is = let same : x ≡ row = cc in rw (← same, own_name x.name) refl
@@ -66,7 +66,7 @@ marked_first rows place file closed ended now name mark none its =
 
 -- ---- by its row
 
--- a version that has ended, of which neither a handle nor a mark keeps it, and its rule
+-- a version that has ended, that neither a handle nor a mark protects, and its rule
 pub record IsFree (rows : Rows) (file : ℕ) (info : VersionInfo) : Type 0 where
   pub ended : ℕ
   pub ends : info.ended ≡ Some ended
@@ -81,7 +81,7 @@ IsMade rows file info free fate =
     let next = option_map newer_of (option_map info_of (find (is_newer_of file info.number) rows.files.versions)) in
     IsFreeFate (cover_of rows.groups file info.closed (Some free.ended)) (case_in free.rule rows.files.versions file info.number info.closed) next free.ended rows.moment fate
 
--- what stands beside a version tells when its next one closed
+-- what is beside a version says when its next one closed
 pub beside_closing : (h : Held) (file : ℕ) (info : VersionInfo) (live : Bool) (beside : Beside) → IsBeside h file info live beside → beside.case.next_closed ≡ closing_of (option_map newer_of beside.next)
 beside_closing h file info live beside is = rw (is.case, is.next) (by (find (is_newer_of file info.number) h.versions)) where
   by : (o : Option VersionRow) → option_map (λ (r : VersionRow). r.closed) o ≡ closing_of (option_map newer_of (option_map info_of o))
@@ -167,9 +167,9 @@ due_alone cover case nearest ended since next given fits is = rw (← next) (by 
     past : (c : Cover) (r : ℕ) → ripe_past c r ≡ Some since → nat_le r since ≡ true
     past x0 r h = grind (arith, nat_tests, h)
 
--- ---- by what is told of it
+-- ---- by its info
 
--- what is so of the file and the info of each held row is so of what is told of one
+-- what is so of the file and the info of each held row is so of the info of one
 told_row : (h : Held) (P : ℕ → VersionInfo → Type 0) → ((row : VersionRow) → find (is_version row.file row.number) h.versions ≡ Some row → P row.file (info_of row)) → (file : ℕ) (info : VersionInfo) → IsInfoOf h file info → P file info
 told_row h P each file info told = by (find (is_version file info.number) h.versions) refl told where
   by : (o : Option VersionRow) → find (is_version file info.number) h.versions ≡ o → option_map info_of o ≡ Some info → P file info
@@ -180,7 +180,7 @@ told_row h P each file info told = by (find (is_version file info.number) h.vers
       let same : info_of row ≡ info = cc in
       subst (P file) same (subst (λ (f : ℕ). P f (info_of row)) filed (each row own))
 
--- where it has no end, a handle reads it, or a mark keeps it
+-- if it has no end, a handle reads it, or a mark keeps it
 abbrev IsFateBy : Rows → ℕ → VersionInfo → Fate → Type 0
 IsFateBy rows file info Current = info.ended ≡ None
 IsFateBy rows file info Open = IsSome info.ended × (is_open rows.files.handles file info.number ≡ true)

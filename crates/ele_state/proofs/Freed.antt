@@ -1,4 +1,4 @@
--- The moments of a file's newest versions, where its rule asks for no newer ones.
+-- The moments of a file's newest versions, if its rule asks for no newer ones.
 use Rattle.ele_state.proofs.Words.{IsLawful, cond, cover_of, case_moment, case_of, ripe_past, rule_in, false≢true, is_open, is_some, next_closing, unread_under, unwrap_or, ◌≤◌, comes, if_changed, sym, Held, has_newer, freed_moment, is_entry, is_freed, ◌∙◌, ap, refl, ◌≡◌, ℕ, ◌+◌, ◌==◌, nat_le, Bool, true, false, not, ◌&&◌, ◌||◌, List, Option, Some, None, find, option_and_then, option_map, arith, nat_tests, and-false, AllLater, ArePlaced, VersionRow, GroupRow, VersionInfo, Policy, Key, info_of, is_version, is_moment, found_passes, newer_held, none_asked, with_newer}
 use Rattle.ele_state.proofs.Changes.{any_is, brought}
 use Rattle.ele_state.proofs.Governed.{unheld}
@@ -15,7 +15,7 @@ module _ (groups : List GroupRow) (h : Held) (file : ℕ) (policy : Policy) (now
   pub none_freed : (k : Key) → is_freed groups h file policy now 0 k ≡ false
   none_freed k = rw (none_asked (newer_held h.versions file k.number)) (and-false (k.file == file))
 
-  -- under a policy that may ask for some one that has ended has the moment that it has where none are asked for
+  -- under a policy that may ask for some one that has ended has the moment that it has if it asks for none
   module _ (given : IsLawful policy) (some : 1 ≤ (rule_in policy true).newer) where
     alone : (nearest : Option ℕ) (closed : ℕ) (e : Option ℕ) → is_some e ≡ true → case_moment (cover_of groups file) (case_of policy closed None true) (unwrap_or e now) ≡ option_and_then (case_moment (cover_of groups file) (case_of policy closed nearest true)) e
     alone nearest closed None is = absurd (false≢true is)

@@ -9,7 +9,7 @@ use Rattle.ele_model.proofs.PolicyMoments.{policy_others, policy_own}
 
 -- ---- the keys of a file's versions
 
--- the version is one of the file of which these info are
+-- the version is the one of the file with this info
 abbrev pub is_among : ℕ → List VersionInfo → ℕ → ℕ → Bool
 is_among file held owner number = (owner == file) && list_any (λ info. info.number == number) held
 
@@ -21,7 +21,7 @@ module _ (groups : List GroupRow) (h : Held) (file : ℕ) (was is : Rule) where
   abbrev AreOf : (ℕ → ℕ → Bool) → List KeyChange → Type 0
   AreOf touched changes = AreChanges touched (unread_under groups was h) (unread_under groups is h) changes
 
-  -- of a version by what is told of it
+  -- of a version by its info
   module _ (info : VersionInfo) (told : IsInfoOf h file info) where
     abbrev told_under : Rule → Option ℕ
     told_under rule = cond (is_open h.handles file info.number) None (option_and_then (case_moment (cover_of groups file) (case_in rule h.versions file info.number info.closed)) info.ended)
@@ -42,7 +42,7 @@ module _ (groups : List GroupRow) (h : Held) (file : ℕ) (was is : Rule) where
   held_told number [] = refl
   held_told number (row ∷ rows) = grind (arith, nat_tests, held_told number rows)
 
-  -- so where these are all that are held, no other changes
+  -- so if these are all held ones, no other changes
   pub all_under : (held : List VersionInfo) (changes : List KeyChange) → held ≡ map info_of (filter (is_version_of file) h.versions) → AreOf (is_among file held) changes → AreOf (is_own file) changes
   all_under held changes all are = wider _ _ (is_among file held) (is_own file) changes (λ owner number h. grind (arith, nat_tests, h)) (λ owner number own none. grind (arith, nat_tests, own, none, held_told number h.versions, all, any_is (is_version file number) h.versions)) are
 
@@ -57,7 +57,7 @@ module _ (groups : List GroupRow) (policy : Policy) (h : Held) (file number : �
   pub asked : unread_under groups (rule_in policy true) h file number ≡ cond (nat_le (rule_in policy true).newer held) (unread_under groups (rule_in policy false) h file number) None
   asked = grind (arith, nat_tests, none_asked held, few_none)
 
--- so is each that is told of a file whose versions are in order
+-- so is each info of a file whose versions are in order
 all_told : (h : Held) (file : ℕ) (rows : List VersionRow) → AllByRecursion (λ row. find (is_version row.file row.number) h.versions ≡ Some row) rows → AllByRecursion (IsInfoOf h file) (map info_of (filter (is_version_of file) rows))
 all_told h file [] all = tt
 all_told h file (row ∷ rows) all = grind (arith, nat_tests, all_told h file rows all.1, all.0)
@@ -94,7 +94,7 @@ module _ (rows : Rows) (file : ℕ) (was : Policy) (sound : IsSound rows) (filed
     abbrev now : World
     now = after_change (world_of rows) (SetFilePolicy file policy)
 
-    -- and the one to which it comes has room for it
+    -- and the kind that it moves to can take it
     pub uses_fit : (kind_of was ≡ kind_of policy → ⊥) → Fits (plus (sums_of rows.book (kind_of policy)) uses)
     uses_fit other =
         let formed = put_under_keeps (world_of rows) file policy given.given sound.formed in

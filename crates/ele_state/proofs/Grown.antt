@@ -1,4 +1,4 @@
--- What a file's next version leaves, whatever its content comes from.
+-- What a file's next version leaves, for any source of its content.
 use Rattle.ele_state.proofs.Words.{IsBooked, NoMemory, OnErr, OnOk, Result, Ok, Err, subst, sym, true, false, [], ◌≡◌, ℕ, ◌+◌, ◌<◌, ◌||◌, List, arith, refl, ◌∙◌, ap, Book, coming, Held, IsOwed, IsOwedBy, IsQueued, Kind, Policy, Some, kind_of, one_version, only_at, placed_of, plus, policy_of, sums_of, IsReady, IsRoomy, IsSound, IsSource, IsTracked, Key, MayGrow, Rows, Source, World, after_changes, appending, blocks_of, cells_of_draft, cells_of_version, content_of, has_key, is_draft, comes, length, may_grow, next_of, next_version, remove_first, rows_after, source_cells, with_rows, world_of, drafts-removed}
 use Rattle.ele_state.proofs.Appended.{appended_queue, none_there}
 use Rattle.ele_state.proofs.Booked.{few, of_kind, owed_by}
@@ -46,13 +46,13 @@ module _ (rows : Rows) (file : ℕ) where
   grown_world (Draft handle opened) after is = rw is refl
   grown_world (Version number) after is = rw is refl
 
--- ---- where a sound state's file has it
+-- ---- if a sound state's file has it
 
 module _ (rows : Rows) (file : ℕ) (sound : IsSound rows) (there : 0 < next_of rows.files.files file) (policy : Policy) (filed : policy_of rows.files.files file ≡ Some policy) where
   abbrev grows : MayGrow (world_of rows) file
   grows = may_grow (world_of rows) file sound.formed there
 
-  -- none of the keys was there that come with it
+  -- none of the added keys was there
   pub none_new : (j : Key) → comes (coming rows policy file false) j ≡ true → has_key j rows.queue ≡ false
   none_new j is = sound.tracked.queue j ∙ none_there (world_of rows) file 0 [] grows policy filed false refl j is
 

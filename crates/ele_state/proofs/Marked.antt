@@ -13,7 +13,7 @@ module _ (file number moment : ℕ) where
   abbrev is_its : Option VersionRow → Bool
   is_its o = option_map_or (λ row. row.number == number) o false
 
-  -- of rows behind one of the file that lived at the moment none of the file did, and none has its number
+  -- of rows after one of the file that lived at the moment no other of the file did, and none has its number
   none_covered : (x : VersionRow) (ys : List VersionRow) → x.file ≡ file → lives_at moment x ≡ true → AllByRecursion (ArePlaced x) ys → is_covered (moment ∷ []) ys file number ≡ false
   none_covered x ys own lived all = grind (arith, nat_tests, all-found, found_passes)
 
@@ -45,12 +45,12 @@ module _ (rows : Rows) (file mark : ℕ) (sound : IsSound rows) where
     abbrev after : ℕ → ℕ → Option ℕ
     after = moments_by w (cover_after change rows.groups)
 
-    -- where no version was current
+    -- if no version was current
     pub none_lived : None ≡ option_map info_of (find (had_life file mark) rows.files.versions) → AreChanges touched (ripe_at w) after []
     none_lived none = none_changes (ripe_at w) after touched (λ owner number h. absurd (false≢true (sym (lived_none none owner number) ∙ h)))
 
     module _ (info : VersionInfo) (lives : Some info ≡ option_map info_of (find (had_life file mark) rows.files.versions)) where
-      -- the moment of the one that was by what is told of it
+      -- the moment of the one that was by its info
       abbrev told_by : (ℕ → ℕ → Option ℕ → Cover) → Option ℕ
       told_by cover = cond (is_open rows.files.handles file info.number) None (option_and_then (λ ended. option_and_then (ripe_past (cover file info.closed (Some ended))) (unmarked w file info ended)) info.ended)
 
@@ -60,7 +60,7 @@ module _ (rows : Rows) (file mark : ℕ) (sound : IsSound rows) where
       had : ripe_at w file info.number ≡ told_by (cover_of rows.groups)
       had = ripe_at_near w (in_order_of w sound.formed) file info.number ∙ told_moment (cover_of rows.groups)
 
-      -- where it keeps it, and where it gets another
+      -- if it keeps it, and if it gets another
       pub stays : told_by (cover_after change rows.groups) ≡ told_by (cover_of rows.groups) → AreChanges touched (ripe_at w) after []
       stays same = same_change (ripe_at w) after touched (is_one file info.number) [] (lived_one info lives) (one_stays (ripe_at w) after file info.number (told_moment (cover_after change rows.groups) ∙ same ∙ sym had))
 

@@ -1,4 +1,4 @@
--- Names that come, move and go.
+-- Names that are added, moved and ended.
 use Rattle.ele_state.proofs.Words.{Directory, MayHaveMore, any-found, Bool, Policy, Rule, least_newer, option_map, option_map_or, rule_in, found_passes, is_live_name_of, list_any, list_any-append, or-false, policy_of, AllByRecursion, AreApart, File, FileRow, Files, IsNameRow, IsQueued, IsSound, IsThere, HasParts, List, NameRow, Names, Ok, Rows, Some, Target, World, [], all-both, all-weaker, ap, apart_from_new, append-nil, arith, bytes_eq-Decides, dies, false, false≢true, filter, filter-all, filter-append, in_order_of, is_live_name, is_moment, is_some, is_target_file, last_names, live_target, moments_stay, nat_tests, next_of, not, parent_now, refl, sym, true, update_first, walk_now, world_of, ℕ, ◌++◌, ◌+◌, ◌∙◌, ◌∷◌, ◌≡◌}
 use Rattle.ele_state.proofs.Changes.{any_is}
 use Rattle.ele_lists.proofs.Cuts.{update_first-front}
@@ -27,7 +27,7 @@ name_goes rows directory name sound = grind (arith, nat_tests, filter-append, ap
 
 -- ---- names that move, or go
 
--- the name at which a path ends stands for what the path leads to
+-- the last name of a path means what the path leads to
 pub placed_stands : (rows : List NameRow) (path : List (List ℕ)) (directory : ℕ) (name : List ℕ) (target : Target) → parent_now rows path ≡ Ok (directory, name) → walk_now rows path ≡ Ok target → live_target rows directory name ≡ Some target
 placed_stands rows path directory name target = last_names rows path (directory, name) target
 
@@ -72,7 +72,7 @@ module _ (rows : List NameRow) (from : ℕ) (old : List ℕ) (to : ℕ) (new : L
   other_name : is_live_name from old named ≡ false
   other_name = grind (arith, nat_tests, bytes_eq-Decides new old, false≢true)
 
-  -- so it may come before that one dies
+  -- so it may be added before that one dies
   pub dies_before : update_first (is_live_name from old) (dies now) (rows ++ named ∷ []) ≡ update_first (is_live_name from old) (dies now) rows ++ named ∷ []
   dies_before = update_first-front (is_live_name from old) (dies now) rows (named ∷ []) (other_name, tt)
 

@@ -9,7 +9,7 @@ use Rattle.ele_model.proofs.Basics.{list_any-insert_before}
 pub opened_queue : (rows : Rows) (file : ℕ) → IsSound rows → IsQueued (with_rows (world_of rows) (opened_by rows.files file rows.moment)) rows.queue
 opened_queue rows file sound k = grind (arith, nat_tests, opened_others (world_of rows) (rows.files.opened + 1) (Draft file) (in_order_of (world_of rows) sound.formed) k.file k.number refl, sound.tracked.queue k)
 
--- and leaves all settled, with the draft that it begins where there is none
+-- and leaves all settled, with the draft that it begins if there is none
 module _ (rows : Rows) (settled : IsSettled rows) (file : ℕ) (there : 0 < next_of rows.files.files file) (handles : rows.files.opened < rows.limits.handles) (versions : has_draft (world_of rows) file ≡ false → versions_made (world_of rows) < rows.limits.versions) where
   abbrev first : World
   first = world_of rows

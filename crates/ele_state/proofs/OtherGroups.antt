@@ -1,4 +1,4 @@
--- For how long marks keep, told by what is left where some of a group leave, and by that group.
+-- How long marks hold, by the rest when some marks of a group are removed, and by that group.
 use Rattle.ele_state.proofs.Words.{AllLater, Bool, Cover, GroupRow, List, MarkRow, None, Option, Some, [], arith, cover_of, cover_without, false, filter, has_member, list_any, longer, members_of, nat_tests, not, option_map_or, refl, sym, true, ℕ, ◌&&◌, ◌==◌, ◌||◌, ◌∙◌, ◌∷◌, ◌≡◌}
 use Rattle.std.specs.Str.{bytes_eq}
 use Rattle.ele_model.proofs.Covers.{exceeds, exceeds_by, exceeds_longer, exceeds_same, reaches}
@@ -16,7 +16,7 @@ module _ (q : MarkRow → Bool) (name : List ℕ) (left : Option ℕ) (file : �
   fewer p [] = refl
   fewer p (x ∷ xs) = grind (arith, nat_tests, fewer p xs)
 
-  -- some mark passes of the group, or of what is left
+  -- some mark passes of the group, or of the rest
   any_left : (rows : List GroupRow) → AreNamed rows → has_member rows name file ≡ true → (option_map_or (λ row. list_any q row.marks) (group_named rows name) false || is_rest q rows name left file) ≡ is_over q rows file
   any_left [] named member = absurd cc
   any_left (row ∷ rows) named member =
@@ -37,6 +37,6 @@ module _ (rows : List GroupRow) (name : List ℕ) (left : Option ℕ) (file clos
       ∙ rw (exceeds_group d (group_named rows name), told_rest file closed ended rows name left d) (any_left (reaches closed ended d) name left file rows named member)
       ∙ sym (told_over file closed ended rows d))
 
--- a file that is told among those of the group is in it
+-- a file that is listed among those of the group is in it
 pub members_have : (rows : List GroupRow) (name : List ℕ) (file : ℕ) → list_any (λ member. member == file) (members_of rows name) ≡ has_member rows name file
 members_have rows name file = grind (arith, nat_tests)

@@ -1,4 +1,4 @@
--- What is told of one version, and of the first that are due.
+-- The info of one version, and of the first that are due.
 use Rattle.ele_state.proofs.Words.{[], ◌∷◌, Cover, IsInfoOf, Rule, case_in, case_moment, few_enough, find, is_version, moment_under, ripe_case, ripe_past, rows_of, rule_of, subst, AllLater, ArePlaced, VersionRow, option_and_then, with_newer, ◌-◌, ◌==◌, ◌≡◌, ℕ, ◌≤◌, false, ◌&&◌, List, cond, Option, Some, None, refl, ap, sym, ◌∙◌, arith, nat_le, slice_get, filter_map, option_map, option_map_or, nat_tests, world_of, IsSound, former_moment, gained_moment, Rows, Key, has_key, is_ripe_by, Held, VersionInfo, ripe_at, free_moment, newest_of, due_key, first_due, cover_of, GroupRow, info_of, World, is_open, in_order_of, ripe_at_near, is_due_is, scan_members}
 use Rattle.ele_state.proofs.Changes.{passing}
 use Rattle.ele_moment.specs.Last.{last_moment}
@@ -22,7 +22,7 @@ pub scan_is : (w : World) → in_order (filter_map (due_key w) w.versions) ≡ s
 unfolding scan
 scan_is w = refl
 
--- none is due where none is the first
+-- none is due if there is no first one
 pub none_due : (w : World) → first_due w ≡ None → [] ≡ scan w
 none_due w none = by (scan w) none where
   by : (keys : List Key) → slice_get keys 0 ≡ None → [] ≡ keys
@@ -35,7 +35,7 @@ pub first_is : (rows : Rows) (first : Option Key) → IsSound rows
 unfolding scan
 first_is rows first sound is = sym (is rows.moment (filter_map (due_key (world_of rows)) rows.files.versions) (due_keys rows sound))
 
--- a version is due where its key is ripe and in the queue
+-- a version is due if its key is ripe and in the queue
 pub due_by_key : (rows : Rows) (file number : ℕ) → IsSound rows → is_due (world_of rows) file number ≡ option_map_or (λ m. nat_le m rows.moment && has_key (record { ripe = m; file = file; number = number }) rows.queue) (ripe_at (world_of rows) file number) false
 due_by_key rows file number sound = grind (arith, nat_tests, is_due_is (world_of rows) file number sound.formed)
 
@@ -43,7 +43,7 @@ due_by_key rows file number sound = grind (arith, nat_tests, is_due_is (world_of
 pub ripe_told : (rows : Rows) (file number : ℕ) → IsSound rows → ripe_at (world_of rows) file number ≡ cond (is_open rows.files.handles file number) None (free_moment (world_of rows) (cover_of rows.groups file) file number)
 ripe_told rows file number sound = ripe_at_near (world_of rows) (in_order_of (world_of rows) sound.formed) file number
 
--- the moment that the version gets that gains, by what is told of it
+-- the moment that the version gets that gains, by its info
 abbrev gained_by : List GroupRow → Held → Rule → ℕ → ℕ → VersionInfo → Option ℕ
 gained_by groups h rule file now info = cond (is_open h.handles file info.number) None (gained_moment (cover_of groups file) rule now info.closed info.ended)
 
@@ -51,7 +51,7 @@ pub former_told : (groups : List GroupRow) (h : Held) (rule : Rule) (file now : 
     → option_and_then (former_moment groups h rule file now) (with_newer h.versions file (rule.newer - 1)) ≡ gained_by groups h rule file now gaining
 former_told groups h rule file now gaining told = grind (arith, nat_tests, told)
 
--- one fewer than a rule asks for are enough where it asks for none
+-- one fewer than a rule asks for are enough if it asks for none
 pub none_enough : (rule : Rule) → (rule.newer == 0) ≡ few_enough rule
 none_enough rule = grind (arith, nat_tests)
 
@@ -59,7 +59,7 @@ none_enough rule = grind (arith, nat_tests)
 pub newest_told : (versions : List VersionRow) (file : ℕ) (newest : Option VersionInfo) → AllLater ArePlaced versions → option_map info_of (newest_of versions file) ≡ newest → newest ≡ option_map info_of (with_newer versions file 0)
 newest_told versions file newest placed is = grind (arith, nat_tests, is, newest_newer versions file placed)
 
--- what is told of a held version tells its moment
+-- the info of a held version determines its moment
 module _ (h : Held) (file : ℕ) (info : VersionInfo) (told : IsInfoOf h file info) where
   pub under_told : (cover : ℕ → Option ℕ → Cover) (rule : Rule) → moment_under cover rule h.versions file info.number ≡ option_and_then (case_moment cover (case_in rule h.versions file info.number info.closed)) info.ended
   under_told cover rule = grind (arith, nat_tests, told)
@@ -84,7 +84,7 @@ covered_told w file info told cover = by (rule_of w file) info.ended (λ rule. u
 pub told_under : (h : Held) (file number : ℕ) (info : VersionInfo) → Some info ≡ option_map info_of (find (is_version file number) h.versions) → (info.number ≡ number) × IsInfoOf h file info
 told_under h file number info found = grind (arith, nat_tests, found, passing (is_version file number) h.versions)
 
--- so a found version's info and its file's rule tell its moment
+-- so a found version's info and its file's rule determine its moment
 module _ (w : World) (cover : ℕ → Option ℕ → Cover) (file number : ℕ) where
   pub unheld_free : None ≡ option_map info_of (find (is_version file number) w.versions) → free_moment w cover file number ≡ None
   unheld_free none = by (rule_of w file) where

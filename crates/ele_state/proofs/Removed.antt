@@ -16,7 +16,7 @@ removed_queue rows key queue sound first taken =
 pub removed_keeps : (rows : Rows) (key : Key) (v : World) → IsSound rows → first_due (world_of rows) ≡ Some key → v ≡ after_change (world_of rows) (Take key.file key.number) → HasParts v
 removed_keeps rows key v sound first is = let w = world_of rows in subst HasParts (sym is) (event_keeps CleanOne w w (Take key.file key.number) tt (takes w key sound.formed first) sound.formed)
 
--- and with the file of which nothing is left the clean event is done
+-- and with the drop of a file without anything else the clean event is done
 pub removed_step : (rows : Rows) (key : Key) (between v : World) → first_due (world_of rows) ≡ Some key → between ≡ after_change (world_of rows) (Take key.file key.number) → v ≡ after_change between (DropIdle key.file) → v ≡ (step (world_of rows) CleanOne).1
 removed_step rows key between v first taken dropped = dropped ∙ ap (λ (u : World). after_change u (DropIdle key.file)) taken ∙ rw first refl
 

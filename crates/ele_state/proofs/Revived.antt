@@ -120,7 +120,7 @@ module _ (rows : Rows) (directory : ℕ) (name : List ℕ) (file : ℕ) (sound :
     named_has : (k : Key) → is_moment k.ripe (ripe_at u k.file k.number) ≡ ((not (k.file == file) || met k least) && has_key k rows.queue)
     named_has k = grind (arith, nat_tests, had k, sound.tracked.queue k, own_named k.number, others_stay k.file k.number)
 
-    -- where it asks for none the keys come that do with any version, and else none
+    -- if it asks for none, the keys are added that any version adds, and else none
     gives : least ≡ 0 → (not true || ((rule_in policy (is_live u file)).newer == 0)) ≡ true
     gives none = rw (live_now, none) refl
 
@@ -132,7 +132,7 @@ module _ (rows : Rows) (directory : ℕ) (name : List ℕ) (file : ℕ) (sound :
     still : least ≡ 0 → (k : Key) → is_moment k.ripe (ripe_at u k.file k.number) ≡ has_key k rows.queue
     still none k = grind (arith, nat_tests, named_has k, none)
 
-    -- where it asks for some the held version that gains has the moment that it had without
+    -- if it asks for some, the held version that gains has the moment that it had without
     beside_new : 1 ≤ least → (closed ended : ℕ) → case_moment (cover_of w.groups file) (case_of policy closed (Some rows.moment) true) ended ≡ case_moment (cover_of w.groups file) (case_of policy closed None true) ended
     beside_new some closed ended = ap (option_and_then (ripe_past (cover_of w.groups file closed (Some ended)))) (given.ripe_counted (case_of policy closed (Some rows.moment) true) ended None some)
 

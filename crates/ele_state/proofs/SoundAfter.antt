@@ -1,7 +1,7 @@
 -- What a change leaves is settled again, once the queue and the book have followed it.
 use Rattle.ele_state.proofs.Words.{◌≡◌, ◌<◌, ℕ, false, is_some, List, Option, Result, Ok, Err, IfOk, OnOk, OnErr, subst, sym, ap, Change, Closed, Event, HasNoIdle, HasParts, IsEvent, IsHome, IsSettled, IsTracked, LeavesRows, May, MayName, NoMemory, Reply, Rows, Shown, World, after_change, change_keeps, change_settles, live_target, no_idle_stays, shown_of, step, step_keeps, world_of}
 
--- a name may be made where nothing refuses it
+-- a name may be made if nothing refuses it
 pub named : (w : World) (directory : ℕ) (name : List ℕ) → IsHome w directory → is_some (live_target w.names directory name) ≡ false → w.made.names < w.limits.names → MayName w directory name
 named w directory name home free room = record { room = room; free = free; home = home.there; reached = home.reached }
 
@@ -20,7 +20,7 @@ module _ (rows : Rows) (shown : Shown) (is : shown_of rows ≡ shown) (settled :
   pub stepped : (event : Event) → IsEvent event → (now : Rows) → world_of now ≡ (step w event).1 → IsTracked now → IsSettled now
   stepped event is_event = settles _ (step_keeps w event is_event settled.sound.formed) (no_idle_stays w event settled.sound.formed settled.none_idle)
 
-  -- where memory was refused
+  -- if memory was refused
   pub unchanged : (now : Rows) → world_of now ≡ w → IsTracked now → IsSettled now
   unchanged = settles w settled.sound.formed settled.none_idle
 

@@ -1,4 +1,4 @@
--- Where a path leads by the names of any moment, and what is told of the version that its tag means.
+-- What a path leads to by the names of any moment, and the info of the version that its tag means.
 use Rattle.ele_state.proofs.Words.{Names, HasParts, is_held, meant_held, true, arith, nat_tests, ◌≡◌, ℕ, List, ◌∷◌, Option, Result, Ok, Err, refl, ap, subst, AllByRecursion, option_map_or, result_map_both, all-found, target_at, version_at, version_found, version_meant, walk_meant, info_of, file_at, walk_now, IsNameRow, IsThere, World, Refusal, VersionInfo, Target, File, Directory, VersionRow, is_at, is_meant, file_there, [], AllLater, ArePlaced, IfOk, Some, option_map, all_found, find, is_version, version_cells, sym, ◌∙◌}
 use Rattle.ele_state.specs.Told.{found_of}
 use Rattle.ele_path.specs.declared.tagged.Tag.{Tag}
@@ -10,7 +10,7 @@ use Rattle.ele_model.specs.Why.{MeansFate}
 use Rattle.ele_model.specs.declared.fate.Fate.{Fate}
 use Rattle.ele_model.specs.declared.refusal.Refusal.TheVariants.{NoEntry}
 
--- ---- where a path leads is there
+-- ---- what a path leads to is there
 
 module _ (w : World) (formed : HasParts w) where
   each : AllByRecursion (IsNameRow w.files w.now) w.names
@@ -51,7 +51,7 @@ told_row w tagged found h = grind (arith, nat_tests)
 pub found_held : (w : World) (tagged : TaggedPath) (found : ℕ × VersionInfo) → Ok found ≡ found_of (version_at w tagged) → is_held w found.0 found.1.number ≡ true
 found_held w tagged found h = let told = told_row w tagged found h in rw told.is (meant_held w told.row.file told.row (is_at w tagged told.row told.meant))
 
--- it is the one that is found by its file and number, so what is read of it are its cells
+-- it is the one that is found by its file and number, so a read returns its cells
 pub found_cells : (w : World) (tagged : TaggedPath) (found : ℕ × VersionInfo) → AllLater ArePlaced w.versions → Ok found ≡ found_of (version_at w tagged) → IfOk (version_at w tagged) (λ row. version_cells w found.0 found.1.number ≡ row.cells)
 found_cells w tagged found placed h =
     let told = told_row w tagged found h in
@@ -60,7 +60,7 @@ found_cells w tagged found placed h =
     let cells : version_cells w found.0 found.1.number ≡ told.row.cells = ap (λ (f : ℕ × VersionInfo). version_cells w f.0 f.1.number) told.is ∙ ap (λ o. option_map_or (λ (row : VersionRow). row.cells) o []) itself in
     subst (λ (r : Result VersionRow Refusal). IfOk r (λ row. version_cells w found.0 found.1.number ≡ row.cells)) (sym told.meant) cells
 
--- so it is told of the held version of its number
+-- so it is the info of the held version of its number
 pub found_info : (w : World) (tagged : TaggedPath) (found : ℕ × VersionInfo) → AllLater ArePlaced w.versions → Ok found ≡ found_of (version_at w tagged) → option_map info_of (find (is_version found.0 found.1.number) w.versions) ≡ Some found.1
 found_info w tagged found placed h =
     let told = told_row w tagged found h in
@@ -74,7 +74,7 @@ found_fate w tagged found fate h has =
     let told = told_row w tagged found h in
     record { row = told.row; means = told.meant; has = subst (λ (f : ℕ × VersionInfo). HasFate w f.0 f.1.number fate) told.is has }
 
--- where none is found, the refusal is the path's
+-- if none is found, the refusal is the path's
 pub none_found : (w : World) (tagged : TaggedPath) (refusal : Refusal) → Err refusal ≡ found_of (version_at w tagged) → version_at w tagged ≡ Err refusal
 none_found w tagged refusal h = by (version_at w tagged) refl h where
   by : (r : Result VersionRow Refusal) → version_at w tagged ≡ r → Err refusal ≡ found_of r → version_at w tagged ≡ Err refusal

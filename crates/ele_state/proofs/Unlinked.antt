@@ -128,7 +128,7 @@ module _ (rows : Rows) (directory : ℕ) (name : List ℕ) (file : ℕ) (sound :
       last_is : ripe_at v file last ≡ then_is last
       last_is = grind (arith, nat_tests, ended_moment w directory name file current sound.formed dead policy filed, current.found, current.no_end, found_passes (is_version file last) w.versions current.row current.found)
 
-      -- those of so many of the newest versions are told by them alone, and weren't there, and the others stay
+      -- those of so many of the newest versions are determined by them alone, and weren't there, and the others stay
       record IsFreed (n : ℕ) : Type 0 where
         now : ripe_at v file n ≡ cond (nat_le newest (newer n)) (ripe_at w file n) (then_is n)
         before : nat_le newest (newer n) ≡ false → ripe_at w file n ≡ None
@@ -167,6 +167,6 @@ module _ (rows : Rows) (directory : ℕ) (name : List ℕ) (file : ℕ) (sound :
             rw (sound.tracked.queue k, own, same, (freed k.number).now) (either (nat_le newest (newer k.number)) k.ripe (ripe_at w file k.number) (then_is k.number) (freed k.number).before)
         by k false other = rw other (sound.tracked.queue k ∙ ap (is_moment k.ripe) (sym (others k.file k.number other)))
 
-      -- none of them was there, so where memory is refused all is as it was
+      -- none of them was there, so if memory is refused, all is as it was
       pub still_queued : (after : List Key) → ((k : Key) → has_key k after ≡ (not (comes_free k) && has_key k rows.queue)) → IsQueued w after
       still_queued after edited k = grind (arith, nat_tests, edited k, freed k.number, sound.tracked.queue k)

@@ -30,8 +30,8 @@ use ele_model::{FileId, Moment, NoMemory, VersionInfo, VersionNo};
 use ele_policy::{Case, Rule};
 use ele_sessions::FoundHandle;
 
-// Where the content of a file's next version comes from: the draft that was opened then, whose last
-// handle this is, or the held version of that number.
+// The source of a file's next version: the draft that was opened then, with its last handle, or the
+// held version of that number.
 #[derive(Clone, Copy)]
 pub enum Source {
     Draft(FoundHandle, Moment),
@@ -118,9 +118,9 @@ fn former_moment(rows: &Rows, file: FileId, rule: &Rule, gaining: &VersionInfo) 
     )
 }
 
-// The key of the held version that becomes due with enough newer ones as the next one closes. None
-// if the file is restored and its rule asks for newer ones: the version got its key while the rule
-// asked for none.
+// The key of the held version that has enough newer ones once the next one closes. None if the file
+// is restored and its rule asks for newer ones: the version got its key while the rule asked for
+// none.
 #[tactic(auto, using(crate::proofs::Words::nat_tests))]
 fn former_key(rows: &Rows, file: FileId, head: &FileHead, rule: &Rule, again: bool) -> KeyChange
     requires stands { Stands rows.now.files file head.now }

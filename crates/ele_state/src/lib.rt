@@ -107,9 +107,9 @@ impl State {
         self.rows.alloc
     }
 
-    /// Returns the current moment. Its contract also says that the world is well formed, that its
-    /// limits are allowed, and that each file has a live name, a held version or a draft. So the
-    /// laws of `ele_world` hold.
+    /// Returns the current moment. Its contract also says that the world is well formed, and that
+    /// its limits are allowed. Each file has a live name, a held version or a draft. So the laws of
+    /// `ele_world` hold.
     pub fn now(&self) -> Moment
         ensures value { result ≡ self.now.world.now }
         ensures formed { IsWellFormed self.now.world }

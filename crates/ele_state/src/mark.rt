@@ -49,8 +49,8 @@ fn with_group(groups: &Groups, name: &Name, rest: &Cover, closed: Moment, ended:
 }
 
 // How long marks hold a version of the file that closed and ended then, before the change and after
-// it. If the change removes marks, all groups of the file are asked for what the others hold, and
-// this group alone for what the change removes.
+// it. If the change removes marks, it looks at all groups of the file for the others, and at this
+// group alone for the removed ones.
 #[tactic(auto, using(crate::proofs::Words::nat_tests, crate::proofs::OtherGroups::longer_again, crate::proofs::OtherGroups::members_have))]
 fn covers(
     groups: &Groups,

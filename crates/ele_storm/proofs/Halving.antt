@@ -40,7 +40,7 @@ workers_of_both plan from (suc count) more xs ys zs some all woven =
     let behind = workers_of_both plan (suc from) count more some.1 ys rest.0 some.4 (subst (λ (n : ℕ). AreOfWorkers plan n more ys) first all) rest.1 in
     subst (λ (n : ℕ). AreOfWorkers plan from n zs) many (some.0, rest.0, rest.2, some.3, behind)
 
--- the calls of two parts are those of both, where the seat had none
+-- the calls of two parts are those of both, if the seat had none
 calls_run : (plan : StormPlan) (from count more : ℕ) (a b o c d : Knowledge) → (a.own ≡ [] → AreOfWorkers plan from count (entries_of b.own)) → (o.own ≡ [] → AreOfWorkers plan (from + count) more (entries_of c.own)) → Joined b c d → o.own ≡ []
     → a.own ≡ [] → AreOfWorkers plan from (count + more) (entries_of d.own)
 calls_run plan from count more a b o c d p q j none empty =
@@ -59,7 +59,7 @@ halves_run plan from count more a b o c d (Ok _) (Ok _) p q j none =
 halves_run plan from count more a b o c d (Ok _) (Err e) p q j none = record { object = j.object ∙ p.object; view = starts_trans d.view b.view a.view j.view_first p.view; own = tt; calls = λ empty. tt }
 halves_run plan from count more a b o c d (Err e) y p q j none = record { object = j.object ∙ p.object; view = starts_trans d.view b.view a.view j.view_first p.view; own = tt; calls = λ empty. tt }
 
--- where a seat had no calls, those that it made are all
+-- if a seat had no calls, those that it made are all
 only_added : (a b : Knowledge) (entries : List Entry) → AddsCalls a entries b → a.own ≡ [] → entries_of b.own ≡ entries
 only_added a b entries (calls, own, are) empty = ap entries_of (own ∙ ap (λ (l : List Call). l ++ calls) empty) ∙ are
 

@@ -19,7 +19,7 @@ woven_none ys [] woven = sym woven.1
 woven_none ys (z ∷ zs) (inl woven) = absurd (let h = woven.1 in cc)
 woven_none {A} ys (z ∷ zs) (inr woven) = ap (λ (l : List A). z ∷ l) (woven_none woven.0 zs woven.2) ∙ sym woven.1
 
--- what comes next of a list that is woven itself
+-- the next element of a list that is itself interleaved
 out_next : {A : Type 0} (xs ys vs : List A) (z : A) (us zs : List A) → ((xs ys : List A) → IsWoven xs ys us → (m : List A) × IsWoven ys vs m × IsWoven xs m zs)
     → IsWoven xs ys (z ∷ us) → (m : List A) × IsWoven ys vs m × IsWoven xs m (z ∷ zs)
 out_next xs ys vs z us zs out (inl woven) = let rest = out woven.0 ys woven.2 in (rest.0, rest.1, inl (woven.0, woven.1, rest.2))
@@ -56,7 +56,7 @@ calls_are_woven a b c j =
     let woven = woven_own a.numbers b.numbers c.view j.apart in
     rw (j.own_first, j.own_second, all) at woven
 
--- the calls under some numbers stand in all calls, woven with the others
+-- all calls interleave the calls under some numbers with the others
 others_cond : (p : Bool) (call : Call) (xs zs : List Call) → (others : List Entry) × IsWoven (entries_of xs) others (entries_of zs)
     → (others : List Entry) × IsWoven (entries_of (cond p (call ∷ xs) xs)) others (entries_of (call ∷ zs))
 others_cond true call xs zs woven = (woven.0, inl (entries_of xs, refl, woven.1))

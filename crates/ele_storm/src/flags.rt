@@ -41,8 +41,8 @@ impl Flags {
 }
 
 impl Meet for Flags {
-    /// Returns `Met` as soon as another worker's flag is set, and `Alone` if none is after so many
-    /// looks or if there is no worker of that number. Other threads run between two looks.
+    /// Returns `Met` as soon as another worker's flag is set. Returns `Alone` if none is after so
+    /// many looks, or if there is no worker of that number. Other threads run between two looks.
     fn arrive(&self, worker: u32) -> MeetEnd
         ensures { self.now ≤ worker → result ≡ meet.Alone }
     {

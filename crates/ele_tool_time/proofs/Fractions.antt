@@ -27,7 +27,7 @@ digits_cut : (w : List ℕ) → IsCut w (after_digits w)
 digits_cut [] = record { front = []; digits = refl; parts = refl }
 digits_cut (c ∷ rest) = cut_case c rest (after_digits rest) (is_ascii_digit c) refl (digits_cut rest)
 
--- a fraction in front of a word, and the rest
+-- a fraction at the start of a word, and the rest
 record IsCutOff (w rest : List ℕ) : Type 0 where
   fraction : List ℕ
   is : IsFraction fraction
@@ -56,7 +56,7 @@ fraction_found : (w z : List ℕ) → after_fraction w ≡ Some z → IsCutOff w
 fraction_found [] z h = record { fraction = []; is = tt; parts = some_is _ _ h }
 fraction_found (c ∷ rest) z h = point_case c rest z (c == 46) refl h
 
--- no digit and no point stands in front of it
+-- it begins with neither a digit nor a point
 record IsPlain (z : List ℕ) : Type 0 where
   digits : after_digits z ≡ z
   fraction : after_fraction z ≡ Some z
@@ -103,7 +103,7 @@ pub record IsRest (rest : List ℕ) (o : Offset) : Type 0 where
   pub zone_is : SpellsZone zone o
   pub parts : rest ≡ fraction ++ zone
 
--- are what is read behind a time of day
+-- are what is read after a time of day
 pub rest_found : (rest : List ℕ) (o : Offset) → rest_of rest ≡ Some o → IsRest rest o
 unfolding rest_of
 rest_found rest o h = given _ _ _ h (λ zone e h1.

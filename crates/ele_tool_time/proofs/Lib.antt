@@ -1,4 +1,4 @@
--- zones, and what is read of them
+-- zones, and how they are read
 mod Zones
 -- fractions, and what follows them
 mod Fractions

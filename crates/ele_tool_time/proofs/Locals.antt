@@ -1,4 +1,4 @@
--- Dates and times of day in front of a word.
+-- Dates and times of day at the start of a word.
 use Rattle.std.proofs.Common.{◌≡◌, ℕ, ◌+◌, ◌≤◌, pos, List, [], ◌∷◌, ◌++◌, take, drop, length, get_or, Some, inl, inr, refl, sym, ap, subst, ◌∙◌, arith, ◌/◌, ◌%◌, append_assoc}
 use Rattle.std.specs.Prelude.{codes}
 use borrow.Rule.Slice.PartMut.{put_mid}
@@ -51,7 +51,7 @@ moment_stamp s m long h = elim h.form [
   | inr stamp ↦ stamp
 ]
 
--- of which no word has two
+-- no word has two of them
 pub one_stamp : (s : List ℕ) (m n : ℕ) → SpellsTimestamp s m → SpellsTimestamp s n → m ≡ n
 one_stamp s m n h k =
     let is = h.is in
@@ -65,7 +65,7 @@ exact_take n xs ys e = subst (λ (k : ℕ). take k (xs ++ ys) ≡ xs) e (take-ap
 exact_drop : (n : ℕ) (xs ys : List ℕ) → length xs ≡ n → drop n (xs ++ ys) ≡ ys
 exact_drop n xs ys e = subst (λ (k : ℕ). drop k (xs ++ ys) ≡ ys) e (drop-append_seam xs ys)
 
--- a date in front, and a time of day behind the byte that follows
+-- a date at the start, and a time of day after the byte that follows
 record AreFront (w : List ℕ) (f : Fields) : Type 0 where
   date : take 10 w ≡ date_text f.year f.month f.day
   time : take 8 (drop 11 w) ≡ time_text f.hour f.minute f.second
@@ -155,7 +155,7 @@ date_found w m ten twenty is =
       midnight = omega (arith, stamp.worth.2, hours.0, hours.1, minutes.0, minutes.1, seconds.0, seconds.1);
     }
 
--- a date has a dash behind its year
+-- a date has a dash after its year
 pub date_dash : (w : List ℕ) (m : ℕ) → SpellsDate w m → (get_or w 4 0 ≡ 45) × (length w ≡ 10)
 date_dash w m h = (ap (λ (w : List ℕ). get_or w 4 0) h.text, ap length h.text)
 

@@ -102,7 +102,7 @@ moment_time w m h =
 pub one_time : OneTime
 one_time = record { one = one; moment = moment_time }
 
--- what is read between a date and a time of day, of both, and behind them
+-- what is read between a date and a time of day, in both, and after them
 pub record IsRead (w : List ℕ) (local : ℕ) (o : Offset) : Type 0 where
   pub long : 19 ≤ length w
   pub twenty : length (stamp_of w) ≡ 20

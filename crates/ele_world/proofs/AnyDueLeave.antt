@@ -1,4 +1,4 @@
--- The law of any due versions, by one due row after another from the front: whether the others are due is the same after each.
+-- The law of any due versions, by one due row after another from the first on: whether the others are due is the same after each.
 use Rattle.ele_model.proofs.Basics.{◌≡◌, ℕ, Bool, true, false, not, cond, List, [], ◌∷◌, ◌++◌, Some, refl, ap, sym, subst, ◌∙◌, ◌&&◌, arith, nat_tests, filter, find, remove_first, AllByRecursion, AllLater, append_assoc}
 use Rattle.ele_model.proofs.Basics.{all-any, all-append, all-both, all-filter, all-right, all-weaker, filter-both, filter-same_all, filter-swap, later-around, remove_first-at}
 use Rattle.ele_lists.proofs.Alls.{all-left}
@@ -46,7 +46,7 @@ module _ (w : World) (before : List VersionRow) (row : VersionRow) (behind : Lis
   others_same : AllByRecursion (IsDueAs w (with_rows w (before ++ behind))) (before ++ behind)
   others_same = all-weaker (IsBeside row) (IsDueAs w (with_rows w (before ++ behind))) (before ++ behind) (stays w before row behind k whole w.now due) (sides w before row behind k whole)
 
--- ---- all that the test names go, from the front
+-- ---- all that the test names are removed, from the first on
 
 -- a row that the test names is due
 abbrev IsDueIf : (ℕ → ℕ → Bool) → World → VersionRow → Type 0
@@ -64,7 +64,7 @@ module _ (gone : ℕ → ℕ → Bool) where
   abbrev left : List VersionRow → List VersionRow
   left rows = filter (remains gone) rows
 
-  -- behind those that are looked at already
+  -- after those that were already looked at
   go : (w : World) (before rows : List VersionRow) → HasParts w → w.versions ≡ before ++ rows → AllByRecursion (IsDueIf gone w) rows → StaysDue w (before ++ left rows)
   go w before [] k whole due = record {
     formed = subst (λ rows. HasParts (with_rows w rows)) whole k;

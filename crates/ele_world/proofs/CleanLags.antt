@@ -1,4 +1,4 @@
--- A clean of the world that lags: one more version has gone, and its file with it if nothing is left of that.
+-- A clean of the world that lags: one more version is removed, and its file with it if that has nothing else.
 use Rattle.ele_model.proofs.Basics.{◌≡◌, ◌==◌, ◌<◌, ℕ, Bool, true, false, not, ◌&&◌, ◌||◌, List, [], None, Some, Option, refl, ap, sym, subst, ◌∙◌, arith, nat_tests, filter, find, remove_first}
 use Rattle.ele_model.proofs.Basics.{all-found, all-none, all-weaker, list_any-filter, filter-both, filter-passes, filter-same, found_passes, later-filter, remove_first-key}
 use Rattle.ele_lists.proofs.Filters.{find-filter}
@@ -54,7 +54,7 @@ module _ (gone : ℕ → ℕ → Bool) (dropped : ℕ → Bool) (v : World) (k :
       ap (λ (groups : List GroupRow). let w : World = record (without_file u file) { groups = groups } in w) same
       ∙ parts_same v (remove_first (is_file file) u.files) (filter (stays_file (with_dropped file dropped)) v.files) (filter (λ (row : NameRow). not (is_target_file file row.target)) u.names) (filter (stays_name (with_dropped file dropped)) v.names) u.versions u.versions files_less names_less refl
 
-  -- nothing of it is left there, so in the other world nothing but what has gone
+  -- it has nothing there, so in the other world only what was removed
   idle_emptied : 0 < next_of v.files file → dropped file ≡ false → IsIdle u file → IsEmptied gone v file
   idle_emptied there stays idle = record { there = there; nameless = sym (live_same dropped file stays v.names) ∙ idle.nameless; undrafted = idle.undrafted; unheld = unheld } where
     unheld : (number : ℕ) → is_held v file number ≡ true → gone file number ≡ true

@@ -1,4 +1,4 @@
--- A close that tells of a version has made it of all that was written, and a revert of the version that was named.
+-- A close that returns a version's number has made it of all that was written, and a revert of the version that it names.
 use Rattle.ele_model.proofs.Basics.{◌≡◌, ℕ, List, [], ◌∷◌, Some, arith, find, Ok, nat_tests, refl}
 use Rattle.ele_model.proofs.Words.{after_changes, ShutHandle, EndDraft, Append, is_draft, next_version, draft_read, step, Versions, HasParts, World, next_of}
 use Rattle.ele_model.proofs.Words.{reads_by, after_change, file_now, version_meant, Names}

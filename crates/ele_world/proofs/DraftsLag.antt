@@ -28,7 +28,7 @@ module _ (gone : ℕ → ℕ → Bool) (dropped : ℕ → Bool) (u v : World) (b
   abbrev behind : World
   behind = less gone dropped v
 
-  -- where the drafts alone change
+  -- if only the drafts change
   keeps_drafts : (drafts : List DraftRow) → ((file : ℕ) → dropped file ≡ true → list_any (is_draft file) v.drafts ≡ false → list_any (is_draft file) drafts ≡ false) → KeepsBehind gone dropped v (record v { drafts = drafts })
   keeps_drafts drafts none = record {
     time = omega arith;

@@ -64,7 +64,7 @@ module _ (gone : ℕ → ℕ → Bool) (dropped : ℕ → Bool) (v : World) (b :
   target_there (Directory id) directory name is = refl
   target_there (File file) directory name is = live_there gone dropped behind v b file (target_live v.names directory name (File file) is)
 
-  -- ---- where paths lead
+  -- ---- what paths lead to
 
   walks : (at : Target) (path : List (List ℕ)) → walk (filter (stays_name dropped) v.names) at path ≡ walk v.names at path
   walks = walk_stays (stays_name dropped) v.names (names_live gone dropped behind v b)

@@ -48,7 +48,7 @@ module _ (w : World) (row : VersionRow) where
   unfolding is_due_at
   unended_not_due at none = grind (arith, nat_tests)
 
-  -- ---- a version is due by its fate just where it is due
+  -- ---- a version is due by its fate exactly if it is due
 
   fate_due : (fate : Fate) → IsFate w row fate → (key : Key) → is_due_from w key row ≡ says_due key.ripe (Some fate)
   fate_due Current is key = rw (unended_not_due w.now is) refl

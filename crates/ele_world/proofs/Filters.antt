@@ -18,7 +18,7 @@ module _ {X : Type 0} (q p : X → Bool) where
   remove_first-filter [] stay = refl
   remove_first-filter (x ∷ xs) stay = grind (arith, stay x, remove_first-filter xs stay)
 
-  -- what comes in stays; all behind one that passes p pass
+  -- what is added stays; all after one that passes p pass
   pub insert_before-filter : (y : X) (xs : List X) → q y ≡ true → AllLater (λ x z. p x ≡ true → p z ≡ true) xs → insert_before p y (filter q xs) ≡ filter q (insert_before p y xs)
   insert_before-filter y [] stays later = grind (arith, stays)
   insert_before-filter y (x ∷ xs) stays later = grind (arith, stays, insert_before-filter y xs stays later.1, in_front xs, later) where
@@ -34,7 +34,7 @@ remove_first-version file number (x ∷ xs) placed = grind (arith, nat_tests, fi
   apart_from : is_version file number x ≡ true → AllByRecursion (λ y. not (is_version file number y) ≡ true) xs
   apart_from is = all-weaker (ArePlaced x) (λ y. not (is_version file number y) ≡ true) xs (λ y before. let after = before.after in grind (arith, nat_tests)) placed.0
 
--- of elements that stay where they pass p
+-- of elements that stay if they pass p
 module _ {X : Type 0} (q p : X → Bool) where
   pub find-stay : (xs : List X) → AllByRecursion (λ x. p x ≡ true → q x ≡ true) xs → find p (filter q xs) ≡ find p xs
   find-stay [] stay = refl
@@ -48,7 +48,7 @@ module _ {X : Type 0} (q p : X → Bool) where
   update_first-stay f [] keeps stay = refl
   update_first-stay f (x ∷ xs) keeps stay = grind (arith, keeps x, stay.0, update_first-stay f xs keeps stay.1)
 
--- an element more behind
+-- one more element at the end
 pub filter-push : {X : Type 0} (q : X → Bool) (xs : List X) (y : X) → q y ≡ true → filter q xs ++ y ∷ [] ≡ filter q (xs ++ y ∷ [])
 filter-push q [] y stays = grind (arith, stays)
 filter-push q (x ∷ xs) y stays = grind (arith, filter-push q xs y stays)

@@ -27,7 +27,7 @@ changed w v name f members marks there whole own tells groups = record {
   rest = grind (arith, whole, groups);
 }
 
--- ---- numbers, of which none stands twice
+-- ---- numbers that are there once each
 
 removed_has : (k n : ℕ) (xs : List ℕ) → AllLater (λ earlier later. (earlier == later) ≡ false) xs → list_any (λ x. x == n) (remove_first (λ x. x == k) xs) ≡ (list_any (λ x. x == n) xs && not (k == n))
 removed_has k n [] apart = refl
@@ -77,7 +77,7 @@ module _ (w : World) (name : List ℕ) (k : HasParts w) where
   mark_leaves : (mark : ℕ) → (step w (Unmark name mark)).0 ≡ Done → Unmarked mark ((step w (Unmark name mark)).1)
   mark_leaves mark = in_all w (λ answer. answer.0 ≡ Done → Unmarked mark (answer.1)) (plan w (Unmark name mark)) (λ refusal told. absurd cc) (λ there marked told. unmarked w name mark k there)
 
-  -- a new group stands behind the others
+  -- a new group is after the others
   made : has_group w.groups name ≡ false → ChangesGroup w name (λ is. is ≡ Some (new_group name)) (after_change w (MakeGroup name))
   made free = record {
     named = grind (arith, nat_tests, find-append, not_found (is_group name) w.groups, all-none (is_group name) w.groups free, bytes_eq-Decides);

@@ -1,4 +1,4 @@
--- The law of any due versions where the files go with them of which nothing is left, one after the other.
+-- The law of any due versions with the files that have nothing else, one after the other.
 use Rattle.ele_model.proofs.Basics.{◌≡◌, ◌==◌, true, false, not, List, [], ◌∷◌, refl, sym, ◌∙◌, arith, nat_tests, map, list_any, remove_first, AllByRecursion, false≢true, all-both, all-remove_first, all-weaker, filter-passes, remove_first-key, filter-same_all, subst, ℕ, Bool}
 use Rattle.ele_model.proofs.Words.{DropIdle, after_change, after_changes, is_idle, without_file, kept_rows, is_file, HasNoIdle, Files, HasParts, World}
 use Rattle.ele_world.proofs.Words.{FileRow}
@@ -29,11 +29,11 @@ all_dropped w (row ∷ files) k =
 
 -- ---- none is left that is idle
 
--- a file that is idle is yet to come
+-- an idle file is among the rest
 abbrev IsToGo : World → List FileRow → FileRow → Type 0
 IsToGo w files row = is_idle w row.id ≡ true → list_any (is_file row.id) files ≡ true
 
--- the file itself has gone, and another is as idle as before
+-- the file itself is removed, and another is as idle as before
 goes : (w : World) (row : FileRow) (files : List FileRow) → HasParts w → AllByRecursion (IsToGo w (row ∷ files)) w.files → AllByRecursion (IsToGo (after_change w (DropIdle row.id)) files) (after_change w (DropIdle row.id)).files
 goes w row files k all = dropped (λ v. AllByRecursion (IsToGo v files) v.files) w row.id (λ idle. gone) (λ busy. all-weaker (IsToGo w (row ∷ files)) (IsToGo w files) w.files (λ x to_go idle. grind (arith, nat_tests, to_go, busy, false≢true)) all) where
   others : AllByRecursion (λ x. not (x.id == row.id) ≡ true) (remove_first (is_file row.id) w.files)

@@ -1,4 +1,4 @@
--- What a history knows of versions: those that are held, and those that were removed as they last stood; at each moment from its
+-- What a history knows of versions: those that are held, and those that were removed as they last were; at each moment from its
 -- start on that a name covers a version of its file lived. A change keeps that.
 use Rattle.ele_model.proofs.Basics.{◌≡◌, ℕ, ◌-◌, ◌<◌, ◌≤◌, true, false, List, [], Option, Some, None, refl, ap, sym, subst, ◌∙◌, arith, find, AllByRecursion, option_or, false≢true, nat_tests, all-found, find-insert_before, find-inserted, not_found, remove_first, all-not_found, all-remove_first, all-weaker, found_passes, AllLater, ◌++◌, ◌∷◌, list_any, cases_lt, update_first, all-filter, all-both, all-push}
 use Rattle.ele_model.proofs.Words.{Cell, current_cells, Change, Time, EndFileName, Revive, MakeFile, Append, Take, DropIdle, after_change, ended_at, next_version, with_end, with_file, with_name, with_version, covers, lives_at, ArePlaced, IsVersion, Versions, HasParts, World, is_live, is_version, is_version_after, next_of, MakeDirectory, EndName, AddName, MoveName, born_row, dies, is_live_name, IsNameRow, Names, is_live_name_of}
@@ -12,7 +12,7 @@ use Rattle.ele_model.proofs.Currents.{has_current}
 use Rattle.ele_model.proofs.KeptRevived.{last_is}
 use Rattle.ele_model.proofs.NameParts.{still_none}
 
--- each version that closed, as it last stood
+-- each version that closed, as it last was
 abbrev pub Known : Type 0
 Known = (file number : ℕ) → Option VersionRow
 
@@ -157,7 +157,7 @@ data Turned (w : World) (known was is : Option VersionRow) : Type 0 where
   Ends : (row : VersionRow) → was ≡ Some row → is ≡ Some (ended_at w.now row) → Turned w known was is
   Goes : (row : VersionRow) → was ≡ Some row → is ≡ None → known ≡ Some row → IsEndedBy w.now row → Turned w known was is
 
--- a change by an event, in a world where the versions are known
+-- a change by an event, in a world whose versions are known
 pub record IsTurn (start : ℕ) (event : Event) (first w : World) (change : Change) (before : Known) : Type 0 where
   pub placed : AllLater ArePlaced first.versions
   pub first_held : (file number : ℕ) (row : VersionRow) → row_of first file number ≡ Some row → before file number ≡ Some row
@@ -225,7 +225,7 @@ module _ (start : ℕ) (event : Event) (first w : World) (change : Change) (befo
       (change_covered w change lives (all-weaker (IsCovered start (known_in w before)) (CoveredBefore w.now lives) w.names (λ name h file moment own covered less from. let life = h file moment own covered from in grind (arith, nat_tests, becomes file life.row.number life.row life.stood)) t.known.covered))
       (current_covers after afterwards t.formed_after (λ file number row found. rw found refl)))
 
--- where the time goes on, names and versions stay
+-- if the time moves, names and versions stay
 all_covered : (start : ℕ) (event : Event) (first w : World) (change : Change) (before : Known) → IsTurn start event first w change before → AllByRecursion (IsCovered start (known_in (after_change w change) before)) (after_change w change).names
 all_covered start event first w (Time to) before t = t.known.covered
 all_covered start event first w (DropIdle of) before t = covered_on start event first w (DropIdle of) before t (grind (arith))

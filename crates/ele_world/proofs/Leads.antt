@@ -1,4 +1,4 @@
--- After a create, a mkdir or an undelete its path leads to what is made, or to what the name last stood for.
+-- After a create, a mkdir or an undelete its path leads to what is made, or to what the name last meant.
 use Rattle.ele_model.proofs.Basics.{◌≡◌, ℕ, ◌+◌, false, List, Some, Ok, ap, subst, arith, is_some, nat_tests, find-append, all-weaker, not_found, ◌≤◌, refl, list_any-append}
 use Rattle.ele_model.proofs.Words.{after_change, MakeFile, Policy, plan, step, live_target, file_at, parent_now, Files, HasParts, World, default_of, next_of, current_of, MakeDirectory, is_live_in}
 use Rattle.ele_world.proofs.Words.{Create, Directory, Done, File, HasNameAgain, HasVersionAgain, LeadsAgain, LeadsToDirectory, LeadsToNew, MakeDir, Target, Undelete}

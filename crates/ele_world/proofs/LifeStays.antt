@@ -15,7 +15,7 @@ use Rattle.ele_world.proofs.KnownVersions.{change_later}
 abbrev LivesOn : ℕ → VersionRow → Option VersionRow → Type 0
 LivesOn now row found = (later : VersionRow) (moment : ℕ) → found ≡ Some later → moment < now → lives_at moment later ≡ lives_at moment row
 
--- an end that comes then, or stays
+-- an end that is set then, or stays
 ends : (row : VersionRow) (at moment : ℕ) → moment < at → lives_at moment (ended_at at row) ≡ lives_at moment row
 ends row at moment before = grind (arith, nat_tests)
 

@@ -1,4 +1,4 @@
--- Where no live name is left out, a path leads where it led.
+-- If all live names stay, a path leads where it led.
 use Rattle.ele_model.proofs.Basics.{◌≡◌, ◌-◌, ℕ, Bool, true, List, [], ◌∷◌, refl, ap, arith, nat_tests, filter, is_none, list_any, length, take, AllByRecursion, all-weaker, option_map}
 use Rattle.ele_model.proofs.Words.{is_live_name, is_live_in, live_target, walk, comes_through, stands_in, root}
 use Rattle.ele_world.proofs.Words.{NameRow, Target, File, Directory}

@@ -9,7 +9,7 @@ use Rattle.ele_model.proofs.Views.{closings_in_order, view_is}
 use Rattle.ele_world.proofs.Words.{VersionRow}
 use Rattle.ele_world.specs.MarkedRipens.{RipensPastMarks}
 
--- by its policy and its end, where no handle reads it
+-- by its policy and its end, if no handle reads it
 by_cover : (w : World) (row : VersionRow) (policy : Policy) (ended : ℕ) → IfSome (file_view w row.file).policy IsLawful → (file_view w row.file).policy ≡ Some policy → row.ended ≡ Some ended → is_open w.handles row.file row.number ≡ false
     → ripe_in (file_view w row.file) row ≡ option_and_then (ripe_past (cover_by row.closed (Some ended) (file_view w row.file).marks)) (ripe_by policy row.closed (beside (file_view w row.file) row) ended)
 by_cover w row policy ended governed filed ends unread =

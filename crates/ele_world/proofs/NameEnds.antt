@@ -1,4 +1,4 @@
--- Where a name has died its path leads nowhere: so after a rmdir, an unlink and a rename, by which, as by a link, a new path leads.
+-- If a name has died, its path leads nowhere: so after a rmdir, an unlink and a rename, by which, as by a link, a new path leads.
 use Rattle.ele_model.proofs.Basics.{◌≡◌, ℕ, false, ◌==◌, ◌&&◌, List, [], ◌∷◌, ◌++◌, Some, None, Ok, Err, refl, ap, ◌∙◌, arith, bytes_eq, false≢true, nat_tests, bytes_eq-Decides, update_first, AllLater, later-weaker, find-update_other}
 use Rattle.ele_model.proofs.Basics.{find-update_none, sym, is_some, find-append}
 use Rattle.ele_model.proofs.Words.{dies, step, is_live_name, live_target, walk, walk_now, parent_now, AreApart, Names, HasParts, World, root, after_change, EndFileName}
@@ -63,15 +63,15 @@ ends w path k at found file leads =
 pub unlink_ends : (w : World) (path : List (List ℕ)) → HasParts w → (step w (Unlink path)).0 ≡ Done → EndsName w path ((step w (Unlink path)).1)
 unlink_ends w path k = grind (arith, nat_tests, in_all, ends w path k)
 
--- ---- a walk that doesn't come to what is moved leads where it did
+-- ---- a walk that doesn't pass through what is moved leads where it did
 
 module _ (rows : List NameRow) where
-  -- if it is a directory, the walk from there along the names doesn't come to it
+  -- if it is a directory, the walk from there along the names doesn't pass through it
   abbrev Avoids : Target → Target → List (List ℕ) → Type 0
   Avoids (File file) from names = Unit {0}
   Avoids (Directory id) from names = comes_through rows id from names ≡ false
 
-  -- what is moved doesn't avoid itself, where it leads to a directory
+  -- a walk to a directory that is moved passes through it
   avoids_itself : (moved : Target) (names : List (List ℕ)) (d : ℕ) → walk rows moved names ≡ Ok (Directory d) → Avoids moved moved names → ⊥
   avoids_itself moved [] d h avoids = grind (arith, nat_tests, false≢true)
   avoids_itself moved (m ∷ names) d h avoids = grind (arith, nat_tests, false≢true)

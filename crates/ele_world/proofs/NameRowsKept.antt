@@ -1,4 +1,4 @@
--- Name rows after an event: those before, in their order, but for those of a file that goes, and new ones behind.
+-- Name rows after an event: those before, in their order, except those of a dropped file, and then new ones.
 use Rattle.ele_model.proofs.Basics.{rules, nat_tests, arith, ◌≡◌, ℕ, ◌<◌, true, List, [], ◌∷◌, ◌++◌, None, refl, inl, filter, list_any, AllByRecursion, AllLater, update_first, remove_first, all-push, all-weaker, filter-all, filter-same_all, list_any-append, list_any-update_first}
 use Rattle.ele_model.proofs.Words.{World, HasParts, Names, Files, DropIdle, EndDraft, ShutHandle, Take, Append, after_change, after_changes, MakeFile, SetFilePolicy, Revive, Policy, numbered_on, set_policy, IsThere, IsNameRow, born_row, dies, is_file, is_live_name, next_of, plan, step}
 use Rattle.ele_world.specs.NameRowsStay.{AreStillRows, is_there}
@@ -55,18 +55,18 @@ module _ (w : World) (k : HasParts w) where
   kept : (v : World) → AreThere v.files w.names → AreStillRows w.now w.names v.names → Still v
   kept v there are = rw (filter-all (λ row. is_there v.files row.target) w.names there) are
 
-  -- where no file comes or goes
+  -- if no file is made or dropped
   same : (v : World) → v.files ≡ w.files → AreStillRows w.now w.names v.names → Still v
   same v files are = kept v (rw files (all_there w k)) are
 
   changed : (v : World) (file : ℕ) (f : FileRow → FileRow) → ((row : FileRow) → (f row).id ≡ row.id) → v.files ≡ update_first (is_file file) f w.files → AreStillRows w.now w.names v.names → Still v
   changed v file f id files are = kept v (rw files (more_there w.files (update_first (is_file file) f w.files) w.names (λ other there. grind (arith, nat_tests, list_any-update_first)) (all_there w k))) are
 
-  -- where one is made
+  -- if one is made
   made : (directory : ℕ) (name : List ℕ) (id : ℕ) (policy : Policy) → Still (after_change w (MakeFile directory name id policy))
   made directory name id policy = kept (after_change w (MakeFile directory name id policy)) (more_there w.files (after_change w (MakeFile directory name id policy)).files w.names (λ other there. grind (arith, nat_tests, list_any-update_first, list_any-append)) (all_there w k)) (born w.now w.names w.names (born_row directory name (File id) w.now) refl refl (unchanged w.now w.names))
 
-  -- where a file numbers on, with a name more or not
+  -- if a file's next number grows, with a new name or not
   numbered : (v : World) (file : ℕ) → v.files ≡ update_first (is_file file) numbered_on w.files → AreStillRows w.now w.names v.names → Still v
   numbered v file = changed v file numbered_on (λ row. refl)
 

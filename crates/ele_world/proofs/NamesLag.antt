@@ -28,7 +28,7 @@ module _ (gone : ℕ → ℕ → Bool) (dropped : ℕ → Bool) (u v : World) (b
     groups = refl;
   })
 
-  -- where files, versions, drafts, handles, groups and the clock stay, and no file becomes live
+  -- if files, versions, drafts, handles, groups and the clock stay, and no file becomes live
   keeps_names : (after : World) → after.now ≡ v.now → after.files ≡ v.files → after.versions ≡ v.versions → after.drafts ≡ v.drafts → after.handles ≡ v.handles → after.groups ≡ v.groups
       → ((file : ℕ) → is_live v file ≡ false → is_live after file ≡ false) → KeepsBehind gone dropped v after
   keeps_names after now files versions drafts handles groups nameless = record {
@@ -57,7 +57,7 @@ module _ (gone : ℕ → ℕ → Bool) (dropped : ℕ → Bool) (u v : World) (b
   nameless_more : (names : List NameRow) (directory : ℕ) (name : List ℕ) (target : Target) (file : ℕ) → is_target_file file target ≡ false → list_any (is_live_name_of file) names ≡ false → list_any (is_live_name_of file) (names ++ born_row directory name target v.now ∷ []) ≡ false
   nameless_more names directory name target file other none = list_any-append (is_live_name_of file) names (born_row directory name target v.now ∷ []) ∙ grind (arith, nat_tests, none, other)
 
-  -- what stands for a live file stands for no nameless one
+  -- a name of a live file means no nameless one
   other_file : (target : Target) (file : ℕ) → ((f : ℕ) → target ≡ File f → is_live v f ≡ true) → is_live v file ≡ false → is_target_file file target ≡ false
   other_file (Directory id) file live none = refl
   other_file (File f) file live none = grind (arith, nat_tests, live f refl, none, false≢true)
@@ -67,7 +67,7 @@ module _ (gone : ℕ → ℕ → Bool) (dropped : ℕ → Bool) (u v : World) (b
       let more = list_any-update_fails (is_live_name directory name) (is_live_name_of file) (dies v.now) v.names (λ row. grind (arith, nat_tests)) in
       grind (arith, nat_tests, more, none, false≢true)
 
-  -- ---- names come, go and move
+  -- ---- names are added, removed and moved
 
   pub directory_both : (directory : ℕ) (name : List ℕ) (id : ℕ) (policy : Policy) → let c = MakeDirectory directory name id policy in HasParts (after_change v c) → Behind gone dropped (after_change u c) (after_change v c)
   directory_both directory name id policy formed =

@@ -95,7 +95,7 @@ module _ (gone : ℕ → ℕ → Bool) (dropped : ℕ → Bool) (u v : World) (b
     may : MayGrow v file
     may = may_grow v file b.formed there
 
-    -- what is in the list is left out as before it came in
+    -- what is in the list is left out as before it was added
     files_on : update_first (is_file file) numbered_on behind.files ≡ filter (stays_file dropped) (update_first (is_file file) numbered_on v.files)
     files_on = update_first-filter (stays_file dropped) (is_file file) true numbered_on v.files (λ row. refl) (λ row is. grind (arith, nat_tests, is, stays))
 

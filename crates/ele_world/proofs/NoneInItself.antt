@@ -1,4 +1,4 @@
--- Each directory hangs from the root by one number of live names alone, so no way down from it comes back to it.
+-- Each directory is exactly one number of live names below the root, so no way down from it leads back to it.
 use Rattle.ele_model.proofs.Basics.{nat_tests, arith, ◌≡◌, ℕ, suc, zero, ◌+◌, true, false, List, [], ◌∷◌, Option, option_map_or, Some, None, Ok, Err, refl, ap, find, length, AllByRecursion, AllLater, list_any, all-found, any-found, false≢true, true≢false, found_passes}
 use Rattle.ele_model.proofs.Words.{AreOthers, is_live_directory, is_live_name, live_target, root, walk}
 use Rattle.ele_world.proofs.Words.{NoEntry, NameRow, Target, File, Directory}

@@ -1,4 +1,4 @@
--- What a number reads, tells and opens, and which number is told where it was removed.
+-- What a number reads, describes and opens, and which number the refusal has if it was removed.
 use Rattle.ele_model.proofs.Basics.{nat_tests, arith, ◌≡◌, ℕ, ◌<◌, ◌≤◌, true, List, [], ◌∷◌, Option, Some, None, Ok, Err, Result, refl, find, AllByRecursion, AllLater, all-found, all-weaker, any-found, found_passes, last_has, last_passing, option_map}
 use Rattle.ele_model.proofs.Words.{World, TaggedPath, HasParts, ArePlaced, IsVersion, Versions, file_now, is_version, last_number, version_at, version_meant, walk_now, is_held}
 use Rattle.ele_world.proofs.Words.{VersionRow, File, Forgotten, Refusal}

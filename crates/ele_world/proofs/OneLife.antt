@@ -73,7 +73,7 @@ module _ (first : World) (events : List Event) (k : HasParts (run_of first event
   has_one_life : HasOneLife first events file moment
   has_one_life = record { row = life.row; stood = life.stood; lived = life.lived; only = only; held = held_reads; gone = gone_forgotten }
 
--- a version stands by its own number
+-- a version is found by its own number
 stood_numbered : (w : World) (events : List Event) (file number : ℕ) (row : VersionRow) → last_stood w events file number ≡ Some row → row.number ≡ number
 stood_numbered w [] file number row stood = grind (arith, nat_tests, found_passes (is_version file number) w.versions row)
 stood_numbered w (event ∷ events) file number row stood = grind (arith, nat_tests, found_passes (is_version file number) w.versions row, stood_numbered ((step w event).1) events file number row)

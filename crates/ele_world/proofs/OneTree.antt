@@ -1,4 +1,4 @@
--- The live names are one tree from the root, after each event and so in every run, and no directory stands in itself.
+-- The live names are one tree from the root, after each event and so in every run, and no directory is in itself.
 use Rattle.ele_model.proofs.Basics.{rules, nat_tests, arith, ◌≡◌, ℕ, suc, zero, ◌+◌, ◌==◌, ◌&&◌, Bool, true, false, List, [], ◌∷◌, ◌++◌, Some, None, Ok, refl, find, filter, AllByRecursion, list_any, update_first, all-both, all-filter, all-found, all-none, all-push, all-update_first, all-weaker, any-found, found_passes, list_any-append, list_any-filter, list_any-update_found, last_has}
 use Rattle.ele_model.proofs.Words.{World, IsEvent, ShutHandle, EndDraft, Take, HasParts, DropIdle, after_change, born_row, dies, is_live_directory, is_live_in, is_live_name, is_target_directory, last_target, is_named, live_target, parent_now, plan, root, run_of, step, walk, walk_now}
 use Rattle.ele_model.specs.declared.event.Event.TheVariants.{RemoveDir}
@@ -28,12 +28,12 @@ below names depth id directory h is =
     let passes = found_passes (is_under id directory) names row found in
     any-found (is_under id directory) (λ (row : NameRow). is_live_directory id row && hangs_by names depth row.directory) names row found (grind (arith, nat_tests, passes, is))
 
--- what is true of the root, and of each directory under one of which it is true, is so of each that hangs
+-- what is true of the root, and of each directory in one of which it is true, is true of each below the root
 carried : (names : List NameRow) (P : ℕ → Type 0) → P root → ((id directory : ℕ) → list_any (is_under id directory) names ≡ true → P directory → P id) → (depth id : ℕ) → hangs_by names depth id ≡ true → P id
 carried names P top under zero id h = let same : id ≡ root = grind (arith, nat_tests) in rw same top
 carried names P top under (suc depth) id h = let (directory, is, hung) = above names depth id h in under id directory is (carried names P top under depth directory hung)
 
--- so what hung hangs, where it does with what it is under
+-- so what was below the root still is, if its parent is
 hangs_still : (names after : List NameRow) → ((id directory : ℕ) → list_any (is_under id directory) names ≡ true → Hangs after directory → Hangs after id) → (id : ℕ) → Hangs names id → Hangs after id
 hangs_still names after under id (depth, h) = carried names (Hangs after) (zero, refl) under depth id h
 
@@ -47,7 +47,7 @@ Hang after names = AllByRecursion (λ row. row.death ≡ None → Hangs after ro
 abbrev pub IsOther : Target → Type 0
 IsOther target = is_target_directory root target ≡ false
 
--- ---- where a path's last name stands
+-- ---- the directory of a path's last name
 
 abbrev HangsAt : List NameRow → Target → Type 0
 HangsAt names (File file) = Unit {0}
@@ -99,7 +99,7 @@ module _ (now : ℕ) (names : List NameRow) (d : ℕ) (n : List ℕ) where
   hang_still : (final : List NameRow) → Hang final names → Hang final after
   hang_still final = all-update_first p (λ row. row.death ≡ None → Hangs final row.directory) (λ row. row.death ≡ None → Hangs final row.directory) (dies now) names (λ row h dead. absurd cc) (λ row h. h)
 
-  -- the live names of the other directories stay where they are
+  -- the live names of the other directories keep their places
   under_still : (moved : Target) → live_target names d n ≡ Some moved → (id directory : ℕ) → is_target_directory id moved ≡ false → list_any (is_under id directory) after ≡ list_any (is_under id directory) names
   under_still moved stands id directory other = list_any-update_found p (is_under id directory) (dies now) names (λ row found. grind (arith, nat_tests))
 
@@ -109,7 +109,7 @@ module _ (now : ℕ) (names : List NameRow) (d : ℕ) (n : List ℕ) where
     still : (id : ℕ) → Hangs names id → Hangs after id
     still = hangs_still names after (λ id directory is. hangs_under after id directory (rw (under_still (File file) stands id directory refl) is))
 
-  -- or of a directory in which no live name stands
+  -- or of a directory without a live name
   module _ (gone : ℕ) (stands : live_target names d n ≡ Some (Directory gone)) (empty : list_any (is_live_in gone) names ≡ false) where
     full : (id directory : ℕ) → list_any (is_under id directory) names ≡ true → (gone == directory) ≡ false
     full id directory is =

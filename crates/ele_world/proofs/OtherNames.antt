@@ -1,4 +1,4 @@
--- The names that an event doesn't name stand for what they stood for.
+-- The names that an event doesn't name keep their meaning.
 use Rattle.ele_model.proofs.Basics.{nat_tests, arith, ◌≡◌, ℕ, false, List, [], ◌∷◌, ◌++◌, refl, ap, ◌∙◌, filter, AllByRecursion, all-none, find-append}
 use Rattle.ele_model.proofs.Words.{World, DropIdle, EndDraft, ShutHandle, Take, after_change, is_live_name, is_live_name_of, live_target, plan}
 use Rattle.ele_world.proofs.Words.{Event, Close, CleanOne, Read, NameRow}

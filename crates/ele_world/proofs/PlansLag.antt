@@ -16,7 +16,7 @@ same_reply u v (Need (Err refusal) next) = refl
 same_reply u v (IfFound None otherwise next) = same_reply u v otherwise
 same_reply u v (IfFound (Some x) otherwise next) = same_reply u v (next x)
 
--- and what its changes leave stands alike
+-- and its changes leave the same
 pub both_after : (u v : World) (R : World → World → Type 0) → R u v → (plan : Plan) → InAll (λ reply changes. R (after_changes u changes) (after_changes v changes)) plan → R ((outcome u plan).1) ((outcome v plan).1)
 both_after u v R stay (Tell reply) all = stay
 both_after u v R stay (Make reply changes) all = all

@@ -23,7 +23,7 @@ use Rattle.ele_headline.proofs.HeldStays.{held_stays}
 use Rattle.ele_model.proofs.StepKeeps.{step_keeps}
 use Rattle.ele_model.proofs.Versions.{IsFound, all_found}
 
--- ---- a version that comes closes then
+-- ---- a version that is added closes then
 
 module _ (w : World) (k : HasParts w) where
   abbrev IsOldOrNew : VersionRow → Type 0

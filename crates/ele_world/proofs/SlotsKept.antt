@@ -19,7 +19,7 @@ front_kept a k xs ys le short =
     let long : a + 512 ≤ length (take k xs) = omega (arith, le, short, length-take k xs) in
     in_front a (take k xs) ys long ∙ (sym (in_front a (take k xs) (drop k xs) long) ∙ rw (take-append-drop k xs) refl)
 
--- what stands behind the bytes stays
+-- what is after the bytes stays
 back_kept : (content : List ℕ) (offset n : ℕ) (bytes : List ℕ) → offset + length bytes ≤ n → drop n (content_after_write content offset bytes) ≡ drop n content
 back_kept content offset n bytes le = grind (arith, drop-append-add (take offset content ++ replicate (offset - length content) 0 ++ bytes) (drop (offset + length bytes) content) (n - (offset + length bytes)), length-append, length-take, length-replicate, drop-drop)
 
@@ -41,7 +41,7 @@ fitted_kept content size slot lt unmet = grind (arith, nat_tests, front_kept (51
 
 -- ---- the cell of a slot
 
--- the cell that stands there
+-- the cell at that slot
 abbrev cell_of : List Cell → ℕ → Cell
 cell_of cells slot = record { writer = writer_at cells slot; bytes = slot_bytes (content_of cells) slot }
 
@@ -68,7 +68,7 @@ at_range f from (suc count) (suc slot) at cell is found = let it = at_range f (f
 
 -- ---- a cell afterwards
 
--- it was written by then, or stood there
+-- it was written by then, or was there
 abbrev pub IsRewritten : ℕ → List Cell → ℕ → Cell → Type 0
 IsRewritten number cells slot cell = (cell.writer ≡ number) ⊎ (slice_get cells slot ≡ Some cell)
 

@@ -11,7 +11,7 @@ use Rattle.ele_model.proofs.StepKeeps.{step_keeps}
 abbrev Written : List HandleRow → DraftRow → Type 0
 Written handles draft = list_any (is_writer draft.file) handles ≡ true
 
--- ---- handles and drafts that come or change
+-- ---- handles and drafts that are added or change
 
 more : (handles : List HandleRow) (row : HandleRow) (drafts : List DraftRow) → AllByRecursion (Written handles) drafts → AllByRecursion (Written (handles ++ row ∷ [])) drafts
 more handles row drafts = all-weaker (Written handles) (Written (handles ++ row ∷ [])) drafts (λ draft so. grind (arith, so, list_any-append (is_writer draft.file) handles (row ∷ [])))

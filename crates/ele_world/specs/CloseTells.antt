@@ -1,5 +1,5 @@
--- The close of a handle that writes makes a version exactly if the draft was changed and no other handle writes it, and returns its number;
--- a close that returns no number has changed no version.
+-- The close of a handle that writes makes a version, and returns its number, exactly if the draft was changed and no other handle writes
+-- it. A close that returns no number has changed no version.
 use Rattle.std.specs.Prelude.{◌≡◌, ℕ, ◌&&◌, not, Some, None, Ok, find, if◌then◌else◌}
 use Rattle.ele_model.specs.declared.event.Event.TheVariants.{Close}
 use Rattle.ele_model.specs.declared.reply.Reply.TheVariants.{Closed}

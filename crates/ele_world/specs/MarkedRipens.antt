@@ -10,9 +10,9 @@ use Rattle.ele_model.specs.FileView.{beside, file_view}
 use Rattle.ele_model.specs.WellFormed.{IsWellFormed}
 use Rattle.ele_model.specs.World.{World, is_open}
 
--- for a version that has ended and that no handle reads: `ripe` returns a moment for its end and for its case, as its file's policy sees it
--- beside the newer held ones. The version ripens at the later of that moment and of the latest end of the marks that cover it, even if they
--- have ended. It never ripens if one of these marks has no end, or if that moment is past the last one
+-- for a version that has ended and that no handle reads: `ripe` returns a moment for its end and its case. The case is what its file's
+-- policy sees beside the newer held ones. The version ripens at the later of that moment and of the latest end of the marks that cover it,
+-- even if they have ended. It never ripens if one of these marks has no end, or if that moment is past the last one
 abbrev pub RipensPastMarks : World → VersionRow → Type 0
 RipensPastMarks w row =
     let v = file_view w row.file in

@@ -1,5 +1,5 @@
--- In every run a place has one content: what one version wrote into a slot of a file is the same in the draft and in each
--- version that has it, which is why it may be one block.
+-- In every run a place has one content. What one version wrote into a slot of a file is the same in the draft and in each version that has
+-- it. So it may be one block.
 use Rattle.std.specs.Prelude.{◌≡◌, ℕ, List, Some, slice_get}
 use Rattle.std.specs.List.{AllByRecursion}
 use Rattle.ele_content.specs.declared.cell.Cell.{Cell}

@@ -1,4 +1,4 @@
--- In every run the live names are one tree: no name means the root, and live names lead from the root to each directory; so no directory is
+-- In every run the live names are one tree: no name means the root, and live names lead from the root to each directory. So no directory is
 -- in itself, at any depth.
 use Rattle.std.specs.Prelude.{◌≡◌, ◌==◌, ◌&&◌, ℕ, suc, zero, Bool, true, false, List, [], None, Ok}
 use Rattle.std.specs.List.{AllByRecursion, list_any}

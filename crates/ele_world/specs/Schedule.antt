@@ -1,5 +1,5 @@
--- What is removed doesn't depend on the time of cleaning. Whatever clean events a run has, a finished pass at its end leaves what the scan
--- keeps of the run without them, and the events that neither clean nor ask get the same replies.
+-- What is removed doesn't depend on the time of cleaning. Take a run with any clean events. A finished pass at its end leaves what the scan
+-- keeps of the run without them. The events that neither clean nor ask get the same replies.
 use Rattle.std.specs.Prelude.{◌≡◌, ℕ, true, not, ◌||◌, List, [], ◌∷◌, filter, if◌then◌else◌}
 use Rattle.std.specs.List.{AllByRecursion}
 use Rattle.ele_model.specs.declared.event.Event.{Event}

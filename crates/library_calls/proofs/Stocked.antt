@@ -28,7 +28,7 @@ first_lives laws s first h = laws.lives s (of_two first) [] h
 pub first_few : StockLaws → (s : Store) (first : Layout) → IsStocked s (one_map first) → IsUncrowded s
 first_few laws s first h = laws.few s (one_map first) h (omega arith)
 
--- a copy came
+-- a copy is added
 pub copy_stocked : StockLaws → (s t : Store) (first copy : Layout) → IsStocked s (one_map first) → copy ≡ first → Moves s t [] (first ∷ []) → IsStocked t (two_maps copy first)
 copy_stocked laws s t first copy h same moves =
     let after = laws.copied s t (one_map first) (of_two first) [] 3 (two_maps first first) h (record { sums = λ f. refl }) (omega arith) moves (record { sums = λ f. refl }) in

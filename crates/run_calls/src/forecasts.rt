@@ -24,8 +24,8 @@ const CLOSINGS: &[u8] = b"2026-01-01T08:00:00Z
 ";
 
 // Their forecast under the standard ladder. A version is due a day after its end if the next one
-// closed in its hour, seven days after it if in its day, and thirty days after it if in its seven
-// days. Else it never is.
+// closed in its hour. It is due seven days after its end if that closed in its day, and thirty days
+// after it if in its seven days. Else it never is.
 const TABLE: &str = "version closed ended due why
 1 2026-01-01T08:00:00Z 2026-01-01T08:30:00Z 2026-01-02T08:30:00Z version 2 closed in the same hour
 2 2026-01-01T08:30:00Z 2026-01-01T09:10:00Z 2026-01-08T09:10:00Z version 3 closed in the same day

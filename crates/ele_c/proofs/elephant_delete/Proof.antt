@@ -1,4 +1,4 @@
--- `elephant_delete` makes the parts of what the pointer owns, and hands them on.
+-- `elephant_delete` makes the parts of what the pointer owns, and passes them on.
 use Rattle.std.proofs.Common.{◌≡◌, List, [], ◌∷◌, ◌++◌, refl, sym, ap, ◌∙◌, subst}
 use mir.Raw.{raw as bare}
 use mir.Syntax.{impl, tnil, dnil}

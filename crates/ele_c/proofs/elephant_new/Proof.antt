@@ -1,4 +1,4 @@
--- `elephant_new` writes the pointer that `fresh` gave, and hands on what it owns.
+-- `elephant_new` writes the pointer from `fresh`, and passes on what it owns.
 use Rattle.std.proofs.Common.{List, [], ◌∷◌, ◌++◌, refl, sym, ap, subst, lit<}
 use lib.Dec.{T as Holds}
 use mir.Syntax.{ty_ptr}

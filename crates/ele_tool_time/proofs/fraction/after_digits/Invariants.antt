@@ -2,7 +2,7 @@ use Rattle.std.proofs.Common.{◌≡◌, length}
 use Rattle.ele_tool_time.specs.ReadParts.{after_digits}
 use Rattle.ele_tool_time.proofs.fraction.after_digits.Given as goal
 
--- the same follows what is left
+-- the same follows the rest
 abbrev pub invariant-digits : goal.invariant-digits
 invariant-digits l = after_digits l.rest ≡ after_digits l.word
 

@@ -11,7 +11,7 @@ its_leaves c = c.in_ok-reserve.ensures.items ∙ ap (λ (m : Layout). m.leaves) 
 its_window : (c : After-truncate) → c.reserve.new.self.items ≡ c.args.self.now.leaves → c.truncate.new.self.items ≡ take (c.args.change.kept - 16 * c.run_of-run.result.from) (slots_in c.args.store.now (take (c.run_of-run.result.met - c.run_of-run.result.from) (drop c.run_of-run.result.from c.args.self.now.leaves)))
 its_window c same = c.truncate.ensures.items ∙ ap (take (c.args.change.kept - 16 * c.run_of-run.result.from)) (rw (c.deref.ensures.value, same) at c.in_ok-window.ensures)
 
--- the leaves that came
+-- the new leaves
 came : (c : After-deref-3) → c.reserve.new.self.items ≡ c.args.self.now.leaves → IsRenewed c.args.store.now c.renew.new.self (take (c.run_of-run.result.to - c.run_of-run.result.from) (drop c.run_of-run.result.from c.args.self.now.leaves)) (take (c.args.change.kept - 16 * c.run_of-run.result.from) (slots_in c.args.store.now (take (c.run_of-run.result.met - c.run_of-run.result.from) (drop c.run_of-run.result.from c.args.self.now.leaves)))) (c.args.change.first - 16 * c.run_of-run.result.from) c.args.change.writer c.args.change.staged.items c.in_ok-now.now.items
 came c same = rw (c.deref-2.ensures.value, same, its_window (goal.at.lay_leaves-requires-clause-room c).After-truncate same) at c.in_ok-now.ensures.renewed
 

@@ -34,7 +34,7 @@ returns-then-number-next-clause-counted c = λ rows. counted_same rows (was c) (
 pub returns-then-number-next-clause-numbered : goal.returns-then-number-next-clause-numbered
 returns-then-number-next-clause-numbered c = λ at. numbered_same at at (was c) (now c) (λ s. refl) (live c)
 
--- ---- a new name, which is put behind the others and goes again where its directory has no room
+-- ---- a new name, which is added after the others and removed again if memory for its directory is refused
 
 module _ (c : goal.After-pop) where
   abbrev first : LiveNames
