@@ -36,10 +36,11 @@ impl Path {
     const MOST_NAMES: usize = 32;
 
     /// Makes the path of these names, from the root on. `BadPath` for more than 32. It takes no memory.
-    /// Cost: constant time.
+    /// Cost: grows with the names, at most 32, each of which it reads.
     pub fn new(names: Vec<Name>) -> Result<Path, PathFault>
         ensures valid { IsOk result ↔ (length names.items ≤ 32) }
         ensures value { IfOk result (λ path. path ≡ names.items) }
+        ensures fault { IfErr result (λ fault. fault ≡ PathFault.BadPath) }
     {
         if names.len() > Path::MOST_NAMES {
             return Err(PathFault::BadPath);
