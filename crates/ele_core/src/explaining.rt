@@ -1,9 +1,14 @@
 //! A core explains why a version is held, and which versions will be due. Generic code over the
 //! trait sees the core as its flat world.
+ghost use Rattle.std.specs.Prelude.{◌≡◌, find};
+ghost use Rattle.std.specs.Option.{option_map};
 ghost use Rattle.ele_model.specs.Why.{IsWhy};
+ghost use Rattle.ele_model.specs.World.{is_draft};
 
 use crate::Core;
-use ele_model::{Explain, Fate, KeyList, Moment, NoMemory, Refusal, TaggedPath};
+use ele_model::{
+    Explain, Fate, FileId, HandleRow, KeyList, Moment, NoMemory, Refusal, TaggedPath, VersionNo,
+};
 
 impl Core {
     /// Returns what becomes of the version that the path and its tag mean, and why, as `fate` does.
@@ -16,6 +21,23 @@ impl Core {
     {
         self.state.fate_at(tagged)
     }
+
+    /// Returns the open handles, by number.
+    /// Cost: constant time.
+    pub fn handles(&self) -> &[HandleRow]
+        ensures { result.now ≡ self.now.world.handles }
+    {
+        self.state.handles()
+    }
+
+    /// Returns when the file's draft was opened. None if the file has no draft.
+    /// Cost: the logarithm of the drafts.
+    pub fn draft_opened(&self, file: FileId) -> Option<Moment>
+        ensures { result
+            ≡ option_map (λ draft. draft.opened) (find (is_draft file) self.now.world.drafts) }
+    {
+        self.state.draft_opened(file)
+    }
 }
 
 impl Explain for Core {
@@ -25,5 +47,17 @@ impl Explain for Core {
 
     fn due_by(&self, moment: Moment) -> Result<KeyList, NoMemory> {
         Core::due_by(self, moment)
+    }
+
+    fn fate(&self, file: FileId, number: VersionNo) -> Option<Fate> {
+        Core::fate(self, file, number)
+    }
+
+    fn handles(&self) -> &[HandleRow] {
+        Core::handles(self)
+    }
+
+    fn draft_opened(&self, file: FileId) -> Option<Moment> {
+        Core::draft_opened(self, file)
     }
 }

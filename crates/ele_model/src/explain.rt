@@ -5,16 +5,21 @@ ghost use Rattle.std.specs.Prelude.{◌≡◌, IfOk};
 use crate::fate::Fate;
 use crate::list::KeyList;
 use crate::refusal::Refusal;
+use crate::rows::HandleRow;
 use crate::step::Step;
-use ele_moment::{Moment, NoMemory};
+use ele_moment::{FileId, Moment, NoMemory, VersionNo};
 use ele_path::TaggedPath;
 
-/// A world that events change, and that explains why a version is held. Neither call changes
-/// anything.
+/// A world that events change, and that explains its rows: why a version is held, what will be due,
+/// and what is open. No call changes anything.
 pub trait Explain: Step {
     ghost use Rattle.ele_model.specs.Change.{Time, after_change};
+    ghost use Rattle.std.specs.Prelude.{false, IfNone, IfSome, find};
+    ghost use Rattle.std.specs.Option.{option_map};
+    ghost use Rattle.ele_model.specs.Fate.{HasFate};
     ghost use Rattle.ele_model.specs.Scan.{scan};
     ghost use Rattle.ele_model.specs.Why.{IsWhy};
+    ghost use Rattle.ele_model.specs.World.{is_draft, is_held};
 
     /// Returns what becomes of the version that the path and its tag mean, and why. It takes no
     /// memory. Refused: `Future`, `NoEntry`, `NotDirectory`, `IsDirectory`, `NoVersion`,
@@ -29,4 +34,18 @@ pub trait Explain: Step {
     fn due_by(&self, moment: Moment) -> Result<KeyList, NoMemory>
         ensures { IfOk result
             (λ keys. keys ≡ scan (after_change (Self.world self.now) (Time moment))) };
+
+    /// Returns what becomes of the file's version of that number, and why. None if the version isn't held. It takes no memory.
+    fn fate(&self, file: FileId, number: VersionNo) -> Option<Fate>
+        ensures some { IfSome result (HasFate (Self.world self.now) file number) }
+        ensures none { IfNone result (is_held (Self.world self.now) file number ≡ false) };
+
+    /// Returns the open handles, by number.
+    fn handles(&self) -> &[HandleRow]
+        ensures { result.now ≡ (Self.world self.now).handles };
+
+    /// Returns when the file's draft was opened. None if the file has no draft.
+    fn draft_opened(&self, file: FileId) -> Option<Moment>
+        ensures { result
+            ≡ option_map (λ draft. draft.opened) (find (is_draft file) (Self.world self.now).drafts) };
 }

@@ -120,8 +120,7 @@ impl Keyed for HandleRow {
 }
 
 /// A mark of a group: the moment that it marks, and its end, if it has one. It is in force before
-/// its end, and stays listed after it. It is displayed as scripts print it, `5` or
-/// `5/60`.
+/// its end, and stays listed after it. It displays as scripts print it, `5` or `5/60`.
 #[derive(Clone, Copy, Debug, PartialEq, Eq)]
 pub struct MarkRow {
     pub at: Moment,

@@ -35,9 +35,8 @@ impl Path {
     /// The most names of a path.
     const MOST_NAMES: usize = 32;
 
-    /// Returns the path of these names, from the root on. `BadPath` for more than 32. It takes no
-    /// memory.
-    /// Cost: grows with the names, at most 32.
+    /// Makes the path of these names, from the root on. `BadPath` for more than 32. It takes no memory.
+    /// Cost: grows with the names, at most 32, each of which it reads.
     pub fn new(names: Vec<Name>) -> Result<Path, PathFault>
         ensures valid { IsOk result ↔ (length names.items ≤ 32) }
         ensures value { IfOk result (λ path. path ≡ names.items) }
@@ -112,7 +111,7 @@ impl Path {
     }
 }
 
-// Says to a proof that each of the names is valid.
+// For a proof: each of the names is a name.
 fn lemma_named(names: &[Name])
     ensures { All IsName names.now }
 {

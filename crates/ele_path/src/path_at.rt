@@ -14,7 +14,7 @@ use ele_moment::{BadMoment, Moment};
 use std::alloc::Global;
 use std::fmt;
 
-/// A path, and the moment at which it is meant, or none for now. It is displayed as its word,
+/// A path, and the moment at which it is meant, or none for now. It displays as its word,
 /// `/f` or `/f@12`.
 #[derive(Debug, Drop, PartialEq, Eq)]
 pub struct PathAt {
@@ -23,7 +23,7 @@ pub struct PathAt {
 }
 
 impl PathAt {
-    /// Returns the path at the moment, or now if there is none.
+    /// Makes the path at the moment, or now if there is none.
     /// Cost: constant time.
     pub fn new(path: Path, moment: Option<Moment>) -> PathAt
         ensures path { result.path ≡ path }

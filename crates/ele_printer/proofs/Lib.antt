@@ -1,4 +1,3 @@
 mod Prelude
 mod Basics
 pub mod Lines
-pub mod Words

@@ -1,13 +1,29 @@
 -- The bytes of a line, word after word.
-use Rattle.ele_printer.proofs.Basics.{nat_tests, arith, ◌==◌, true, ◌≡◌, ℕ, List, [], ◌∷◌, ◌++◌, length, map, take, drop, get_or, ◌/◌, ◌%◌, refl, sym, ap, ◌∙◌, append_assoc, codes, decimal, decimal_digit, append-nil, take-append-drop, join_with_byte, flat_map, IsFirstAndRest, encode_lower, lower_digits}
-use Rattle.ele_printer.proofs.Prelude.{Rung, line_text, ladder_word, pair_word, bytes_text, kind_words, usage_line, usage_lines, numbers_word, mark_word, marks_word, group_line, end_word, file_text, rest_text, times_text, version_line}
+use Rattle.ele_printer.proofs.Basics.{nat_tests, arith, ◌==◌, true, ◌≡◌, ℕ, List, [], ◌∷◌, ◌++◌, length, map, get_or, refl, sym, ap, ◌∙◌, append_assoc, codes, length-append, ◌<◌, decimal, decimal_digit, append-nil, join_with_byte, flat_map, IsFirstAndRest}
+use Rattle.ele_printer.proofs.Prelude.{line_text, bytes_text, kind_words, usage_line, usage_lines, numbers_word, mark_word, marks_word, group_line, end_word, file_text, rest_text, times_text, version_line}
 use Rattle.ele_output.proofs.Lists.{joined_are}
+use Rattle.ele_commands.proofs.Words.{some_word}
+use Rattle.ele_commands.specs.Command.{command_words}
+use Rattle.ele_commands.specs.EventText.{event_words, value_word}
+use Rattle.ele_printer.specs.HistoryText.{entry_line}
+use Rattle.ele_commands.specs.Parts.{parts_of}
+use Rattle.ele_model.specs.declared.entry.Entry.{Entry}
 use Rattle.ele_usage.specs.declared.usage.Usage.{Usage}
 use Rattle.ele_model.specs.declared.rows.GroupRow.{GroupRow}
 use Rattle.ele_model.specs.declared.rows.MarkRow.{MarkRow}
 use Rattle.ele_model.specs.declared.rows.FileStat.{FileStat}
 use Rattle.ele_model.specs.declared.rows.VersionInfo.{VersionInfo}
-use Rattle.hex.specs.Hex.{encode_with}
+
+-- the line of words behind a dash
+dash_line : (words : List (List ℕ)) → 0 < length words → line_text (codes "-" ∷ words) ≡ codes "- " ++ line_text words
+dash_line [] some = absurd (omega (arith, some))
+dash_line (word ∷ words) some = refl
+
+-- the line of an entry is a dash, a space and the line of its event
+pub entry_parts : (entry : Entry) → entry_line entry ≡ codes "- " ++ line_text (event_words entry.event)
+entry_parts entry =
+    let parts = parts_of entry.event in
+    dash_line (event_words entry.event) (omega (arith, some_word parts.0, length-append (command_words parts.0) (map value_word parts.1)))
 
 -- what follows a word of a line
 abbrev pub behind_word : List (List ℕ) → List ℕ
@@ -17,10 +33,6 @@ behind_word (word ∷ words) = (32 ∷ word) ++ behind_word words
 pub line_is : (first : List ℕ) (words : List (List ℕ)) → line_text (first ∷ words) ≡ first ++ behind_word words
 line_is first [] = refl
 line_is first (word ∷ words) = grind (arith, nat_tests, append_assoc, line_is word words)
-
--- the words of pairs are that of the first, and a comma and a word for each other
-pub pairs_are : (pairs : List Rung) (first : Rung) (rest : List Rung) → IsFirstAndRest pairs first rest → ladder_word pairs ≡ pair_word first ++ flat_map (λ (pair : Rung). 44 ∷ pair_word pair) rest
-pairs_are pairs first rest is = rw is.0 (joined_are 44 pair_word (pair_word first) rest)
 
 -- the word of numbers is the first, and a comma and a number for each other
 pub numbers_are : (numbers : List ℕ) (first : ℕ) (rest : List ℕ) → IsFirstAndRest numbers first rest → 32 ∷ numbers_word numbers ≡ (32 ∷ decimal first) ++ flat_map (λ (number : ℕ). 44 ∷ decimal number) rest
@@ -43,21 +55,6 @@ last_word first last (word ∷ words) = grind (arith, nat_tests, append_assoc, l
 -- the line of what a mark keeps, in its parts
 pub marked_parts : (group : List ℕ) (mark : MarkRow) → line_text (codes "ok why" ∷ codes "marked" ∷ group ∷ mark_word mark ∷ []) ≡ join_with_byte 32 (codes "ok why" ∷ codes "marked" ∷ group ∷ []) ++ ((32 ∷ mark_word mark) ++ 10 ∷ [])
 marked_parts group mark = last_word (codes "ok why") (mark_word mark) (codes "marked" ∷ group ∷ [])
-
-digits_append : (xs ys : List ℕ) → encode_lower (xs ++ ys) ≡ encode_lower xs ++ encode_lower ys
-unfolding encode_with
-digits_append [] ys = refl
-digits_append (x ∷ xs) ys = ap (λ (w : List ℕ). get_or lower_digits (x / 16) 0 ∷ get_or lower_digits (x % 16) 0 ∷ w) (digits_append xs ys)
-
--- the digits of the first bytes, and then of the others
-pub digits_split : (bytes piece behind : List ℕ) (n : ℕ) → piece ≡ take n bytes → behind ≡ drop n bytes → encode_lower bytes ≡ encode_lower piece ++ encode_lower behind
-digits_split bytes piece behind n e f = rw (e, f) (ap encode_lower (sym (take-append-drop n bytes)) ∙ digits_append (take n bytes) (drop n bytes))
-
--- no bytes have no digits
-pub digits_none : (bytes : List ℕ) → (length bytes == 0) ≡ true → encode_lower bytes ≡ []
-unfolding encode_with
-digits_none [] none = refl
-digits_none (byte ∷ bytes) none = grind (arith, nat_tests)
 
 -- the line of bytes in its parts
 pub bytes_line : (n digits : List ℕ) → line_text (codes "ok bytes" ∷ n ∷ digits ∷ []) ≡ codes "ok bytes " ++ (n ++ ((32 ∷ []) ++ (digits ++ 10 ∷ [])))

@@ -3,7 +3,7 @@ use Rattle.std.specs.Prelude.{ℕ, List, [], ◌∷◌, ◌++◌, length, codes}
 use Rattle.std.specs.Fmt.{decimal}
 use Rattle.std.specs.List.{flat_map}
 use Rattle.ele_model.specs.declared.entry.Entry.{Entry}
-use Rattle.ele_printer.specs.EventText.{event_words}
+use Rattle.ele_commands.specs.EventText.{event_words}
 use Rattle.ele_output.specs.Line.{line_text}
 
 -- the line of an entry: its event

@@ -1,9 +1,4 @@
-pub mod Command
-pub mod EventText
 pub mod HistoryText
 pub mod LineFault
-pub mod Parts
 pub mod Printed
-pub mod PutsParts
-pub mod Value
 pub mod Why

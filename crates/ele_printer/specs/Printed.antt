@@ -23,7 +23,7 @@ use Rattle.ele_model.specs.declared.rows.Target.{Target}
 use Rattle.ele_model.specs.declared.rows.Target.TheVariants as target
 use Rattle.ele_usage.specs.declared.usage.Usage.{Usage}
 use Rattle.ele_model.specs.declared.pass.PassEnd.{PassEnd}
-use Rattle.hex.specs.Hex.{encode_lower}
+use Rattle.ele_commands.specs.EventText.{bytes_word}
 use Rattle.ele_output.specs.Front.{WritesText}
 use Rattle.ele_printer.specs.LineFault.{fault_number, fault_name}
 use Rattle.ele_printer.specs.declared.fault.LineFault.{LineFault}
@@ -105,11 +105,6 @@ due_line key = line_text (codes "-" ∷ key_words key)
 -- the text of keys: how many, and a line for each
 abbrev pub due_text : List Key → List ℕ
 due_text keys = line_text (codes "ok due" ∷ decimal (length keys) ∷ []) ++ flat_map due_line keys
-
--- bytes as a word: `-` for none, else two hexadecimal digits each, in lower case
-abbrev pub bytes_word : List ℕ → List ℕ
-bytes_word [] = codes "-"
-bytes_word (byte ∷ bytes) = encode_lower (byte ∷ bytes)
 
 -- the text of bytes: how many, and these
 abbrev pub bytes_text : List ℕ → List ℕ

@@ -5,9 +5,9 @@ ghost use Rattle.ele_printer.specs.HistoryText.{entry_line, history_text, trimme
 ghost use Rattle.ele_output.specs.Line.{line_text};
 ghost use Rattle.ele_output.specs.Prints.{Prints};
 
-use crate::event::put_event_line;
 use crate::numbers::{put_number_line, put_numbers_line};
 use crate::row::{Row, put_lines};
+use ele_commands::put_event_line;
 use ele_model::Entry;
 use ele_output::Printer;
 use std::io::Write;

@@ -1,6 +1,6 @@
 //! Putting replies into an output. A contract sees a reply as itself, and a printer as its
 //! outlet.
-ghost use Rattle.std.specs.Prelude.{◌≤◌, ◌++◌, ◌∷◌, [], Ok, List, ℕ, length, decimal, codes};
+ghost use Rattle.std.specs.Prelude.{◌++◌, ◌∷◌, [], Ok, List, ℕ, length, decimal, codes};
 ghost use Rattle.ele_output.specs.Prints.{Prints};
 ghost use Rattle.ele_output.specs.Line.{line_text};
 ghost use Rattle.ele_printer.specs.Printed.{key_words, closed_text, restorable_line, restorable_text, due_line, due_text, bytes_text, usage_line, usage_text, stop_text, pass_text, bad_text, IsAnswerText, IsReplyText};
@@ -12,13 +12,11 @@ use crate::numbers::{put_number_line, put_numbers, put_numbers_line};
 use crate::refusal::put_refusal;
 use crate::row::{Row, put_rows};
 use crate::rows::{put_directory, put_file, put_names, put_versions};
+use ele_commands::put_hexadecimal;
 use ele_model::{DeadName, Key, PassEnd, Reply, Stop, Target, Usage, VersionNo};
 use ele_output::{Printer, put_line, put_number, put_with_number, put_word};
 use itoa::Buffer;
 use std::io::Write;
-
-/// So many bytes are told as digits at a time.
-const PIECE: usize = 256;
 
 /// Puts the lines of a reply, or of the stop that came in its place.
 pub fn put_reply<W: Write>(reply: &Result<Reply, Stop>, printer: &mut Printer<'_, W>)
@@ -198,31 +196,6 @@ fn put_digits<W: Write>(bytes: &[u8], printer: &mut Printer<'_, W>)
     printer.put(b" ");
     put_hexadecimal(bytes, printer);
     printer.put(b"\n");
-}
-
-/// Puts two digits for each byte.
-pub(crate) fn put_hexadecimal<W: Write>(bytes: &[u8], printer: &mut Printer<'_, W>)
-    ensures { Prints W.contents printer.old printer.new (encode_lower bytes.now) }
-{
-    let mut rest = bytes;
-    'pieces: while !rest.is_empty() {
-        let (piece, behind) = rest.split_at(rest.len().min(PIECE));
-        put_piece(piece, printer);
-        rest = behind;
-    }
-}
-
-// Puts two digits for each byte of a few hundred.
-fn put_piece<W: Write>(piece: &[u8], printer: &mut Printer<'_, W>)
-    requires { length piece.now ≤ PIECE }
-    ensures { Prints W.contents printer.old printer.new (encode_lower piece.now) }
-{
-    let mut digits = [0; 2 * PIECE];
-    let digits = &mut digits[..2 * piece.len()];
-    match hex::encode_to_slice(piece, digits) {
-        Ok(()) => printer.put(digits),
-        Err(_) => unreachable!(),
-    }
 }
 
 // Puts what the files of each kind of policy use.

@@ -1,17 +1,18 @@
-//! Putting what is told of versions, directories and names, and the policies in it. A contract sees
-//! each as itself, and a printer as its outlet.
+//! Putting what is told of versions, directories and names. A contract sees each as itself, and a
+//! printer as its outlet.
 ghost use Rattle.std.specs.Prelude.{◌≡◌, ◌∷◌, [], ◌++◌, map, decimal, codes};
-ghost use Rattle.ele_policy.specs.PolicyText.{floor_word, ladder_word, pair_word, policy_word};
+ghost use Rattle.ele_policy.specs.PolicyText.{policy_word};
 ghost use Rattle.ele_output.specs.Prints.{Prints};
 ghost use Rattle.ele_output.specs.Line.{line_text};
 ghost use Rattle.ele_printer.specs.Printed.{end_word, file_text, directory_text, rest_text, times_text, version_line, versions_text, name_line, names_text};
 
 use crate::numbers::put_numbers;
 use crate::row::{Row, put_rows};
+use ele_commands::put_policy;
 use ele_model::{DirectoryRow, FileStat, Target, VersionInfo};
 use ele_moment::{Moment, Name};
-use ele_output::{Printer, put_line, put_number, put_with_number, put_words};
-use ele_policy::{Floor, Ladder, Policy};
+use ele_output::{Printer, put_line, put_with_number, put_words};
+use ele_policy::Policy;
 use itoa::Buffer;
 use std::io::Write;
 
@@ -72,63 +73,6 @@ fn put_with_policy<W: Write>(
     put_words(first, words, printer);
     put_policy(policy, printer);
     printer.put(b"\n");
-}
-
-/// Puts a space and a policy.
-pub(crate) fn put_policy<W: Write>(policy: &Policy, printer: &mut Printer<'_, W>)
-    ensures { Prints W.contents printer.old printer.new (32 ∷ policy_word policy.now) }
-{
-    match policy {
-        Policy::One => printer.put(b" one"),
-        Policy::All => printer.put(b" all"),
-        Policy::Safe(interval, floor) => {
-            put_with_number(b" safe:", interval.seconds(), printer);
-            put_floor(*floor, printer);
-        }
-        Policy::Landmarks(ladder) => put_ladder(ladder, printer),
-    }
-}
-
-// Puts a slash and a floor, or nothing for none.
-fn put_floor<W: Write>(floor: Floor, printer: &mut Printer<'_, W>)
-    ensures { Prints W.contents printer.old printer.new (floor_word floor) }
-{
-    match floor.number() {
-        0 => {}
-        versions => put_with_number(b"/", versions, printer),
-    }
-}
-
-// Puts a space, `landmarks:` and the pairs of a ladder.
-fn put_ladder<W: Write>(ladder: &Ladder, printer: &mut Printer<'_, W>)
-    ensures { Prints W.contents printer.old printer.new
-        (codes " landmarks:" ++ ladder_word ladder.now) }
-{
-    printer.put(b" landmarks:");
-    put_pairs(ladder.pairs(), printer);
-}
-
-// Puts pairs with a comma between each two.
-fn put_pairs<W: Write>(pairs: &[(u64, u64)], printer: &mut Printer<'_, W>)
-    ensures { Prints W.contents printer.old printer.new (ladder_word pairs.now) }
-{
-    let Some((first, rest)) = pairs.split_first() else {
-        return;
-    };
-    put_pair(b"", first, printer);
-    for pair in rest {
-        put_pair(b",", pair, printer);
-    }
-}
-
-// Puts what stands before a pair, and the pair.
-fn put_pair<W: Write>(before: &[u8], pair: &(u64, u64), printer: &mut Printer<'_, W>)
-    ensures { Prints W.contents printer.old printer.new (before.now ++ pair_word pair.now) }
-{
-    printer.put(before);
-    put_number(pair.0, printer);
-    printer.put(b"/");
-    put_number(pair.1, printer);
 }
 
 // Puts a space and an end.

@@ -1,16 +1,12 @@
 //! Writing answers whole. A contract sees an answer as itself, and a writer as the bytes that it is
 //! known to hold.
 ghost use Rattle.std.specs.Prelude.{◌∷◌, [], decimal};
-ghost use Rattle.std.specs.List.{AllByRecursion};
-ghost use Rattle.ele_printer.specs.EventText.{IsValue, event_words};
 ghost use Rattle.ele_output.specs.Front.{WritesText};
-ghost use Rattle.ele_printer.specs.Parts.{parts_of};
 ghost use Rattle.ele_output.specs.Line.{line_text};
 ghost use Rattle.ele_printer.specs.Printed.{WritesAnswer};
 
-use crate::event::put_event_line;
 use crate::reply::{put_named, put_placed, put_reply};
-use ele_model::{Event, Reply, Stop};
+use ele_model::{Reply, Stop};
 use ele_output::{Printer, WriteFault};
 use std::io::Write;
 
@@ -21,18 +17,6 @@ pub fn write_reply<W: Write>(reply: &Result<Reply, Stop>, writer: &mut W) -> Res
 {
     let mut printer = Printer::new(writer);
     put_reply(reply, &mut printer);
-    printer.hand_over()
-}
-
-/// Writes the line of an event: the words that name its command, and one for each value behind it.
-/// At a fault of the writer it took a front of that line.
-pub fn write_event_text<W: Write>(event: &Event, writer: &mut W) -> Result<(), WriteFault>
-    ensures text { WritesText (line_text (event_words event.now))
-        (W.contents writer.old) (W.contents writer.new) result }
-    ensures values { AllByRecursion IsValue (parts_of event.now).1 }
-{
-    let mut printer = Printer::new(writer);
-    put_event_line(event, &mut printer);
     printer.hand_over()
 }
 

@@ -6,7 +6,7 @@ use Rattle.ele_script.proofs.Prelude.{IsFaultOfWords, no_command, of_word}
 use Rattle.std.proofs.Common.{IfSome}
 use Rattle.ele_script.specs.CommandOf.{command_in, command_of, if_allowed}
 use Rattle.ele_script.specs.Spells.{line_parts}
-use Rattle.ele_printer.specs.Command.{is_allowed}
+use Rattle.ele_commands.specs.Command.{is_allowed}
 use Rattle.std.specs.Option.{option_and_then}
 
 -- a command's words, and what stands behind them

@@ -13,10 +13,10 @@ use Rattle.ele_path.specs.Tagged.{SpellsTag, SpellsTaggedPath}
 use Rattle.ele_path.specs.declared.tagged.Tag.{Tag}
 use Rattle.ele_path.specs.declared.tagged.Tag.TheVariants.{Now, At, Number as Numbered}
 use Rattle.ele_model.specs.declared.event.Source.TheVariants as source
-use Rattle.ele_printer.specs.EventText.{IsTag, IsValue, event_words, value_word}
+use Rattle.ele_commands.specs.EventText.{IsTag, IsValue, event_words, value_word}
 use Rattle.ele_path.specs.PathText.{path_word, tag_text, tagged_word}
-use Rattle.ele_printer.specs.Parts.{parts_of}
-use Rattle.ele_printer.specs.Printed.{bytes_word}
+use Rattle.ele_commands.specs.Parts.{parts_of}
+use Rattle.ele_commands.specs.EventText.{bytes_word}
 use Rattle.ele_script.specs.declared.reading.Line.TheVariants as asks
 use Rattle.ele_script.specs.EventBack.{EventBack}
 use Rattle.ele_script.specs.Value.{Number, Handle, Version, End, Tagged, Source, Policy}
@@ -24,7 +24,7 @@ use Rattle.ele_script.proofs.JoinedWords.{joined_words, joined_worded}
 use Rattle.ele_script.proofs.PlainValues.{are_bytes, values_are}
 use Rattle.ele_script.proofs.PlainWords.{is_word}
 use Rattle.ele_script.proofs.PolicyBack.{policy_back, spelled}
-use Rattle.ele_printer.proofs.Words.{some_word}
+use Rattle.ele_commands.proofs.Words.{some_word}
 
 moment_back : (m : ℕ) → m ≤ last_moment → SpellsMoment (decimal m) m
 moment_back m le = record { in_range = le; form = inl (spelled m le) }

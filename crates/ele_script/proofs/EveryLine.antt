@@ -2,14 +2,14 @@
 use Rattle.ele_script.proofs.Basics.{◌≡◌, ℕ, ◌==◌, ◌≤◌, Bool, true, false, List, [], ◌∷◌, length, refl, ap, ◌∙◌, ◌⊎◌, inl, inr, Option, Some, None, ℕ_discrete, dec_le}
 use Rattle.ele_script.proofs.Prelude.{Line, Command, LineFault, Syntax, Value, Moment, Name, Path, Timed, Bytes, kinds_behind, kinds_if, kinds_of, longest_line, words_of, is_worded, SpellsWords, Asks, IsFaultOfWords, of_word, IsFirstFault, too_long, not_worded, of_words, miscounted}
 use Rattle.std.proofs.Math.Nat.{lt_of_not-le}
-use Rattle.ele_printer.specs.declared.command.Command.TheVariants as command
+use Rattle.ele_commands.specs.declared.command.Command.TheVariants as command
 use Rattle.ele_printer.specs.declared.fault.LineFault.TheVariants.{LineTooLong}
 use Rattle.ele_model.specs.declared.event.Event.TheVariants as event
 use Rattle.ele_script.specs.declared.reading.Line.TheVariants as asks
 use Rattle.ele_script.specs.declared.reading.Question.TheVariants as question
 use Rattle.ele_script.specs.CommandOf.{command_in}
 use Rattle.ele_script.specs.EveryLine.{EveryLineMeaning}
-use Rattle.ele_printer.specs.Command.{is_allowed}
+use Rattle.ele_commands.specs.Command.{is_allowed}
 use Rattle.ele_script.specs.Spells.{line_parts}
 use Rattle.ele_script.specs.Value.{Number, Handle, Version, End, Tagged, Source, Policy}
 use Rattle.ele_script.proofs.Commands.{allowed_found, fault_of_words, unfit_words, words_found}

@@ -1,9 +1,9 @@
 -- What is true of lines: each asks for one thing, or has a first fault, and not both.
-use Rattle.ele_printer.specs.Command.{is_allowed}
+use Rattle.ele_commands.specs.Command.{is_allowed}
 use Rattle.ele_script.proofs.Basics.{Bool, false, nat_tests, ◌≡◌, ◌≢◌, ◌==◌, None, Some, ℕ, ◌≤◌, true, true≢false, List, [], ◌∷◌, length, refl, sym, ap, ◌∙◌, arith, ◌⊎◌, inl, inr, Result, Ok, Err, IfOk, IfErr, same_Some}
 use Rattle.ele_script.proofs.Prelude.{OneMeaning, Line, Command, LineFault, NoMemory, WordKind, Value, word_kind, kinds_behind, kinds_if, kinds_of, longest_line, words_of, is_worded, SpellsValues, SpellsWords, SpellsLine, Asks, AsksEvent}
 use Rattle.ele_script.proofs.Prelude.{IsFirstWordFault, IsFaultOfWords, no_command, of_word, IsFirstFault, too_long, not_worded, of_words, IsEventFault, of_line, no_event}
-use Rattle.ele_printer.specs.Parts.{parts_of}
+use Rattle.ele_commands.specs.Parts.{parts_of}
 use Rattle.ele_model.specs.declared.event.Event.{Event}
 use Rattle.ele_model.specs.declared.event.Event.TheVariants as event
 use Rattle.ele_script.specs.declared.reading.Question.{Question}

@@ -12,8 +12,8 @@ use Rattle.ele_policy.specs.declared.policy.Policy.{Policy as AnyPolicy}
 use Rattle.ele_policy.specs.declared.policy.Policy.TheVariants as policy
 use Rattle.ele_path.specs.PathAt.{tag_at}
 use Rattle.ele_model.specs.declared.event.Source.TheVariants as source
-use Rattle.ele_printer.specs.EventText.{IsValue, value_word}
-use Rattle.ele_printer.specs.Printed.{bytes_word}
+use Rattle.ele_commands.specs.EventText.{IsValue, value_word}
+use Rattle.ele_commands.specs.EventText.{bytes_word}
 use Rattle.ele_policy.specs.PolicyText.{floor_word, policy_word}
 use Rattle.ele_path.specs.PathText.{path_word}
 use Rattle.ele_script.specs.Value.{Number, Handle, Version, End, Tagged, Source, Policy}

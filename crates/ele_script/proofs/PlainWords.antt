@@ -9,7 +9,7 @@ use Rattle.ele_moment.specs.Name.{IsName, is_name_byte}
 use Rattle.ele_path.specs.Path.{IsPath, path_text}
 use Rattle.ele_path.specs.declared.tagged.Tag.{Tag}
 use Rattle.ele_path.specs.declared.tagged.Tag.TheVariants.{Now, At, Number as Numbered}
-use Rattle.ele_printer.specs.EventText.{IsTag}
+use Rattle.ele_commands.specs.EventText.{IsTag}
 use Rattle.ele_path.specs.PathText.{path_word, tag_text, tagged_word}
 use Rattle.ele_script.proofs.Words.{has_byte}
 

@@ -4,8 +4,8 @@ use Rattle.ele_script.proofs.Prelude.{Command, WordKind, command_words, commands
 use Rattle.std.specs.List.{list_any}
 use Rattle.std.specs.Prelude.{◌&&◌}
 use Rattle.std.specs.Str.{bytes_eq}
-use Rattle.ele_printer.specs.Command.{is_allowed}
-use Rattle.ele_printer.specs.declared.command.When.{When}
+use Rattle.ele_commands.specs.Command.{is_allowed}
+use Rattle.ele_commands.specs.declared.command.When.{When}
 use Rattle.ele_script.specs.Reason.{BeginsCommand, IsUnknown}
 use Rattle.ele_script.specs.ReasonFound.{begin_row}
 

@@ -1,7 +1,7 @@
 -- The kinds of the words behind a command's name.
 use Rattle.std.specs.Prelude.{ℕ, ◌==◌, Bool, false, List, [], ◌∷◌, length}
-use Rattle.ele_printer.specs.Command.{kinds_of}
-use Rattle.ele_printer.specs.declared.command.Command.{Command}
+use Rattle.ele_commands.specs.Command.{kinds_of}
+use Rattle.ele_commands.specs.declared.command.Command.{Command}
 use Rattle.ele_script.specs.Value.{WordKind, EndWord}
 
 -- the kinds, with a last one that is an end or without it

@@ -3,11 +3,11 @@ use Rattle.std.specs.Prelude.{◌≡◌, Bool, ℕ, List, [], ◌∷◌, Option,
 use Rattle.std.specs.Borrow.{Bor}
 use Rattle.std.specs.Str.{bytes_eq}
 use Rattle.std.specs.Option.{option_and_then}
-use Rattle.ele_printer.specs.declared.command.Command.{Command}
-use Rattle.ele_printer.specs.declared.command.When.{When}
-use Rattle.ele_printer.specs.declared.command.TheConstants.{ROWS}
-use Rattle.ele_printer.specs.declared.kind.WordKind.{WordKind}
-use Rattle.ele_printer.specs.Command.{command_words, is_allowed, name_of}
+use Rattle.ele_commands.specs.declared.command.Command.{Command}
+use Rattle.ele_commands.specs.declared.command.When.{When}
+use Rattle.ele_commands.specs.declared.command.TheConstants.{ROWS}
+use Rattle.ele_commands.specs.declared.kind.WordKind.{WordKind}
+use Rattle.ele_commands.specs.Command.{command_words, is_allowed, name_of}
 
 -- what stands behind a name
 abbrev pub behind : List (List ℕ) → List (List ℕ) → Option (List (List ℕ))

@@ -1,8 +1,8 @@
 -- The text of an event spells it.
 use Rattle.std.specs.List.{AllByRecursion}
 use Rattle.ele_model.specs.declared.event.Event.{Event}
-use Rattle.ele_printer.specs.EventText.{IsValue, event_text}
-use Rattle.ele_printer.specs.Parts.{parts_of}
+use Rattle.ele_commands.specs.EventText.{IsValue, event_text}
+use Rattle.ele_commands.specs.Parts.{parts_of}
 use Rattle.ele_script.specs.Spells.{Spells}
 
 -- where its values are as their types say

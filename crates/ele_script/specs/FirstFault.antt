@@ -2,14 +2,14 @@
 use Rattle.std.specs.Prelude.{◌≡◌, ◌≢◌, ℕ, Bool, ◌<◌, ◌≤◌, List, ◌∷◌, ◌++◌, length, Some, Err, true, false, ◌⊎◌}
 use Rattle.std.specs.Option.{option_map}
 use Rattle.ele_path.specs.FirstFault.{path_fault}
-use Rattle.ele_printer.specs.declared.command.Command.{Command}
+use Rattle.ele_commands.specs.declared.command.Command.{Command}
 use Rattle.ele_printer.specs.declared.fault.LineFault.{LineFault}
 use Rattle.ele_printer.specs.declared.fault.LineFault.TheVariants.{BadName, BadMoment, Syntax, LineTooLong}
 use Rattle.ele_printer.specs.LineFault.{fault_of_path}
 use Rattle.ele_script.specs.Value.{WordKind, NumberWord, HandleWord, VersionWord, MomentWord, EndWord, NameWord, PathWord, TaggedWord, TimedWord, SourceWord, BytesWord, PolicyWord, Value, word_kind, SpellsValue}
 use Rattle.ele_script.specs.PolicyWord.{ReadsPolicy}
 use Rattle.ele_script.specs.PathWord.{IsTaggedWordFault, IsTimedWordFault, IsSourceFault}
-use Rattle.ele_printer.specs.Command.{command_words, is_allowed}
+use Rattle.ele_commands.specs.Command.{command_words, is_allowed}
 use Rattle.ele_script.specs.Command.{kinds_behind}
 use Rattle.ele_script.specs.Words.{longest_line, words_of, is_worded}
 use Rattle.ele_script.specs.Spells.{Asks}

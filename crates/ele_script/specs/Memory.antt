@@ -1,10 +1,10 @@
 -- Which lines are read with memory.
 use Rattle.std.specs.Prelude.{◌≡◌, ℕ, List, [], ◌∷◌, ◌++◌, ◌||◌, Bool, true, false}
 use Rattle.std.specs.List.{list_any}
-use Rattle.ele_printer.specs.declared.command.Command.{Command}
+use Rattle.ele_commands.specs.declared.command.Command.{Command}
 use Rattle.ele_script.specs.Value.{WordKind, NumberWord, HandleWord, VersionWord, MomentWord, EndWord, NameWord, PathWord, TaggedWord, TimedWord, SourceWord, BytesWord, PolicyWord}
 use Rattle.ele_script.specs.PathWord.{begins_path}
-use Rattle.ele_printer.specs.Command.{command_words, is_allowed}
+use Rattle.ele_commands.specs.Command.{command_words, is_allowed}
 use Rattle.ele_script.specs.Command.{kinds_behind}
 
 -- paths and bytes take memory, and a group's name, which lies apart in an event; nothing else does, for a policy stands behind a

@@ -1,6 +1,6 @@
 -- What is read of the words behind a command. No public clause cites this module.
 use Rattle.std.specs.Prelude.{◌≡◌, ◌≢◌, ℕ, List, length, Bool, true, ◌⊎◌, Result, Ok, Err}
-use Rattle.ele_printer.specs.declared.command.Command.{Command}
+use Rattle.ele_commands.specs.declared.command.Command.{Command}
 use Rattle.ele_printer.specs.declared.fault.LineFault.{LineFault}
 use Rattle.ele_printer.specs.declared.fault.LineFault.TheVariants.{NoMemory, Syntax}
 use Rattle.ele_script.specs.declared.reading.Line.{Line}

@@ -1,8 +1,8 @@
 -- Why a line is no command, and which word of it is at fault.
 use Rattle.std.specs.Prelude.{◌≡◌, ◌≢◌, ℕ, ◌+◌, ◌<◌, ◌≤◌, ◌==◌, ◌&&◌, nat_le, not, Bool, false, List, [], ◌∷◌, ◌++◌, length, true, Some, ◌⊎◌, if◌then◌else◌}
 use Rattle.std.specs.List.{find, list_all}
-use Rattle.ele_printer.specs.Command.{command_words, is_allowed}
-use Rattle.ele_printer.specs.declared.command.Command.{Command}
+use Rattle.ele_commands.specs.Command.{command_words, is_allowed}
+use Rattle.ele_commands.specs.declared.command.Command.{Command}
 use Rattle.ele_printer.specs.declared.fault.LineFault.{LineFault}
 use Rattle.ele_printer.specs.declared.fault.LineFault.TheVariants.{Syntax, LineTooLong}
 use Rattle.ele_script.specs.Command.{kinds_behind}

@@ -3,9 +3,9 @@ use Rattle.std.specs.Prelude.{◌&&◌, ◌≡◌, ℕ, Bool, true, false, List,
 use Rattle.std.specs.Borrow.{Bor}
 use Rattle.std.specs.List.{list_any}
 use Rattle.std.specs.Str.{bytes_eq}
-use Rattle.ele_printer.specs.declared.command.Command.{Command}
-use Rattle.ele_printer.specs.declared.command.When.{When}
-use Rattle.ele_printer.specs.Command.{allows}
+use Rattle.ele_commands.specs.declared.command.Command.{Command}
+use Rattle.ele_commands.specs.declared.command.When.{When}
+use Rattle.ele_commands.specs.Command.{allows}
 use Rattle.ele_script.specs.Command.{kinds_behind}
 use Rattle.ele_script.specs.FirstFault.{FitsCommand, IsOfKind}
 use Rattle.ele_script.specs.Memory.{any_takes}

@@ -1,15 +1,15 @@
 -- What lines are in text, and which ask for something.
 use Rattle.std.specs.Prelude.{◌≡◌, ℕ, Bool, false, ◌≤◌, List, [], ◌∷◌, ◌++◌, length, true}
 use Rattle.ele_model.specs.declared.event.Event.{Event}
-use Rattle.ele_printer.specs.declared.command.Command.{Command}
-use Rattle.ele_printer.specs.declared.command.Command.TheVariants.{Ahead, Pass, History, Trim, Why}
+use Rattle.ele_commands.specs.declared.command.Command.{Command}
+use Rattle.ele_commands.specs.declared.command.Command.TheVariants.{Ahead, Pass, History, Trim, Why}
 use Rattle.ele_script.specs.declared.reading.Line.{Line}
 use Rattle.ele_script.specs.declared.reading.Line.TheVariants as asks
 use Rattle.ele_script.specs.declared.reading.Question.{Question}
 use Rattle.ele_script.specs.declared.reading.Question.TheVariants as question
-use Rattle.ele_printer.specs.Parts.{parts_of}
+use Rattle.ele_commands.specs.Parts.{parts_of}
 use Rattle.ele_script.specs.Value.{Value, Moment, Number, SpellsValue, Tagged}
-use Rattle.ele_printer.specs.Command.{command_words, is_allowed}
+use Rattle.ele_commands.specs.Command.{command_words, is_allowed}
 use Rattle.ele_script.specs.Words.{longest_line, words_of, is_worded}
 
 -- the command of a question, and the value of the word behind it

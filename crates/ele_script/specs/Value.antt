@@ -7,9 +7,9 @@ use Rattle.ele_moment.specs.Spelled.{SpellsMoment}
 use Rattle.ele_path.specs.Path.{SpellsPath}
 use Rattle.ele_path.specs.Tagged.{SpellsTaggedPath}
 use Rattle.ele_path.specs.PathAt.{SpellsPathAt}
-pub use Rattle.ele_printer.specs.Value.{Value, Number, Handle, Version, Moment, End, Name, Path, Tagged, Timed, Source, Bytes, Policy}
-pub use Rattle.ele_printer.specs.declared.kind.WordKind.{WordKind}
-pub use Rattle.ele_printer.specs.declared.kind.WordKind.TheVariants.{Number as NumberWord, Handle as HandleWord, Version as VersionWord, Moment as MomentWord, End as EndWord, Name as NameWord, Path as PathWord, Tagged as TaggedWord, Timed as TimedWord, Source as SourceWord, Bytes as BytesWord, Policy as PolicyWord}
+pub use Rattle.ele_commands.specs.Value.{Value, Number, Handle, Version, Moment, End, Name, Path, Tagged, Timed, Source, Bytes, Policy}
+pub use Rattle.ele_commands.specs.declared.kind.WordKind.{WordKind}
+pub use Rattle.ele_commands.specs.declared.kind.WordKind.TheVariants.{Number as NumberWord, Handle as HandleWord, Version as VersionWord, Moment as MomentWord, End as EndWord, Name as NameWord, Path as PathWord, Tagged as TaggedWord, Timed as TimedWord, Source as SourceWord, Bytes as BytesWord, Policy as PolicyWord}
 use Rattle.ele_model.specs.declared.event.Source.{Source as AnySource}
 use Rattle.ele_model.specs.declared.event.Source.TheVariants as source
 use Rattle.ele_script.specs.PolicyWord.{ReadsPolicy}

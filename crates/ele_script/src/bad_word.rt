@@ -3,7 +3,7 @@ ghost use Rattle.std.specs.Prelude.{◌≡◌, ◌⊎◌, ◌+◌, ◌<◌, ◌�
 ghost use Rattle.std.specs.List.{list_all, list_any};
 ghost use Rattle.ele_script.specs.FirstFault.{IsFirstFault, IsOfKind, IsWordFault};
 ghost use Rattle.ele_script.specs.Memory.{WordTakesMemory, any_takes, word_takes};
-ghost use Rattle.ele_printer.specs.Command.{command_words};
+ghost use Rattle.ele_commands.specs.Command.{command_words};
 ghost use Rattle.ele_script.specs.Reason.{IsFirstBadWord, IsReason, IsReasonOfWords, IsUnknown, IsWordReason, digits_detail, detail_of, fault_of, is_digit, path_detail};
 ghost use Rattle.ele_script.specs.ReasonFound.{AreOfKinds, IsCommand, TakesBehind, begin_row, begins_in};
 ghost use Rattle.ele_script.specs.Words.{words_of};
@@ -13,9 +13,10 @@ use crate::cut::first_words;
 use crate::reading::LONGEST_LINE;
 use crate::reasons::{Detail, Reason};
 use crate::word::{self, begins_path};
+use ele_commands::{Command, ROWS, Row, When, WordKind};
 use ele_moment::NoMemory;
 use ele_path::one_meaning;
-use ele_printer::{Command, LineFault, ROWS, Row, When, WordKind};
+use ele_printer::LineFault;
 use std::alloc::Global;
 
 /// Why a line is no command, without its line feed, in a run that explains, or in one that doesn't,

@@ -1,11 +1,11 @@
 //! The command in front of the words of a line, and the kinds of the words behind it.
 ghost use Rattle.std.specs.Prelude.{◌≡◌, ◌==◌, ◌∷◌, [], length, map};
 ghost use Rattle.std.specs.Option.{option_map};
-ghost use Rattle.ele_printer.specs.Command.{kinds_of, name_of};
+ghost use Rattle.ele_commands.specs.Command.{kinds_of, name_of};
 ghost use Rattle.ele_script.specs.Command.{kinds_if};
 ghost use Rattle.ele_script.specs.CommandOf.{behind, command_in, command_of, entry, FindsAll, find_command, first_letter};
 
-use ele_printer::{Command, ROWS, Row, WordKind};
+use ele_commands::{Command, ROWS, Row, WordKind};
 
 // The rows from the first one on whose name begins with the letter.
 fn rows_from(letter: u8) -> &'static [Row]

@@ -16,10 +16,11 @@ mod word;
 mod writing;
 
 pub use bad_word::reason;
+pub use ele_commands::WordKind;
 pub use ele_output::{Printer, WriteFault};
 pub use ele_printer::{
-    LineFault, WordKind, put_ahead, put_answer, put_fault, put_history, put_pass, put_reply,
-    put_stop, put_trimmed, put_why, write_named, write_placed, write_reply,
+    LineFault, put_ahead, put_answer, put_fault, put_history, put_pass, put_reply, put_stop,
+    put_trimmed, put_why, write_named, write_placed, write_reply,
 };
 pub use reading::{LONGEST_LINE, Line, Question, read_event, read_line, read_line_in};
 pub use reasons::{Detail, Reason};

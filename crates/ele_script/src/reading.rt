@@ -3,7 +3,7 @@ ghost use Rattle.std.specs.Prelude.{◌≡◌, ◌<◌, ◌⊎◌, [], map, leng
 ghost use Rattle.std.specs.List.{position};
 ghost use Rattle.ele_script.specs.Memory.{TakesMemory};
 ghost use Rattle.ele_script.specs.Words.{words_of, is_worded, ends_word};
-ghost use Rattle.ele_printer.specs.Command.{is_allowed};
+ghost use Rattle.ele_commands.specs.Command.{is_allowed};
 ghost use Rattle.ele_script.specs.Spells.{Asks, AsksEvent, SpellsWords, line_parts};
 ghost use Rattle.ele_script.specs.EventOf.{event_of};
 ghost use Rattle.ele_script.specs.Reads.{ReadsLine};
@@ -16,10 +16,11 @@ use crate::arguments::{
 };
 use crate::command::read_command;
 use arrayvec::ArrayVec;
+use ele_commands::Command;
 use ele_model::{Event, Handle, VersionNo};
 use ele_moment::Moment;
 use ele_path::{TaggedPath, one_meaning};
-use ele_printer::{Command, LineFault};
+use ele_printer::LineFault;
 use std::alloc::Global;
 
 /// What a line of a script asks for.

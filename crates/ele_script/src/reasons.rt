@@ -3,7 +3,8 @@ ghost use Rattle.std.specs.Prelude.{◌≡◌, Some};
 ghost use Rattle.std.specs.Fmt.{WritesOnOk};
 ghost use Rattle.ele_script.specs.ReasonText.{behind_text, byte_text, is_moment, kind_text, other_text, reason_text, syntax_text, takes_text, word_text};
 
-use ele_printer::{Command, LineFault, WordKind};
+use ele_commands::{Command, WordKind};
+use ele_printer::LineFault;
 use std::fmt;
 
 /// What is wrong with a word that isn't of its kind, where more than that can be told.

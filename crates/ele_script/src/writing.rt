@@ -2,12 +2,12 @@
 //! hold.
 ghost use Rattle.std.specs.Prelude.{◌++◌, ◌∷◌, []};
 ghost use Rattle.ele_output.specs.Front.{WritesText};
-ghost use Rattle.ele_printer.specs.EventText.{event_text};
+ghost use Rattle.ele_commands.specs.EventText.{event_text};
 ghost use Rattle.ele_script.specs.Spells.{Spells};
 
+use ele_commands::write_event_text;
 use ele_model::Event;
 use ele_output::WriteFault;
-use ele_printer::write_event_text;
 use std::io::Write;
 
 /// Writes the line that spells an event, and a line feed. At a fault of the writer it took a front

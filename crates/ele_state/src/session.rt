@@ -1,12 +1,13 @@
 //! Handles and drafts: what they read, and how they open, change and close.
-ghost use Rattle.std.specs.Prelude.{◌≡◌, ◌<◌, ◌≤◌, ◌+◌, ◌∷◌, [], true, false, Some, None, Ok, IfOk, OnOk, OnErr, length};
+ghost use Rattle.std.specs.Prelude.{◌≡◌, ◌<◌, ◌≤◌, ◌+◌, ◌∷◌, [], true, false, Some, None, Ok, IfOk, OnOk, OnErr, find, length};
+ghost use Rattle.std.specs.Option.{option_map};
 ghost use Rattle.std.specs.Result.{result_map_both};
 ghost use Rattle.ele_content.specs.Content.{content_of, longest_content};
 ghost use Rattle.ele_files.specs.Closing.{opening_by};
 ghost use Rattle.ele_files.specs.Copied.{IsCopied};
 ghost use Rattle.ele_model.specs.Change.{OpenHandle, StartDraft, TruncateDraft, WriteDraft, after_change, after_changes};
 ghost use Rattle.ele_model.specs.Step.{cells_read, step, versions_made};
-ghost use Rattle.ele_model.specs.World.{file_by, has_draft, is_held, next_of, reads_by};
+ghost use Rattle.ele_model.specs.World.{file_by, has_draft, is_draft, is_held, next_of, reads_by};
 ghost use Rattle.ele_model.specs.declared.event.Event.TheVariants as event;
 ghost use Rattle.ele_model.specs.declared.reply.Reply.TheVariants.{Closed};
 ghost use Rattle.ele_model.specs.declared.rows.Reads.TheVariants.{Draft, Version};
@@ -21,7 +22,7 @@ use crate::keys::{put, take};
 use crate::moments::free_moment;
 use crate::rows::Rows;
 use ele_files::Copied;
-use ele_model::{ByteList, FileId, Handle, Moment, NoMemory, Reads, Refusal, VersionNo};
+use ele_model::{ByteList, FileId, Handle, HandleRow, Moment, NoMemory, Reads, Refusal, VersionNo};
 use ele_sessions::FoundHandle;
 
 impl State {
@@ -30,6 +31,21 @@ impl State {
         ensures { result ≡ reads_by self.now.world.handles handle }
     {
         self.rows.files.reads_by(handle)
+    }
+
+    /// Returns the open handles, by number.
+    pub fn handles(&self) -> &[HandleRow]
+        ensures { result.now ≡ self.now.world.handles }
+    {
+        self.rows.files.handles()
+    }
+
+    /// Returns when the file's draft was opened. None if the file has no draft.
+    pub fn draft_opened(&self, file: FileId) -> Option<Moment>
+        ensures { result
+            ≡ option_map (λ draft. draft.opened) (find (is_draft file) self.now.world.drafts) }
+    {
+        self.rows.files.draft_opened(file)
     }
 
     /// Returns the open handle of that number, and its place. Refused: `NoHandle`.

@@ -1,7 +1,8 @@
 -- What is answered where there are no names.
 use Rattle.std.proofs.Common.{◌≡◌, ◌==◌, false, ℕ, ◌-◌, ◌≤◌, suc, List, [], ◌∷◌, length, Some, refl, subst, arith}
 use Rattle.std.proofs.lemmas.Bool.Decides.{nat_tests}
-use Rattle.std.specs.Prelude.{slice_get, nat_lt}
+use Rattle.std.specs.Option.{option_map}
+use Rattle.std.specs.Prelude.{None, find, slice_get, nat_lt}
 use Rattle.ele_moment.specs.Last.{last_moment}
 use Rattle.ele_policy.specs.Policy.{IsPolicy}
 use Rattle.ele_policy.specs.declared.policy.Policy.TheVariants.{Safe}
@@ -18,7 +19,7 @@ use Rattle.ele_model.specs.declared.event.Event.TheVariants as event
 use Rattle.ele_model.specs.declared.refusal.Refusal.TheVariants.{NoEntry}
 use Rattle.ele_model.specs.declared.reply.Reply.{Reply}
 use Rattle.ele_model.specs.declared.reply.Reply.TheVariants.{Refused, Nothing, Now, UsageList}
-use Rattle.ele_model.specs.World.{World, fresh_world}
+use Rattle.ele_model.specs.World.{World, fresh_world, is_draft, is_held}
 use Rattle.ele_model.specs.WellFormed.{IsWellFormed}
 use Rattle.empty_world.specs.Empty.{empty, IsEmpty}
 
@@ -55,6 +56,15 @@ nothing_due w is = rw is.3 refl
 pub nothing_ahead : (w : World) (moment : ℕ) → IsEmpty w → [] ≡ scan (after_change w (Time moment))
 unfolding scan
 nothing_ahead w moment is = rw is.3 refl
+
+pub nothing_held : (w : World) (file number : ℕ) → IsEmpty w → is_held w file number ≡ false
+nothing_held w file number is = rw is.3 refl
+
+pub nothing_open : (w : World) → IsEmpty w → [] ≡ w.handles
+nothing_open w is = rw is.3 refl
+
+pub nothing_drafted : (w : World) (file : ℕ) → IsEmpty w → None ≡ option_map (λ draft. draft.opened) (find (is_draft file) w.drafts)
+nothing_drafted w file is = rw is.3 refl
 
 pub nothing_returns : (w : World) → IsEmpty w → [] ≡ restorable w
 unfolding restorable

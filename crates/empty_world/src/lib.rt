@@ -12,10 +12,10 @@ ghost use Rattle.empty_world.specs.Empty.{IsEmpty};
 mod refusing;
 
 use ele_model::{
-    Audit, Boxed, Counts, DeadNameList, DirId, DirectoryRow, Event, Explain, Fate, Flat, KeyList,
-    Limits, ListOf, NoMemory, Refusal, Reply, Step, laws,
+    Audit, Boxed, Counts, DeadNameList, DirId, DirectoryRow, Event, Explain, Fate, Flat, HandleRow,
+    KeyList, Limits, ListOf, NoMemory, Refusal, Reply, Step, laws,
 };
-use ele_moment::Moment;
+use ele_moment::{FileId, Moment, VersionNo};
 use ele_path::{Path, Tag, TaggedPath};
 use ele_policy::{Floor, Interval, Policy};
 use ele_usage::Usage;
@@ -257,5 +257,23 @@ impl Explain for EmptyWorld {
     fn due_by(&self, moment: Moment) -> Result<KeyList, NoMemory> {
         self.lemma_empty();
         Ok(ListOf::new(self.alloc))
+    }
+
+    #[tactic(auto, using(crate::proofs::Nothing::nothing_held))]
+    fn fate(&self, _file: FileId, _number: VersionNo) -> Option<Fate> {
+        self.lemma_empty();
+        None
+    }
+
+    #[tactic(auto, using(crate::proofs::Nothing::nothing_open))]
+    fn handles(&self) -> &[HandleRow] {
+        self.lemma_empty();
+        &[]
+    }
+
+    #[tactic(auto, using(crate::proofs::Nothing::nothing_drafted))]
+    fn draft_opened(&self, _file: FileId) -> Option<Moment> {
+        self.lemma_empty();
+        None
     }
 }

@@ -11,8 +11,8 @@ ghost use Rattle.ele_sessions.specs.Found.{StandsAt};
 
 use crate::files::{Files, file_of};
 use ele_lists::{ByteList, ListOf};
-use ele_model::{Reads, Refusal};
-use ele_moment::{FileId, Handle, NoMemory, VersionNo};
+use ele_model::{HandleRow, Reads, Refusal};
+use ele_moment::{FileId, Handle, Moment, NoMemory, VersionNo};
 use ele_policy::Policy;
 use ele_sessions::FoundHandle;
 
@@ -40,6 +40,21 @@ impl Files {
         ensures { result ≡ reads_by self.now.handles handle }
     {
         self.sessions.reads_by(handle)
+    }
+
+    /// Returns the open handles, by number.
+    pub fn handles(&self) -> &[HandleRow]
+        ensures { result.now ≡ self.now.handles }
+    {
+        self.sessions.handles()
+    }
+
+    /// Returns when the file's draft was opened. None if the file has no draft.
+    #[tactic(auto, using(crate::proofs::Rows::draft_found))]
+    pub fn draft_opened(&self, file: FileId) -> Option<Moment>
+        ensures { result ≡ option_map (λ draft. draft.opened) (find (is_draft file) self.now.drafts) }
+    {
+        self.sessions.draft_opened(file)
     }
 
     /// Returns the open handle of that number, and its place. Refused: `NoHandle`.

@@ -120,6 +120,18 @@ impl Sessions {
         Some(&draft.map)
     }
 
+    /// Returns when the file's draft was opened. None if no handle writes the file.
+    #[tactic(auto, using(crate::proofs::Found::rises_in))]
+    pub fn draft_opened(&self, file: FileId) -> Option<Moment>
+        ensures { result ≡ option_map (λ draft. draft.opened) (draft_of self.now file) }
+    {
+        let Ok(at) = place_of(&self.drafts, file) else {
+            return None;
+        };
+        let draft: &Draft = &self.drafts[at].draft;
+        Some(draft.opened)
+    }
+
     /// Returns the file of a draft, when the draft was opened, and whether it was changed, by the
     /// draft's place. None past the last one.
     pub fn draft_at(&self, place: usize) -> Option<(FileId, Moment, bool)>

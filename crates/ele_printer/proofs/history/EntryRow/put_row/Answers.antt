@@ -1,4 +1,4 @@
-use Rattle.ele_printer.proofs.Words.{entry_parts}
+use Rattle.ele_printer.proofs.Lines.{entry_parts}
 use Rattle.ele_output.proofs.Known.{puts_as, puts_then}
 use Rattle.std.proofs.Common.{sym}
 use Rattle.ele_printer.proofs.history.EntryRow.put_row.Goals as goal

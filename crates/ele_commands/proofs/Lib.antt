@@ -1,0 +1,2 @@
+mod Basics
+pub mod Words

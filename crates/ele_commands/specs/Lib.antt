@@ -1,0 +1,5 @@
+pub mod Command
+pub mod EventText
+pub mod Parts
+pub mod PutsParts
+pub mod Value

@@ -1,0 +1,48 @@
+//! Putting bytes in hexadecimal digits. A contract sees a printer as its outlet.
+ghost use Rattle.std.specs.Prelude.{◌≤◌, ◌∷◌, length};
+ghost use Rattle.ele_commands.specs.EventText.{bytes_word};
+ghost use Rattle.ele_output.specs.Prints.{Prints};
+ghost use Rattle.hex.specs.Hex.{encode_lower};
+
+use ele_output::Printer;
+use std::io::Write;
+
+/// So many bytes are told as digits at a time.
+const PIECE: usize = 256;
+
+/// Puts a space and two digits for each byte, or `-` for none.
+pub(crate) fn put_byte_word<W: Write>(bytes: &[u8], printer: &mut Printer<'_, W>)
+    ensures { Prints W.contents printer.old printer.new (32 ∷ bytes_word bytes.now) }
+{
+    if bytes.is_empty() {
+        printer.put(b" -");
+    } else {
+        printer.put(b" ");
+        put_hexadecimal(bytes, printer);
+    }
+}
+
+/// Puts two digits for each byte.
+pub fn put_hexadecimal<W: Write>(bytes: &[u8], printer: &mut Printer<'_, W>)
+    ensures { Prints W.contents printer.old printer.new (encode_lower bytes.now) }
+{
+    let mut rest = bytes;
+    'pieces: while !rest.is_empty() {
+        let (piece, behind) = rest.split_at(rest.len().min(PIECE));
+        put_piece(piece, printer);
+        rest = behind;
+    }
+}
+
+// Puts two digits for each byte of a few hundred.
+fn put_piece<W: Write>(piece: &[u8], printer: &mut Printer<'_, W>)
+    requires { length piece.now ≤ PIECE }
+    ensures { Prints W.contents printer.old printer.new (encode_lower piece.now) }
+{
+    let mut digits = [0; 2 * PIECE];
+    let digits = &mut digits[..2 * piece.len()];
+    match hex::encode_to_slice(piece, digits) {
+        Ok(()) => printer.put(digits),
+        Err(_) => unreachable!(),
+    }
+}

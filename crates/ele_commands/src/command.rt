@@ -1,0 +1,150 @@
+//! The commands of the script: the words that name each, and the kinds of the words behind these. A
+//! contract sees a command as itself.
+ghost use Rattle.std.specs.Prelude.{◌≡◌};
+ghost use Rattle.ele_commands.specs.Command.{command_words, is_allowed, kinds_of, name_of};
+
+use crate::command::When::{Always, Explaining};
+use crate::kind::WordKind::{
+    self, Bytes, End, Handle, Moment, Name, Number, Path, Policy, Source, Tagged, Timed, Version,
+};
+
+/// What a line tells a world to do; its first word, or its first two, name it.
+#[derive(Clone, Copy, Debug, PartialEq, Eq)]
+pub enum Command {
+    Ahead,
+    Clock,
+    Close,
+    Clean,
+    Create,
+    Due,
+    Default,
+    GroupMake,
+    GroupDrop,
+    GroupAdd,
+    GroupRemove,
+    Groups,
+    History,
+    Link,
+    ListNames,
+    Mark,
+    MakeDir,
+    OpenWrite,
+    OpenRead,
+    Pass,
+    SetPolicy,
+    Read,
+    Rename,
+    Revert,
+    RemoveDir,
+    Restorable,
+    Stat,
+    Tick,
+    Truncate,
+    Trim,
+    Unlink,
+    Undelete,
+    Unmark,
+    Usage,
+    Versions,
+    Write,
+    Why,
+}
+
+/// In which runs a command is one.
+#[derive(Clone, Copy, Debug, PartialEq, Eq)]
+pub enum When {
+    /// In all.
+    Always,
+    /// In those that explain.
+    Explaining,
+}
+
+/// A command, the words that name it, of which the second may be empty, the kinds of the words behind
+/// these, and in which runs it is one.
+pub type Row = (
+    Command,
+    &'static str,
+    &'static str,
+    &'static [WordKind],
+    When,
+);
+
+/// A row for each command, in the order of `Command`: those with one first letter stand together, and
+/// of these the ones that come often first.
+pub static ROWS: [Row; 37] = [
+    (Command::Ahead, "ahead", "", &[Moment], Explaining),
+    (Command::Clock, "clock", "", &[Moment], Always),
+    (Command::Close, "close", "", &[Handle], Always),
+    (Command::Clean, "clean", "", &[], Always),
+    (Command::Create, "create", "", &[Path], Always),
+    (Command::Due, "due", "", &[], Always),
+    (Command::Default, "default", "", &[Path, Policy], Always),
+    (Command::GroupMake, "group", "make", &[Name], Always),
+    (Command::GroupDrop, "group", "drop", &[Name], Always),
+    (Command::GroupAdd, "group", "add", &[Name, Path], Always),
+    (
+        Command::GroupRemove,
+        "group",
+        "remove",
+        &[Name, Path],
+        Always,
+    ),
+    (Command::Groups, "groups", "", &[], Always),
+    (Command::History, "history", "", &[], Always),
+    (Command::Link, "link", "", &[Path, Path], Always),
+    (Command::ListNames, "list", "", &[Timed], Always),
+    (Command::Mark, "mark", "", &[Name, Moment, End], Always),
+    (Command::MakeDir, "mkdir", "", &[Path], Always),
+    (Command::OpenWrite, "open", "write", &[Path], Always),
+    (Command::OpenRead, "open", "read", &[Tagged], Always),
+    (Command::Pass, "pass", "", &[Number], Always),
+    (Command::SetPolicy, "policy", "", &[Path, Policy], Always),
+    (Command::Read, "read", "", &[Source], Always),
+    (Command::Rename, "rename", "", &[Path, Path], Always),
+    (Command::Revert, "revert", "", &[Path, Version], Always),
+    (Command::RemoveDir, "rmdir", "", &[Path], Always),
+    (Command::Restorable, "restorable", "", &[], Always),
+    (Command::Stat, "stat", "", &[Tagged], Always),
+    (Command::Tick, "tick", "", &[Number], Always),
+    (Command::Truncate, "truncate", "", &[Handle, Number], Always),
+    (Command::Trim, "trim", "", &[], Always),
+    (Command::Unlink, "unlink", "", &[Path], Always),
+    (Command::Undelete, "undelete", "", &[Path], Always),
+    (Command::Unmark, "unmark", "", &[Name, Moment], Always),
+    (Command::Usage, "usage", "", &[], Always),
+    (Command::Versions, "versions", "", &[Timed], Always),
+    (
+        Command::Write,
+        "write",
+        "",
+        &[Handle, Number, Bytes],
+        Always,
+    ),
+    (Command::Why, "why", "", &[Tagged], Explaining),
+];
+
+impl Command {
+    /// The words that name it, of which the second may be empty.
+    pub fn words(self) -> (&'static str, &'static str)
+        ensures { name_of result.0.now result.1.now ≡ command_words self }
+    {
+        let (_, first, second, _, _) = ROWS[self as usize];
+        (first, second)
+    }
+
+    /// The kinds of the words behind these; a last one that is an `End` may be left out.
+    pub fn kinds(self) -> &'static [WordKind]
+        ensures { result.now ≡ kinds_of self }
+    {
+        let (_, _, _, kinds, _) = ROWS[self as usize];
+        kinds
+    }
+
+    /// Whether it is a command of a run that explains, or of one that doesn't.
+    pub fn is_allowed(self, explains: bool) -> bool
+        ensures { result ≡ is_allowed explains self }
+    {
+        let (_, _, _, _, when) = ROWS[self as usize];
+        explains || when == Always
+    }
+}

@@ -1,0 +1,17 @@
+//! The commands of the script: the words that name each and what it takes, and the text of each
+//! event. A contract sees a command and an event as themselves, and their words as bytes.
+#![tactic(auto)]
+
+mod byte_words;
+mod command;
+mod event;
+mod kind;
+mod path_words;
+mod policy_words;
+mod word;
+
+pub use byte_words::put_hexadecimal;
+pub use command::{Command, ROWS, Row, When};
+pub use event::{put_event, put_event_line, write_event_text};
+pub use kind::WordKind;
+pub use policy_words::put_policy;

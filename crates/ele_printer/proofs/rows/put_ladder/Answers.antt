@@ -1,5 +1,0 @@
-use Rattle.ele_output.proofs.Known.{puts_then}
-use Rattle.ele_printer.proofs.rows.put_ladder.Goals as goal
-
-pub returns : goal.returns
-returns g c = puts_then c.put.ensures (rw c.pairs.ensures.value at c.put_pairs.ensures)
