@@ -2,18 +2,16 @@
 
 import re
 
-PATTERN = (
+SUMMARY = re.compile(
     rb"elephant: (\d+) bad, (\d+) refused and (\d+) stopped of (\d+) lines; "
     rb"the first (bad one )?is line (\d+)(, [ -~]+)?; --numbers shows each\n"
 )
-SUMMARY = re.compile(PATTERN)
-AT_END = re.compile(PATTERN + rb"\Z")
 WORDS = (b"bad", b"no", b"stop")
 
 
-def without_summary(told):
-    """Returns what standard error has without a summary at its end."""
-    return AT_END.sub(b"", told)
+def without_summaries(told):
+    """Returns what standard error has beside summaries."""
+    return SUMMARY.sub(b"", told)
 
 
 def is_summary(told, answers):

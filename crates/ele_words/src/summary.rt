@@ -1,6 +1,6 @@
 //! How many lines of a run were not answered by `ok`, as the program tells it once the run has ended.
 //! A contract sees what the writer holds then.
-ghost use Rattle.std.specs.Prelude.{◌≡◌, Some};
+ghost use Rattle.std.specs.Prelude.{◌≡◌, IfSome, Some};
 ghost use Rattle.ele_output.specs.Front.{AppendsFront};
 ghost use Rattle.ele_words.specs.Summary.{IsFirst, TellsSummary, bad_first, first_text, summary_line};
 
@@ -88,21 +88,25 @@ fn write_summary<E: Write>(lines: u64, tally: &Tally, first: First, errors: &mut
     ensures { AppendsFront (E.contents errors.old) (E.contents errors.new)
         (summary_line lines tally.now first) }
 {
-    let Tally {
-        bad,
-        refused,
-        stopped,
-        ..
-    } = tally;
-    let mut text = ArrayString::<ROOM>::new();
-    let made = writeln!(
+    let Some(text) = summary_of(lines, tally, first) else {
+        return;
+    };
+    let _ = write_all(errors, text.as_str().as_bytes());
+    let _ = errors.flush();
+}
+
+// The summary that names this line. It takes no memory.
+fn summary_of(lines: u64, tally: &Tally, first: First) -> Option<ArrayString<ROOM>>
+    ensures { IfSome result (λ text. text.bytes ≡ summary_line lines tally.now first) }
+{
+    let (bad, refused, stopped) = (tally.bad, tally.refused, tally.stopped);
+    let mut text = ArrayString::new();
+    match writeln!(
         text,
         "elephant: {bad} bad, {refused} refused and {stopped} stopped of {lines} lines; {first}; \
          --numbers shows each",
-    );
-    if made.is_err() {
-        return;
+    ) {
+        Ok(()) => Some(text),
+        Err(_) => None,
     }
-    let _ = write_all(errors, text.as_str().as_bytes());
-    let _ = errors.flush();
 }
