@@ -17,12 +17,14 @@ use Rattle.ele_runs.specs.Answer as answer
 use Rattle.ele_runs.specs.Block.{IsText, cut_count}
 use Rattle.ele_runs.specs.Said.{Explains, Hears, HearsKept, HearsNext, Records, Trims, answer_of, has_no_reply, reply_of, said_front}
 use Rattle.ele_runs.specs.declared.options.RunOptions.{RunOptions}
+use Rattle.ele_runs.specs.Tally.{outcome_of, tallied}
 use Rattle.ele_runs.specs.declared.said.Said.{Said}
 use Rattle.ele_runs.specs.declared.said.Said.TheVariants.{Nothing, Bad, Stopped, Replied, Trimmed, Why, Ahead}
 use Rattle.ele_output.proofs.Known.{puts_no_more, puts_then}
 use Rattle.ele_runs.specs.Told.{cut_told}
 use Rattle.ele_runs.specs.Written.{WritesLast, end_by}
 use Rattle.ele_runs.specs.declared.end.RunEnd.{RunEnd}
+use Rattle.ele_runs.specs.declared.tally.Outcome.{Outcome}
 
 -- the last entry of a list that has one more
 last_is : (entries : List Entry) (entry : Entry) → slice_get (entries ++ entry ∷ []) (length (entries ++ entry ∷ []) - 1) ≡ Some entry
@@ -108,14 +110,17 @@ pub kept_long : (options : RunOptions) (past : Past) → HearsKept options past 
 kept_long options past = as_heard options past past None None (Bad fault.LineTooLong) (long_heard options) (refl, refl) (λ number. refl)
 
 -- the next line was heard
-pub heard_next : (before after : RunState) (line : Option (List ℕ)) (said : Said) (past : Past) (fine : Bool) → HearsKept before.options before.past line said past
+pub heard_next : (before after : RunState) (line : Option (List ℕ)) (said : Said) (past : Past) (fine : Bool) (outcome : Outcome) → HearsKept before.options before.past line said past
     → ((text : List ℕ) → IsText (answer_of past said) text → fine ≡ is_well text)
-    → after ≡ record before { past = past; number = before.number + 1; ended = before.options.strict && not fine } → HearsNext before line said after
-heard_next before after line said past fine kept well is = rw is (record {
+    → ((text : List ℕ) → IsText (answer_of past said) text → outcome ≡ outcome_of text)
+    → after ≡ record before { past = past; number = before.number + 1; ended = before.options.strict && not fine; tally = tallied before.tally (before.number + 1) line outcome } → HearsNext before line said after
+heard_next before after line said past fine outcome kept well counts is = rw is (record {
   kept = kept;
   options = refl;
   number = refl;
-  after_is = λ text told. ap (λ (b : Bool). record before { past = past; number = before.number + 1; ended = before.options.strict && not b }) (well text told);
+  after_is = λ text told.
+      ap (λ (b : Bool). record before { past = past; number = before.number + 1; ended = before.options.strict && not b; tally = tallied before.tally (before.number + 1) line outcome }) (well text told)
+      ∙ ap (λ (o : Outcome). record before { past = past; number = before.number + 1; ended = before.options.strict && not (is_well text); tally = tallied before.tally (before.number + 1) line o }) (counts text told);
 })
 
 -- what is told beside the answer, whatever its text is

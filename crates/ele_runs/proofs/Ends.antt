@@ -6,7 +6,8 @@ use Rattle.ele_runs.specs.declared.fault.ShellFault.{ShellFault}
 use Rattle.ele_runs.specs.declared.fault.ShellFault.TheVariants.{ReadFault}
 use Rattle.ele_runs.specs.declared.end.EndLine.{EndLine}
 use Rattle.ele_runs.specs.declared.end.RunEnd.{RunEnd}
-use Rattle.ele_runs.specs.Telling.{HasTold, Tells, ToldPastABound, ToldToAReadFault, ToldToAWriteFault, ToldToAnEnd, ToldToTheEnd, Writes, WritesFront}
+use Rattle.ele_runs.specs.declared.tally.Tally.{Tally}
+use Rattle.ele_runs.specs.Telling.{HasTold, IsTallyOf, Tells, ToldPastABound, ToldToAReadFault, ToldToAWriteFault, ToldToAnEnd, Writes, WritesFront}
 use Rattle.ele_runs.specs.Written.{HadMemory, RunsAt}
 use Rattle.ele_runs.specs.Taken.{TakesPiece}
 use Rattle.std.specs.Prelude.{Bool, false}
@@ -161,24 +162,27 @@ module _ {start state : RunState} {room : ℕ} {buffer input mid : Option (List 
     strict_is = ap (λ (m : RunOptions). m.strict) (manner_stays start state ran.lines text ran.is.told)
 
     -- no last line ends the run
-    ends_all : (count : ℕ) → count ≡ state.number + cut_count buffer → (state.options.strict ≡ true → buffer ≡ Some []) → ToldToTheEnd start count input rest notes (text ++ cut_told state buffer)
-    ends_all count is uncut =
+    ends_all : (count : ℕ) (tally : Tally) → count ≡ state.number + cut_count buffer → (state.options.strict ≡ true → buffer ≡ Some []) → IsTallyOf state buffer tally → HasTold start input rest notes count None tally (text ++ cut_told state buffer)
+    ends_all count tally is uncut counts =
         let counted = counted_cut count is in
-        record {
-          given = ran.given;
-          lines = ran.lines;
-          last = ran.part;
-          blocks = text;
-          state = state;
-          taken = all_taken rest took;
-          at_end = at_end;
-          is = ran.is;
-          count = counted;
-          few = subst (λ (m : ℕ). m ≤ most_lines) (sym counted) ran.few;
-          uncut = λ strict. kept_empty ran.part (sym ran.keeps ∙ uncut (strict_is ∙ strict));
-          text_is = cut_is;
-          noted = note_is notes noted;
-        }
+        let last = subst (λ (kept : Option (List ℕ)). IsTallyOf state kept tally) ran.keeps counts in (
+          record {
+            given = ran.given;
+            lines = ran.lines;
+            last = ran.part;
+            blocks = text;
+            state = state;
+            taken = all_taken rest took;
+            at_end = at_end;
+            is = ran.is;
+            count = counted;
+            few = subst (λ (m : ℕ). m ≤ most_lines) (sym counted) ran.few;
+            uncut = λ strict. kept_empty ran.part (sym ran.keeps ∙ uncut (strict_is ∙ strict));
+            text_is = cut_is;
+            noted = note_is notes noted;
+          },
+          last,
+        )
 
     -- it does
     ends_cut : (count : ℕ) → count ≡ state.number + 1 → state.options.strict ≡ true → buffer ≢ Some [] → ToldToAnEnd start count (cut_line buffer) input rest notes (text ++ cut_told state buffer)
@@ -203,9 +207,9 @@ module _ {start state : RunState} {room : ℕ} {buffer input mid : Option (List 
         }
 
     -- whether it does is told
-    pub ends_by : (count : ℕ) (kept : Option EndLine) → count ≡ state.number + cut_count buffer → kept ≡ end_by state buffer → HasTold start input rest notes count kept (text ++ cut_told state buffer)
-    ends_by count kept is by = elim (ends_or_not state buffer state.options.strict refl) [
-      | inl none ↦ rw (by ∙ none.0) (ends_all count is none.1)
+    pub ends_by : (count : ℕ) (kept : Option EndLine) (tally : Tally) → count ≡ state.number + cut_count buffer → kept ≡ end_by state buffer → IsTallyOf state buffer tally → HasTold start input rest notes count kept tally (text ++ cut_told state buffer)
+    ends_by count kept tally is by counts = elim (ends_or_not state buffer state.options.strict refl) [
+      | inl none ↦ rw (by ∙ none.0) (ends_all count tally is none.1 counts)
       | inr one ↦ rw (by ∙ one.0) (ends_cut count (is ∙ ap (λ (m : ℕ). state.number + m) one.1) one.2 one.3)
     ]
 

@@ -65,7 +65,7 @@ told before after (line ∷ lines) text options goes_on (own, rest, between, is,
 
 -- so blocks of lines are told
 block_told : (before : RunState) (line : Option (List ℕ)) (block : List ℕ) (after : Past) → before.options ≡ plain → before.ended ≡ false → IsBlock false before.past line block after
-    → IsTold before line block (advance before after block before.notes)
+    → IsTold before line block (advance before after line block before.notes)
 block_told before line block after options goes_on is = record {
   block = block;
   past = after;
@@ -81,7 +81,7 @@ blocks_told : (before : RunState) (lines : List (List ℕ)) (text : List ℕ) (a
     → (state : RunState) × AreTold before lines text state × (state.past ≡ after)
 blocks_told before [] text after options goes_on are = (before, (are.0, refl), sym are.1)
 blocks_told before (line ∷ lines) text after options goes_on (block, rest, between, is, more, parts) =
-    let next = advance before between block before.notes in
+    let next = advance before between (line_unless_long line) block before.notes in
     let others = blocks_told next lines rest after options (goes_on_after before.options block options) more in
     (others.0, (block, rest, next, block_told before (line_unless_long line) block between options goes_on is, others.1, parts), others.2)
 

@@ -17,6 +17,7 @@ pub mod Said
 pub mod SomeAnswer
 pub mod SomeOutput
 pub mod Taken
+pub mod Tally
 pub mod Telling
 pub mod Told
 pub mod Unstopped

@@ -2,27 +2,36 @@
 use Rattle.std.specs.Prelude.{ℕ, ◌+◌, Bool, false, not, ◌&&◌, List, Option}
 use Rattle.ele_history.specs.Past.{Past}
 use Rattle.ele_runs.specs.RunOptions.{is_well}
+use Rattle.ele_runs.specs.Tally.{fresh_tally, outcome_of, tallied}
 use Rattle.ele_runs.specs.declared.options.RunOptions.{RunOptions}
+use Rattle.ele_runs.specs.declared.tally.Tally.{Tally}
 
--- its manner, its history, how many lines it has heard, whether one of these has ended it, and what is known to stand at the
--- writer of reasons
+-- its manner, its history, how many lines it has heard, whether one of these has ended it, how many were not answered by `ok`,
+-- and what is known to stand at the writer of reasons
 pub record RunState : Type 0 where
   pub options : RunOptions
   pub past : Past
   pub number : ℕ
   pub ended : Bool
+  pub tally : Tally
   pub notes : Option (List ℕ)
 
 -- before the first line
 abbrev pub begun : RunOptions → Past → Option (List ℕ) → RunState
-begun options past notes = record { options = options; past = past; number = 0; ended = false; notes = notes }
+begun options past notes = record { options = options; past = past; number = 0; ended = false; tally = fresh_tally; notes = notes }
 
 -- where this stands at the writer of reasons
 abbrev pub noting : RunState → Option (List ℕ) → RunState
 noting run_state notes = record run_state { notes = notes }
 
--- one line more was heard, which left this history and had this block, and behind which this stands at the writer of reasons: a
+-- this line was heard, which left this history and had this block, and behind which this stands at the writer of reasons: a
 -- strict run ends unless all is well
-abbrev pub advance : RunState → Past → List ℕ → Option (List ℕ) → RunState
-advance run_state past block notes =
-    record run_state { past = past; number = run_state.number + 1; ended = run_state.options.strict && not (is_well block); notes = notes }
+abbrev pub advance : RunState → Past → Option (List ℕ) → List ℕ → Option (List ℕ) → RunState
+advance run_state past line block notes =
+    record run_state {
+      past = past;
+      number = run_state.number + 1;
+      ended = run_state.options.strict && not (is_well block);
+      tally = tallied run_state.tally (run_state.number + 1) line (outcome_of block);
+      notes = notes;
+    }

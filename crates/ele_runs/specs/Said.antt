@@ -54,7 +54,7 @@ pub record HearsNext (before : RunState) (line : Option (List ℕ)) (said : Said
   pub kept : HearsKept before.options before.past line said after.past
   pub options : after.options ≡ before.options
   pub number : after.number ≡ before.number + 1
-  pub after_is : (text : List ℕ) → IsText (answer_of after.past said) text → after ≡ advance before after.past text before.notes
+  pub after_is : (text : List ℕ) → IsText (answer_of after.past said) text → after ≡ advance before after.past line text before.notes
 
 -- an event became the last entry, with its reply, unless it was stopped, which leaves the history
 abbrev pub Records : Past → Event → Said → Past → Type 0

@@ -7,12 +7,14 @@ use Rattle.ele_output.specs.Front.{AppendsFront}
 use Rattle.ele_runs.specs.declared.end.EndLine.{EndLine}
 use Rattle.ele_runs.specs.declared.end.RunEnd.{RunEnd}
 use Rattle.ele_runs.specs.declared.fault.ShellFault.{ShellFault}
+use Rattle.ele_runs.specs.declared.tally.Tally.{Tally}
 use Rattle.ele_runs.specs.declared.fault.ShellFault.TheVariants.{ReadFault, WriteFault, TooManyLines, NoMemory}
 use Rattle.ele_runs.specs.Bounds.{most_lines, most_bytes}
 use Rattle.ele_runs.specs.RunState.{RunState}
 use Rattle.ele_runs.specs.LineLength.{line_unless_long}
 use Rattle.ele_runs.specs.Lines.{IsUnbroken, AreLines, whole_lines, line_count}
 use Rattle.ele_runs.specs.Note.{cut_note}
+use Rattle.ele_runs.specs.Tally.{cut_tallied}
 use Rattle.ele_runs.specs.Told.{AreTold, cut_told}
 
 -- a text that is told so was written
@@ -131,10 +133,15 @@ pub record ToldToAWriteFault (start : RunState) (input notes : Option (List ℕ)
   pub told : AreTold start lines blocks state
   pub reaches : MayTellRest state blocks rest notes text
 
--- what is told by a run that no fault ended: for all lines, or up to the one that ended it
-abbrev pub HasTold : RunState → Option (List ℕ) → Option (List ℕ) → Option (List ℕ) → ℕ → Option EndLine → List ℕ → Type 0
-HasTold start input rest notes n None = ToldToTheEnd start n input rest notes
-HasTold start input rest notes n (Some end) = ToldToAnEnd start n end input rest notes
+-- the tally counts the lines that were heard, and a last line without its line feed
+abbrev pub IsTallyOf : RunState → Option (List ℕ) → Tally → Type 0
+IsTallyOf run_state last tally = tally ≡ cut_tallied run_state.tally (run_state.number + 1) last
+
+-- what is told by a run that no fault ended: for all lines, which are tallied, or up to the one that ended it
+abbrev pub HasTold : RunState → Option (List ℕ) → Option (List ℕ) → Option (List ℕ) → ℕ → Option EndLine → Tally → List ℕ → Type 0
+HasTold start input rest notes n None tally text =
+    (told : ToldToTheEnd start n input rest notes text) × IsTallyOf told.state (line_unless_long told.last) tally
+HasTold start input rest notes n (Some end) tally text = ToldToAnEnd start n end input rest notes text
 
 -- what a run has done that a fault ended; without memory nothing was read or written
 abbrev pub HasFailed : RunState → Option (List ℕ) → Option (List ℕ) → Option (List ℕ) → Option (List ℕ) → Option (List ℕ) → ShellFault → Type 0
@@ -145,5 +152,5 @@ HasFailed start input rest old new notes NoMemory = Keeps input rest × Keeps ol
 
 -- what a run has done, by how it ends
 abbrev pub Tells : RunState → Option (List ℕ) → Option (List ℕ) → Option (List ℕ) → Option (List ℕ) → Option (List ℕ) → Result RunEnd ShellFault → Type 0
-Tells start input rest old new notes (Ok ran) = Writes (HasTold start input rest notes ran.lines ran.ended_by) old new
+Tells start input rest old new notes (Ok ran) = Writes (HasTold start input rest notes ran.lines ran.ended_by ran.tally) old new
 Tells start input rest old new notes (Err fault) = HasFailed start input rest old new notes fault

@@ -17,7 +17,7 @@ pub record IsTold (before : RunState) (line : Option (List ℕ)) (told : List �
   pub is : IsBlock before.options.explain before.past (heard before.options line) block past
   pub told_is : told ≡ front_of before.options (before.number + 1) (heard before.options line) ++ block
   pub noted : IsNoted before.options (before.number + 1) line block before.notes notes
-  pub after_is : after ≡ advance before past block notes
+  pub after_is : after ≡ advance before past line block notes
 
 -- what is told for whole lines, one after another
 abbrev pub AreTold : RunState → List (List ℕ) → List ℕ → RunState → Type 0

@@ -3,7 +3,7 @@ use Rattle.std.specs.Prelude.{◌≡◌, ℕ, ◌+◌, List, [], true, Option, S
 use Rattle.ele_output.specs.Outlet.{HandsOver, Outlet, Puts}
 use Rattle.ele_runs.specs.Block.{cut_count}
 use Rattle.ele_runs.specs.RunState.{RunState}
-use Rattle.ele_runs.specs.Telling.{Tells}
+use Rattle.ele_runs.specs.Telling.{IsTallyOf, Tells}
 use Rattle.ele_runs.specs.Told.{IsTold, cut_told}
 use Rattle.ele_runs.specs.declared.end.EndLine.{EndLine}
 use Rattle.ele_runs.specs.declared.end.RunEnd.{RunEnd}
@@ -21,9 +21,10 @@ abbrev pub end_by : RunState → Option (List ℕ) → Option EndLine
 end_by run_state (Some []) = None
 end_by run_state last = if run_state.options.strict then Some (record { line = last; is_cut = true }) else None
 
--- the last line counts unless it is empty
+-- the last line counts unless it is empty, and is tallied
 abbrev pub CountsLast : {E : Type 0} → RunState → Option (List ℕ) → Result RunEnd E → Type 0
-CountsLast run_state buffer (Ok ran) = (ran.lines ≡ run_state.number + cut_count buffer) × (ran.ended_by ≡ end_by run_state buffer)
+CountsLast run_state buffer (Ok ran) =
+    (ran.lines ≡ run_state.number + cut_count buffer) × (ran.ended_by ≡ end_by run_state buffer) × IsTallyOf run_state buffer ran.tally
 CountsLast run_state buffer (Err fault) = Unit {0}
 
 -- and what is told for it was put, and all was handed over, or the writer failed

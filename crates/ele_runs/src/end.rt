@@ -1,6 +1,7 @@
 //! How a run ended that no fault ended.
-//! A contract sees how many lines were heard, and the line that ended a strict run, if one did.
+//! A contract sees how many lines were heard, the line that ended a strict run, if one did, and the tally.
 use crate::line_buffer::LineBuffer;
+use crate::tally::Tally;
 
 /// How a run ended that no fault ended.
 #[derive(Drop)]
@@ -10,6 +11,8 @@ pub struct RunEnd {
     pub lines: u64,
     /// The line that ended a strict run, if one did.
     pub ended_by: Option<EndLine>,
+    /// How many of the lines were not answered by `ok`, and which of them came first.
+    pub tally: Tally,
 }
 
 /// The line that ended a strict run: it was answered `no`, `bad` or `stop`.

@@ -14,6 +14,7 @@ mod piece;
 mod runner;
 mod said;
 mod script;
+mod tally;
 
 pub use end::{EndLine, RunEnd};
 pub use fault::ShellFault;
@@ -22,3 +23,4 @@ pub use note::{tell_why, why_bad, why_cut};
 pub use options::RunOptions;
 pub use said::{Said, explain, hear_ahead, hear_event, hear_kept, hear_trim};
 pub use script::{run_in, run_over};
+pub use tally::{BadLine, Tally};

@@ -34,6 +34,32 @@ impl LineBuffer {
         }
     }
 
+    /// The line, unless it is too long.
+    pub(crate) fn kept(line: Option<&[u8]>) -> LineBuffer
+        ensures { result ≡ option_and_then line_unless_long
+            (option_map (λ line. line.now) line.entry) }
+    {
+        let mut kept = LineBuffer::new();
+        match line {
+            Some(line) => kept.extend(line),
+            None => kept.is_too_long = true,
+        }
+        kept
+    }
+
+    /// A copy of it.
+    pub(crate) fn copy(&self) -> LineBuffer
+        ensures { result ≡ self.now }
+    {
+        let mut copy = LineBuffer::new();
+        if self.is_too_long {
+            copy.is_too_long = true;
+        } else {
+            copy.extend(self.bytes.as_slice());
+        }
+        copy
+    }
+
     /// Begins a new line.
     pub(crate) fn clear(&mut self)
         ensures { self.new ≡ Some [] }

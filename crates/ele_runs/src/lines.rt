@@ -12,6 +12,7 @@ ghost use Rattle.ele_runs.specs.LineLength.{line_unless_long};
 ghost use Rattle.ele_runs.specs.Note.{cut_note};
 ghost use Rattle.ele_runs.specs.Piece.{AnswersPiece};
 ghost use Rattle.ele_runs.specs.Said.{said_front};
+ghost use Rattle.ele_runs.specs.Tally.{cut_tallied};
 ghost use Rattle.ele_runs.specs.Told.{cut_told};
 ghost use Rattle.ele_runs.specs.Written.{PutsBlock, WritesLast};
 
@@ -19,6 +20,7 @@ use crate::end::{EndLine, RunEnd};
 use crate::line_buffer::{LineBuffer, kept_line};
 use crate::runner::Runner;
 use crate::said::Said;
+use crate::tally::Tally;
 use ele_model::Explain;
 use ele_output::{Printer, WriteFault};
 use ele_script::{LineFault, put_fault};
@@ -129,6 +131,16 @@ fn put_cut<C: Explain, W: Write>(
     1
 }
 
+// How many lines were not answered by `ok`, with a last line without its line feed.
+fn tally_of<C: Explain>(buffer: &LineBuffer, runner: &Runner<C>) -> Tally
+    requires { runner.now.number + 1 < 2 ^ 64 }
+    ensures { result ≡ cut_tallied runner.now.tally (runner.now.number + 1) buffer.now }
+{
+    let mut tally = runner.tally();
+    tally.add_cut(runner.lines() + 1, buffer);
+    tally
+}
+
 /// Writes all that is held and what is told for a last line without its line feed, tells why that is
 /// never run, where reasons are told, and tells how the run ended: that line counts unless it is
 /// empty, and ends a strict run then.
@@ -148,6 +160,7 @@ pub(crate) fn finish<C: Explain, W: Write, E: Write>(
     let cut = put_cut(buffer.line(), runner, printer);
     printer.hand_over()?;
     let lines = runner.lines() + cut;
+    let tally = tally_of(&buffer, runner);
     if runner.options().strict && cut > 0 {
         return Ok(RunEnd {
             lines,
@@ -155,10 +168,12 @@ pub(crate) fn finish<C: Explain, W: Write, E: Write>(
                 line: buffer,
                 is_cut: true,
             }),
+            tally,
         });
     }
     Ok(RunEnd {
         lines,
         ended_by: None,
+        tally,
     })
 }

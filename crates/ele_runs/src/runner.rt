@@ -1,6 +1,6 @@
 //! The keeper of a run: a history, the answers to its lines, and the manner in which they are told.
 //! A contract sees a keeper as how far its run has got, by itself without what it tells of reasons.
-ghost use Rattle.std.specs.Prelude.{◌≡◌, ◌+◌, ◌<◌, ◌^◌, false, List, None, ℕ, IfOk};
+ghost use Rattle.std.specs.Prelude.{◌≡◌, ◌+◌, ◌<◌, ◌≤◌, ◌^◌, false, List, None, ℕ, IfOk};
 ghost use Rattle.std.specs.Option.{option_map};
 ghost use Rattle.ele_history.specs.Past.{fresh};
 ghost use Rattle.ele_output.specs.Prints.{outlet};
@@ -14,6 +14,7 @@ ghost use Rattle.ele_runs.specs.Written.{PutsBlock};
 use crate::note::{tell_why, why_bad, why_cut};
 use crate::options::RunOptions;
 use crate::said::{Said, hear_kept};
+use crate::tally::Tally;
 use ele_history::History;
 use ele_model::{Explain, Limits};
 use ele_moment::NoMemory;
@@ -30,15 +31,19 @@ pub(crate) struct Runner<C: Explain> {
     options: RunOptions,
     lines: u64,
     has_ended: bool,
+    tally: Tally,
 }
 
 impl<C: Explain> Model for Runner<C> {
-    ghost use Rattle.std.specs.Prelude.{None};
+    ghost use Rattle.std.specs.Prelude.{None, ◌≤◌};
     ghost use Rattle.ele_runs.specs.RunState.{RunState};
 
     ghost Value = { RunState };
 
-    ghost view = { λ k. record { options = k.options; past = k.history; number = k.lines; ended = k.has_ended; notes = None } };
+    ghost view = { λ k. record { options = k.options; past = k.history; number = k.lines; ended = k.has_ended; tally = k.tally; notes = None } };
+
+    // No more lines were counted than were heard.
+    ghost invariant = { λ k. (k.tally.bad ≤ k.lines) × (k.tally.refused ≤ k.lines) × (k.tally.stopped ≤ k.lines) };
 }
 
 impl<C: Explain> Runner<C> {
@@ -57,6 +62,7 @@ impl<C: Explain> Runner<C> {
             options,
             lines: 0,
             has_ended: false,
+            tally: Tally::new(),
         })
     }
 
@@ -81,6 +87,14 @@ impl<C: Explain> Runner<C> {
         self.has_ended
     }
 
+    /// How many lines were not answered by `ok`, and which of them came first.
+    pub(crate) fn tally(&self) -> Tally
+        ensures value { result ≡ self.now.tally }
+        ensures few { result.bad ≤ self.now.number }
+    {
+        self.tally.copy()
+    }
+
     // Hears the next line as it is kept, and answers it.
     #[tactic(auto, using(crate::proofs::Blocks::heard_next))]
     fn hear(&mut self, line: Option<&[u8]>) -> Said
@@ -90,6 +104,8 @@ impl<C: Explain> Runner<C> {
         let said = hear_kept(self.alloc, self.options, line, &mut self.history);
         self.lines += 1;
         self.has_ended = self.options.strict && !said.is_well(&self.history);
+        self.tally
+            .add(self.lines, line, said.outcome(&self.history));
         said
     }
 

@@ -4,10 +4,12 @@ ghost use Rattle.std.specs.Prelude.{◌≡◌, List, ℕ};
 ghost use Rattle.std.specs.Option.{option_map};
 ghost use Rattle.ele_output.specs.Prints.{Prints};
 ghost use Rattle.ele_runs.specs.RunOptions.{is_well};
+ghost use Rattle.ele_runs.specs.Tally.{outcome_of};
 ghost use Rattle.ele_runs.specs.Block.{IsText};
 ghost use Rattle.ele_runs.specs.Said.{Explains, Hears, HearsKept, Records, SaysAhead, Trims, answer_of, has_no_reply, said_front};
 
 use crate::options::RunOptions;
+use crate::tally::Outcome;
 use ele_history::History;
 use ele_model::{Event, Explain, Fate, KeyList, Moment, PassEnd, Refusal, Reply, Stop};
 use ele_output::Printer;
@@ -145,6 +147,22 @@ impl Said {
                 None => true,
             },
             _ => true,
+        }
+    }
+
+    /// By which word it is told.
+    pub(crate) fn outcome<C: Explain>(&self, history: &History<C>) -> Outcome
+        ensures { (text : List ℕ) → IsText (answer_of history.now self.now) text → result ≡ outcome_of text }
+    {
+        match self {
+            Said::Bad(_) => Outcome::Bad,
+            Said::Stopped(_) | Said::Passed(PassEnd::Stopped(_, _)) => Outcome::Stopped,
+            Said::Why(Err(_)) | Said::Ahead(Err(_)) => Outcome::Refused,
+            Said::Replied => match history.last() {
+                Some(entry) if matches!(entry.reply, Reply::Refused(_)) => Outcome::Refused,
+                _ => Outcome::Well,
+            },
+            _ => Outcome::Well,
         }
     }
 

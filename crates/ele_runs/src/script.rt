@@ -60,6 +60,7 @@ fn most_of(left: u64) -> usize
 fn ended_by<C: Explain>(line: LineBuffer, runner: &Runner<C>) -> RunEnd
     ensures lines { result.lines ≡ runner.now.number }
     ensures line { result.ended_by ≡ Some (record { line = line; is_cut = false }) }
+    ensures tally { result.tally ≡ runner.now.tally }
 {
     RunEnd {
         lines: runner.lines(),
@@ -67,6 +68,7 @@ fn ended_by<C: Explain>(line: LineBuffer, runner: &Runner<C>) -> RunEnd
             line,
             is_cut: false,
         }),
+        tally: runner.tally(),
     }
 }
 

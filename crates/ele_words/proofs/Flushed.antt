@@ -15,6 +15,7 @@ use Rattle.ele_runs.specs.Telling.{EndsAtLine, HasTold, IsToldOf, Tells, ToldToA
 use Rattle.ele_runs.specs.declared.end.EndLine.{EndLine}
 use Rattle.ele_runs.specs.declared.end.RunEnd.{RunEnd}
 use Rattle.ele_runs.specs.declared.fault.ShellFault.{ShellFault}
+use Rattle.ele_runs.specs.declared.tally.Tally.{Tally}
 use Rattle.ele_runs.specs.declared.fault.ShellFault.TheVariants.{ReadFault, WriteFault, TooManyLines, NoMemory}
 use Rattle.ele_words.specs.Ends.{HasWritten, fault_line}
 
@@ -86,8 +87,8 @@ cut_failed start true input rest notes given lines line text taken by = record {
   reaches = inr (by.is.are.cut, by.text_is, front_of_kept by.state.notes notes _ by.noted);
 }
 
-end_failed : (start : RunState) (n : ℕ) (ended_by : Option EndLine) (input rest notes : Option (List ℕ)) (text : List ℕ) → HasTold start input rest notes n ended_by text → ToldToAWriteFault start input notes text
-end_failed start n None input rest notes text ran = record {
+end_failed : (start : RunState) (n : ℕ) (ended_by : Option EndLine) (tally : Tally) (input rest notes : Option (List ℕ)) (text : List ℕ) → HasTold start input rest notes n ended_by tally text → ToldToAWriteFault start input notes text
+end_failed start n None tally input rest notes text (ran, counts) = record {
   lines = ran.lines;
   rest = ran.last;
   blocks = ran.blocks;
@@ -97,7 +98,7 @@ end_failed start n None input rest notes text ran = record {
   told = ran.is.told;
   reaches = inr (ran.is.are.cut, ran.text_is, ran.noted);
 }
-end_failed start n (Some end) input rest notes text ran = cut_failed start end.is_cut input rest notes ran.given ran.lines ran.line text ran.taken ran.by
+end_failed start n (Some end) tally input rest notes text ran = cut_failed start end.is_cut input rest notes ran.given ran.lines ran.line text ran.taken ran.by
 
 -- what is told of whole lines is, whatever was read behind them
 part_failed : (start state : RunState) (input rest notes : Option (List ℕ)) (given more : List ℕ) (lines : List (List ℕ)) (part text : List ℕ)
@@ -117,7 +118,7 @@ as_front : {Told Failed : List ℕ → Type 0} (old new : Option (List ℕ)) →
 as_front old new is failed = record { text = is.text; told = failed; written = whole_front old new is.text is.written }
 
 as_write_fault : (start : RunState) (input rest old new notes : Option (List ℕ)) (ended : Result RunEnd ShellFault) → Tells start input rest old new notes ended → WritesFront (ToldToAWriteFault start input notes) old new
-as_write_fault start input rest old new notes (Ok end) ran = as_front old new ran (end_failed start end.lines end.ended_by input rest notes ran.text ran.told)
+as_write_fault start input rest old new notes (Ok end) ran = as_front old new ran (end_failed start end.lines end.ended_by end.tally input rest notes ran.text ran.told)
 as_write_fault start input rest old new notes (Err ReadFault) ran =
     let taken = subst (Consumes input rest) (sym (append-nil ran.told.given)) ran.told.taken in
     as_front old new ran (part_failed start ran.told.state input rest notes ran.told.given [] ran.told.lines ran.told.part ran.text taken ran.told.is ran.told.noted)

@@ -1,13 +1,16 @@
 -- How the program ends after a run: what it tells, and with which status.
-use Rattle.std.specs.Prelude.{◌≡◌, ℕ, List, Option, Result, Ok, Err}
+use Rattle.std.specs.Prelude.{◌≡◌, ℕ, List, Option, Some, None, Result, Ok, Err}
 use Rattle.ele_output.specs.Front.{AppendsFront}
 use Rattle.ele_runs.specs.RunState.{RunState}
 use Rattle.ele_runs.specs.Telling.{Tells}
+use Rattle.ele_runs.specs.declared.end.EndLine.{EndLine}
 use Rattle.ele_runs.specs.declared.end.RunEnd.{RunEnd}
 use Rattle.ele_runs.specs.declared.fault.ShellFault.{ShellFault}
 use Rattle.ele_runs.specs.declared.options.RunOptions.{RunOptions}
+use Rattle.ele_runs.specs.declared.tally.Tally.{Tally}
 use Rattle.ele_words.specs.Status.{fault_status}
 use Rattle.ele_words.specs.StrictEnd.{TellsStrictEnd, end_status}
+use Rattle.ele_words.specs.Summary.{TellsSummary}
 use Rattle.ele_words.specs.SystemReason.{IsReasonOf, failed_text}
 use Rattle.ele_words.specs.declared.system_reason.SystemReason.{SystemReason}
 
@@ -15,9 +18,14 @@ abbrev pub run_status : Result RunEnd ShellFault → ℕ
 run_status (Ok end) = end_status end.ended_by
 run_status (Err fault) = fault_status fault
 
--- which line ended it was told, or which fault, and why the system failed to read or to write, where that is known
+-- which line ended a strict run was told; of a run that no line ended how many lines were not answered by `ok`
+abbrev pub TellsRunEnd : RunOptions → ℕ → Option EndLine → Tally → Option (List ℕ) → Option (List ℕ) → Type 0
+TellsRunEnd options lines None tally before after = TellsSummary options lines tally before after
+TellsRunEnd options lines (Some end) tally before after = TellsStrictEnd options lines end before after
+
+-- how it ended was told, or which fault ended it, and why the system failed to read or to write, where that is known
 abbrev pub TellsRun : RunOptions → Result RunEnd ShellFault → Option (List ℕ) → Option (List ℕ) → Type 0
-TellsRun options (Ok end) before after = TellsStrictEnd options end.lines end.ended_by before after
+TellsRun options (Ok end) before after = TellsRunEnd options end.lines end.ended_by end.tally before after
 TellsRun options (Err fault) before after =
     (why : Option SystemReason) × IsReasonOf fault why × AppendsFront before after (failed_text fault why)
 

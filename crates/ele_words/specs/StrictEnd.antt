@@ -1,6 +1,5 @@
 -- How the program tells which line ended a strict run, and why it is no command.
 use Rattle.std.specs.Prelude.{◌≡◌, ℕ, Bool, true, false, List, [], ◌∷◌, ◌++◌, codes, decimal, Option, Some, None}
-use Rattle.std.specs.Io.KnownBytes.{Keeps}
 use Rattle.ele_output.specs.Front.{AppendsFront}
 use Rattle.ele_output.specs.Line.{line_text}
 use Rattle.ele_runs.specs.WhyBad.{IsBadReason, cut_reason, why_line}
@@ -27,8 +26,7 @@ abbrev pub IsWhyEnded : Bool → RunOptions → Option (List ℕ) → Option Rea
 IsWhyEnded true options line why = why ≡ cut_reason line
 IsWhyEnded false options line why = IsBadReason options line why
 
--- which line ended the run was told, and why it is no command, or a front of it; nothing where no line ended the run
-abbrev pub TellsStrictEnd : RunOptions → ℕ → Option EndLine → Option (List ℕ) → Option (List ℕ) → Type 0
-TellsStrictEnd options number None before after = Keeps before after
-TellsStrictEnd options number (Some end) before after =
+-- which line ended the run was told, and why it is no command, or a front of it
+abbrev pub TellsStrictEnd : RunOptions → ℕ → EndLine → Option (List ℕ) → Option (List ℕ) → Type 0
+TellsStrictEnd options number end before after =
     (why : Option Reason) × IsWhyEnded end.is_cut options end.line why × AppendsFront before after (end_line number end.line ++ why_line number why)

@@ -9,6 +9,7 @@ mod keeps_error;
 mod program;
 mod storming;
 mod strict;
+mod summary;
 mod system_reason;
 mod watched;
 

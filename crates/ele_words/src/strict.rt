@@ -3,16 +3,18 @@
 ghost use Rattle.std.specs.Prelude.{◌≡◌, ◌++◌};
 ghost use Rattle.ele_output.specs.Front.{AppendsFront};
 ghost use Rattle.ele_runs.specs.WhyBad.{why_line};
-ghost use Rattle.ele_words.specs.StrictEnd.{IsWhyEnded, TellsStrictEnd, end_line, end_status, shown};
+ghost use Rattle.ele_words.specs.RunEnds.{TellsRunEnd};
+ghost use Rattle.ele_words.specs.StrictEnd.{IsWhyEnded, end_line, end_status, shown};
 
 use crate::failure::{Failure, status};
-use ele_runs::{EndLine, LineBuffer, RunEnd, RunOptions, tell_why, why_bad, why_cut};
+use crate::summary::report_summary;
+use ele_runs::{LineBuffer, RunEnd, RunOptions, tell_why, why_bad, why_cut};
 use ele_script::{Reason, write_placed};
 use std::alloc::Global;
 use std::io::Write;
 
-/// Tells which line ended a strict run, if one did, and why it is no command, if it is none. The
-/// result is the status to end with.
+/// Tells which line ended a strict run, if one did, and why it is no command, if it is none; else
+/// how many lines were not answered by `ok`. The result is the status to end with.
 pub(crate) fn report_end<E: Write>(
     alloc: Global,
     options: RunOptions,
@@ -20,13 +22,14 @@ pub(crate) fn report_end<E: Write>(
     errors: &mut E,
 ) -> u8
     ensures status { result ≡ end_status ran.now.ended_by }
-    ensures told { TellsStrictEnd options ran.now.lines ran.now.ended_by (E.contents errors.old)
-        (E.contents errors.new) }
+    ensures told { TellsRunEnd options ran.now.lines ran.now.ended_by ran.now.tally
+        (E.contents errors.old) (E.contents errors.new) }
 {
     let Some(end) = &ran.ended_by else {
+        report_summary(alloc, options, ran.lines, &ran.tally, errors);
         return 0;
     };
-    let why = why_ended(alloc, options, end);
+    let why = why_ended(alloc, options, end.is_cut, &end.line);
     tell_line(alloc, ran.lines, &end.line, why, errors);
     let _ = errors.flush();
     status(Failure::StrictLine)
@@ -60,12 +63,17 @@ fn shown(line: &LineBuffer) -> &[u8]
     }
 }
 
-// Why the line that ended a run is no command, where that is told.
-fn why_ended(alloc: Global, options: RunOptions, end: &EndLine) -> Option<Reason>
-    ensures { IsWhyEnded end.now.is_cut options end.now.line result }
+/// Why the line is no command, or, if it is a last one without its line feed, why it is never run.
+pub(crate) fn why_ended(
+    alloc: Global,
+    options: RunOptions,
+    is_cut: bool,
+    line: &LineBuffer,
+) -> Option<Reason>
+    ensures { IsWhyEnded is_cut options line.now result }
 {
-    if end.is_cut {
-        return why_cut(end.line.line());
+    if is_cut {
+        return why_cut(line.line());
     }
-    why_bad(alloc, options, end.line.line())
+    why_bad(alloc, options, line.line())
 }

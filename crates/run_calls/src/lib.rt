@@ -20,6 +20,8 @@ mod runs;
 #[cfg(test)]
 mod statuses;
 #[cfg(test)]
+mod summaries;
+#[cfg(test)]
 mod words;
 #[cfg(test)]
 mod workers;

@@ -37,7 +37,7 @@ returns-then-count-eq0 g c =
     let none = nothing_read _ _ _ _ _ c.in_ok-count.ensures c.if-count-eq0.true in
     let done = c.in_ok-finish.ensures.last in
     let put = puts_then so.put done.1.0 in
-    (put.same, all_out so.none put done.1.1 (ends_by so.ran _ _ none.0 none.1 c.in_ok-finish.ensures.noted _ _ done.0.0 done.0.1), tt)
+    (put.same, all_out so.none put done.1.1 (ends_by so.ran _ _ none.0 none.1 c.in_ok-finish.ensures.noted _ _ _ done.0.0 done.0.1 done.0.2), tt)
 
 pub returns-then-left-eq0 : goal.returns-then-left-eq0
 returns-then-left-eq0 g c =

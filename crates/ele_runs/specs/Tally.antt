@@ -1,0 +1,43 @@
+-- How many lines of a run were not answered by `ok`, and which of them came first.
+use Rattle.std.specs.Prelude.{ℕ, ◌+◌, ◌==◌, false, true, List, [], ◌∷◌, Option, Some, None, if◌then◌else◌}
+use Rattle.std.specs.Option.{option_and_then, option_or}
+use Rattle.ele_runs.specs.LineLength.{line_unless_long}
+use Rattle.ele_runs.specs.declared.tally.BadLine.{BadLine}
+use Rattle.ele_runs.specs.declared.tally.Outcome.{Outcome}
+use Rattle.ele_runs.specs.declared.tally.Outcome.TheVariants.{Well, Bad, Refused, Stopped}
+use Rattle.ele_runs.specs.declared.tally.Tally.{Tally}
+
+-- how a line was answered, by the first letter of its block: that of `bad` (98), of `no` (110), of `stop` (115), or another
+abbrev pub outcome_of : List ℕ → Outcome
+outcome_of [] = Well
+outcome_of (first ∷ rest) =
+    if first == 98 then Bad else if first == 110 then Refused else if first == 115 then Stopped else Well
+
+-- before the first line
+abbrev pub fresh_tally : Tally
+fresh_tally = record { bad = 0; refused = 0; stopped = 0; first = None; first_bad = None }
+
+-- one bad line more
+abbrev pub with_bad : Tally → BadLine → Tally
+with_bad tally line = record tally { bad = tally.bad + 1; first_bad = option_or tally.first_bad (Some line) }
+
+-- the line with this number came first, unless another did
+abbrev pub with_first : Tally → ℕ → Tally
+with_first tally number = record tally { first = option_or tally.first (Some number) }
+
+-- a bad line as it is kept
+abbrev pub whole_bad : ℕ → Option (List ℕ) → BadLine
+whole_bad number line = record { number = number; line = option_and_then line_unless_long line; is_cut = false }
+
+-- the line with this number was answered so
+abbrev pub tallied : Tally → ℕ → Option (List ℕ) → Outcome → Tally
+tallied tally number line Well = tally
+tallied tally number line Bad = with_first (with_bad tally (whole_bad number line)) number
+tallied tally number line Refused = with_first (record tally { refused = tally.refused + 1 }) number
+tallied tally number line Stopped = with_first (record tally { stopped = tally.stopped + 1 }) number
+
+-- and a last line without its line feed, which is bad unless it is empty
+abbrev pub cut_tallied : Tally → ℕ → Option (List ℕ) → Tally
+cut_tallied tally number (Some []) = tally
+cut_tallied tally number last =
+    with_first (with_bad tally (record { number = number; line = last; is_cut = true })) number

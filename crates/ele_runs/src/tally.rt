@@ -1,0 +1,158 @@
+//! How many lines of a run were not answered by `ok`, and which of them came first.
+//! A contract sees a tally as its numbers, and a line as it is kept.
+ghost use Rattle.std.specs.Prelude.{◌≡◌, ◌+◌, ◌<◌, ◌^◌};
+ghost use Rattle.std.specs.Option.{option_map};
+ghost use Rattle.ele_runs.specs.Tally.{cut_tallied, fresh_tally, tallied, whole_bad, with_bad, with_first};
+
+use crate::line_buffer::LineBuffer;
+
+/// How a line was answered.
+#[derive(Clone, Copy, Debug, PartialEq, Eq)]
+pub enum Outcome {
+    /// By `ok`, or not at all.
+    Well,
+    /// By `bad`.
+    Bad,
+    /// By `no`.
+    Refused,
+    /// By `stop`.
+    Stopped,
+}
+
+/// A line that was answered by `bad`.
+#[derive(Drop)]
+pub struct BadLine {
+    /// Its number, counted from 1.
+    pub number: u64,
+    /// The line as it is kept.
+    pub line: LineBuffer,
+    /// Whether it is a last line without its line feed, which is never run.
+    pub is_cut: bool,
+}
+
+impl BadLine {
+    fn copy(&self) -> BadLine
+        ensures { result ≡ self.now }
+    {
+        BadLine {
+            number: self.number,
+            line: self.line.copy(),
+            is_cut: self.is_cut,
+        }
+    }
+}
+
+/// How many lines were not answered by `ok`, and which of them came first.
+#[derive(Drop)]
+pub struct Tally {
+    /// How many were answered by `bad`.
+    pub bad: u64,
+    /// How many were answered by `no`.
+    pub refused: u64,
+    /// How many were answered by `stop`.
+    pub stopped: u64,
+    /// The number of the first of all these.
+    pub first: Option<u64>,
+    /// The first that was answered by `bad`.
+    pub first_bad: Option<BadLine>,
+}
+
+impl Tally {
+    /// Before the first line.
+    pub(crate) fn new() -> Tally
+        ensures { result ≡ fresh_tally }
+    {
+        Tally {
+            bad: 0,
+            refused: 0,
+            stopped: 0,
+            first: None,
+            first_bad: None,
+        }
+    }
+
+    /// A copy of it.
+    pub(crate) fn copy(&self) -> Tally
+        ensures { result ≡ self.now }
+    {
+        let first_bad = match &self.first_bad {
+            Some(line) => Some(line.copy()),
+            None => None,
+        };
+        Tally {
+            bad: self.bad,
+            refused: self.refused,
+            stopped: self.stopped,
+            first: self.first,
+            first_bad,
+        }
+    }
+
+    /// Counts the line with this number, which was answered so.
+    pub(crate) fn add(&mut self, number: u64, line: Option<&[u8]>, outcome: Outcome)
+        requires bad { self.old.bad + 1 < 2 ^ 64 }
+        requires refused { self.old.refused + 1 < 2 ^ 64 }
+        requires stopped { self.old.stopped + 1 < 2 ^ 64 }
+        ensures { self.new ≡ tallied self.old number
+            (option_map (λ line. line.now) line.entry) outcome }
+    {
+        match outcome {
+            Outcome::Well => return,
+            Outcome::Bad => self.add_bad(number, line),
+            Outcome::Refused => self.refused += 1,
+            Outcome::Stopped => self.stopped += 1,
+        }
+        self.note_first(number);
+    }
+
+    /// Counts a last line without its line feed, which is bad unless it is empty.
+    pub(crate) fn add_cut(&mut self, number: u64, line: &LineBuffer)
+        requires { self.old.bad + 1 < 2 ^ 64 }
+        ensures { self.new ≡ cut_tallied self.old number line.now }
+    {
+        if line.is_empty() {
+            return;
+        }
+        self.add_line(BadLine {
+            number,
+            line: line.copy(),
+            is_cut: true,
+        });
+        self.note_first(number);
+    }
+
+    // Counts a bad line. Only the first one is copied.
+    fn add_bad(&mut self, number: u64, line: Option<&[u8]>)
+        requires { self.old.bad + 1 < 2 ^ 64 }
+        ensures { self.new ≡ with_bad self.old
+            (whole_bad number (option_map (λ line. line.now) line.entry)) }
+    {
+        if self.first_bad.is_some() {
+            self.bad += 1;
+            return;
+        }
+        self.add_line(BadLine {
+            number,
+            line: LineBuffer::kept(line),
+            is_cut: false,
+        });
+    }
+
+    // Counts a bad line, and keeps it if it is the first.
+    fn add_line(&mut self, line: BadLine)
+        requires { self.old.bad + 1 < 2 ^ 64 }
+        ensures { self.new ≡ with_bad self.old line }
+    {
+        self.bad += 1;
+        if self.first_bad.is_none() {
+            self.first_bad = Some(line);
+        }
+    }
+
+    // The line with this number came first, unless another did.
+    fn note_first(&mut self, number: u64)
+        ensures { self.new ≡ with_first self.old number }
+    {
+        self.first = self.first.or(Some(number));
+    }
+}
