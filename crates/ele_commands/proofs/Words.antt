@@ -1,38 +1,29 @@
 -- The words of an event, one behind another.
-use Rattle.ele_commands.proofs.Basics.{nat_tests, arith, rules, true, false, ◌==◌, ◌≡◌, ℕ, ◌<◌, List, [], ◌∷◌, ◌++◌, length, map, refl, sym, ap, ◌∙◌, append_assoc, append-nil, map-append, length-append, join_with_byte, flat_map, take, drop, get_or, ◌/◌, ◌%◌, take-append-drop, IsFirstAndRest, encode_lower, lower_digits}
+use Rattle.ele_commands.proofs.Basics.{nat_tests, arith, rules, true, false, ◌==◌, ◌≡◌, ℕ, ◌<◌, List, [], ◌∷◌, ◌++◌, length, map, refl, sym, ap, ◌∙◌, append_assoc, drop_more, join_with_byte, flat_map, take, drop, get_or, ◌/◌, ◌%◌, take-append-drop, IsFirstAndRest, AllByRecursion, ◌+◌, encode_lower, lower_digits}
 use Rattle.ele_commands.specs.Command.{command_words, name_of}
-use Rattle.ele_commands.specs.EventText.{bytes_word, value_word}
+use Rattle.ele_commands.specs.EventText.{bytes_word}
 use Rattle.ele_output.proofs.Lists.{joined_are}
 use Rattle.ele_path.specs.PathText.{path_word}
-use Rattle.ele_policy.specs.Ladder.{Rung}
-use Rattle.ele_policy.specs.PolicyText.{ladder_word, pair_word}
+use Rattle.ele_commands.specs.Pieces.{pieces_or_dash}
 use Rattle.hex.specs.Hex.{encode_with}
-use Rattle.ele_commands.specs.PutsParts.{parts_text}
-use Rattle.ele_commands.specs.Value.{Value}
+use Rattle.ele_commands.specs.Word.{word_text}
+use Rattle.ele_commands.specs.declared.word.Word.{Word}
 use Rattle.ele_commands.specs.declared.command.Command.{Command}
 
 -- a command has a word
 pub some_word : (command : Command) → 0 < length (command_words command)
 some_word command = search rules
 
--- joined words, and a word more
-word_more : (words : List (List ℕ)) (word : List ℕ) → 0 < length words → join_with_byte 32 (words ++ word ∷ []) ≡ join_with_byte 32 words ++ 32 ∷ word
-word_more [] word some = absurd (omega (arith, some))
-word_more (first ∷ []) word some = refl
-word_more (first ∷ second ∷ words) word some = grind (arith, nat_tests, append_assoc, word_more (second ∷ words) word (omega arith))
+-- joined words, and more of them, each with a space in front
+pub joined_more : (first : List (List ℕ)) (words : List Word) → 0 < length first → join_with_byte 32 (first ++ map word_text words) ≡ join_with_byte 32 first ++ flat_map (λ (word : Word). 32 ∷ word_text word) words
+joined_more [] words some = absurd (omega (arith, some))
+joined_more (first ∷ []) words some = joined_are 32 word_text first words
+joined_more (first ∷ second ∷ rest) words some =
+    ap (λ (more : List ℕ). first ++ 32 ∷ more) (joined_more (second ∷ rest) words (omega arith)) ∙ sym (append_assoc first (32 ∷ join_with_byte 32 (second ∷ rest)) (flat_map (λ (word : Word). 32 ∷ word_text word) words))
 
--- the text of a command and values, and a value more
-pub parts_more : (command : Command) (values : List Value) (value : Value) → parts_text (command, values ++ value ∷ []) ≡ parts_text (command, values) ++ 32 ∷ value_word value
-parts_more command values value =
-    let words = map value_word values in
-    let behind : command_words command ++ map value_word (values ++ value ∷ []) ≡ (command_words command ++ words) ++ value_word value ∷ [] =
-    ap (λ (more : List (List ℕ)). command_words command ++ more) (map-append value_word values (value ∷ [])) ∙ sym (append_assoc (command_words command) words (value_word value ∷ [])) in
-    ap (λ (all : List (List ℕ)). join_with_byte 32 all) behind
-    ∙ word_more (command_words command ++ words) (value_word value) (omega (arith, some_word command, length-append (command_words command) words))
-
--- a command with no value has its words alone
-pub parts_none : (command : Command) → parts_text (command, []) ≡ join_with_byte 32 (command_words command)
-parts_none command = ap (λ (words : List (List ℕ)). join_with_byte 32 words) (append-nil (command_words command))
+-- if those that are left are so, all are: one of these more is
+pub so_more : {A P : Type 0} (Q : A → Type 0) (xs : List A) (i : ℕ) (x : A) → i < length xs → x ≡ get_or xs i x → (AllByRecursion Q (drop i xs) → P) → Q x → AllByRecursion Q (drop (i + 1) xs) → P
+so_more Q xs i x lt is all own rest = all (rw (drop_more xs i x lt, ← is) (own, rest))
 
 -- a name of one word, or of two
 pub one_word : (first second : List ℕ) → (length second == 0) ≡ true → join_with_byte 32 (name_of first second) ≡ first
@@ -53,9 +44,14 @@ pub digits_are : (bytes : List ℕ) → (length bytes == 0) ≡ false → bytes_
 digits_are [] some = grind (arith, nat_tests)
 digits_are (byte ∷ bytes) some = refl
 
--- the words of pairs are that of the first, and a comma and a word for each other
-pub pairs_are : (pairs : List Rung) (first : Rung) (rest : List Rung) → IsFirstAndRest pairs first rest → ladder_word pairs ≡ pair_word first ++ flat_map (λ (pair : Rung). 44 ∷ pair_word pair) rest
-pairs_are pairs first rest is = rw is.0 (joined_are 44 pair_word (pair_word first) rest)
+-- pieces are the first, and a comma and a text for each other
+pub pieces_are : {A : Type 0} (text : A → List ℕ) (pieces : List A) (first : A) (rest : List A) → IsFirstAndRest pieces first rest → join_with_byte 44 (map text pieces) ≡ text first ++ flat_map (λ piece. 44 ∷ text piece) rest
+pieces_are text pieces first rest is = rw is.0 (joined_are 44 text (text first) rest)
+
+-- where there are some
+pub pieces_some : {A : Type 0} (text : A → List ℕ) (pieces : List A) → (length pieces == 0) ≡ false → pieces_or_dash text pieces ≡ join_with_byte 44 (map text pieces)
+pieces_some text [] some = grind (arith, nat_tests)
+pieces_some text (piece ∷ pieces) some = refl
 
 digits_append : (xs ys : List ℕ) → encode_lower (xs ++ ys) ≡ encode_lower xs ++ encode_lower ys
 unfolding encode_with

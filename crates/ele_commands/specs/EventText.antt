@@ -58,6 +58,11 @@ IsTag Now = Unit {0}
 IsTag (At moment) = moment ≤ last_moment
 IsTag (Numbered number) = number < 2 ^ 64
 
+-- and of what is read
+abbrev pub IsSource : AnySource → Type 0
+IsSource (source.Tagged tagged) = IsPath tagged.path × IsTag tagged.tag
+IsSource (source.Of handle) = handle < 2 ^ 64
+
 -- what their types say of values
 abbrev pub IsValue : Value → Type 0
 IsValue (Number n) = n < 2 ^ 64
@@ -69,7 +74,6 @@ IsValue (Name name) = IsName name
 IsValue (Path names) = IsPath names
 IsValue (Tagged tagged) = IsPath tagged.path × IsTag tagged.tag
 IsValue (Timed timed) = IsPath timed.path × IsTag (tag_at timed.moment)
-IsValue (Source (source.Tagged tagged)) = IsPath tagged.path × IsTag tagged.tag
-IsValue (Source (source.Of handle)) = handle < 2 ^ 64
+IsValue (Source source) = IsSource source
 IsValue (Bytes bytes) = All (λ byte. byte < 256) bytes
 IsValue (Policy policy) = IsPolicy policy

@@ -1,5 +1,6 @@
 pub mod Command
 pub mod EventText
 pub mod Parts
-pub mod PutsParts
+pub mod Pieces
 pub mod Value
+pub mod Word

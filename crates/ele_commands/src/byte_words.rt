@@ -22,8 +22,8 @@ pub(crate) fn put_byte_word<W: Write>(bytes: &[u8], printer: &mut Printer<'_, W>
     }
 }
 
-/// Puts two digits for each byte.
-pub fn put_hexadecimal<W: Write>(bytes: &[u8], printer: &mut Printer<'_, W>)
+// Puts two digits for each byte.
+fn put_hexadecimal<W: Write>(bytes: &[u8], printer: &mut Printer<'_, W>)
     ensures { Prints W.contents printer.old printer.new (encode_lower bytes.now) }
 {
     let mut rest = bytes;

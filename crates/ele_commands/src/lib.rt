@@ -7,11 +7,12 @@ mod command;
 mod event;
 mod kind;
 mod path_words;
+mod pieces;
 mod policy_words;
 mod word;
 
-pub use byte_words::put_hexadecimal;
 pub use command::{Command, ROWS, Row, When};
 pub use event::{put_event, put_event_line, write_event_text};
 pub use kind::WordKind;
-pub use policy_words::put_policy;
+pub use pieces::{Piece, put_pieces_or_dash};
+pub use word::{Word, put_line_of};

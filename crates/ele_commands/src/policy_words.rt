@@ -1,14 +1,15 @@
 //! Putting policies. A contract sees a policy as itself, and a printer as its outlet.
 ghost use Rattle.std.specs.Prelude.{◌∷◌, ◌++◌, codes};
-ghost use Rattle.ele_policy.specs.PolicyText.{floor_word, ladder_word, pair_word, policy_word};
+ghost use Rattle.ele_policy.specs.PolicyText.{floor_word, ladder_word, policy_word};
 ghost use Rattle.ele_output.specs.Prints.{Prints};
 
-use ele_output::{Printer, put_number, put_with_number};
+use crate::pieces::put_pieces;
+use ele_output::{Printer, put_with_number};
 use ele_policy::{Floor, Ladder, Policy};
 use std::io::Write;
 
 /// Puts a space and a policy.
-pub fn put_policy<W: Write>(policy: &Policy, printer: &mut Printer<'_, W>)
+pub(crate) fn put_policy<W: Write>(policy: &Policy, printer: &mut Printer<'_, W>)
     ensures { Prints W.contents printer.old printer.new (32 ∷ policy_word policy.now) }
 {
     match policy {
@@ -38,28 +39,5 @@ fn put_ladder<W: Write>(ladder: &Ladder, printer: &mut Printer<'_, W>)
         (codes " landmarks:" ++ ladder_word ladder.now) }
 {
     printer.put(b" landmarks:");
-    put_pairs(ladder.pairs(), printer);
-}
-
-// Puts pairs with a comma between each two.
-fn put_pairs<W: Write>(pairs: &[(u64, u64)], printer: &mut Printer<'_, W>)
-    ensures { Prints W.contents printer.old printer.new (ladder_word pairs.now) }
-{
-    let Some((first, rest)) = pairs.split_first() else {
-        return;
-    };
-    put_pair(b"", first, printer);
-    for pair in rest {
-        put_pair(b",", pair, printer);
-    }
-}
-
-// Puts what stands before a pair, and the pair.
-fn put_pair<W: Write>(before: &[u8], pair: &(u64, u64), printer: &mut Printer<'_, W>)
-    ensures { Prints W.contents printer.old printer.new (before.now ++ pair_word pair.now) }
-{
-    printer.put(before);
-    put_number(pair.0, printer);
-    printer.put(b"/");
-    put_number(pair.1, printer);
+    put_pieces(ladder.pairs(), printer);
 }

@@ -1,164 +1,165 @@
-//! What stands in an event behind its command, a word each. A contract sees each as its value, and
-//! a printer as its outlet.
-ghost use Rattle.std.specs.Prelude.{◌<◌, ◌^◌, ◌∷◌};
-ghost use Rattle.ele_commands.specs.EventText.{IsValue, value_word};
+//! The words of a line. A contract sees each as its bytes, and a printer as its outlet.
+ghost use Rattle.std.specs.Prelude.{◌<◌, ◌^◌, ◌∷◌, All, map};
+ghost use Rattle.std.specs.List.{AllByRecursion, flat_map};
+ghost use Rattle.ele_commands.specs.EventText.{IsSource, IsTag, source_word};
+ghost use Rattle.ele_commands.specs.Word.{IsWord, word_text};
+ghost use Rattle.ele_output.specs.Line.{line_text};
 ghost use Rattle.ele_output.specs.Prints.{Prints};
-ghost use Rattle.ele_commands.specs.Value as of;
-ghost use Rattle.ele_commands.specs.Value.{Value};
+ghost use Rattle.ele_path.specs.Path.{IsPath};
+ghost use Rattle.ele_path.specs.PathAt.{tag_at};
+ghost use Rattle.ele_path.specs.PathText.{tagged_word};
 
+use crate::byte_words::put_byte_word;
 use crate::path_words::{lemma_tag, put_path, put_tag, tag_of};
 use crate::policy_words::put_policy;
 use ele_model::Source;
-use ele_moment::{Handle, Moment, Name, VersionNo};
+use ele_moment::{Moment, Name};
 use ele_output::{Printer, put_with_number, put_word};
-use ele_path::{Path, PathAt, TaggedPath};
+use ele_path::{Path, PathAt, Tag, TaggedPath};
 use ele_policy::Policy;
 use std::io::Write;
 
-/// What is told in a word of its own.
-pub(crate) trait Word {
-    ghost value: { Self → Value };
-
-    /// Says what its type says of the value.
-    fn lemma_value(&self)
-        ensures { IsValue (value self.now) };
-
-    /// Puts a space and its word.
-    fn put_value<W: Write>(&self, printer: &mut Printer<'_, W>)
-        ensures { Prints W.contents printer.old printer.new (32 ∷ value_word (value self.now)) };
+/// A word of a line.
+#[derive(Clone, Copy)]
+pub enum Word<'w> {
+    /// Bytes as they are.
+    Plain(&'w [u8]),
+    /// A number.
+    Number(u64),
+    /// A moment.
+    Moment(Moment),
+    /// A name.
+    Name(&'w Name),
+    /// A path.
+    Path(&'w Path),
+    /// A path with a tag.
+    Tagged(&'w TaggedPath),
+    /// A path at a moment.
+    Timed(&'w PathAt),
+    /// A path with a tag, or a handle.
+    Source(&'w Source),
+    /// Bytes in hexadecimal digits.
+    Bytes(&'w [u8]),
+    /// A policy.
+    Policy(&'w Policy),
 }
 
-impl Word for u64 {
-    ghost value = { of.Number };
-
-    fn lemma_value(&self) {
-        lemma_number(*self);
-    }
-
-    fn put_value<W: Write>(&self, printer: &mut Printer<'_, W>) {
-        put_with_number(b" ", *self, printer);
-    }
-}
-
-impl Word for Handle {
-    ghost value = { of.Handle };
-
-    fn lemma_value(&self) {
-        lemma_number(self.0);
-    }
-
-    fn put_value<W: Write>(&self, printer: &mut Printer<'_, W>) {
-        put_with_number(b" ", self.0, printer);
-    }
-}
-
-impl Word for VersionNo {
-    ghost value = { of.Version };
-
-    fn lemma_value(&self) {
-        lemma_number(self.0);
-    }
-
-    fn put_value<W: Write>(&self, printer: &mut Printer<'_, W>) {
-        put_with_number(b" ", self.0, printer);
-    }
-}
-
-impl Word for Moment {
-    ghost value = { of.Moment };
-
-    fn lemma_value(&self) {
-        self.lemma_in_range();
-    }
-
-    fn put_value<W: Write>(&self, printer: &mut Printer<'_, W>) {
-        put_with_number(b" ", self.seconds(), printer);
-    }
-}
-
-impl Word for Name {
-    ghost value = { of.Name };
-
-    fn lemma_value(&self) {
-        self.bytes();
-    }
-
-    fn put_value<W: Write>(&self, printer: &mut Printer<'_, W>) {
-        put_word(self.bytes(), printer);
-    }
-}
-
-impl Word for Path {
-    ghost value = { of.Path };
-
-    fn lemma_value(&self) {
-        self.names();
-    }
-
-    fn put_value<W: Write>(&self, printer: &mut Printer<'_, W>) {
-        put_path(self, printer);
-    }
-}
-
-impl Word for TaggedPath {
-    ghost value = { of.Tagged };
-
-    fn lemma_value(&self) {
-        self.path().names();
-        lemma_tag(self.tag());
-    }
-
-    fn put_value<W: Write>(&self, printer: &mut Printer<'_, W>) {
-        put_path(self.path(), printer);
-        put_tag(self.tag(), printer);
-    }
-}
-
-impl Word for PathAt {
-    ghost value = { of.Timed };
-
-    fn lemma_value(&self) {
-        self.path.names();
-        lemma_tag(tag_of(self.moment));
-    }
-
-    fn put_value<W: Write>(&self, printer: &mut Printer<'_, W>) {
-        put_path(&self.path, printer);
-        put_tag(tag_of(self.moment), printer);
-    }
-}
-
-impl Word for Source {
-    ghost value = { of.Source };
-
-    fn lemma_value(&self) {
+impl Word<'_> {
+    // Says what its type says of it.
+    fn lemma_word(&self)
+        ensures { IsWord self.now }
+    {
         match self {
-            Source::Tagged(tagged) => tagged.lemma_value(),
-            Source::Of(handle) => handle.lemma_value(),
+            Word::Plain(_) => {}
+            Word::Number(number) => lemma_number(*number),
+            Word::Moment(moment) => {
+                moment.lemma_in_range();
+            }
+            Word::Name(name) => {
+                name.bytes();
+            }
+            Word::Path(path) => {
+                path.names();
+            }
+            Word::Tagged(tagged) => lemma_tagged(tagged),
+            Word::Timed(timed) => lemma_timed(timed),
+            Word::Source(source) => lemma_source(source),
+            Word::Bytes(bytes) => lemma_bytes(bytes),
+            Word::Policy(policy) => policy.lemma_valid(),
         }
     }
 
-    fn put_value<W: Write>(&self, printer: &mut Printer<'_, W>) {
+    // Puts a space and the word.
+    fn put<W: Write>(&self, printer: &mut Printer<'_, W>)
+        ensures { Prints W.contents printer.old printer.new (32 ∷ word_text self.now) }
+    {
         match self {
-            Source::Tagged(tagged) => tagged.put_value(printer),
-            Source::Of(handle) => handle.put_value(printer),
+            Word::Plain(bytes) => put_word(bytes, printer),
+            Word::Number(number) => put_with_number(b" ", *number, printer),
+            Word::Moment(moment) => put_with_number(b" ", moment.seconds(), printer),
+            Word::Name(name) => put_word(name.bytes(), printer),
+            Word::Path(path) => put_path(path, printer),
+            Word::Tagged(tagged) => put_tagged(tagged.path(), tagged.tag(), printer),
+            Word::Timed(timed) => put_tagged(&timed.path, tag_of(timed.moment), printer),
+            Word::Source(source) => put_source(source, printer),
+            Word::Bytes(bytes) => put_byte_word(bytes, printer),
+            Word::Policy(policy) => put_policy(policy, printer),
         }
     }
 }
 
-impl Word for Policy {
-    ghost value = { of.Policy };
-
-    fn lemma_value(&self) {
-        self.lemma_valid();
+/// Puts words, each with a space in front.
+pub(crate) fn put_each<W: Write>(words: &[Word<'_>], printer: &mut Printer<'_, W>)
+    ensures text { Prints W.contents printer.old printer.new
+        (flat_map (λ word. 32 ∷ word_text word) words.now) }
+    ensures are { AllByRecursion IsWord words.now }
+{
+    for word in words {
+        word.lemma_word();
+        word.put(printer);
     }
+}
 
-    fn put_value<W: Write>(&self, printer: &mut Printer<'_, W>) {
-        put_policy(self, printer);
+/// Puts a line of a first word and words behind it.
+pub fn put_line_of<W: Write>(first: &[u8], words: &[Word<'_>], printer: &mut Printer<'_, W>)
+    ensures { Prints W.contents printer.old printer.new
+        (line_text (first.now ∷ map word_text words.now)) }
+{
+    printer.put(first);
+    put_each(words, printer);
+    printer.put_byte(b'\n');
+}
+
+// Puts a space, a path and its tag.
+fn put_tagged<W: Write>(path: &Path, tag: Tag, printer: &mut Printer<'_, W>)
+    ensures { Prints W.contents printer.old printer.new (32 ∷ tagged_word path.now tag) }
+{
+    put_path(path, printer);
+    put_tag(tag, printer);
+}
+
+// Puts a space and what is read.
+fn put_source<W: Write>(source: &Source, printer: &mut Printer<'_, W>)
+    ensures { Prints W.contents printer.old printer.new (32 ∷ source_word source.now) }
+{
+    match source {
+        Source::Tagged(tagged) => put_tagged(tagged.path(), tagged.tag(), printer),
+        Source::Of(handle) => put_with_number(b" ", handle.0, printer),
+    }
+}
+
+// Says what its type says of a path with a tag.
+fn lemma_tagged(tagged: &TaggedPath)
+    ensures { IsPath tagged.now.path × IsTag tagged.now.tag }
+{
+    tagged.path().names();
+    lemma_tag(tagged.tag());
+}
+
+// And of a path at a moment.
+fn lemma_timed(timed: &PathAt)
+    ensures { IsPath timed.now.path × IsTag (tag_at timed.now.moment) }
+{
+    timed.path.names();
+    lemma_tag(tag_of(timed.moment));
+}
+
+// And of what is read.
+fn lemma_source(source: &Source)
+    ensures { IsSource source.now }
+{
+    match source {
+        Source::Tagged(tagged) => lemma_tagged(tagged),
+        Source::Of(handle) => lemma_number(handle.0),
     }
 }
 
 // Says of a number that it has 64 bits at most.
 fn lemma_number(number: u64)
     ensures { number < 2 ^ 64 }
+{}
+
+// Says of bytes that each is one.
+fn lemma_bytes(bytes: &[u8])
+    ensures { All (λ byte. byte < 256) bytes.now }
 {}

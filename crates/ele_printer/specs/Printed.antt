@@ -1,8 +1,7 @@
 -- Replies in text.
 use Rattle.std.specs.Prelude.{◌≡◌, ℕ, List, [], ◌∷◌, ◌++◌, length, map, codes, Option, Some, None, Result, Ok, Err}
 use Rattle.std.specs.Fmt.{decimal}
-use Rattle.std.specs.List.{flat_map, join_with_byte}
-use Rattle.std.specs.Option.{option_map_or}
+use Rattle.std.specs.List.{flat_map}
 use Rattle.ele_moment.specs.Spelled.{SpellsTimestamp}
 use Rattle.ele_model.specs.AnswerText.{refusal_words, stop_words, pass_words}
 use Rattle.ele_due.specs.declared.key.Key.{Key}
@@ -12,18 +11,17 @@ use Rattle.ele_model.specs.declared.reply.Reply.{Reply}
 use Rattle.ele_model.specs.declared.reply.Reply.TheVariants.{Done, Nothing, Now, Directory, File, Handle, Version, Closed, Removed, Bytes, FileStat, DirStat, Rows, NameList, RestoreList, DueList, UsageList, GroupList, Refused}
 use Rattle.ele_policy.specs.PolicyText.{kind_word, policy_word}
 use Rattle.ele_policy.specs.declared.policy.Kind.TheVariants as kind
-use Rattle.ele_policy.specs.declared.policy.Policy.{Policy}
 use Rattle.ele_model.specs.declared.rows.DeadName.{DeadName}
 use Rattle.ele_model.specs.declared.rows.DirectoryRow.{DirectoryRow}
 use Rattle.ele_model.specs.declared.rows.FileStat.{FileStat as AnyFileStat}
 use Rattle.ele_model.specs.declared.rows.GroupRow.{GroupRow}
-use Rattle.ele_model.specs.declared.rows.MarkRow.{MarkRow}
 use Rattle.ele_model.specs.declared.rows.VersionInfo.{VersionInfo}
 use Rattle.ele_model.specs.declared.rows.Target.{Target}
 use Rattle.ele_model.specs.declared.rows.Target.TheVariants as target
 use Rattle.ele_usage.specs.declared.usage.Usage.{Usage}
 use Rattle.ele_model.specs.declared.pass.PassEnd.{PassEnd}
 use Rattle.ele_commands.specs.EventText.{bytes_word}
+use Rattle.ele_commands.specs.Pieces.{mark_word, pieces_or_dash}
 use Rattle.ele_output.specs.Front.{WritesText}
 use Rattle.ele_printer.specs.LineFault.{fault_number, fault_name}
 use Rattle.ele_printer.specs.declared.fault.LineFault.{LineFault}
@@ -75,14 +73,6 @@ file_text stat =
     line_text (codes "ok file" ∷ decimal stat.file ∷ codes "version" ∷ decimal stat.info.number ∷ codes "opened" ∷ decimal stat.info.opened ∷ codes "closed" ∷ decimal stat.info.closed
     ∷ codes "ended" ∷ end_word stat.info.ended ∷ codes "length" ∷ decimal stat.info.length ∷ codes "policy" ∷ policy_word stat.policy ∷ [])
 
--- of that text the words of the version and of its times, and those behind them, each with a space in front
-abbrev pub times_text : VersionInfo → List ℕ
-times_text info =
-    (codes " version " ++ decimal info.number) ++ ((codes " opened " ++ decimal info.opened) ++ ((codes " closed " ++ decimal info.closed) ++ (codes " ended" ++ 32 ∷ end_word info.ended)))
-
-abbrev pub rest_text : VersionInfo → Policy → List ℕ
-rest_text info policy = (codes " length " ++ decimal info.length) ++ (codes " policy" ++ ((32 ∷ policy_word policy) ++ 10 ∷ []))
-
 -- the text of a directory, with the policy that it gives
 abbrev pub directory_text : DirectoryRow → List ℕ
 directory_text row =
@@ -128,24 +118,10 @@ kind_words = map kind_word (kind.One ∷ kind.All ∷ kind.Safe ∷ kind.Landmar
 abbrev pub usage_text : List Usage → List ℕ
 usage_text usages = line_text (codes "ok usage" ∷ decimal 4 ∷ []) ++ usage_lines kind_words usages
 
--- the word of numbers: these with a comma (44) between each two, or `-` for none
-abbrev pub numbers_word : List ℕ → List ℕ
-numbers_word [] = codes "-"
-numbers_word (number ∷ numbers) = join_with_byte 44 (map decimal (number ∷ numbers))
-
--- the word of a mark: its moment, and behind a slash (47) its end, if it has one
-abbrev pub mark_word : MarkRow → List ℕ
-mark_word mark = decimal mark.at ++ option_map_or (λ end. 47 ∷ decimal end) mark.until []
-
--- the word of marks: these with a comma (44) between each two, or `-` for none
-abbrev pub marks_word : List MarkRow → List ℕ
-marks_word [] = codes "-"
-marks_word (mark ∷ marks) = join_with_byte 44 (map mark_word (mark ∷ marks))
-
 -- the line of a group: its name, its files and its marks
 abbrev pub group_line : GroupRow → List ℕ
 group_line row =
-    line_text (codes "-" ∷ row.name ∷ codes "members" ∷ numbers_word row.members ∷ codes "marks" ∷ marks_word row.marks ∷ [])
+    line_text (codes "-" ∷ row.name ∷ codes "members" ∷ pieces_or_dash decimal row.members ∷ codes "marks" ∷ pieces_or_dash mark_word row.marks ∷ [])
 
 -- the text of groups: how many, and a line for each
 abbrev pub groups_text : List GroupRow → List ℕ

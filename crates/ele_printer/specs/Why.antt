@@ -4,7 +4,8 @@ use Rattle.std.specs.Fmt.{decimal}
 use Rattle.std.specs.List.{flat_map}
 use Rattle.ele_due.specs.declared.key.Key.{Key}
 use Rattle.ele_output.specs.Line.{line_text}
-use Rattle.ele_printer.specs.Printed.{due_line, mark_word, refusal_text}
+use Rattle.ele_commands.specs.Pieces.{mark_word}
+use Rattle.ele_printer.specs.Printed.{due_line, refusal_text}
 use Rattle.ele_policy.specs.declared.cause.Cause.{Cause}
 use Rattle.ele_policy.specs.declared.cause.Cause.TheVariants.{AtOnce, Age, Displaced}
 use Rattle.ele_model.specs.declared.fate.Fate.{Fate}

@@ -1,13 +1,11 @@
 //! Putting histories. A contract sees a history as how many entries were folded and those that are
 //! stored, and a printer as its outlet.
-ghost use Rattle.std.specs.Prelude.{◌∷◌, [], decimal};
 ghost use Rattle.ele_printer.specs.HistoryText.{entry_line, history_text, trimmed_text};
-ghost use Rattle.ele_output.specs.Line.{line_text};
 ghost use Rattle.ele_output.specs.Prints.{Prints};
 
-use crate::numbers::{put_number_line, put_numbers_line};
 use crate::row::{Row, put_lines};
-use ele_commands::put_event_line;
+use ele_commands::Word::Number;
+use ele_commands::{put_event_line, put_line_of};
 use ele_model::Entry;
 use ele_output::Printer;
 use std::io::Write;
@@ -17,7 +15,8 @@ use std::io::Write;
 pub fn put_history<W: Write>(folded: u64, entries: &[Entry], printer: &mut Printer<'_, W>)
     ensures { Prints W.contents printer.old printer.new (history_text folded entries.now) }
 {
-    put_numbers(b"ok history", folded, entries.len() as u64, printer);
+    let words = [Number(folded), Number(entries.len() as u64)];
+    put_line_of(b"ok history", &words, printer);
     put_lines(entries, printer);
 }
 
@@ -25,7 +24,7 @@ pub fn put_history<W: Write>(folded: u64, entries: &[Entry], printer: &mut Print
 pub fn put_trimmed<W: Write>(count: u64, printer: &mut Printer<'_, W>)
     ensures { Prints W.contents printer.old printer.new (trimmed_text count) }
 {
-    put_number_line(b"ok trimmed", count, printer);
+    put_line_of(b"ok trimmed", &[Number(count)], printer);
 }
 
 impl Row for Entry {
@@ -35,12 +34,4 @@ impl Row for Entry {
         printer.put(b"- ");
         put_event_line(&self.event, printer);
     }
-}
-
-// Puts a line of a first word and two numbers.
-fn put_numbers<W: Write>(first: &[u8], one: u64, other: u64, printer: &mut Printer<'_, W>)
-    ensures { Prints W.contents printer.old printer.new
-        (line_text (first.now ∷ decimal one ∷ decimal other ∷ [])) }
-{
-    put_numbers_line(first, &[one, other], printer);
 }

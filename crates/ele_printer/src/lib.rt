@@ -5,7 +5,6 @@
 mod fault;
 mod group_rows;
 mod history;
-mod numbers;
 mod refusal;
 mod reply;
 mod row;

@@ -7,9 +7,10 @@ ghost use Rattle.ele_output.specs.Line.{line_text};
 ghost use Rattle.ele_printer.specs.Printed.{refusal_text};
 
 use crate::reply::put_named;
+use ele_commands::Word::{Number, Plain};
+use ele_commands::put_line_of;
 use ele_model::Refusal;
-use ele_output::{Printer, put_line};
-use itoa::Buffer;
+use ele_output::Printer;
 use std::io::Write;
 
 /// Puts the line of a refusal.
@@ -18,10 +19,7 @@ pub(crate) fn put_refusal<W: Write>(why: &Refusal, printer: &mut Printer<'_, W>)
 {
     match why {
         Refusal::Forgotten(None) => put_detail(why, b"-", printer),
-        Refusal::Forgotten(Some(before)) => {
-            let mut digits = Buffer::new();
-            put_detail(why, digits.format(before.0).as_bytes(), printer);
-        }
+        Refusal::Forgotten(Some(before)) => put_before(why, before.0, printer),
         Refusal::Full(which) => put_detail(why, which.word().as_bytes(), printer),
         _ => put_undetailed(why, printer),
     }
@@ -33,9 +31,26 @@ fn put_detail<W: Write>(why: &Refusal, detail: &[u8], printer: &mut Printer<'_, 
         (line_text (codes "no" ∷ decimal (refusal_number why.now) ∷ refusal_name why.now ∷
         detail.now ∷ [])) }
 {
-    let mut digits = Buffer::new();
-    let number = digits.format(why.number()).as_bytes();
-    put_three(number, why.name().as_bytes(), detail, printer);
+    let words = [
+        Number(why.number() as u64),
+        Plain(why.name().as_bytes()),
+        Plain(detail),
+    ];
+    put_line_of(b"no", &words, printer);
+}
+
+// And of one that tells the number of a version.
+fn put_before<W: Write>(why: &Refusal, before: u64, printer: &mut Printer<'_, W>)
+    ensures { Prints W.contents printer.old printer.new
+        (line_text (codes "no" ∷ decimal (refusal_number why.now) ∷ refusal_name why.now ∷
+        decimal before ∷ [])) }
+{
+    let words = [
+        Number(why.number() as u64),
+        Plain(why.name().as_bytes()),
+        Number(before),
+    ];
+    put_line_of(b"no", &words, printer);
 }
 
 // Puts the line of a refusal that tells no more.
@@ -44,17 +59,4 @@ fn put_undetailed<W: Write>(why: &Refusal, printer: &mut Printer<'_, W>)
         (line_text (codes "no" ∷ decimal (refusal_number why.now) ∷ refusal_name why.now ∷ [])) }
 {
     put_named(b"no", why.number(), why.name(), printer);
-}
-
-// Puts the line of a refusal of these three words.
-fn put_three<'w, W: Write>(
-    number: &'w [u8],
-    name: &'w [u8],
-    detail: &'w [u8],
-    printer: &mut Printer<'_, W>,
-)
-    ensures { Prints W.contents printer.old printer.new
-        (line_text (codes "no" ∷ number.now ∷ name.now ∷ detail.now ∷ [])) }
-{
-    put_line(b"no", &[number, name, detail], printer);
 }

@@ -5,7 +5,8 @@ ghost use Rattle.std.specs.List.{flat_map};
 ghost use Rattle.ele_output.specs.Prints.{Prints};
 ghost use Rattle.ele_output.specs.Line.{line_text};
 
-use crate::numbers::put_number_line;
+use ele_commands::Word::Number;
+use ele_commands::put_line_of;
 use ele_output::Printer;
 use std::io::Write;
 
@@ -23,7 +24,7 @@ pub(crate) fn put_rows<T: Row, W: Write>(first: &[u8], rows: &[T], printer: &mut
     ensures { Prints W.contents printer.old printer.new
         (line_text (first.now ∷ decimal (length rows.now) ∷ []) ++ flat_map T.row_line rows.now) }
 {
-    put_number_line(first, rows.len() as u64, printer);
+    put_line_of(first, &[Number(rows.len() as u64)], printer);
     put_lines(rows, printer);
 }
 

@@ -5,7 +5,9 @@ ghost use Rattle.ele_output.specs.Front.{WritesText};
 ghost use Rattle.ele_output.specs.Line.{line_text};
 ghost use Rattle.ele_printer.specs.Printed.{WritesAnswer};
 
-use crate::reply::{put_named, put_placed, put_reply};
+use crate::reply::{put_named, put_reply};
+use ele_commands::Word::{Number, Plain};
+use ele_commands::put_line_of;
 use ele_model::{Reply, Stop};
 use ele_output::{Printer, WriteFault};
 use std::io::Write;
@@ -38,17 +40,21 @@ pub fn write_named<W: Write>(
 
 /// Writes a line of a first word, a number and two words more. At a fault of the writer it took a
 /// front of that line.
-pub fn write_placed<W: Write>(
+pub fn write_placed<'w, W: Write>(
     first: &[u8],
     number: u64,
-    middle: &[u8],
-    last: &[u8],
+    middle: &'w [u8],
+    last: &'w [u8],
     writer: &mut W,
 ) -> Result<(), WriteFault>
     ensures { WritesText (line_text (first.now ∷ decimal number ∷ middle.now ∷ last.now ∷ []))
         (W.contents writer.old) (W.contents writer.new) result }
 {
     let mut printer = Printer::new(writer);
-    put_placed(first, number, middle, last, &mut printer);
+    put_line_of(
+        first,
+        &[Number(number), Plain(middle), Plain(last)],
+        &mut printer,
+    );
     printer.hand_over()
 }

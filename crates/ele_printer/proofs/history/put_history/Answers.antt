@@ -2,4 +2,4 @@ use Rattle.ele_output.proofs.Known.{puts_then}
 use Rattle.ele_printer.proofs.history.put_history.Goals as goal
 
 pub returns : goal.returns
-returns g c = puts_then c.put_numbers.ensures c.put_lines.ensures
+returns g c = puts_then c.put_line_of.ensures c.put_lines.ensures

@@ -9,19 +9,19 @@ returns-in-Nothing g c =
     rw c.in-Nothing.is (_, refl, c.put-in-Nothing.ensures)
 
 pub returns-in-Now : goal.returns-in-Now
-returns-in-Now g c = rw c.in-Now.is (_, (_, c.text.ensures.spells, refl), rw c.seconds.ensures.value at c.put_now.ensures)
+returns-in-Now g c = rw c.in-Now.is (_, (_, c.text.ensures.spells, refl), c.put_line_of.ensures)
 
 pub returns-in-Directory : goal.returns-in-Directory
-returns-in-Directory g c = rw c.in-Directory.is (_, refl, rw c.directory.view_is at c.put_number_line.ensures)
+returns-in-Directory g c = rw c.in-Directory.is (_, refl, rw c.id.view_is at c.put_line_of-in-Directory.ensures)
 
 pub returns-in-File : goal.returns-in-File
-returns-in-File g c = rw c.in-File.is (_, refl, rw c.file.view_is at c.put_number_line-in-File.ensures)
+returns-in-File g c = rw c.in-File.is (_, refl, rw c.file.view_is at c.put_line_of-in-File.ensures)
 
 pub returns-in-Handle : goal.returns-in-Handle
-returns-in-Handle g c = rw c.in-Handle.is (_, refl, rw c.handle.view_is at c.put_number_line-in-Handle.ensures)
+returns-in-Handle g c = rw c.in-Handle.is (_, refl, rw c.handle.view_is at c.put_line_of-in-Handle.ensures)
 
 pub returns-in-Version : goal.returns-in-Version
-returns-in-Version g c = rw c.in-Version.is (_, refl, rw c.number.view_is at c.put_number_line-in-Version.ensures)
+returns-in-Version g c = rw c.in-Version.is (_, refl, rw c.number.view_is at c.put_line_of-in-Version.ensures)
 
 pub returns-in-Closed : goal.returns-in-Closed
 returns-in-Closed g c = rw c.in-Closed.is (_, refl, c.put_closed.ensures)
@@ -30,10 +30,10 @@ pub returns-in-Removed : goal.returns-in-Removed
 returns-in-Removed g c = rw c.in-Removed.is (_, refl, c.put_key.ensures)
 
 pub returns-in-RestoreList : goal.returns-in-RestoreList
-returns-in-RestoreList g c = rw c.in-RestoreList.is (_, refl, rw c.as_slice-in-RestoreList.ensures at c.put_dead_names.ensures)
+returns-in-RestoreList g c = rw c.in-RestoreList.is (_, refl, rw c.as_slice-in-RestoreList.ensures at c.put_rows-in-RestoreList.ensures)
 
 pub returns-in-DueList : goal.returns-in-DueList
-returns-in-DueList g c = rw c.in-DueList.is (_, refl, rw c.as_slice-in-DueList.ensures at c.put_keys.ensures)
+returns-in-DueList g c = rw c.in-DueList.is (_, refl, rw c.as_slice-in-DueList.ensures at c.put_rows-in-DueList.ensures)
 
 pub returns-in-Refused : goal.returns-in-Refused
 returns-in-Refused g c = rw c.in-Refused.is (_, refl, c.put_refusal.ensures)
@@ -51,10 +51,10 @@ pub returns-in-DirStat : goal.returns-in-DirStat
 returns-in-DirStat g c = rw c.in-DirStat.is (_, refl, rw c.get-in-DirStat.ensures at c.put_directory.ensures)
 
 pub returns-in-Rows : goal.returns-in-Rows
-returns-in-Rows g c = rw c.in-Rows.is (_, refl, rw c.as_slice-in-Rows.ensures at c.put_versions.ensures)
+returns-in-Rows g c = rw c.in-Rows.is (_, refl, rw c.as_slice-in-Rows.ensures at c.put_rows.ensures)
 
 pub returns-in-NameList : goal.returns-in-NameList
-returns-in-NameList g c = rw c.in-NameList.is (_, refl, rw c.as_slice-in-NameList.ensures at c.put_names.ensures)
+returns-in-NameList g c = rw c.in-NameList.is (_, refl, rw c.as_slice-in-NameList.ensures at c.put_rows-in-NameList.ensures)
 
 pub returns-in-GroupList : goal.returns-in-GroupList
-returns-in-GroupList g c = rw c.in-GroupList.is (_, refl, rw c.as_slice-in-GroupList.ensures at c.put_groups.ensures)
+returns-in-GroupList g c = rw c.in-GroupList.is (_, refl, rw c.as_slice-in-GroupList.ensures at c.put_rows-in-GroupList.ensures)
