@@ -123,6 +123,103 @@ pub static ROWS: [Row; 37] = [
     (Command::Why, "why", "", &[Tagged], Explaining),
 ];
 
+/// What a command is about.
+#[derive(Clone, Copy, Debug, PartialEq, Eq)]
+pub enum Topic {
+    /// The clock.
+    Time,
+    /// Files, directories and their names.
+    Names,
+    /// Contents and versions of files.
+    Contents,
+    /// Policies.
+    Policies,
+    /// Groups and marks.
+    Groups,
+    /// The removal of due versions.
+    Cleaning,
+    /// What is held.
+    Questions,
+    /// What happened.
+    History,
+    /// Why versions are held, and until when.
+    Why,
+}
+
+/// For help, what each command is about and how it is answered, in the order of `Command`.
+pub static HELP: [(Topic, &str); 37] = [
+    (
+        Topic::Why,
+        "ok ahead K, then K lines - RIPE FILE NUMBER in order",
+    ),
+    (Topic::Time, "ok now S TEXT"),
+    (Topic::Contents, "ok closed, or ok closed version V"),
+    (
+        Topic::Cleaning,
+        "ok removed RIPE FILE NUMBER, or ok nothing",
+    ),
+    (Topic::Names, "ok file F"),
+    (
+        Topic::Questions,
+        "ok due K, then K lines - RIPE FILE NUMBER in order",
+    ),
+    (Topic::Policies, "ok done"),
+    (Topic::Groups, "ok done"),
+    (Topic::Groups, "ok done"),
+    (Topic::Groups, "ok done"),
+    (Topic::Groups, "ok done"),
+    (
+        Topic::Questions,
+        "ok groups K, then K lines - G members F,F marks M,M in order of making",
+    ),
+    (
+        Topic::History,
+        "ok history F K, then K lines - LINE in order",
+    ),
+    (Topic::Names, "ok done"),
+    (
+        Topic::Questions,
+        "ok names K, then K lines - NAME file F or - NAME directory D by the bytes of the names",
+    ),
+    (Topic::Groups, "ok done"),
+    (Topic::Names, "ok directory D"),
+    (Topic::Contents, "ok handle H"),
+    (Topic::Contents, "ok handle H"),
+    (
+        Topic::Cleaning,
+        "ok pass finished R, ok pass budget R, or stop NUMBER Name removed R",
+    ),
+    (Topic::Policies, "ok done"),
+    (Topic::Questions, "ok bytes LENGTH X"),
+    (Topic::Names, "ok done"),
+    (Topic::Contents, "ok version V"),
+    (Topic::Names, "ok done"),
+    (
+        Topic::Questions,
+        "ok restorable K, then K lines - DIR NAME file F or - DIR NAME directory D in order",
+    ),
+    (
+        Topic::Questions,
+        "ok file F version N opened O closed C ended E length L policy POL, or ok directory D default POL",
+    ),
+    (Topic::Time, "ok now S TEXT"),
+    (Topic::Contents, "ok done"),
+    (Topic::History, "ok trimmed K"),
+    (Topic::Names, "ok done"),
+    (Topic::Names, "ok version V, or ok done"),
+    (Topic::Groups, "ok done"),
+    (
+        Topic::Questions,
+        "ok usage 4, then - one FILES VERSIONS BYTES BLOCKS, and the same for all, safe and landmarks",
+    ),
+    (
+        Topic::Questions,
+        "ok versions K, then K lines - N O C E L by number",
+    ),
+    (Topic::Contents, "ok done"),
+    (Topic::Why, "ok why FATE"),
+];
+
 impl Command {
     /// The words that name it, of which the second may be empty.
     pub fn words(self) -> (&'static str, &'static str)

@@ -11,7 +11,7 @@ mod pieces;
 mod policy_words;
 mod word;
 
-pub use command::{Command, ROWS, Row, When};
+pub use command::{Command, HELP, ROWS, Row, Topic, When};
 pub use event::{put_event, put_event_line, write_event_text};
 pub use kind::WordKind;
 pub use pieces::{Piece, put_pieces_or_dash};
