@@ -18,5 +18,6 @@ pub mod Ran
 pub mod SomeAnswer
 pub mod SomeOutput
 pub mod SomePass
+pub mod TallyCounts
 pub mod VersionInfo
 pub mod Within

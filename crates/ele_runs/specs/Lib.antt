@@ -18,6 +18,7 @@ pub mod SomeAnswer
 pub mod SomeOutput
 pub mod Taken
 pub mod Tally
+pub mod TallyCounts
 pub mod Telling
 pub mod Told
 pub mod Unstopped

@@ -5,6 +5,7 @@ ghost use Rattle.ele_runs.specs.OneOutput.{OneOutput};
 ghost use Rattle.ele_runs.specs.PlainOutput.{PlainOutput};
 ghost use Rattle.ele_runs.specs.SomeAnswer.{SomeAnswer};
 ghost use Rattle.ele_runs.specs.SomeOutput.{SomeOutput};
+ghost use Rattle.ele_runs.specs.TallyCounts.{TallyCounts};
 
 use ele_script::line_laws::{every_line_meaning, one_line_meaning};
 
@@ -54,3 +55,9 @@ pub fn front_of_output()
     // Told for the proof: each line has a meaning.
     every_line_meaning();
 }
+
+/// The tally of a run counts the bad lines, the refusals and the stops among the answers to its whole
+/// lines, and names the first of these lines and the first bad one.
+pub fn tally_counts()
+    ensures { TallyCounts }
+{}

@@ -3,7 +3,7 @@ use crate::ends::{Full, SlowWriter};
 use crate::program::expect;
 use ele_model::Limits;
 use ele_runs::RunOptions;
-use ele_words::{Invocation, KeepsError, dispatch_alone};
+use ele_words::{Invocation, KeepsError, dispatch};
 use empty_world::EmptyWorld;
 
 /// A run that answers commands alone.
@@ -53,9 +53,11 @@ fn a_summary_that_fails_changes_nothing_else(rt: HostRuntime) {
     let mut input = KeepsError::new(b"hello\n".as_slice());
     let mut output = KeepsError::new(Vec::<u8>::new(alloc));
     let mut errors = SlowWriter::new(alloc, 9, Full::Fails);
-    let status = dispatch_alone::<EmptyWorld, _, _, _>(
+    let status = dispatch::<EmptyWorld, _, _, _, _>(
+        &rt,
         alloc,
         &plain_run(),
+        false,
         &mut input,
         &mut output,
         &mut errors,

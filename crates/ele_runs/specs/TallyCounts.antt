@@ -1,0 +1,69 @@
+-- The tally of a run counts the answers to its lines.
+use Rattle.std.specs.Prelude.{◌≡◌, ℕ, ◌+◌, Bool, true, false, not, List, [], ◌∷◌, length, filter, Option, Some, None, Ok, Err, if◌then◌else◌}
+use Rattle.std.specs.List.{position_from}
+use Rattle.ele_history.specs.Past.{Past}
+use Rattle.ele_model.specs.declared.pass.PassEnd.TheVariants as pass
+use Rattle.ele_model.specs.declared.reply.Reply.TheVariants as reply
+use Rattle.ele_runs.specs.Answer.{Answer}
+use Rattle.ele_runs.specs.Answer as answer
+use Rattle.ele_runs.specs.LineLength.{line_unless_long}
+use Rattle.ele_runs.specs.RunState.{RunState, begun}
+use Rattle.ele_runs.specs.Tally.{whole_bad}
+use Rattle.ele_runs.specs.Told.{AreTold}
+use Rattle.ele_runs.specs.declared.options.RunOptions.{RunOptions}
+use Rattle.ele_runs.specs.declared.tally.BadLine.{BadLine}
+use Rattle.ele_runs.specs.declared.tally.Outcome.{Outcome}
+use Rattle.ele_runs.specs.declared.tally.Outcome.TheVariants.{Well, Bad, Refused, Stopped}
+use Rattle.ele_runs.specs.declared.tally.Tally.{Tally}
+
+-- a line that means no command is bad; one may be refused what it asks for, or stopped
+abbrev pub outcome_for : Answer → Outcome
+outcome_for (answer.Bad fault) = Bad
+outcome_for (answer.Reply (Ok (reply.Refused why))) = Refused
+outcome_for (answer.Reply (Err stop)) = Stopped
+outcome_for (answer.Pass (pass.Stopped stop removed)) = Stopped
+outcome_for (answer.Why (Err why)) = Refused
+outcome_for (answer.Ahead (Err why)) = Refused
+outcome_for said = Well
+
+-- how the lines were answered, one after another
+abbrev pub outcomes_of : (before : RunState) (lines : List (List ℕ)) (text : List ℕ) (after : RunState) → AreTold before lines text after → List Outcome
+outcomes_of before [] text after are = []
+outcomes_of before (line ∷ lines) text after (told, rest, between, is, more, parts) =
+    outcome_for is.is.0 ∷ outcomes_of between lines rest after more
+
+abbrev pub is_well_done : Outcome → Bool
+is_well_done Well = true
+is_well_done outcome = false
+
+abbrev pub is_bad : Outcome → Bool
+is_bad Bad = true
+is_bad outcome = false
+
+abbrev pub is_refused : Outcome → Bool
+is_refused Refused = true
+is_refused outcome = false
+
+abbrev pub is_stopped : Outcome → Bool
+is_stopped Stopped = true
+is_stopped outcome = false
+
+-- the first bad line, where the first of them has this number
+abbrev pub first_bad_of : ℕ → List (List ℕ) → List Outcome → Option BadLine
+first_bad_of number (line ∷ lines) (Bad ∷ outcomes) = Some (whole_bad number (line_unless_long line))
+first_bad_of number (line ∷ lines) (outcome ∷ outcomes) = first_bad_of (number + 1) lines outcomes
+first_bad_of number lines outcomes = None
+
+-- how many were answered so, and which was the first
+pub record Counts (lines : List (List ℕ)) (outcomes : List Outcome) (tally : Tally) : Type 0 where
+  pub bad : tally.bad ≡ length (filter is_bad outcomes)
+  pub refused : tally.refused ≡ length (filter is_refused outcomes)
+  pub stopped : tally.stopped ≡ length (filter is_stopped outcomes)
+  pub first : tally.first ≡ position_from (λ outcome. not (is_well_done outcome)) 1 outcomes
+  pub first_bad : tally.first_bad ≡ first_bad_of 1 lines outcomes
+
+-- of whole lines from the first on
+abbrev pub TallyCounts : Type 0
+TallyCounts =
+    (options : RunOptions) (start : Past) (notes : Option (List ℕ)) (lines : List (List ℕ)) (text : List ℕ) (state : RunState)
+    (are : AreTold (begun options start notes) lines text state) → Counts lines (outcomes_of (begun options start notes) lines text state are) state.tally
