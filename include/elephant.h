@@ -43,6 +43,9 @@
 #ifndef ELEPHANT_H
 #define ELEPHANT_H
 
+/* The version of this header and its library, as pkg-config says it. */
+#define ELEPHANT_LIBRARY_VERSION "1.0.0"
+
 #include <stddef.h>
 #include <stdint.h>
 

@@ -25,3 +25,4 @@ pub mod EveryLine
 pub mod LineLaws
 pub mod WhyBad
 pub mod Unknown
+pub mod PolicyDetail

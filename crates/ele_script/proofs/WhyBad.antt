@@ -1,23 +1,26 @@
 -- Why words are no command, and what was found of their first ones.
-use Rattle.ele_script.proofs.Basics.{◌≡◌, ◌≢◌, ℕ, ◌+◌, ◌<◌, ◌≤◌, ◌==◌, Bool, true, List, [], ◌∷◌, ◌++◌, zero, suc, length, take, drop, refl, true≢false, sym, ap, ◌∙◌, arith, inl, inr, append_assoc, length-append, take-append-drop, subst, map, length-map, Option, Some, None, Result, Ok, Err, IfOk}
+use Rattle.ele_script.proofs.Basics.{nat_tests, ◌≡◌, ◌≢◌, ℕ, ◌+◌, ◌<◌, ◌≤◌, ◌==◌, Bool, true, List, [], ◌∷◌, ◌++◌, zero, suc, length, take, drop, refl, true≢false, sym, ap, ◌∙◌, arith, inl, inr, append_assoc, length-append, take-append-drop, subst, map, length-map, Option, Some, None, Result, Ok, Err, IfOk}
 use Rattle.ele_script.proofs.Prelude.{OneMeaning, Command, LineFault, WordKind, command_words, kinds_behind, kinds_if, kinds_of, longest_line, words_of, is_worded}
 use Rattle.ele_script.proofs.Prelude.{IsFirstWordFault, FitsCommand, IsFaultOfWords, IsFirstFault, too_long, not_worded, of_words, no_command, of_word}
 use Rattle.ele_script.specs.CommandOf.{command_in}
-use Rattle.ele_script.specs.Memory.{any_takes}
-use Rattle.ele_script.specs.Reason.{IsFirstBadWord, IsReasonOfWords, IsUnknown, fault_of}
+use Rattle.ele_script.specs.Hints.{hint_of}
+use Rattle.ele_script.specs.Memory.{WordTakesMemory, any_takes}
+use Rattle.ele_script.specs.Reason.{IsFirstBadWord, IsReasonOfWords, IsUnknown, fault_of, is_marked}
+use Rattle.ele_printer.specs.declared.fault.LineFault.TheVariants.{Syntax}
 use Rattle.ele_script.specs.Reason as why
 use Rattle.ele_script.specs.ReasonFound.{AreOfKinds, IsCommand, TakesBehind}
+use Rattle.ele_script.specs.declared.reasons.Hint.{Hint}
 use Rattle.ele_script.specs.declared.reasons.Reason.{Reason}
 use Rattle.ele_script.specs.declared.reasons.Reason.TheVariants.{NoCommand, Words}
 use Rattle.ele_script.proofs.Laws.{moved}
 use Rattle.ele_script.proofs.Commands.{allowed_found, command_in-words, one_fit, words_found}
-use Rattle.std.specs.Prelude.{◌-◌, IfNone, IfSome, OnErr}
+use Rattle.std.specs.Prelude.{nat_lt, ◌-◌, IfNone, IfSome, OnErr}
 use Rattle.std.proofs.lemmas.List.{append-nil}
 use Rattle.ele_script.proofs.Values.{faultless_word}
 
 -- the first bad word has the first fault
 first_fault : (before : ℕ) (kinds : List WordKind) (words : List (List ℕ)) (reason : Reason) → IsFirstBadWord before kinds words reason → IsFirstWordFault kinds words (fault_of reason)
-first_fault before (kind ∷ kinds) (word ∷ words) reason (inl bad) = inl (rw bad.2 bad.1)
+first_fault before (kind ∷ kinds) (word ∷ words) reason (inl bad) = inl (rw bad.4 bad.2)
 first_fault before (kind ∷ kinds) (word ∷ words) reason (inr bad) = inr (bad.0, first_fault (before + 1) kinds words reason bad.1)
 first_fault before kinds words reason bad = absurd bad
 
@@ -32,6 +35,13 @@ words_fault words reason (why.of_word command arguments fits bad) =
 -- a command has four words at most
 few_words : (command : Command) (ended : Bool) → length (command_words command) + length (kinds_if command ended) ≤ 4
 few_words command ended = grind arith
+
+-- an end is among the kinds of a command where each has its word
+kinds_whole : (command : Command) → length (kinds_if command true) ≡ length (kinds_of command)
+kinds_whole command = grind arith
+
+lt_true : {m n : ℕ} → m < n → nat_lt m n ≡ true
+lt_true lt = grind (arith, nat_tests, lt)
 
 few_kinds : (command : Command) (ended : Bool) → length (kinds_if command ended) ≤ 3
 few_kinds command ended = grind arith
@@ -71,14 +81,30 @@ miscounted_all words command arguments are count same = by_rest (drop 5 words) r
       let many = taken_all 5 words word rest more in
       omega (arith, same, many, ap length are, length-append (command_words command) arguments, length-append arguments (drop 5 words), ap length more, few_name command, few_kinds command (length (arguments ++ drop 5 words) == length (kinds_of command)))
 
+hint_first : (words : List (List ℕ)) (number : ℕ) → hint_of number (take 5 words) ≡ hint_of number words
+hint_first [] number = refl
+hint_first (word ∷ words) number = refl
+
+-- there are more words than the command takes where there are more of the first ones
+more_all : (words : List (List ℕ)) (command : Command) (arguments : List (List ℕ)) → take 5 words ≡ command_words command ++ arguments
+    → nat_lt (length (kinds_of command)) (length arguments) ≡ nat_lt (length (kinds_of command)) (length (arguments ++ drop 5 words))
+more_all words command arguments are = by_rest (drop 5 words) refl where
+  by_rest : (rest : List (List ℕ)) → drop 5 words ≡ rest → nat_lt (length (kinds_of command)) (length arguments) ≡ nat_lt (length (kinds_of command)) (length (arguments ++ drop 5 words))
+  by_rest [] none = rw (none, append-nil arguments) refl
+  by_rest (word ∷ rest) more =
+      let many = taken_all 5 words word rest more in
+      let few = few_words command true in
+      let front : length (kinds_of command) < length arguments = omega (arith, many, ap length are, length-append (command_words command) arguments, few, kinds_whole command) in
+      lt_true front ∙ sym (lt_true (omega (arith, front, length-append arguments (drop 5 words))))
+
 -- the reason of the first words is that of all
 pub all_reason : {explains : Bool} (words : List (List ℕ)) (reason : Reason) → IsReasonOfWords explains (take 5 words) reason → IsReasonOfWords explains words reason
 all_reason {explains} words reason (why.no_command number none unknown is) =
-    why.no_command number (λ c xs allowed are. let front = take_front c xs in none c front.0 allowed (ap (λ (ws : List (List ℕ)). take 5 ws) are ∙ front.1)) (unknown_first explains words number unknown) is
+    why.no_command number (λ c xs allowed are. let front = take_front c xs in none c front.0 allowed (ap (λ (ws : List (List ℕ)). take 5 ws) are ∙ front.1)) (unknown_first explains words number unknown) (is ∙ ap (NoCommand number) (hint_first words number))
 all_reason words reason (why.miscounted command arguments allowed are count is) =
     let parts : words ≡ command_words command ++ (arguments ++ drop 5 words) =
     sym (take-append-drop 5 words) ∙ ap (λ (ws : List (List ℕ)). ws ++ drop 5 words) are ∙ append_assoc (command_words command) arguments (drop 5 words) in
-    why.miscounted command (arguments ++ drop 5 words) allowed parts (miscounted_all words command arguments are count) is
+    why.miscounted command (arguments ++ drop 5 words) allowed parts (miscounted_all words command arguments are count) (is ∙ ap (Words command) (more_all words command arguments are))
 all_reason {explains} words reason (why.of_word command arguments fits bad) =
     let same = all_fit words command arguments fits in subst (λ ws. IsReasonOfWords explains ws reason) same (why.of_word command arguments fits bad)
 
@@ -104,16 +130,17 @@ faultless_line {explains} law line first short worded is command fault (of_words
     command_faultless law (words_of line) fault (subst (IsCommand explains) (all_fit (words_of line) found.command found.arguments found.fits) found) bad
 
 -- words in front of which no command is found are none
-pub unknown_reason : {explains : Bool} (words : List (List ℕ)) (number : ℕ) → command_in explains words ≡ None → IsUnknown explains words number → IsReasonOfWords explains words (NoCommand number)
-unknown_reason {explains} words number none unknown = why.no_command number (λ c xs allowed are. absurd (let found = ap (command_in explains) are ∙ command_in-words explains c xs allowed in grind (arith, none, found))) unknown refl
+pub unknown_reason : {explains : Bool} (words : List (List ℕ)) (number : ℕ) (hint : Hint) → command_in explains words ≡ None → IsUnknown explains words number → hint ≡ hint_of number words → IsReasonOfWords explains words (NoCommand number hint)
+unknown_reason {explains} words number hint none unknown meant = why.no_command number (λ c xs allowed are. absurd (let found = ap (command_in explains) are ∙ command_in-words explains c xs allowed in grind (arith, none, found))) unknown (ap (NoCommand number) meant)
 
 -- the kinds behind a command, by how many words stand there
 pub kinds_are : {A : Type 0} (command : Command) (bytes : A → List ℕ) (behind : List A) (kinds : List WordKind) → kinds ≡ kinds_if command (length behind == length (kinds_of command)) → kinds ≡ kinds_behind command (map bytes behind)
 kinds_are command bytes behind kinds is = rw (length-map behind bytes) is
 
 -- other words than it takes stand behind a command
-pub words_miscounted : {explains : Bool} (words : List (List ℕ)) (command : Command) (arguments : List (List ℕ)) → command_in explains words ≡ Some (command, arguments) → length arguments ≢ length (kinds_behind command arguments) → IsReasonOfWords explains words (Words command)
-words_miscounted {explains} words command arguments found count = why.miscounted command arguments (allowed_found explains words command arguments found) (words_found explains words command arguments found) count refl
+pub words_miscounted : {explains : Bool} (words : List (List ℕ)) (command : Command) (arguments : List (List ℕ)) (more : Bool) → command_in explains words ≡ Some (command, arguments) → length arguments ≢ length (kinds_behind command arguments)
+    → more ≡ nat_lt (length (kinds_of command)) (length arguments) → IsReasonOfWords explains words (Words command more)
+words_miscounted {explains} words command arguments more found count many = why.miscounted command arguments (allowed_found explains words command arguments found) (words_found explains words command arguments found) count (ap (Words command) many)
 
 -- and those that it takes
 pub words_fit : {explains : Bool} (words : List (List ℕ)) (command : Command) (arguments : List (List ℕ)) → command_in explains words ≡ Some (command, arguments) → length arguments ≡ length (kinds_behind command arguments) → FitsCommand explains words command arguments
@@ -155,3 +182,14 @@ pub line_none : {E : Type 0} (explains : Bool) (law : OneMeaning) (line : List �
 line_none explains law line first (Ok None) short worded is none = faultless_line law line first short worded is none
 line_none explains law line first (Ok (Some reason)) short worded is none = tt
 line_none explains law line first (Err e) short worded is none = tt
+
+pub line_memory : {A E : Type 0} (explains : Bool) (words first : List (List ℕ)) (r : Result A E) → first ≡ take 5 words → OnErr r (TakesBehind explains first) → OnErr r (WordTakesMemory explains words)
+line_memory explains words first (Ok x) is takes = tt
+line_memory explains words first (Err e) is takes =
+    let found = subst (TakesBehind explains) is takes in
+    record { command = found.command; allowed = found.fits.allowed; arguments = found.arguments; are = sym (all_fit words found.command found.arguments found.fits) ∙ found.fits.are; takes = found.takes }
+
+-- a line with a byte order mark has bytes that stand in no word
+pub marked_fault : (explains : Bool) (line : List ℕ) → length line ≤ longest_line → is_marked line ≡ true → IsFirstFault explains line Syntax
+marked_fault explains [] short marked = absurd cc
+marked_fault explains (byte ∷ bytes) short marked = not_worded short (grind (arith, nat_tests, marked)) refl

@@ -18,3 +18,5 @@ pub mod Reads
 pub mod Reason
 pub mod ReasonText
 pub mod ReasonFound
+pub mod Hints
+pub mod PolicyDetail

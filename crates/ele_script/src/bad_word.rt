@@ -1,15 +1,17 @@
 //! Why words are no command, and a line. A contract sees a line as its bytes, and a reason as itself.
-ghost use Rattle.std.specs.Prelude.{◌≡◌, ◌⊎◌, ◌+◌, ◌<◌, ◌≤◌, ◌^◌, true, map, length, Err, IfOk, IfErr, IfSome, IfNone, OnOk, OnErr};
+ghost use Rattle.std.specs.Prelude.{◌≡◌, ◌⊎◌, ◌+◌, ◌<◌, ◌≤◌, ◌^◌, nat_lt, true, map, length, Err, IfOk, IfErr, IfSome, IfNone, OnOk, OnErr};
 ghost use Rattle.std.specs.List.{list_all, list_any};
 ghost use Rattle.ele_script.specs.FirstFault.{IsFirstFault, IsOfKind, IsWordFault};
 ghost use Rattle.ele_script.specs.Memory.{WordTakesMemory, any_takes, word_takes};
-ghost use Rattle.ele_commands.specs.Command.{command_words};
-ghost use Rattle.ele_script.specs.Reason.{IsFirstBadWord, IsReason, IsReasonOfWords, IsUnknown, IsWordReason, digits_detail, detail_of, fault_of, is_digit, path_detail};
+ghost use Rattle.ele_commands.specs.Command.{command_words, kinds_of};
+ghost use Rattle.ele_script.specs.Reason.{IsFirstBadWord, IsReason, IsReasonOfWords, IsUnknown, IsDetail, IsWordReason, digits_detail, divides_names, fault_of, is_dated, is_digit, is_tag, is_united, mixed_detail, name_detail, path_detail, tagged_detail};
 ghost use Rattle.ele_script.specs.ReasonFound.{AreOfKinds, IsCommand, TakesBehind, begin_row, begins_in};
 ghost use Rattle.ele_script.specs.Words.{words_of};
 
 use crate::command::{kinds_for, read_command};
 use crate::cut::first_words;
+use crate::hints::hint;
+use crate::policy_detail::policy_detail;
 use crate::reading::LONGEST_LINE;
 use crate::reasons::{Detail, Reason};
 use crate::word::{self, begins_path};
@@ -18,6 +20,9 @@ use ele_moment::NoMemory;
 use ele_path::one_meaning;
 use ele_printer::LineFault;
 use std::alloc::Global;
+
+// What some editors put in front of a text.
+const BYTE_ORDER_MARK: [u8; 3] = [0xef, 0xbb, 0xbf];
 
 /// Why a line is no command, without its line feed, in a run that explains, or in one that doesn't,
 /// and which of its words is at fault; none where it is one. It is the first fault by which
@@ -36,6 +41,9 @@ pub fn reason(alloc: Global, explains: bool, line: &[u8]) -> Result<Option<Reaso
     if line.len() > LONGEST_LINE {
         return Ok(Some(Reason::TooLong));
     }
+    if line.starts_with(&BYTE_ORDER_MARK) {
+        return Ok(Some(Reason::ByteOrderMark));
+    }
     match first_words(line) {
         Ok(words) => words_reason(alloc, explains, words.as_slice()),
         Err(reason) => Ok(Some(reason)),
@@ -51,13 +59,21 @@ fn words_reason(alloc: Global, explains: bool, words: &[&[u8]]) -> Result<Option
     ensures memory { OnErr result (TakesBehind explains (map (λ word. word.now) words.now)) }
 {
     let Some((command, behind)) = read_command(explains, words) else {
-        return Ok(Some(Reason::NoCommand(unknown_number(explains, words))));
+        let number = unknown_number(explains, words);
+        return Ok(Some(Reason::NoCommand(number, hint(number, words))));
     };
     let kinds = kinds_for(command, behind.len());
     if behind.len() != kinds.len() {
-        return Ok(Some(Reason::Words(command)));
+        return Ok(Some(Reason::Words(command, exceeds(command, behind.len()))));
     }
     bad_word(alloc, name_length(command), kinds, behind)
+}
+
+// Whether so many words are more than the command takes.
+fn exceeds(command: Command, count: usize) -> bool
+    ensures { result ≡ nat_lt (length (kinds_of command)) count }
+{
+    count > command.kinds().len()
 }
 
 // How many words name the command.
@@ -199,7 +215,7 @@ fn read_word(alloc: Global, kind: WordKind, word: &[u8]) -> Result<(), LineFault
 
 // What can be told of a word that isn't of its kind.
 fn detail(kind: WordKind, word: &[u8]) -> Detail
-    ensures { result ≡ detail_of kind word.now }
+    ensures { IsDetail kind word.now result }
 {
     match kind {
         WordKind::Number
@@ -207,7 +223,9 @@ fn detail(kind: WordKind, word: &[u8]) -> Detail
         | WordKind::Version
         | WordKind::Moment
         | WordKind::End => digits_detail(word),
-        WordKind::Path | WordKind::Tagged | WordKind::Timed => path_detail(word),
+        WordKind::Name => name_detail(word),
+        WordKind::Path => path_detail(word),
+        WordKind::Tagged | WordKind::Timed => tagged_detail(word),
         WordKind::Source => {
             if begins_path(word) {
                 Detail::Other
@@ -215,13 +233,59 @@ fn detail(kind: WordKind, word: &[u8]) -> Detail
                 digits_detail(word)
             }
         }
-        WordKind::Name | WordKind::Bytes | WordKind::Policy => Detail::Other,
+        WordKind::Bytes => Detail::Other,
+        WordKind::Policy => policy_detail(word),
+    }
+}
+
+// What can be told of a word that is no name of a group.
+fn name_detail(word: &[u8]) -> Detail
+    ensures { result ≡ name_detail word.now }
+{
+    if divides_names(word) {
+        Detail::Tag
+    } else {
+        Detail::Other
     }
 }
 
 // What can be told of a word that is no path.
 fn path_detail(word: &[u8]) -> Detail
     ensures { result ≡ path_detail word.now }
+{
+    if !begins_path(word) {
+        Detail::NoSlash
+    } else if has_tag(word) {
+        Detail::Tag
+    } else {
+        Detail::Other
+    }
+}
+
+// Whether a byte of the word begins a tag or divides names.
+fn divides_names(word: &[u8]) -> bool
+    ensures { result ≡ list_any divides_names word.now }
+{
+    word.iter().any(|byte| *byte == b'/' || is_tag(*byte))
+}
+
+// Whether a byte of the word begins a tag.
+fn has_tag(word: &[u8]) -> bool
+    ensures { result ≡ list_any is_tag word.now }
+{
+    word.iter().any(|byte| is_tag(*byte))
+}
+
+// Whether the byte begins a tag.
+fn is_tag(byte: u8) -> bool
+    ensures { result ≡ is_tag byte }
+{
+    byte == b'@' || byte == b'#'
+}
+
+// What can be told of a word that is no path with a tag.
+fn tagged_detail(word: &[u8]) -> Detail
+    ensures { result ≡ tagged_detail word.now }
 {
     if begins_path(word) {
         Detail::Other
@@ -237,13 +301,49 @@ fn digits_detail(word: &[u8]) -> Detail
     match word {
         [b'0', ..] if is_digits(word) => Detail::LeadingZero,
         [_, ..] if is_digits(word) => Detail::TooLarge,
+        [first, ..] if is_digit(*first) => mixed_detail(word),
         _ => Detail::Other,
     }
+}
+
+// What can be told of a word that begins with a digit, and isn't digits alone.
+fn mixed_detail(word: &[u8]) -> Detail
+    ensures { result ≡ mixed_detail word.now }
+{
+    if is_dated(word) {
+        Detail::Date
+    } else if is_united(word) {
+        Detail::Unit
+    } else {
+        Detail::Other
+    }
+}
+
+// Whether the word is digits and hyphens.
+fn is_dated(word: &[u8]) -> bool
+    ensures { result ≡ list_all is_dated word.now }
+{
+    word.iter().all(|byte| is_digit(*byte) || *byte == b'-')
+}
+
+// Whether the word is digits and letters.
+fn is_united(word: &[u8]) -> bool
+    ensures { result ≡ list_all is_united word.now }
+{
+    word.iter()
+        .all(|byte| is_digit(*byte) || (b'a' <= *byte && *byte <= b'z'))
+}
+
+// Whether the byte is a digit.
+fn is_digit(byte: u8) -> bool
+    ensures { result ≡ is_digit byte }
+{
+    b'0' <= byte && byte <= b'9'
 }
 
 // Whether all of the bytes are digits.
 fn is_digits(word: &[u8]) -> bool
     ensures { result ≡ list_all is_digit word.now }
 {
-    word.iter().all(|byte| b'0' <= *byte && *byte <= b'9')
+    word.iter().all(|byte| is_digit(*byte))
 }

@@ -7,8 +7,10 @@ mod arguments;
 mod bad_word;
 mod command;
 mod cut;
+mod hints;
 pub mod line_laws;
 mod pairs;
+mod policy_detail;
 pub mod policy_laws;
 mod reading;
 mod reasons;
@@ -23,6 +25,6 @@ pub use ele_printer::{
     put_trimmed, put_why, write_named, write_placed, write_reply,
 };
 pub use reading::{LONGEST_LINE, Line, Question, read_event, read_line, read_line_in};
-pub use reasons::{Detail, Reason};
+pub use reasons::{Detail, Hint, Reason};
 pub use word::policy as read_policy;
 pub use writing::write_event;

@@ -1,7 +1,7 @@
 //! Why a line is no command. A contract sees a reason as itself, and its text.
 ghost use Rattle.std.specs.Prelude.{◌≡◌, Some};
 ghost use Rattle.std.specs.Fmt.{WritesOnOk};
-ghost use Rattle.ele_script.specs.ReasonText.{behind_text, byte_text, is_moment, kind_text, other_text, reason_text, syntax_text, takes_text, word_text};
+ghost use Rattle.ele_script.specs.ReasonText.{after_text, behind_text, byte_text, count_text, digit_text, first_text, hint_text, is_moment, kind_text, other_text, path_text, reason_text, syntax_text, tag_text, takes_text, word_text};
 
 use ele_commands::{Command, WordKind};
 use ele_printer::LineFault;
@@ -14,10 +14,51 @@ pub enum Detail {
     LeadingZero,
     /// It is digits without one, of a number that is too large.
     TooLarge,
+    /// It begins with a digit, and only digits and letters follow, as in `7d`.
+    Unit,
+    /// It begins with a digit, and only digits and hyphens follow, as in `2026-03-02`.
+    Date,
     /// It has no slash in front.
     NoSlash,
+    /// It has a byte that begins a tag or divides names, where a name has none.
+    Tag,
+    /// It is a policy whose floor is too large.
+    Floor,
+    /// It is a policy with a number of seconds that is 0 or too large.
+    Seconds,
+    /// It is a ladder with no pairs or too many.
+    Pairs,
+    /// It is a ladder whose ages don't rise.
+    Ages,
+    /// It is a ladder with a width that doesn't divide the next.
+    Widths,
     /// Something else.
     Other,
+}
+
+/// What may be meant by a word that is no command there.
+#[derive(Clone, Copy, Debug, PartialEq, Eq)]
+pub enum Hint {
+    /// It is a command of a run that explains.
+    Explaining,
+    /// It begins with a capital letter.
+    Case,
+    /// Another tool calls so what the command does.
+    Instead(Command),
+    /// Another tool calls so what several commands do: they save a content.
+    Save,
+    /// Another tool ends so.
+    Leave,
+    /// Another tool calls so its current directory.
+    Place,
+    /// A remark.
+    Remark,
+    /// `group` is the word before it, or the only one.
+    Group,
+    /// `open` is the word before it, or the only one.
+    Open,
+    /// Nothing that is known.
+    Unknown,
 }
 
 /// Why a line is no command: its first fault, and which word has it, counted from 1. It is displayed
@@ -28,14 +69,16 @@ pub enum Reason {
     TooLong,
     /// The line has no line feed behind it, and is never run: only a run can tell.
     Cut,
+    /// The line begins with a byte order mark.
+    ByteOrderMark,
     /// The word has no bytes, as one space too many stands in the line.
     Empty(u64),
     /// This byte of the word stands in no line.
     Byte(u64, u8),
-    /// The word is no command, or none together with the word before it.
-    NoCommand(u64),
-    /// Behind the command stand more words than it takes, or fewer.
-    Words(Command),
+    /// The word is no command, or none together with the word before it, and what may be meant.
+    NoCommand(u64, Hint),
+    /// Behind the command stand fewer words than it takes, or more if this is so.
+    Words(Command, bool),
     /// The word isn't of the kind that the command takes there.
     Word {
         number: u64,
@@ -103,14 +146,89 @@ fn kind_name(kind: WordKind) -> &'static str
     }
 }
 
-// What is wrong with a word in which this byte stands.
-fn byte_why(byte: u8) -> &'static str
-    ensures { result.now ≡ byte_text byte }
+/// A byte that stands in no word, displayed as what is wrong with its word.
+#[derive(Drop)]
+struct Unfit(u8);
+
+impl fmt::Display for Unfit {
+    ghost output = { λ unfit. Some (byte_text unfit.0) };
+
+    fn fmt<W: fmt::Write>(&self, f: &mut fmt::Formatter<W>) -> fmt::Result {
+        match self.0 {
+            b'\r' => f.write_str("it has a carriage return: end a line with a line feed alone"),
+            b'\t' => f.write_str("it has a tab: put one space between two words"),
+            byte => {
+                let (high, low) = (hexadecimal_digit(byte / 16), hexadecimal_digit(byte % 16));
+                write!(
+                    f,
+                    "it has the byte {high}{low}, which is none from space to ~: a name may have %{high}{low}"
+                )
+            }
+        }
+    }
+}
+
+// The digit of a number below 16.
+fn hexadecimal_digit(number: u8) -> &'static str
+    ensures { result.now ≡ digit_text number }
 {
-    match byte {
-        b'\r' => "a carriage return stands in it",
-        b'\t' => "a tab stands in it",
-        _ => "a byte stands in it that is none from space to ~",
+    match number {
+        0 => "0",
+        1 => "1",
+        2 => "2",
+        3 => "3",
+        4 => "4",
+        5 => "5",
+        6 => "6",
+        7 => "7",
+        8 => "8",
+        9 => "9",
+        10 => "a",
+        11 => "b",
+        12 => "c",
+        13 => "d",
+        14 => "e",
+        _ => "f",
+    }
+}
+
+// Writes what a word may mean that is no command.
+fn write_hint<W: fmt::Write>(hint: Hint, f: &mut fmt::Formatter<W>) -> fmt::Result
+    ensures { WritesOnOk W.write_str_gives f.old result (hint_text hint) f.new }
+{
+    match hint {
+        Hint::Instead(command) => {
+            f.write_str("the command for this is ")?;
+            f.write_str(first_word(command))
+        }
+        _ => f.write_str(after_hint(hint)),
+    }
+}
+
+// The first word of a command.
+fn first_word(command: Command) -> &'static str
+    ensures { result.now ≡ first_text command }
+{
+    let (first, _) = command.words();
+    first
+}
+
+// What a word may mean that is no command, if no other command is meant.
+fn after_hint(hint: Hint) -> &'static str
+    ensures { result.now ≡ after_text hint }
+{
+    match hint {
+        Hint::Explaining => "the command needs the option --explain",
+        Hint::Save => "there is no such command, but open write, write and close save a content",
+        Hint::Leave => "there is no such command: the end of the input ends the run",
+        Hint::Place => "there is no current directory: a path begins with a slash",
+        Hint::Remark => "remarks need the option --remarks",
+        Hint::Group => "make, drop, add or remove follows group",
+        Hint::Open => "write or read follows open",
+        Hint::Case => "commands are in lower case, as create",
+        Hint::Instead(_) | Hint::Unknown => {
+            "there is no such command: elephant help script lists all"
+        }
     }
 }
 
@@ -123,8 +241,30 @@ fn word_why(kind: WordKind, fault: LineFault, detail: Detail) -> &'static str
         Detail::LeadingZero => "a number has no leading zero",
         Detail::TooLarge if is_moment(kind) => "a moment is at most 253402300799",
         Detail::TooLarge => "a number is at most 18446744073709551615",
+        Detail::Date if is_moment(kind) => {
+            "a date wants its time, for example 2026-03-02T00:00:00Z"
+        }
+        Detail::Unit if !is_moment(kind) => {
+            "a number has only digits, and a time is in seconds: a day has 86400"
+        }
         Detail::NoSlash => "a path begins with a slash",
-        Detail::Other => other_why(kind, fault),
+        Detail::Tag if fault == LineFault::BadName => tag_why(kind),
+        Detail::Floor => "a floor is at most 16 versions",
+        Detail::Seconds => "a policy has from 1 to 253402300799 seconds",
+        Detail::Pairs => "a ladder has one to eight pairs, as in landmarks:3600/60,86400/3600",
+        Detail::Ages => "each age of a ladder is greater than the one before it",
+        Detail::Widths => "each width of a ladder divides the next, as 60 divides 3600",
+        Detail::Date | Detail::Unit | Detail::Tag | Detail::Other => other_why(kind, fault),
+    }
+}
+
+// What is wrong with a name that has a byte of a tag, or one that divides names.
+fn tag_why(kind: WordKind) -> &'static str
+    ensures { result.now ≡ tag_text kind }
+{
+    match kind {
+        WordKind::Name => "the name of a group has no /, @ or #",
+        _ => "a name has no @ and no #",
     }
 }
 
@@ -140,12 +280,25 @@ fn other_why(kind: WordKind, fault: LineFault) -> &'static str
     ensures { result.now ≡ other_text kind fault }
 {
     match fault {
-        LineFault::BadName if kind == WordKind::Name => "not the name of a group",
-        LineFault::BadName => "a name of the path is none",
-        LineFault::BadPath => "not a path",
-        LineFault::BadMoment => "not a moment",
+        LineFault::BadName => "a name has at most 64 bytes, and is neither . nor ..",
+        LineFault::BadPath => path_why(kind),
+        LineFault::BadMoment => {
+            "a moment is seconds since 1970, or a time as 2026-03-02T00:00:00Z"
+        }
         LineFault::BadLadder => "a policy has no such numbers",
         LineFault::LineTooLong | LineFault::NoMemory | LineFault::Syntax => syntax_why(kind),
+    }
+}
+
+// What is wrong with a word that begins with a slash and is no path.
+fn path_why(kind: WordKind) -> &'static str
+    ensures { result.now ≡ path_text kind }
+{
+    match kind {
+        WordKind::Tagged | WordKind::Source => {
+            "a path has no empty name and at most 32 names, and a number after #"
+        }
+        _ => "a path has no empty name and at most 32 names",
     }
 }
 
@@ -154,13 +307,28 @@ fn syntax_why(kind: WordKind) -> &'static str
     ensures { result.now ≡ syntax_text kind }
 {
     match kind {
-        WordKind::Number | WordKind::Handle | WordKind::Version => "not a number",
-        WordKind::Source => "neither a path nor a handle",
-        WordKind::Timed => "only a moment may stand behind the path",
-        WordKind::Bytes => "neither - nor an even number of hexadecimal digits",
-        WordKind::Policy => "not a policy",
+        WordKind::Number | WordKind::Handle | WordKind::Version => "a number has only digits",
+        WordKind::Source => "a path begins with a slash, and a handle has only digits",
+        WordKind::Timed => "only @ and a moment may follow the path",
+        WordKind::Bytes => "bytes are an even number of hexadecimal digits, or - for none",
+        WordKind::Policy => {
+            "a policy is one, all, safe:SECONDS, safe:SECONDS/FLOOR or landmarks:AGE/WIDTH,.."
+        }
         WordKind::Moment | WordKind::End | WordKind::Name | WordKind::Path | WordKind::Tagged =>
             "not as it should be",
+    }
+}
+
+// What else is wrong with so many words, where a path is wanted among them.
+fn count_why(kinds: &[WordKind], more: bool) -> &'static str
+    ensures { result.now ≡ count_text kinds.now more }
+{
+    match kinds {
+        [
+            WordKind::Path | WordKind::Tagged | WordKind::Timed | WordKind::Source,
+            ..
+        ] if more => { ", and a name has no space: write %20" }
+        _ => "",
     }
 }
 
@@ -172,14 +340,21 @@ impl fmt::Display for Reason {
             Reason::TooLong => f.write_str("length: a line has at most 8192 bytes"),
             Reason::Cut => f.write_str("end: it has no line feed"),
             Reason::Empty(number) => write!(f, "word {number}: one space too many stands here"),
+            Reason::ByteOrderMark => {
+                f.write_str("word 1: a byte order mark precedes it: save the script without one")
+            }
             Reason::Byte(number, byte) => {
-                let why = byte_why(byte);
+                let why = Unfit(byte);
                 write!(f, "word {number}: {why}")
             }
-            Reason::NoCommand(number) => write!(f, "word {number}: there is no such command"),
-            Reason::Words(command) => {
+            Reason::NoCommand(number, hint) => {
+                write!(f, "word {number}: ")?;
+                write_hint(hint, f)
+            }
+            Reason::Words(command, more) => {
                 let takes = Takes(command.kinds());
-                write!(f, "number of words: the command takes {takes}")
+                let why = count_why(command.kinds(), more);
+                write!(f, "number of words: the command takes {takes}{why}")
             }
             Reason::Word {
                 number,

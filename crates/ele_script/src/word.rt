@@ -172,8 +172,8 @@ pub fn policy(word: &[u8]) -> Result<Policy, LineFault>
     Ok(Policy::Landmarks(Ladder::new(pairs.as_slice())?))
 }
 
-// The seconds and the floor behind `safe:`.
-fn safe_numbers(word: &[u8]) -> Option<(u64, u64)>
+/// The seconds and the floor behind `safe:`.
+pub(crate) fn safe_numbers(word: &[u8]) -> Option<(u64, u64)>
     ensures some { IfSome result (λ numbers. IsSafeWord word.now numbers.0 numbers.1) }
     ensures none { IfNone result ((seconds floor : ℕ) → ¬ IsSafeWord word.now seconds floor) }
 {

@@ -16,7 +16,7 @@ const BLOCKS: &str = "1 bad 30 BadMoment\n3 bad 32 Syntax\n4 bad 29 BadPath\n5 o
 
 /// The reasons of these.
 const REASONS: &str = "elephant: line 1, word 2: a moment has no leading zero\n\
-elephant: line 3, word 1: there is no such command\n\
+elephant: line 3, word 1: there is no such command: elephant help script lists all\n\
 elephant: line 4, word 2: a path begins with a slash\n\
 elephant: line 7, end: it has no line feed\n";
 

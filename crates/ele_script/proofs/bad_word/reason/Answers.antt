@@ -1,5 +1,6 @@
 use Rattle.ele_script.proofs.Basics.{ℕ, List, Bor, map, ap, ◌∙◌}
-use Rattle.ele_script.proofs.WhyBad.{line_fault, line_none, line_some}
+use Rattle.ele_script.proofs.WhyBad.{line_fault, line_memory, line_none, line_some}
+use Rattle.ele_script.specs.Words.{words_of}
 use Rattle.ele_script.proofs.bad_word.reason.Goals as goal
 
 abbrev words : List (Bor (List ℕ)) → List (List ℕ)
@@ -16,3 +17,7 @@ returns-in-Ok-clause-fault c =
 pub returns-in-Ok-clause-none : goal.returns-in-Ok-clause-none
 returns-in-Ok-clause-none c =
     line_none _ c.one_meaning.ensures c.args.line.now (words c.as_slice.result.now) c.words_reason.result c.if-line-gt-LONGEST_LINE.false (c.in-Ok.ensures.worded) (ap words c.as_slice.ensures.value ∙ c.in-Ok.ensures.found) c.words_reason.ensures.none
+
+pub returns-in-Ok-clause-memory : goal.returns-in-Ok-clause-memory
+returns-in-Ok-clause-memory c =
+    line_memory _ (words_of c.args.line.now) (words c.as_slice.result.now) c.words_reason.result (ap words c.as_slice.ensures.value ∙ c.in-Ok.ensures.found) c.words_reason.ensures.memory
