@@ -1,10 +1,10 @@
 -- A store as a contract sees it.
-use Rattle.std.specs.Prelude.{ℕ, List, [], ◌-◌, length, slice_get, Option, Some, None}
-use Rattle.std.specs.Option.{option_map}
+use Rattle.std.specs.Prelude.{ℕ, List, [], Option, Some, None}
 use Rattle.ele_history.specs.Past.{Past, fresh, world_of}
 use Rattle.ele_model.specs.Bounds.{Bounds}
 use Rattle.ele_model.specs.World.{World, fresh_world}
 use Rattle.ele_model.specs.declared.reply.Reply.{Reply}
+use Rattle.ele_runs.specs.Said.{last_reply}
 use Rattle.ele_runs.specs.declared.said.Said.{Said}
 use Rattle.ele_runs.specs.declared.said.Said.TheVariants.{Nothing, Replied}
 
@@ -26,7 +26,7 @@ past_in (Recorded past) = Some past
 -- the reply to the last event
 abbrev pub last_in : State → Option Reply
 last_in (Plain w last) = last
-last_in (Recorded past) = option_map (λ entry. entry.reply) (slice_get past.entries (length past.entries - 1))
+last_in (Recorded past) = last_reply past
 
 -- a store, what its last call was answered, and the text that was made last
 pub record Embedding : Type 0 where

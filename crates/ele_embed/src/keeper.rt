@@ -1,20 +1,18 @@
 //! What keeps the world of a store: the core alone, or a history. A contract sees it as the state that it keeps.
 ghost use Rattle.std.specs.Prelude.{◌≡◌, None, IfSome, IfNone};
-ghost use Rattle.std.specs.Option.{option_copied, option_map};
+ghost use Rattle.std.specs.Option.{option_copied};
 ghost use Rattle.ele_embed.specs.Embedding.{Recorded, last_in, past_in, world_in};
 ghost use Rattle.ele_embed.specs.Hears.{Hears, explaining};
 ghost use Rattle.ele_embed.specs.Kept.{state_of};
-ghost use Rattle.ele_embed.specs.Takes.{Passes, Runs, Takes, TellsWhy};
+ghost use Rattle.ele_embed.specs.Takes.{Passes, Takes};
 ghost use Rattle.ele_runs.specs.Said.{Trims};
 ghost use Rattle.ele_history.specs.Past.{Past};
-ghost use Rattle.ele_runs.specs.LineLength.{line_unless_long};
 
 use crate::plain::Plain;
 use ele_core::Core;
 use ele_history::History;
-use ele_model::{Event, PassEnd, Reply, TaggedPath};
-use ele_runs::{RunOptions, Said, hear_event, hear_kept, hear_trim};
-use ele_script::{LONGEST_LINE, LineFault};
+use ele_model::{Event, PassEnd, Reply};
+use ele_runs::{RunOptions, Said, hear_event, hear_kept, hear_trim, kept_line, last_reply};
 use std::alloc::Global;
 
 /// A core with its last reply, or a history.
@@ -25,18 +23,8 @@ pub(crate) enum Keeper {
 }
 
 impl Keeper {
-    /// Takes the event that is asked for.
-    pub(crate) fn run(&mut self, asked: Result<Event, LineFault>) -> Said
-        ensures { Runs (state_of self.old) asked result (state_of self.new) }
-    {
-        match asked {
-            Ok(event) => self.record(event),
-            Err(fault) => Said::Bad(fault),
-        }
-    }
-
-    // Takes the event.
-    fn record(&mut self, event: Event) -> Said
+    /// Takes the event.
+    pub(crate) fn record(&mut self, event: Event) -> Said
         ensures { Takes (state_of self.old) event result (state_of self.new) }
     {
         match self {
@@ -76,18 +64,8 @@ impl Keeper {
         match self {
             Keeper::Plain(plain) => plain.hear(alloc, line),
             Keeper::Recorded(history) => {
-                hear_kept(alloc, explaining(), unless_long(line), history)
+                hear_kept(alloc, explaining(), kept_line(line), history)
             }
-        }
-    }
-
-    /// Says why the version that is asked about is held.
-    pub(crate) fn why(&self, asked: Result<TaggedPath, LineFault>) -> Said
-        ensures { TellsWhy (world_in (state_of self.now)) asked result }
-    {
-        match asked {
-            Ok(tagged) => Said::Why(self.core().fate_at(&tagged)),
-            Err(fault) => Said::Bad(fault),
         }
     }
 
@@ -122,16 +100,6 @@ impl Keeper {
     }
 }
 
-// The reply of the last entry.
-fn last_reply(history: &History<Core>) -> Option<&Reply>
-    ensures { option_copied result ≡ last_in (Recorded history.now) }
-{
-    match history.last() {
-        Some(entry) => Some(&entry.reply),
-        None => None,
-    }
-}
-
 // The manner of a run that answers `why` and `ahead` too.
 fn explaining() -> RunOptions
     ensures { result ≡ explaining }
@@ -142,14 +110,4 @@ fn explaining() -> RunOptions
         remarks: false,
         explain: true,
     }
-}
-
-/// The line, unless it is too long.
-pub(crate) fn unless_long(line: &[u8]) -> Option<&[u8]>
-    ensures { option_map (λ line. line.now) result ≡ line_unless_long line.now }
-{
-    if line.len() > LONGEST_LINE {
-        return None;
-    }
-    Some(line)
 }

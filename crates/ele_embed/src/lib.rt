@@ -13,11 +13,9 @@ ghost use Rattle.ele_runs.specs.declared.said.Said.TheVariants as said;
 
 mod keeper;
 mod plain;
-mod text;
 
 use crate::keeper::Keeper;
 use crate::plain::Plain;
-use crate::text::put_said;
 pub use ele_core::Copied;
 use ele_core::Core;
 use ele_history::History;
@@ -83,7 +81,10 @@ impl Store {
         ensures runs { Runs self.old.state asked self.new.said self.new.state }
         ensures answer { self.new.answer ≡ self.old.answer }
     {
-        self.said = self.keeper.run(asked);
+        match asked {
+            Ok(event) => self.said = self.keeper.record(event),
+            Err(fault) => self.said = Said::Bad(fault),
+        }
     }
 
     /// Takes clean events until nothing is due, or so many versions are removed.
@@ -116,7 +117,10 @@ impl Store {
         ensures state { self.new.state ≡ self.old.state }
         ensures answer { self.new.answer ≡ self.old.answer }
     {
-        self.said = self.keeper.why(asked);
+        match asked {
+            Ok(tagged) => self.said = Said::Why(self.keeper.core().fate_at(&tagged)),
+            Err(fault) => self.said = Said::Bad(fault),
+        }
     }
 
     /// Says which versions will be due at the moment that is asked about.
@@ -224,6 +228,6 @@ fn write_said(said: &Said, keeper: &Keeper, answer: &mut Vec<u8>) -> Result<(), 
     ensures { OnOk result (IsTold (state_of keeper.now) said.now answer.new.items) }
 {
     let mut printer = Printer::new(answer);
-    put_said(said, keeper, &mut printer);
+    said.put(keeper.last(), keeper.history(), &mut printer);
     printer.hand_over()
 }

@@ -8,10 +8,9 @@ ghost use Rattle.ele_model.specs.Pass.{EndsPass};
 ghost use Rattle.ele_model.specs.World.{fresh_world};
 ghost use Rattle.ele_runs.specs.LineLength.{line_unless_long};
 
-use crate::keeper::unless_long;
 use ele_core::Core;
 use ele_model::{Event, Limits, NoMemory, PassEnd, Reply, Stop};
-use ele_runs::{Said, explain};
+use ele_runs::{Said, explain, kept_line};
 use ele_script::{Line, LineFault, read_line_in};
 use std::alloc::Global;
 
@@ -59,7 +58,7 @@ impl Plain {
         ensures { HearsPlain self.old.core.world (line_unless_long line.now) result
             self.new.core.world self.new.last }
     {
-        let Some(line) = unless_long(line) else {
+        let Some(line) = kept_line(line) else {
             return Said::Bad(LineFault::LineTooLong);
         };
         if line.is_empty() {

@@ -1,5 +1,6 @@
 -- The answer to a line, and its block.
 use Rattle.ele_runs.proofs.Basics.{◌≡◌, ◌≢◌, ℕ, ◌≤◌, ◌+◌, Bool, true, false, List, [], ◌∷◌, length, Option, Some, None, Result, Ok, Err, ◌⊎◌, inl, inr, refl, sym, ap, subst, arith, nat_tests, ◌++◌, ◌-◌, ◌∙◌, length-append, slice_get}
+use Rattle.std.specs.Option.{option_map}
 use Rattle.std.specs.Prelude.{not, ◌&&◌, if◌then◌else◌, IsErr, ◌<◌}
 use Rattle.ele_runs.proofs.Words.{HistoryFull, RunState, Outlet, Puts, IsNoted, recorded, MayAnswer, MayMean, as_entry, as_told, as_trim, IsTold, front_of, heard, is_well, noting, Past, PutsBlock, reply_to, world_of}
 use Rattle.ele_model.specs.declared.entry.Entry.{Entry}
@@ -36,7 +37,7 @@ last_reply : (before after : Past) (event : Event) → after ≡ recorded before
 last_reply before after event done =
     let entry : Entry = record { event = event; reply = reply_to before event } in
     let last : slice_get after.entries (length after.entries - 1) ≡ Some entry = rw done (last_is before.entries entry) in
-    ap reply_of last
+    ap (λ (last : Option Entry). reply_of (option_map (λ (entry : Entry). entry.reply) last)) last
 
 -- what is heard of a line, by what it asks for
 pub hears_event : {explains : Bool} (before after : Past) (line : List ℕ) (event : Event) (said : Said) → Asks explains line (asks.Event event) → Records before event said after → Hears explains before line said after

@@ -14,26 +14,40 @@ use Rattle.ele_script.specs.declared.reading.Question.{Question}
 use Rattle.ele_script.specs.declared.reading.Question.TheVariants as question
 use Rattle.ele_model.specs.Why.{IsAhead, IsWhy}
 use Rattle.ele_model.specs.World.{World}
-use Rattle.ele_model.specs.declared.entry.Entry.{Entry}
+use Rattle.ele_model.specs.declared.reply.Reply.{Reply}
+use Rattle.std.specs.Option.{option_map}
 use Rattle.ele_model.specs.declared.event.Event.{Event}
 use Rattle.ele_model.specs.declared.refusal.Stop.TheVariants.{NoMemory}
 
--- the reply of an entry, if there is one
-abbrev pub reply_of : Option Entry → Answer
-reply_of (Some entry) = answer.Reply (Ok entry.reply)
+-- the answer to an event, by its reply, if there is one
+abbrev pub reply_of : Option Reply → Answer
+reply_of (Some reply) = answer.Reply (Ok reply)
 reply_of None = answer.Nothing
+
+-- the reply of the last entry
+abbrev pub last_reply : Past → Option Reply
+last_reply past = option_map (λ entry. entry.reply) (slice_get past.entries (length past.entries - 1))
+
+-- what whoever asks for the history is answered, if there is one
+abbrev pub history_of : Option Past → Answer
+history_of (Some past) = answer.History past.folded past.entries
+history_of None = answer.Nothing
+
+-- the answer, by the reply to the last event and the history that it left
+abbrev pub answer_by : Option Reply → Option Past → Said → Answer
+answer_by last history Nothing = answer.Nothing
+answer_by last history (Bad fault) = answer.Bad fault
+answer_by last history (Stopped stop) = answer.Reply (Err stop)
+answer_by last history Replied = reply_of last
+answer_by last history (Passed end) = answer.Pass end
+answer_by last history History = history_of history
+answer_by last history (Trimmed count) = answer.Trimmed count
+answer_by last history (Why told) = answer.Why told
+answer_by last history (Ahead told) = answer.Ahead told
 
 -- the answer, where it left this history, whose last entry has the reply to an event
 abbrev pub answer_of : Past → Said → Answer
-answer_of after Nothing = answer.Nothing
-answer_of after (Bad fault) = answer.Bad fault
-answer_of after (Stopped stop) = answer.Reply (Err stop)
-answer_of after Replied = reply_of (slice_get after.entries (length after.entries - 1))
-answer_of after (Passed end) = answer.Pass end
-answer_of after History = answer.History after.folded after.entries
-answer_of after (Trimmed count) = answer.Trimmed count
-answer_of after (Why told) = answer.Why told
-answer_of after (Ahead told) = answer.Ahead told
+answer_of after said = answer_by (last_reply after) (Some after) said
 
 -- a line that has bytes was answered so
 abbrev pub Hears : Bool → Past → List ℕ → Said → Past → Type 0

@@ -97,7 +97,7 @@ impl LineBuffer {
 }
 
 /// The line, unless it is too long.
-pub(crate) fn kept_line(line: &[u8]) -> Option<&[u8]>
+pub fn kept_line(line: &[u8]) -> Option<&[u8]>
     ensures { option_map (λ line. line.now) result ≡ line_unless_long line.now }
 {
     if line.len() > LONGEST_LINE {

@@ -13,7 +13,7 @@ ghost use Rattle.ele_runs.specs.Written.{PutsBlock};
 
 use crate::note::{tell_why, why_bad, why_cut};
 use crate::options::RunOptions;
-use crate::said::{Said, hear_kept};
+use crate::said::{Said, hear_kept, last_reply};
 use crate::tally::Tally;
 use ele_history::History;
 use ele_model::{Explain, Limits};
@@ -151,6 +151,6 @@ impl<C: Explain> Runner<C> {
         let said = self.hear(line);
         self.tell_reason(line, &said, reasons);
         said.put_front(self.options, self.lines, printer);
-        said.put(&self.history, printer);
+        said.put(last_reply(&self.history), Some(&self.history), printer);
     }
 }

@@ -1,12 +1,12 @@
 //! What a line is answered, and the text of it.
 //! A contract sees the answer that is meant, beside the history that it left.
 ghost use Rattle.std.specs.Prelude.{◌≡◌, List, ℕ};
-ghost use Rattle.std.specs.Option.{option_map};
+ghost use Rattle.std.specs.Option.{option_copied, option_map};
 ghost use Rattle.ele_output.specs.Prints.{Prints};
 ghost use Rattle.ele_runs.specs.RunOptions.{is_well};
 ghost use Rattle.ele_runs.specs.Tally.{outcome_of};
 ghost use Rattle.ele_runs.specs.Block.{IsText};
-ghost use Rattle.ele_runs.specs.Said.{Explains, Hears, HearsKept, Records, SaysAhead, Trims, answer_of, has_no_reply, said_front};
+ghost use Rattle.ele_runs.specs.Said.{Explains, Hears, HearsKept, Records, SaysAhead, Trims, answer_by, answer_of, has_no_reply, history_of, last_reply, reply_of, said_front};
 
 use crate::options::RunOptions;
 use crate::tally::Outcome;
@@ -182,18 +182,24 @@ impl Said {
         }
     }
 
-    /// Puts its text.
-    pub fn put<C: Explain, W: Write>(&self, history: &History<C>, printer: &mut Printer<'_, W>)
-        ensures { (text : List ℕ) × IsText (answer_of history.now self.now) text
+    /// Puts its text, by the reply to the last event and the history, where there are these.
+    pub fn put<C: Explain, W: Write>(
+        &self,
+        last: Option<&Reply>,
+        history: Option<&History<C>>,
+        printer: &mut Printer<'_, W>,
+    )
+        ensures { (text : List ℕ) × IsText (answer_by (option_copied last.entry)
+            (option_copied history.entry) self.now) text
             × Prints W.contents printer.old printer.new text }
     {
         match self {
             Said::Nothing => {}
             Said::Bad(fault) => put_fault(*fault, printer),
             Said::Stopped(stop) => put_stop(*stop, printer),
-            Said::Replied => put_last(history, printer),
+            Said::Replied => put_last(last, printer),
             Said::Passed(end) => put_pass(end, printer),
-            Said::History => put_history(history.folded(), history.entries(), printer),
+            Said::History => put_past(history, printer),
             Said::Trimmed(count) => put_trimmed(*count, printer),
             Said::Why(told) => put_why(told, printer),
             Said::Ahead(told) => put_ahead(told, printer),
@@ -201,13 +207,34 @@ impl Said {
     }
 }
 
-// Puts the reply of the last entry, if there is one.
-fn put_last<C: Explain, W: Write>(history: &History<C>, printer: &mut Printer<'_, W>)
-    ensures { (text : List ℕ) × IsText (answer_of history.now Said.Replied) text
-        × Prints W.contents printer.old printer.new text }
+/// The reply of the last entry, if there is one.
+pub fn last_reply<C: Explain>(history: &History<C>) -> Option<&Reply>
+    ensures { option_copied result ≡ last_reply history.now }
 {
     match history.last() {
-        Some(entry) => put_answer(&entry.reply, printer),
+        Some(entry) => Some(&entry.reply),
+        None => None,
+    }
+}
+
+// Puts the reply, if there is one.
+fn put_last<W: Write>(last: Option<&Reply>, printer: &mut Printer<'_, W>)
+    ensures { (text : List ℕ) × IsText (reply_of (option_copied last.entry)) text
+        × Prints W.contents printer.old printer.new text }
+{
+    match last {
+        Some(reply) => put_answer(reply, printer),
+        None => {}
+    }
+}
+
+// Puts the history, if there is one.
+fn put_past<C: Explain, W: Write>(history: Option<&History<C>>, printer: &mut Printer<'_, W>)
+    ensures { (text : List ℕ) × IsText (history_of (option_copied history.entry)) text
+        × Prints W.contents printer.old printer.new text }
+{
+    match history {
+        Some(history) => put_history(history.folded(), history.entries(), printer),
         None => {}
     }
 }
