@@ -5,7 +5,7 @@ use crate::invocation::{Invocation, flag, not_understood};
 use clap::{Arg, ArgAction, ArgMatches, Command};
 use ele_outlook::{ForecastOptions, Form};
 use ele_policy::Policy;
-use ele_script::read_policy;
+use ele_tool_policy::read_policy;
 use ele_tool_time::read_time;
 use std::alloc::{AllocError, Global};
 
@@ -13,8 +13,8 @@ const FORECAST: &str = "Tells from when on each version of a file may be forgott
     and which stay at given moments. The moments at which the file closed come on standard input, \
     one a line, oldest first";
 
-const POLICY: &str = "The file's policy: one, all, safe:SECONDS, safe:SECONDS/FLOOR, \
-    or landmarks:AGE/WIDTH,.. in seconds";
+const POLICY: &str = "The file's policy: one, all, standard, safe:LENGTH, safe:LENGTH/FLOOR, \
+    or landmarks:AGE/WIDTH,..; a length is seconds, or a number and s, m, h, d, w or y";
 
 const AT: &str = "Tells which versions stay at that moment; may be given several times";
 
@@ -30,8 +30,8 @@ const LIST: &str =
 const BAD_LIST: &str = "error: --list takes due or kept, one --at, and no --svg\n\n\
     For more information, try 'elephant forecast --help'.\n";
 
-const BAD_POLICY: &str =
-    "error: --policy takes one, all, safe:SECONDS, safe:SECONDS/FLOOR or landmarks:AGE/WIDTH,..\n\n\
+const BAD_POLICY: &str = "error: --policy takes one, all, standard, safe:LENGTH, safe:LENGTH/FLOOR \
+    or landmarks:AGE/WIDTH,.., with lengths as 3600, 90m, 7d or 1y\n\n\
     For more information, try 'elephant forecast --help'.\n";
 
 const BAD_MOMENT: &str =
@@ -65,7 +65,7 @@ pub(crate) fn forecast<'a>(alloc: Global) -> Result<Command<'a>, AllocError> {
 
 // The policy that stands behind its option, which the words must have.
 fn policy_in(forecast: &ArgMatches) -> Option<Policy> {
-    read_policy(forecast.get_str("policy")?.as_bytes()).ok()
+    read_policy(forecast.get_str("policy")?.as_bytes())
 }
 
 // The form in which it is to be told. None if there is no such list, or a drawing is asked for too.
