@@ -3,3 +3,4 @@ pub mod Table
 pub mod Why
 pub mod Labels
 pub mod Marked
+pub mod Plan

@@ -4,6 +4,7 @@
 
 mod label;
 mod listing;
+mod plan;
 mod row;
 mod staying;
 mod table;
@@ -12,6 +13,7 @@ mod why;
 
 pub use label::{Label, put_names};
 pub use listing::listed_at;
+pub use plan::{Plan, plan_of, plans_of};
 pub use row::{put_version, stamp_of};
 pub use staying::{Staying, staying_at};
 pub use table::{put_labelled_table, put_table};
