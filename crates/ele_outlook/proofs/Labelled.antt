@@ -10,7 +10,7 @@ use Rattle.ele_outlook.specs.Input.{is_tab, label_of, lines_of}
 use Rattle.ele_outlook.specs.Reading.{FailsToRead, IsMemory, LabelsSoFar}
 use Rattle.ele_outlook.specs.Told.{texts_of}
 use Rattle.ele_outlook.specs.declared.fault.ForecastFault.{ForecastFault}
-use Rattle.ele_outlook.specs.declared.fault.ForecastFault.TheVariants.{ReadFault, BadInput, TooMany, WriteFault, NoMemory}
+use Rattle.ele_outlook.specs.declared.fault.ForecastFault.TheVariants.{ReadFault, BadInput, TooMany, TooLong, WriteFault, NoMemory}
 use Rattle.ele_outlook.proofs.Lines.{not_empty}
 
 -- the first tab
@@ -52,4 +52,5 @@ labels_bad {input = input} line behind NoMemory far cut bad = not_empty input fa
 labels_bad line behind (BadInput number why) far cut bad = absurd bad
 labels_bad line behind ReadFault far cut bad = absurd bad
 labels_bad line behind TooMany far cut bad = absurd bad
+labels_bad line behind TooLong far cut bad = absurd bad
 labels_bad line behind WriteFault far cut bad = absurd bad

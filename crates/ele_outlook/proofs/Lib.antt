@@ -4,3 +4,5 @@ mod Known
 mod Lines
 -- the labels of lines
 mod Labelled
+-- the tables of plans, and the moments that they are asked about
+mod Tables

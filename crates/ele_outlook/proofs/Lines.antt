@@ -13,7 +13,7 @@ use Rattle.ele_lists.proofs.Taken.{cut-at}
 use Rattle.ele_outlook.specs.Input.{SpellClosings, SpellsLine, lines_of, without_empty_last}
 use Rattle.ele_outlook.specs.Reading.{FailsToAdd, ReadSoFar, ReadsClosings}
 use Rattle.ele_outlook.specs.declared.fault.ForecastFault.{ForecastFault}
-use Rattle.ele_outlook.specs.declared.fault.ForecastFault.TheVariants.{ReadFault, BadInput, TooMany, WriteFault, NoMemory}
+use Rattle.ele_outlook.specs.declared.fault.ForecastFault.TheVariants.{ReadFault, BadInput, TooMany, TooLong, WriteFault, NoMemory}
 
 abbrev is_feed : ℕ → Bool
 is_feed byte = byte == 10
@@ -103,6 +103,7 @@ read_bad {labelled} {input = input} {closings = closings} line behind (BadInput 
 read_bad {input = input} line behind NoMemory far cut bad = not_empty input far.done line behind (far.lines ∙ ap (λ (ls : List (List ℕ)). far.done ++ ls) cut)
 read_bad line behind ReadFault far cut bad = absurd bad
 read_bad line behind TooMany far cut bad = absurd bad
+read_bad line behind TooLong far cut bad = absurd bad
 read_bad line behind WriteFault far cut bad = absurd bad
 
 -- some bytes more were given

@@ -1,15 +1,15 @@
 -- What reading and telling come to, part by part. No public clause cites this module.
-use Rattle.std.specs.Prelude.{◌≡◌, ◌≢◌, ◌≤◌, ℕ, Bool, true, map, ◌+◌, List, [], ◌∷◌, ◌++◌, length, Option, Result, Ok, Err, ◌⊎◌}
+use Rattle.std.specs.Prelude.{◌≡◌, ◌≢◌, ◌≤◌, ◌<◌, ℕ, Bool, true, map, ◌+◌, List, [], ◌∷◌, ◌++◌, length, Option, Result, Ok, Err, ◌⊎◌}
 use Rattle.std.specs.List.{AllZip}
 use Rattle.std.specs.Io.KnownBytes.{Appends, Consumes, Keeps}
 use Rattle.ele_lists.specs.Lists.{AllLater}
 use Rattle.ele_output.specs.Front.{AppendsFront}
 use Rattle.ele_outlook.specs.Input.{IsBad, IsFirstBad, SpellClosings, SpellsLine, label_of, lines_of}
-use Rattle.ele_outlook.specs.Told.{IsForecastText, are_too_many, texts_of}
+use Rattle.ele_outlook.specs.Told.{IsForecastText, IsOver, are_too_many, texts_of}
 use Rattle.ele_forecast_text.specs.declared.label.Label.{Label}
 use Rattle.ele_outlook.specs.declared.options.ForecastOptions.{ForecastOptions}
 use Rattle.ele_outlook.specs.declared.fault.ForecastFault.{ForecastFault}
-use Rattle.ele_outlook.specs.declared.fault.ForecastFault.TheVariants.{ReadFault, BadInput, TooMany, WriteFault, NoMemory}
+use Rattle.ele_outlook.specs.declared.fault.ForecastFault.TheVariants.{ReadFault, BadInput, TooMany, TooLong, WriteFault, NoMemory}
 
 -- bytes were read, some if memory was wanting for them
 abbrev pub GivesUp : Option (List ℕ) → Option (List ℕ) → ForecastFault → Type 0
@@ -17,6 +17,7 @@ GivesUp input rest ReadFault = (given : List ℕ) × Consumes input rest given
 GivesUp input rest NoMemory = (given : List ℕ) × (given ≢ []) × Consumes input rest given
 GivesUp input rest (BadInput number why) = ⊥
 GivesUp input rest TooMany = ⊥
+GivesUp input rest TooLong = ⊥
 GivesUp input rest WriteFault = ⊥
 
 -- these lines were read, and spell these closings
@@ -31,6 +32,7 @@ FailsToAdd labelled line closings (BadInput number why) = (number ≡ length clo
 FailsToAdd labelled line closings NoMemory = Unit {0}
 FailsToAdd labelled line closings ReadFault = ⊥
 FailsToAdd labelled line closings TooMany = ⊥
+FailsToAdd labelled line closings TooLong = ⊥
 FailsToAdd labelled line closings WriteFault = ⊥
 
 -- the closing of a line was added to those of the lines before
@@ -59,6 +61,7 @@ IsMemory NoMemory = Unit {0}
 IsMemory (BadInput number why) = ⊥
 IsMemory ReadFault = ⊥
 IsMemory TooMany = ⊥
+IsMemory TooLong = ⊥
 IsMemory WriteFault = ⊥
 
 -- the label of a line was added to those of the lines before
@@ -72,6 +75,7 @@ FailsToRead input NoMemory = input ≢ []
 FailsToRead input (BadInput number why) = ⊥
 FailsToRead input ReadFault = ⊥
 FailsToRead input TooMany = ⊥
+FailsToRead input TooLong = ⊥
 FailsToRead input WriteFault = ⊥
 
 -- what becomes of the versions of these closings was told
@@ -81,6 +85,7 @@ TellsClosings options closings labels old new (Ok _) =
 TellsClosings options closings labels old new (Err WriteFault) =
     (text : List ℕ) × IsForecastText options closings labels text × AppendsFront old new text
 TellsClosings options closings labels old new (Err TooMany) = (are_too_many options.form (length closings) ≡ true) × Keeps old new
-TellsClosings options closings labels old new (Err NoMemory) = ((closings ≢ []) ⊎ (options.moments.items ≢ [])) × Keeps old new
+TellsClosings options closings labels old new (Err TooLong) = IsOver options closings × Keeps old new
+TellsClosings options closings labels old new (Err NoMemory) = ((closings ≢ []) ⊎ (options.moments.items ≢ []) ⊎ (1 < length options.policies.items)) × Keeps old new
 TellsClosings options closings labels old new (Err (BadInput number why)) = ⊥
 TellsClosings options closings labels old new (Err ReadFault) = ⊥

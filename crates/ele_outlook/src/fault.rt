@@ -35,6 +35,9 @@ pub enum ForecastFault {
     /// There are too many versions for a drawing.
     #[error("too many versions to draw")]
     TooMany,
+    /// There are too many moments for a table over time.
+    #[error("too many moments")]
+    TooLong,
     /// The writer failed, or took no byte of some.
     #[error("the output can't be written")]
     WriteFault,

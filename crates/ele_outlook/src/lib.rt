@@ -11,5 +11,5 @@ mod options;
 mod telling;
 
 pub use fault::{BadLine, ForecastFault, write_bad_line};
-pub use options::{ForecastOptions, Form};
+pub use options::{ForecastOptions, Form, MOST_POLICIES};
 pub use telling::write_forecast;

@@ -14,15 +14,24 @@ pub enum Form {
     Due,
     /// The names of those that are kept then.
     Kept,
+    /// How many versions each policy keeps at moments from the first closing on, so many seconds apart: 400 moments at
+    /// most.
+    Every(u64),
 }
 
-/// What is asked about the versions of a file: what becomes of them under a policy, and which stay
-/// at each of these moments, told in that form.
+/// So many policies are compared at most.
+pub const MOST_POLICIES: usize = 16;
+
+/// What is asked about the versions of a file: what becomes of them under each of some policies, and which stay at
+/// each of some moments, told in a form.
 #[derive(Debug, Drop)]
 pub struct ForecastOptions {
-    pub policy: Policy,
+    pub policies: Vec<Policy>,
+    /// Whether the table of one policy begins with a line that names it.
+    pub named: bool,
     pub moments: Vec<Moment>,
     /// Whether each line has a label behind its time.
     pub labels: bool,
+    /// A drawing and a list are those of the first policy.
     pub form: Form,
 }

@@ -1,35 +1,43 @@
 //! A forecast from the first byte to the last. A contract sees what was read and what was written.
-ghost use Rattle.std.specs.Prelude.{◌≡◌, ◌≢◌, [], IfOk, OnErr};
+ghost use Rattle.std.specs.Prelude.{◌≡◌, ◌≢◌, ◌∷◌, ◌++◌, ℕ, List, [], false, IfOk, MatchOption, OnErr, codes, length};
 ghost use Rattle.std.specs.Io.KnownBytes.{Keeps};
 ghost use Rattle.ele_output.specs.Front.{WritesText};
 ghost use Rattle.ele_output.specs.Prints.{Prints};
 ghost use Rattle.ele_outlook.specs.Foretold.{Foretells, TellsForecast};
 ghost use Rattle.ele_outlook.specs.Reading.{TellsClosings};
-ghost use Rattle.ele_outlook.specs.Told.{are_too_many, listed_numbers, texts_of, told_of, told_table};
+ghost use Rattle.ele_outlook.specs.Told.{AreRows, are_too_many, is_over, listed_numbers, numbers_at, plan_table, policy_line, stayings_of, texts_of, told_drawing, told_of, told_table};
+ghost use Rattle.ele_forecast_text.specs.Plan.{ArePlans};
+ghost use Rattle.ele_policy.specs.PolicyText.{policy_word};
+ghost use Rattle.ele_forecast_plans.specs.Compared.{forecasts_of};
 
 use crate::fault::ForecastFault;
 use crate::input::{read_closings, read_input};
 use crate::labels::read_labels;
 use crate::options::{ForecastOptions, Form};
 use ele_forecast::{Closings, Forecast};
+use ele_forecast_plans::{
+    Counts, counts_every, is_too_long, put_compared, put_over_time, put_policy,
+};
 use ele_forecast_text::{
-    Label, Staying, listed_at, put_labelled_table, put_names, put_table, staying_at,
+    Label, Plan, Staying, listed_at, plan_of, plans_of, put_labelled_table, put_names, put_table,
 };
 use ele_moment::{NoMemory, VersionNo};
 use ele_output::{Printer, WriteFault};
+use ele_policy::Policy;
 use ele_svg::{MOST, put_drawing};
 use std::alloc::Global;
 use std::io::{Read, Write};
 
 /// Reads the closings of a file to the end of the input, a time a line, and a tab and a label behind it if
-/// labels are asked for. Writes what becomes of its versions, and which stay at the moments that are asked
-/// about, in the form that is asked for.
+/// labels are asked for. Writes what becomes of its versions under each of the policies, and which stay at the
+/// moments that are asked about, in the form that is asked for.
 /// The writer is flushed. The last line may lack its line feed. At an error nothing is written, but at a
 /// WriteFault:
 /// - ReadFault: the reader failed. What is only interrupted is read again.
 /// - BadInput: a line lacks its label, spells no time, or one before that of the line ahead; the first such
 ///   line.
 /// - TooMany: there are more than 2,000 versions to draw.
+/// - TooLong: a table over time would have more than 400 moments.
 /// - WriteFault: the writer failed, took no byte of some, or wasn't flushed; it took a front.
 /// - NoMemory: there was none for the closings, or for what is told of them.
 pub fn write_forecast<R: Read, W: Write>(
@@ -73,48 +81,152 @@ fn tell_closings<W: Write>(
     if are_too_many(options.form, closings.len()) {
         return Err(ForecastFault::TooMany);
     }
-    let Ok(forecasts) = closings.forecasts(&options.policy) else {
-        return Err(ForecastFault::NoMemory);
-    };
     let moments = options.moments.as_slice();
-    let Ok(stayings) = staying_at(alloc, &options.policy, closings, moments) else {
+    let Some(policy) = only_policy(options.policies.as_slice()) else {
+        return tell_several(alloc, options, closings, labels, writer);
+    };
+    let Ok(plan) = plan_of(alloc, policy, closings, moments) else {
         return Err(ForecastFault::NoMemory);
     };
-    let Ok(listed) = listed(
-        alloc,
-        options.form,
-        forecasts.as_slice(),
-        stayings.as_slice(),
-    ) else {
+    let plans = [plan];
+    tell_plans(alloc, options, closings, labels, &plans, writer)
+}
+
+// Writes what becomes of the versions of these closings under several policies, or none.
+fn tell_several<W: Write>(
+    alloc: Global,
+    options: &ForecastOptions,
+    closings: &Closings,
+    labels: &[Label],
+    writer: &mut W,
+) -> Result<(), ForecastFault>
+    requires fit { are_too_many options.now.form (length closings.now) ≡ false }
+    requires several { length options.now.policies.items ≢ 1 }
+    ensures { TellsClosings options.now closings.now (texts_of labels.now) (W.contents writer.old)
+        (W.contents writer.new) result }
+{
+    let policies = options.policies.as_slice();
+    let Ok(plans) = plans_of(alloc, policies, closings, options.moments.as_slice()) else {
+        return Err(ForecastFault::NoMemory);
+    };
+    tell_plans(alloc, options, closings, labels, plans.as_slice(), writer)
+}
+
+// Writes what becomes of the versions of these closings, of which these are the plans.
+fn tell_plans<W: Write>(
+    alloc: Global,
+    options: &ForecastOptions,
+    closings: &Closings,
+    labels: &[Label],
+    plans: &[Plan],
+    writer: &mut W,
+) -> Result<(), ForecastFault>
+    requires fit { are_too_many options.now.form (length closings.now) ≡ false }
+    requires are { ArePlans options.now.policies.items closings.now options.now.moments.items plans.now }
+    ensures { TellsClosings options.now closings.now (texts_of labels.now) (W.contents writer.old)
+        (W.contents writer.new) result }
+{
+    if is_over(options.form, plans) {
+        return Err(ForecastFault::TooLong);
+    }
+    let Ok(listed) = listed(alloc, options.form, plans) else {
+        return Err(ForecastFault::NoMemory);
+    };
+    let Ok(rows) = counted(alloc, options.form, closings, plans) else {
         return Err(ForecastFault::NoMemory);
     };
     write_told(
         options,
         labels,
-        forecasts.as_slice(),
-        stayings.as_slice(),
+        plans,
         listed.as_slice(),
+        rows.as_slice(),
         writer,
     )?;
     Ok(())
 }
 
+// Whether there are too many moments for the form.
+fn is_over(form: Form, plans: &[Plan]) -> bool
+    ensures { result ≡ is_over form plans.now }
+{
+    match form {
+        Form::Every(step) => is_too_long(step, plans),
+        Form::Table | Form::Drawing | Form::Due | Form::Kept => false,
+    }
+}
+
+// The rows of a table over time, if the form is one.
+fn counted(
+    alloc: Global,
+    form: Form,
+    closings: &Closings,
+    plans: &[Plan],
+) -> Result<Vec<Counts>, NoMemory>
+    ensures ok { IfOk result (λ rows. AreRows form closings.now plans.now rows.items) }
+    ensures err { OnErr result (forecasts_of plans.now ≢ []) }
+{
+    match form {
+        Form::Every(step) => counts_every(alloc, step, closings, plans),
+        Form::Table | Form::Drawing | Form::Due | Form::Kept => Ok(Vec::new(alloc)),
+    }
+}
+
+// The policy, if it is the only one.
+fn only_policy(policies: &[Policy]) -> Option<&Policy>
+    ensures { MatchOption result (length policies.now ≢ 1)
+        (λ policy. policies.now ≡ policy.now ∷ []) }
+{
+    if policies.len() == 1 {
+        policies.first()
+    } else {
+        None
+    }
+}
+
+// The plan, if it is the only one.
+fn only_plan(plans: &[Plan]) -> Option<&Plan>
+    ensures { MatchOption result (length plans.now ≢ 1) (λ plan. plans.now ≡ plan.now ∷ []) }
+{
+    if plans.len() == 1 {
+        plans.first()
+    } else {
+        None
+    }
+}
+
 // The numbers of the versions that the form lists.
-fn listed(
+fn listed(alloc: Global, form: Form, plans: &[Plan]) -> Result<Vec<VersionNo>, NoMemory>
+    ensures ok { IfOk result (λ numbers. numbers.items ≡ listed_numbers form plans.now) }
+    ensures err { OnErr result (stayings_of plans.now ≢ []) }
+{
+    match plans.first() {
+        Some(plan) => listed_of(
+            alloc,
+            form,
+            plan.forecasts.as_slice(),
+            plan.stayings.as_slice(),
+        ),
+        None => Ok(Vec::new(alloc)),
+    }
+}
+
+// Those that are listed of these forecasts.
+fn listed_of(
     alloc: Global,
     form: Form,
     forecasts: &[Forecast],
     stayings: &[Staying],
 ) -> Result<Vec<VersionNo>, NoMemory>
     ensures ok { IfOk result
-        (λ numbers. numbers.items ≡ listed_numbers form forecasts.now stayings.now) }
+        (λ numbers. numbers.items ≡ numbers_at form forecasts.now stayings.now) }
     ensures err { OnErr result (stayings.now ≢ []) }
 {
     let Some(staying) = stayings.first() else {
         return Ok(Vec::new(alloc));
     };
     match form {
-        Form::Table | Form::Drawing => Ok(Vec::new(alloc)),
+        Form::Table | Form::Drawing | Form::Every(_) => Ok(Vec::new(alloc)),
         Form::Due => listed_at(alloc, false, forecasts, staying),
         Form::Kept => listed_at(alloc, true, forecasts, staying),
     }
@@ -124,15 +236,15 @@ fn listed(
 fn write_told<W: Write>(
     options: &ForecastOptions,
     labels: &[Label],
-    forecasts: &[Forecast],
-    stayings: &[Staying],
+    plans: &[Plan],
     listed: &[VersionNo],
+    rows: &[Counts],
     writer: &mut W,
 ) -> Result<(), WriteFault>
-    ensures { WritesText (told_of options.now labels.now forecasts.now stayings.now listed.now)
+    ensures { WritesText (told_of options.now labels.now plans.now listed.now rows.now)
         (W.contents writer.old) (W.contents writer.new) result }
 {
-    put_whole(options, labels, forecasts, stayings, listed, writer)?;
+    put_whole(options, labels, plans, listed, rows, writer)?;
     flush(writer)
 }
 
@@ -140,16 +252,16 @@ fn write_told<W: Write>(
 fn put_whole<W: Write>(
     options: &ForecastOptions,
     labels: &[Label],
-    forecasts: &[Forecast],
-    stayings: &[Staying],
+    plans: &[Plan],
     listed: &[VersionNo],
+    rows: &[Counts],
     writer: &mut W,
 ) -> Result<(), WriteFault>
-    ensures { WritesText (told_of options.now labels.now forecasts.now stayings.now listed.now)
+    ensures { WritesText (told_of options.now labels.now plans.now listed.now rows.now)
         (W.contents writer.old) (W.contents writer.new) result }
 {
     let mut printer = Printer::new(writer);
-    put_told(options, labels, forecasts, stayings, listed, &mut printer);
+    put_told(options, labels, plans, listed, rows, &mut printer);
     printer.hand_over()
 }
 
@@ -157,36 +269,108 @@ fn put_whole<W: Write>(
 fn put_told<W: Write>(
     options: &ForecastOptions,
     labels: &[Label],
-    forecasts: &[Forecast],
-    stayings: &[Staying],
+    plans: &[Plan],
     listed: &[VersionNo],
+    rows: &[Counts],
     printer: &mut Printer<'_, W>,
 )
     ensures { Prints W.contents printer.old printer.new
-        (told_of options.now labels.now forecasts.now stayings.now listed.now) }
+        (told_of options.now labels.now plans.now listed.now rows.now) }
 {
     match options.form {
-        Form::Table => put_told_table(options, labels, forecasts, stayings, printer),
-        Form::Drawing => put_drawing(&options.policy, forecasts, stayings, printer),
+        Form::Table => put_told_table(options, labels, plans, printer),
+        Form::Drawing => put_told_drawing(plans, printer),
         Form::Due | Form::Kept => put_names(labels, listed, printer),
+        Form::Every(_) => put_over_time(plans, rows, printer),
     }
 }
 
-// Puts a table, with a label in each row if there are labels.
+// Puts the drawing of the first plan.
+fn put_told_drawing<W: Write>(plans: &[Plan], printer: &mut Printer<'_, W>)
+    ensures { Prints W.contents printer.old printer.new (told_drawing plans.now) }
+{
+    if let Some(plan) = plans.first() {
+        put_drawing(
+            &plan.policy,
+            plan.forecasts.as_slice(),
+            plan.stayings.as_slice(),
+            printer,
+        );
+    }
+}
+
+// Puts the table of one policy, or of several side by side.
 fn put_told_table<W: Write>(
     options: &ForecastOptions,
     labels: &[Label],
-    forecasts: &[Forecast],
-    stayings: &[Staying],
+    plans: &[Plan],
     printer: &mut Printer<'_, W>,
 )
     ensures { Prints W.contents printer.old printer.new
-        (told_table options.now.labels options.now.policy labels.now forecasts.now stayings.now) }
+        (told_table options.now.named options.now.labels labels.now plans.now
+        (length options.now.moments.items)) }
 {
-    if options.labels {
-        put_labelled_table(&options.policy, labels, forecasts, stayings, printer);
+    match only_plan(plans) {
+        Some(plan) => put_named_table(options.named, options.labels, labels, plan, printer),
+        None => put_compared(
+            options.labels,
+            labels,
+            plans,
+            options.moments.len(),
+            printer,
+        ),
+    }
+}
+
+// Puts the line that names a policy, if it is named, and the policy's table.
+fn put_named_table<W: Write>(
+    named: bool,
+    labelled: bool,
+    labels: &[Label],
+    plan: &Plan,
+    printer: &mut Printer<'_, W>,
+)
+    ensures { Prints W.contents printer.old printer.new
+        (policy_line named plan.now ++ plan_table labelled labels.now plan.now) }
+{
+    put_policy_line(named, plan, printer);
+    put_plan_table(labelled, labels, plan, printer);
+}
+
+// Puts the line that names a policy, if it is named.
+fn put_policy_line<W: Write>(named: bool, plan: &Plan, printer: &mut Printer<'_, W>)
+    ensures { Prints W.contents printer.old printer.new (policy_line named plan.now) }
+{
+    if named {
+        put_policy_name(&plan.policy, printer);
+    }
+}
+
+// Puts the line that names a policy.
+fn put_policy_name<W: Write>(policy: &Policy, printer: &mut Printer<'_, W>)
+    ensures { Prints W.contents printer.old printer.new
+        (codes "policy " ++ (policy_word policy.now ++ codes "\n")) }
+{
+    printer.put(b"policy ");
+    put_policy(policy, printer);
+    printer.put(b"\n");
+}
+
+// Puts the table of one policy, with a label in each row if there are labels.
+fn put_plan_table<W: Write>(
+    labelled: bool,
+    labels: &[Label],
+    plan: &Plan,
+    printer: &mut Printer<'_, W>,
+)
+    ensures { Prints W.contents printer.old printer.new (plan_table labelled labels.now plan.now) }
+{
+    let forecasts = plan.forecasts.as_slice();
+    let stayings = plan.stayings.as_slice();
+    if labelled {
+        put_labelled_table(&plan.policy, labels, forecasts, stayings, printer);
     } else {
-        put_table(&options.policy, forecasts, stayings, printer);
+        put_table(&plan.policy, forecasts, stayings, printer);
     }
 }
 
@@ -196,7 +380,7 @@ fn are_too_many(form: Form, count: usize) -> bool
 {
     match form {
         Form::Drawing => MOST < count as u64,
-        Form::Table | Form::Due | Form::Kept => false,
+        Form::Table | Form::Due | Form::Kept | Form::Every(_) => false,
     }
 }
 

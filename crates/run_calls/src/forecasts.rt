@@ -51,7 +51,8 @@ fn ask_about(alloc: Global, policy: Policy, words: &[&[u8]]) -> Result<Invocatio
         moments.push(Moment::read(word).map_err(|_| "not a moment")?)?;
     }
     Ok(Invocation::Forecast(ForecastOptions {
-        policy,
+        policies: vec![in alloc; policy]?,
+        named: false,
         moments,
         labels: false,
         form: Form::Table,
@@ -59,13 +60,14 @@ fn ask_about(alloc: Global, policy: Policy, words: &[&[u8]]) -> Result<Invocatio
 }
 
 // A drawing under a policy that keeps one version.
-fn drawing(alloc: Global) -> Invocation {
-    Invocation::Forecast(ForecastOptions {
-        policy: Policy::One,
+fn drawing(alloc: Global) -> Result<Invocation, Fail> {
+    Ok(Invocation::Forecast(ForecastOptions {
+        policies: vec![in alloc; Policy::One]?,
+        named: false,
         moments: Vec::new(alloc),
         labels: false,
         form: Form::Drawing,
-    })
+    }))
 }
 
 // So many versions that closed at one moment.
@@ -147,7 +149,7 @@ fn a_drawing_is_an_svg_document_of_at_most_2000_versions(rt: HostRuntime) -> Res
     let most = ask(
         &rt,
         alloc,
-        &drawing(alloc),
+        &drawing(alloc)?,
         false,
         closings.as_slice(),
         &mut drawn,
@@ -161,7 +163,7 @@ fn a_drawing_is_an_svg_document_of_at_most_2000_versions(rt: HostRuntime) -> Res
     expect(
         &rt,
         alloc,
-        &drawing(alloc),
+        &drawing(alloc)?,
         closings.as_slice(),
         ("", told, 2),
     );

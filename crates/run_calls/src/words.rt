@@ -88,10 +88,13 @@ fn ask_of(alloc: Global, line: &str) -> Result<Option<(Policy, [Option<u64>; 2])
     let Invocation::Forecast(ask) = asked_by(alloc, line)? else {
         return Ok(None);
     };
+    let Some(policy) = ask.policies.first() else {
+        return Ok(None);
+    };
     let moments = ask.moments.as_slice();
     let first = moments.first().map(|at| at.seconds());
     let last = moments.last().map(|at| at.seconds());
-    Ok(Some((ask.policy, [first, last])))
+    Ok(Some((*policy, [first, last])))
 }
 
 #[test]

@@ -1,0 +1,37 @@
+-- What the words of a line come to, and numbers one after another.
+use Rattle.std.proofs.Common.{◌≡◌, ℕ, suc, ◌+◌, ◌-◌, ◌<◌, ◌≤◌, List, [], ◌∷◌, ◌++◌, Option, Some, None, ap, arith}
+use Rattle.std.specs.List.{IsFirstAndRest, flat_map, range_with_len}
+use Rattle.ele_policy.specs.Ladder.{Rung}
+use Rattle.ele_policy.specs.PolicyText.{ladder_word, pair_word}
+use Rattle.ele_policy.specs.declared.policy.Policy.{Policy}
+use Rattle.ele_output.specs.Outlet.{Outlet, Puts}
+use Rattle.ele_output.proofs.Known.{puts_nil}
+use Rattle.ele_output.proofs.Lists.{joined_are}
+use Rattle.ele_forecast_text.specs.declared.staying.Staying.{Staying}
+use Rattle.ele_forecast_plans.specs.Compared.{staying_or_none}
+
+-- the words of pairs are that of the first, and a comma and a word for each other
+pub pairs_are : (pairs : List Rung) (first : Rung) (rest : List Rung) → IsFirstAndRest pairs first rest → ladder_word pairs ≡ pair_word first ++ flat_map (λ (pair : Rung). 44 ∷ pair_word pair) rest
+pairs_are pairs first rest is = rw is.0 (joined_are 44 pair_word (pair_word first) rest)
+
+-- ---- so many numbers, one after another
+
+pub each_first : (line : ℕ → List ℕ) (n : ℕ) → flat_map line (range_with_len 0 n) ≡ flat_map line (range_with_len 0 (n - 0))
+each_first line n =
+    let e : n ≡ n - 0 = omega arith in
+    ap (λ (m : ℕ). flat_map line (range_with_len 0 m)) e
+
+pub each_more : (line : ℕ → List ℕ) (k n : ℕ) → k < n → flat_map line (range_with_len k (n - k)) ≡ line k ++ flat_map line (range_with_len (k + 1) (n - (k + 1)))
+each_more line k n lt =
+    let e : n - k ≡ suc (n - (k + 1)) = omega (arith, lt) in
+    ap (λ (m : ℕ). flat_map line (range_with_len k m)) e
+
+pub each_none : (line : ℕ → List ℕ) (k n : ℕ) → n ≤ k → flat_map line (range_with_len k (n - k)) ≡ []
+each_none line k n le =
+    let e : n - k ≡ 0 = omega (arith, le) in
+    ap (λ (m : ℕ). flat_map line (range_with_len k m)) e
+
+-- no line is put of a moment that isn't there
+pub no_line : (a : Outlet) (policy : Policy) (other : Option Staying) → other ≡ None → Puts a a (staying_or_none policy other)
+no_line a policy None is = puts_nil a
+no_line a policy (Some staying) is = absurd cc
