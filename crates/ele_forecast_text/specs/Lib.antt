@@ -2,4 +2,5 @@ pub mod Stamp
 pub mod Table
 pub mod Why
 pub mod Labels
+pub mod Details
 pub mod Marked
