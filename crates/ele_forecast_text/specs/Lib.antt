@@ -4,3 +4,4 @@ pub mod Why
 pub mod Labels
 pub mod Details
 pub mod Marked
+pub mod Plan

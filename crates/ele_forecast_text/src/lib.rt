@@ -5,6 +5,7 @@
 mod details;
 mod label;
 mod listing;
+mod plan;
 mod policy;
 mod row;
 mod staying;
@@ -15,6 +16,7 @@ mod why;
 pub use details::{Columns, Details, bytes_of, size_of};
 pub use label::{Label, name_of, put_names};
 pub use listing::listed_at;
+pub use plan::{Plan, plan_of, plans_of};
 pub use policy::put_policy;
 pub use row::{put_version, stamp_of};
 pub use staying::{Staying, staying_at};
