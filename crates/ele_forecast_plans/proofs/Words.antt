@@ -1,18 +1,12 @@
--- What the words of a line come to, and numbers one after another.
+-- Numbers one after another, and a line that isn't put.
 use Rattle.std.proofs.Common.{◌≡◌, ℕ, suc, ◌+◌, ◌-◌, ◌<◌, ◌≤◌, List, [], ◌∷◌, ◌++◌, Option, Some, None, ap, arith}
-use Rattle.std.specs.List.{IsFirstAndRest, flat_map, range_with_len}
-use Rattle.ele_policy.specs.Ladder.{Rung}
-use Rattle.ele_policy.specs.PolicyText.{ladder_word, pair_word}
+use Rattle.std.specs.List.{flat_map, range_with_len}
 use Rattle.ele_policy.specs.declared.policy.Policy.{Policy}
 use Rattle.ele_output.specs.Outlet.{Outlet, Puts}
 use Rattle.ele_output.proofs.Known.{puts_nil}
-use Rattle.ele_output.proofs.Lists.{joined_are}
+use Rattle.ele_forecast_text.specs.declared.details.Details.{Details}
 use Rattle.ele_forecast_text.specs.declared.staying.Staying.{Staying}
 use Rattle.ele_forecast_plans.specs.Compared.{staying_or_none}
-
--- the words of pairs are that of the first, and a comma and a word for each other
-pub pairs_are : (pairs : List Rung) (first : Rung) (rest : List Rung) → IsFirstAndRest pairs first rest → ladder_word pairs ≡ pair_word first ++ flat_map (λ (pair : Rung). 44 ∷ pair_word pair) rest
-pairs_are pairs first rest is = rw is.0 (joined_are 44 pair_word (pair_word first) rest)
 
 -- ---- so many numbers, one after another
 
@@ -32,6 +26,6 @@ each_none line k n le =
     ap (λ (m : ℕ). flat_map line (range_with_len k m)) e
 
 -- no line is put of a moment that isn't there
-pub no_line : (a : Outlet) (policy : Policy) (other : Option Staying) → other ≡ None → Puts a a (staying_or_none policy other)
-no_line a policy None is = puts_nil a
-no_line a policy (Some staying) is = absurd cc
+pub no_line : (a : Outlet) (details : Details) (policy : Policy) (other : Option Staying) → other ≡ None → Puts a a (staying_or_none details policy other)
+no_line a details policy None is = puts_nil a
+no_line a details policy (Some staying) is = absurd cc

@@ -2,33 +2,31 @@
 ghost use Rattle.std.specs.Prelude.{◌≡◌, ◌∷◌, decimal};
 ghost use Rattle.std.specs.List.{flat_map};
 ghost use Rattle.ele_output.specs.Prints.{Prints};
-ghost use Rattle.ele_forecast_plans.specs.Compared.{compared_heading, compared_line, compared_text, due_column, due_word, first_words, forecasts_of, label_column, policy_column, version_columns};
-ghost use Rattle.ele_forecast_text.specs.Labels.{name_of};
+ghost use Rattle.ele_forecast_plans.specs.Compared.{compared_heading, compared_line, compared_text, due_column, due_word, forecasts_of, policy_column, version_columns};
 ghost use Rattle.ele_forecast_text.specs.Stamp.{stamp_of, stamp_or};
 
-use crate::policy::put_policy;
+use crate::details::{put_details, put_headings};
 use crate::stayings::put_stayings;
 use ele_forecast::Forecast;
-use ele_forecast_text::{Label, Plan, stamp_of};
+use ele_forecast_text::{Details, Plan, put_policy, stamp_of};
 use ele_moment::{Moment, VersionNo};
-use ele_output::{Printer, put_number, put_with_number, put_word};
+use ele_output::{Printer, put_number, put_word};
 use std::io::Write;
 
 /// Puts the table of versions under several policies, with a line for each of so many moments and each policy. Each
-/// version has its label if there are labels.
+/// version has its details.
 pub fn put_compared<W: Write>(
-    labelled: bool,
-    labels: &[Label],
+    details: &Details,
     plans: &[Plan],
     moments: usize,
     printer: &mut Printer<'_, W>,
 )
     ensures { Prints W.contents printer.old printer.new
-        (compared_text labelled labels.now plans.now moments) }
+        (compared_text details.now plans.now moments) }
 {
-    put_heading(labelled, plans, printer);
-    put_versions(labelled, labels, plans, forecasts_of(plans), printer);
-    put_stayings(plans, moments, printer);
+    put_heading(details, plans, printer);
+    put_versions(details, plans, forecasts_of(plans), printer);
+    put_stayings(details, plans, moments, printer);
 }
 
 // The forecasts of the first plan.
@@ -42,23 +40,14 @@ pub(crate) fn forecasts_of(plans: &[Plan]) -> &[Forecast]
 }
 
 // Puts the heading.
-fn put_heading<W: Write>(labelled: bool, plans: &[Plan], printer: &mut Printer<'_, W>)
-    ensures { Prints W.contents printer.old printer.new (compared_heading labelled plans.now) }
+fn put_heading<W: Write>(details: &Details, plans: &[Plan], printer: &mut Printer<'_, W>)
+    ensures { Prints W.contents printer.old printer.new (compared_heading details.now plans.now) }
 {
-    printer.put(first_words(labelled));
+    printer.put(b"version");
+    put_headings(details, printer);
+    printer.put(b" closed ended");
     put_policies(plans, printer);
     printer.put(b"\n");
-}
-
-// The first words of the heading.
-fn first_words(labelled: bool) -> &'static [u8]
-    ensures { result.now ≡ first_words labelled }
-{
-    if labelled {
-        b"version label closed ended"
-    } else {
-        b"version closed ended"
-    }
 }
 
 // Puts a space and the word of each policy.
@@ -80,48 +69,41 @@ fn put_policy_column<W: Write>(plan: &Plan, printer: &mut Printer<'_, W>)
 
 // Puts the line of each version.
 fn put_versions<W: Write>(
-    labelled: bool,
-    labels: &[Label],
+    details: &Details,
     plans: &[Plan],
     forecasts: &[Forecast],
     printer: &mut Printer<'_, W>,
 )
     ensures { Prints W.contents printer.old printer.new
-        (flat_map (compared_line labelled labels.now plans.now) forecasts.now) }
+        (flat_map (compared_line details.now plans.now) forecasts.now) }
 {
     for forecast in forecasts {
-        put_version(labelled, labels, plans, forecast, printer);
+        put_version(details, plans, forecast, printer);
     }
 }
 
 // Puts the line of a version.
 fn put_version<W: Write>(
-    labelled: bool,
-    labels: &[Label],
+    details: &Details,
     plans: &[Plan],
     forecast: &Forecast,
     printer: &mut Printer<'_, W>,
 )
     ensures { Prints W.contents printer.old printer.new
-        (compared_line labelled labels.now plans.now forecast.now) }
+        (compared_line details.now plans.now forecast.now) }
 {
-    put_columns(labelled, labels, forecast, printer);
+    put_columns(details, forecast, printer);
     put_dues(forecast.number, plans, printer);
     printer.put(b"\n");
 }
 
-// Puts the number of a version, its label, and when it closed and ended.
-fn put_columns<W: Write>(
-    labelled: bool,
-    labels: &[Label],
-    forecast: &Forecast,
-    printer: &mut Printer<'_, W>,
-)
+// Puts the number of a version, its details, and when it closed and ended.
+fn put_columns<W: Write>(details: &Details, forecast: &Forecast, printer: &mut Printer<'_, W>)
     ensures { Prints W.contents printer.old printer.new
-        (version_columns labelled labels.now forecast.now) }
+        (version_columns details.now forecast.now) }
 {
     put_version_number(forecast.number, printer);
-    put_label(labelled, labels, forecast.number, printer);
+    put_details(details, forecast.number, printer);
     put_word(&stamp_of(forecast.closed), printer);
     put_moment(forecast.ended, printer);
 }
@@ -131,30 +113,6 @@ fn put_version_number<W: Write>(number: VersionNo, printer: &mut Printer<'_, W>)
     ensures { Prints W.contents printer.old printer.new (decimal number) }
 {
     put_number(number.0, printer);
-}
-
-// Puts a space and the label of a version if there are labels.
-fn put_label<W: Write>(
-    labelled: bool,
-    labels: &[Label],
-    number: VersionNo,
-    printer: &mut Printer<'_, W>,
-)
-    ensures { Prints W.contents printer.old printer.new (label_column labelled labels.now number) }
-{
-    if labelled {
-        put_name(labels, number, printer);
-    }
-}
-
-// Puts a space and the label of the version of that number, or the number if there is none.
-fn put_name<W: Write>(labels: &[Label], number: VersionNo, printer: &mut Printer<'_, W>)
-    ensures { Prints W.contents printer.old printer.new (32 ∷ name_of labels.now number) }
-{
-    match labels.get(number.before().0 as usize) {
-        Some(label) => put_word(label.text.as_slice(), printer),
-        None => put_with_number(b" ", number.0, printer),
-    }
 }
 
 // Puts a space and a moment, or `-` for none.

@@ -4,11 +4,10 @@
 
 mod compared;
 mod counts;
+mod details;
 mod over_time;
-mod policy;
 mod stayings;
 
 pub use compared::put_compared;
 pub use counts::{Counts, counts_every, is_too_long};
 pub use over_time::put_over_time;
-pub use policy::put_policy;

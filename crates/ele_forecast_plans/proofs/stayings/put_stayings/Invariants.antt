@@ -8,4 +8,4 @@ use Rattle.ele_forecast_plans.proofs.stayings.put_stayings.Given as goal
 -- the moments so far are put, and the others are left
 abbrev pub invariant-loop-place : goal.invariant-loop-place
 invariant-loop-place g l =
-    HasPut (outlet g.W.Write.contents l.fn.printer) (outlet g.W.Write.contents l.printer) (stayings_text l.plans l.moments) (flat_map (λ (place : ℕ). flat_map (plan_staying place) l.plans) (range_with_len l.place (l.moments - l.place)))
+    HasPut (outlet g.W.Write.contents l.fn.printer) (outlet g.W.Write.contents l.printer) (stayings_text l.details l.plans l.moments) (flat_map (λ (place : ℕ). flat_map (plan_staying l.details place) l.plans) (range_with_len l.place (l.moments - l.place)))
