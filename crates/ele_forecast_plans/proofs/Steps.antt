@@ -1,5 +1,5 @@
 -- Moments in equal steps, and what is counted at each.
-use Rattle.std.proofs.Common.{◌≡◌, ℕ, zero, suc, ◌+◌, ◌-◌, ◌*◌, ◌/◌, ◌<◌, ◌≤◌, List, [], ◌∷◌, ◌++◌, length, map, take, drop, get_or, refl, sym, ap, subst, ◌∙◌, arith}
+use Rattle.std.proofs.Common.{◌≡◌, ℕ, zero, suc, ◌+◌, ◌*◌, ◌/◌, ◌<◌, ◌≤◌, List, [], ◌∷◌, ◌++◌, length, map, take, drop, get_or, sym, ap, subst, ◌∙◌, arith}
 use Rattle.std.proofs.Math.Nat.{mul-div-le}
 use Rattle.std.proofs.lemmas.List.{at_drop_all, drop_more, map-append}
 use Rattle.std.specs.List.{AllByRecursion, AllZip, fold, range_with_len}
@@ -24,7 +24,9 @@ steps_within k step span lt =
 
 -- one more number
 range_more : {A : Type 0} (f : ℕ → A) (a n : ℕ) → map f (range_with_len a n) ++ f (a + n) ∷ [] ≡ map f (range_with_len a (suc n))
-range_more f a zero = refl
+range_more f a zero =
+    let same : a + 0 ≡ a = omega arith in
+    ap (λ (m : ℕ). f m ∷ []) same
 range_more {A} f a (suc n) =
     let same : a + 1 + n ≡ a + suc n = omega arith in
     ap (λ (xs : List A). f a ∷ xs) (ap (λ (m : ℕ). map f (range_with_len (a + 1) n) ++ f m ∷ []) (sym same) ∙ range_more f (a + 1) n)

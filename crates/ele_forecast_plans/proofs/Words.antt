@@ -1,5 +1,5 @@
 -- Numbers one after another, and a line that isn't put.
-use Rattle.std.proofs.Common.{◌≡◌, ℕ, suc, ◌+◌, ◌-◌, ◌<◌, ◌≤◌, List, [], ◌∷◌, ◌++◌, Option, Some, None, ap, arith}
+use Rattle.std.proofs.Common.{◌≡◌, ℕ, suc, ◌+◌, ◌-◌, ◌<◌, ◌≤◌, List, [], ◌++◌, Option, Some, None, ap, arith}
 use Rattle.std.specs.List.{flat_map, range_with_len}
 use Rattle.ele_policy.specs.declared.policy.Policy.{Policy}
 use Rattle.ele_output.specs.Outlet.{Outlet, Puts}

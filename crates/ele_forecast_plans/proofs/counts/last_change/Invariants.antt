@@ -1,4 +1,4 @@
-use Rattle.std.proofs.Common.{◌≡◌, ℕ, drop}
+use Rattle.std.proofs.Common.{◌≡◌, drop}
 use Rattle.ele_forecast_plans.specs.OverTime.{last_change}
 use Rattle.ele_forecast_plans.proofs.counts.last_change.Given as goal
 

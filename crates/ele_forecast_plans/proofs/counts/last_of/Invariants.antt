@@ -1,8 +1,5 @@
-use Rattle.std.proofs.Common.{◌≡◌, ℕ, drop}
-use Rattle.std.specs.List.{fold}
-use Rattle.std.specs.Prelude.{max}
-use Rattle.ele_forecast.specs.declared.forecast.Forecast.{Forecast}
-use Rattle.ele_forecast_plans.specs.OverTime.{last_of, reach_of}
+use Rattle.std.proofs.Common.{◌≡◌, drop}
+use Rattle.ele_forecast_plans.specs.OverTime.{last_of}
 use Rattle.ele_forecast_plans.proofs.counts.last_of.Given as goal
 
 -- the others are left
