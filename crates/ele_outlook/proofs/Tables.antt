@@ -6,16 +6,16 @@ use Rattle.ele_forecast.specs.FileOf.{lives_from}
 use Rattle.ele_forecast.specs.ForecastOf.{told_life}
 use Rattle.ele_forecast.specs.declared.forecast.Forecast.{Forecast}
 use Rattle.ele_forecast_text.specs.Plan.{ArePlans}
-use Rattle.ele_forecast_text.specs.declared.label.Label.{Label}
+use Rattle.ele_forecast_text.specs.declared.details.Details.{Details}
 use Rattle.ele_forecast_text.specs.declared.plan.Plan.{Plan}
 use Rattle.ele_forecast_text.specs.declared.staying.Staying.{Staying}
 use Rattle.ele_outlook.specs.Told.{stayings_of, told_table}
 
 -- the table of plans that aren't one
-pub compared_for : (named labelled : Bool) (labels : List Label) (plans : List Plan) (moments : ℕ) → length plans ≢ 1 → compared_text labelled labels plans moments ≡ told_table named labelled labels plans moments
-compared_for named labelled labels [] moments several = refl
-compared_for named labelled labels (plan ∷ []) moments several = absurd (several refl)
-compared_for named labelled labels (plan ∷ next ∷ plans) moments several = refl
+pub compared_for : (named : Bool) (details : Details) (plans : List Plan) (moments : ℕ) → length plans ≢ 1 → compared_text details plans moments ≡ told_table named details plans moments
+compared_for named details [] moments several = refl
+compared_for named details (plan ∷ []) moments several = absurd (several refl)
+compared_for named details (plan ∷ next ∷ plans) moments several = refl
 
 no_stayings : (stayings : List Staying) (moments : List ℕ) → map (λ (staying : Staying). staying.at) stayings ≡ moments → moments ≡ [] → stayings ≡ []
 no_stayings [] moments at none = refl

@@ -2,8 +2,8 @@
 use Rattle.std.specs.Prelude.{◌≡◌, ◌≢◌, ◌<◌, ℕ, true, length, List, [], Option, Result, Ok, Err, ◌⊎◌}
 use Rattle.std.specs.Io.KnownBytes.{Appends, Consumes, IsAtEnd, Keeps}
 use Rattle.ele_output.specs.Front.{AppendsFront}
-use Rattle.ele_outlook.specs.Input.{IsFirstBad, SpellClosings, labels_of, lines_of}
-use Rattle.ele_outlook.specs.Told.{IsForecastText, IsOver, are_too_many}
+use Rattle.ele_outlook.specs.Input.{IsFirstBad, SpellClosings, labels_of, lines_of, size_words_of}
+use Rattle.ele_outlook.specs.Told.{IsForecastText, IsOver, are_too_many, line_form}
 use Rattle.ele_outlook.specs.declared.options.ForecastOptions.{ForecastOptions}
 use Rattle.ele_outlook.specs.declared.fault.ForecastFault.{ForecastFault}
 use Rattle.ele_outlook.specs.declared.fault.ForecastFault.TheVariants.{ReadFault, BadInput, TooMany, TooLong, WriteFault, NoMemory}
@@ -11,18 +11,18 @@ use Rattle.ele_outlook.specs.declared.fault.ForecastFault.TheVariants.{ReadFault
 -- the text tells of the closings that the input spells
 pub record IsToldOf (options : ForecastOptions) (input text : List ℕ) : Type 0 where
   pub closings : List ℕ
-  pub spell : SpellClosings options.labels (lines_of input) closings
-  pub told : IsForecastText options closings (labels_of options.labels (lines_of input)) text
+  pub spell : SpellClosings (line_form options) (lines_of input) closings
+  pub told : IsForecastText options closings (labels_of (line_form options) (lines_of input)) (size_words_of (line_form options) (lines_of input)) text
 
 -- what is told was written, all or a front of it, or nothing was; memory is asked for only where bytes were given, a
 -- moment is asked about or there are several policies
 abbrev pub TellsForecast : {A : Type 0} → ForecastOptions → List ℕ → Option (List ℕ) → Option (List ℕ) → Result A ForecastFault → Type 0
 TellsForecast options given old new (Ok _) = (text : List ℕ) × IsToldOf options given text × Appends old new text
-TellsForecast options given old new (Err (BadInput number why)) = IsFirstBad options.labels given number why × Keeps old new
+TellsForecast options given old new (Err (BadInput number why)) = IsFirstBad (line_form options) given number why × Keeps old new
 TellsForecast options given old new (Err TooMany) =
-    (closings : List ℕ) × SpellClosings options.labels (lines_of given) closings × (are_too_many options.form (length closings) ≡ true) × Keeps old new
+    (closings : List ℕ) × SpellClosings (line_form options) (lines_of given) closings × (are_too_many options.form (length closings) ≡ true) × Keeps old new
 TellsForecast options given old new (Err TooLong) =
-    (closings : List ℕ) × SpellClosings options.labels (lines_of given) closings × IsOver options closings × Keeps old new
+    (closings : List ℕ) × SpellClosings (line_form options) (lines_of given) closings × IsOver options closings × Keeps old new
 TellsForecast options given old new (Err WriteFault) = (text : List ℕ) × IsToldOf options given text × AppendsFront old new text
 TellsForecast options given old new (Err ReadFault) = Keeps old new
 TellsForecast options given old new (Err NoMemory) = ((given ≢ []) ⊎ (options.moments.items ≢ []) ⊎ (1 < length options.policies.items)) × Keeps old new

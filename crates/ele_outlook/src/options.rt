@@ -1,4 +1,8 @@
 //! What is asked of a forecast. A contract sees it as plain data.
+ghost use Rattle.std.specs.Prelude.{◌≡◌};
+ghost use Rattle.ele_outlook.specs.Told.{line_form};
+
+use ele_forecast_text::Columns;
 use ele_moment::Moment;
 use ele_policy::Policy;
 
@@ -14,6 +18,10 @@ pub enum Form {
     Due,
     /// The names of those that are kept then.
     Kept,
+    /// One JSON object.
+    Json,
+    /// A heading, and a row for each version.
+    Csv,
     /// How many versions each policy keeps at moments from the first closing on, so many seconds apart: 400 moments at
     /// most.
     Every(u64),
@@ -32,6 +40,29 @@ pub struct ForecastOptions {
     pub moments: Vec<Moment>,
     /// Whether each line has a label behind its time.
     pub labels: bool,
+    /// Whether each line has a size behind its time, before its label.
+    pub sizes: bool,
     /// A drawing and a list are those of the first policy.
     pub form: Form,
+}
+
+/// What a line has besides its time.
+#[derive(Clone, Copy, Debug, PartialEq, Eq)]
+pub struct LineForm {
+    pub columns: Columns,
+    /// Whether a label must be UTF-8.
+    pub texts: bool,
+}
+
+/// What each line of an input has that is asked about so. Only in JSON must a label be UTF-8.
+pub(crate) fn line_form(options: &ForecastOptions) -> LineForm
+    ensures { result ≡ line_form options.now }
+{
+    LineForm {
+        columns: Columns {
+            labels: options.labels,
+            sizes: options.sizes,
+        },
+        texts: matches!(options.form, Form::Json),
+    }
 }

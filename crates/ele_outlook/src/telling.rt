@@ -1,25 +1,26 @@
 //! A forecast from the first byte to the last. A contract sees what was read and what was written.
-ghost use Rattle.std.specs.Prelude.{◌≡◌, ◌≢◌, ◌∷◌, ◌++◌, ℕ, List, [], false, IfOk, MatchOption, OnErr, codes, length};
+ghost use Rattle.std.specs.Prelude.{◌≡◌, ◌≢◌, ◌∷◌, ◌++◌, ℕ, List, [], false, IfErr, IfOk, MatchOption, OnErr, codes, decimal, length, map};
 ghost use Rattle.std.specs.Io.KnownBytes.{Keeps};
+ghost use Rattle.ele_policy.specs.PolicyText.{policy_word};
 ghost use Rattle.ele_output.specs.Front.{WritesText};
 ghost use Rattle.ele_output.specs.Prints.{Prints};
-ghost use Rattle.ele_outlook.specs.Foretold.{Foretells, TellsForecast};
-ghost use Rattle.ele_outlook.specs.Reading.{TellsClosings};
-ghost use Rattle.ele_outlook.specs.Told.{AreRows, are_too_many, is_over, listed_numbers, numbers_at, plan_table, policy_line, stayings_of, texts_of, told_drawing, told_of, told_table};
 ghost use Rattle.ele_forecast_text.specs.Plan.{ArePlans};
-ghost use Rattle.ele_policy.specs.PolicyText.{policy_word};
 ghost use Rattle.ele_forecast_plans.specs.Compared.{forecasts_of};
+ghost use Rattle.ele_outlook.specs.Foretold.{Foretells, TellsForecast};
+ghost use Rattle.ele_outlook.specs.Input.{SpellClosings, labels_of, lines_of, size_words_of};
+ghost use Rattle.ele_outlook.specs.Reading.{FailsToRead, TellsClosings};
+ghost use Rattle.ele_outlook.specs.Told.{AreDetails, AreRows, are_too_many, is_over, line_form, listed_numbers, numbers_at, plan_table, policy_line, stayings_of, texts_of, told_drawing, told_of, told_table};
 
 use crate::fault::ForecastFault;
 use crate::input::{read_closings, read_input};
 use crate::labels::read_labels;
-use crate::options::{ForecastOptions, Form};
+use crate::options::{ForecastOptions, Form, LineForm, line_form};
+use crate::sizes::read_sizes;
 use ele_forecast::{Closings, Forecast};
-use ele_forecast_plans::{
-    Counts, counts_every, is_too_long, put_compared, put_over_time, put_policy,
-};
+use ele_forecast_data::{put_csv, put_json};
+use ele_forecast_plans::{Counts, counts_every, is_too_long, put_compared, put_over_time};
 use ele_forecast_text::{
-    Label, Plan, Staying, listed_at, plan_of, plans_of, put_labelled_table, put_names, put_table,
+    Details, Plan, Staying, listed_at, plan_of, plans_of, put_names, put_policy, put_table,
 };
 use ele_moment::{NoMemory, VersionNo};
 use ele_output::{Printer, WriteFault};
@@ -28,13 +29,13 @@ use ele_svg::{MOST, put_drawing};
 use std::alloc::Global;
 use std::io::{Read, Write};
 
-/// Reads the closings of a file to the end of the input, a time a line, and a tab and a label behind it if
-/// labels are asked for. Writes what becomes of its versions under each of the policies, and which stay at the
-/// moments that are asked about, in the form that is asked for.
+/// Reads the closings of a file to the end of the input, a time a line, and behind it a tab and a size and
+/// a tab and a label, if these are asked for. Writes what becomes of its versions under each of the policies, and which
+/// stay at the moments that are asked about, in the form that is asked for.
 /// The writer is flushed. The last line may lack its line feed. At an error nothing is written, but at a
 /// WriteFault:
 /// - ReadFault: the reader failed. What is only interrupted is read again.
-/// - BadInput: a line lacks its label, spells no time, or one before that of the line ahead; the first such
+/// - BadInput: a line lacks its size or label, spells no time, or one before that of the line ahead; the first such
 ///   line.
 /// - TooMany: there are more than 2,000 versions to draw.
 /// - TooLong: a table over time would have more than 400 moments.
@@ -62,9 +63,26 @@ fn tell<W: Write>(
 ) -> Result<(), ForecastFault>
     ensures { TellsForecast options.now input.now (W.contents writer.old) (W.contents writer.new) result }
 {
-    let closings = read_closings(alloc, options.labels, input)?;
-    let labels = read_labels(alloc, options.labels, input)?;
-    tell_closings(alloc, options, &closings, labels.as_slice(), writer)
+    let form = line_form(options);
+    let closings = read_closings(alloc, form, input)?;
+    let details = read_details(alloc, form, input)?;
+    tell_closings(alloc, options, &closings, &details, writer)
+}
+
+// What the lines say of versions besides their moments.
+fn read_details(alloc: Global, form: LineForm, input: &[u8]) -> Result<Details, ForecastFault>
+    ensures ok { (closings : List ℕ) → SpellClosings form (lines_of input.now) closings
+        → IfOk result (AreDetails form.columns (labels_of form (lines_of input.now))
+        (size_words_of form (lines_of input.now))) }
+    ensures err { IfErr result (FailsToRead input.now) }
+{
+    let labels = read_labels(alloc, form, input)?;
+    let sizes = read_sizes(alloc, form, input)?;
+    Ok(Details {
+        columns: form.columns,
+        labels,
+        sizes,
+    })
 }
 
 // Writes what becomes of the versions of these closings.
@@ -72,24 +90,25 @@ fn tell_closings<W: Write>(
     alloc: Global,
     options: &ForecastOptions,
     closings: &Closings,
-    labels: &[Label],
+    details: &Details,
     writer: &mut W,
 ) -> Result<(), ForecastFault>
-    ensures { TellsClosings options.now closings.now (texts_of labels.now) (W.contents writer.old)
-        (W.contents writer.new) result }
+    requires { details.now.columns ≡ (line_form options.now).columns }
+    ensures { TellsClosings options.now closings.now (texts_of details.now.labels.items)
+        (map decimal details.now.sizes.items) (W.contents writer.old) (W.contents writer.new) result }
 {
     if are_too_many(options.form, closings.len()) {
         return Err(ForecastFault::TooMany);
     }
     let moments = options.moments.as_slice();
     let Some(policy) = only_policy(options.policies.as_slice()) else {
-        return tell_several(alloc, options, closings, labels, writer);
+        return tell_several(alloc, options, closings, details, writer);
     };
     let Ok(plan) = plan_of(alloc, policy, closings, moments) else {
         return Err(ForecastFault::NoMemory);
     };
     let plans = [plan];
-    tell_plans(alloc, options, closings, labels, &plans, writer)
+    tell_plans(alloc, options, closings, details, &plans, writer)
 }
 
 // Writes what becomes of the versions of these closings under several policies, or none.
@@ -97,19 +116,20 @@ fn tell_several<W: Write>(
     alloc: Global,
     options: &ForecastOptions,
     closings: &Closings,
-    labels: &[Label],
+    details: &Details,
     writer: &mut W,
 ) -> Result<(), ForecastFault>
+    requires columns { details.now.columns ≡ (line_form options.now).columns }
     requires fit { are_too_many options.now.form (length closings.now) ≡ false }
     requires several { length options.now.policies.items ≢ 1 }
-    ensures { TellsClosings options.now closings.now (texts_of labels.now) (W.contents writer.old)
-        (W.contents writer.new) result }
+    ensures { TellsClosings options.now closings.now (texts_of details.now.labels.items)
+        (map decimal details.now.sizes.items) (W.contents writer.old) (W.contents writer.new) result }
 {
     let policies = options.policies.as_slice();
     let Ok(plans) = plans_of(alloc, policies, closings, options.moments.as_slice()) else {
         return Err(ForecastFault::NoMemory);
     };
-    tell_plans(alloc, options, closings, labels, plans.as_slice(), writer)
+    tell_plans(alloc, options, closings, details, plans.as_slice(), writer)
 }
 
 // Writes what becomes of the versions of these closings, of which these are the plans.
@@ -117,14 +137,15 @@ fn tell_plans<W: Write>(
     alloc: Global,
     options: &ForecastOptions,
     closings: &Closings,
-    labels: &[Label],
+    details: &Details,
     plans: &[Plan],
     writer: &mut W,
 ) -> Result<(), ForecastFault>
+    requires columns { details.now.columns ≡ (line_form options.now).columns }
     requires fit { are_too_many options.now.form (length closings.now) ≡ false }
     requires are { ArePlans options.now.policies.items closings.now options.now.moments.items plans.now }
-    ensures { TellsClosings options.now closings.now (texts_of labels.now) (W.contents writer.old)
-        (W.contents writer.new) result }
+    ensures { TellsClosings options.now closings.now (texts_of details.now.labels.items)
+        (map decimal details.now.sizes.items) (W.contents writer.old) (W.contents writer.new) result }
 {
     if is_over(options.form, plans) {
         return Err(ForecastFault::TooLong);
@@ -137,7 +158,7 @@ fn tell_plans<W: Write>(
     };
     write_told(
         options,
-        labels,
+        details,
         plans,
         listed.as_slice(),
         rows.as_slice(),
@@ -152,7 +173,7 @@ fn is_over(form: Form, plans: &[Plan]) -> bool
 {
     match form {
         Form::Every(step) => is_too_long(step, plans),
-        Form::Table | Form::Drawing | Form::Due | Form::Kept => false,
+        Form::Table | Form::Drawing | Form::Due | Form::Kept | Form::Json | Form::Csv => false,
     }
 }
 
@@ -168,7 +189,9 @@ fn counted(
 {
     match form {
         Form::Every(step) => counts_every(alloc, step, closings, plans),
-        Form::Table | Form::Drawing | Form::Due | Form::Kept => Ok(Vec::new(alloc)),
+        Form::Table | Form::Drawing | Form::Due | Form::Kept | Form::Json | Form::Csv => Ok(
+            Vec::new(alloc),
+        ),
     }
 }
 
@@ -226,7 +249,9 @@ fn listed_of(
         return Ok(Vec::new(alloc));
     };
     match form {
-        Form::Table | Form::Drawing | Form::Every(_) => Ok(Vec::new(alloc)),
+        Form::Table | Form::Drawing | Form::Json | Form::Csv | Form::Every(_) => {
+            Ok(Vec::new(alloc))
+        }
         Form::Due => listed_at(alloc, false, forecasts, staying),
         Form::Kept => listed_at(alloc, true, forecasts, staying),
     }
@@ -235,52 +260,54 @@ fn listed_of(
 // Writes what is told, and flushes it.
 fn write_told<W: Write>(
     options: &ForecastOptions,
-    labels: &[Label],
+    details: &Details,
     plans: &[Plan],
     listed: &[VersionNo],
     rows: &[Counts],
     writer: &mut W,
 ) -> Result<(), WriteFault>
-    ensures { WritesText (told_of options.now labels.now plans.now listed.now rows.now)
+    ensures { WritesText (told_of options.now details.now plans.now listed.now rows.now)
         (W.contents writer.old) (W.contents writer.new) result }
 {
-    put_whole(options, labels, plans, listed, rows, writer)?;
+    put_whole(options, details, plans, listed, rows, writer)?;
     flush(writer)
 }
 
 // Writes what is told.
 fn put_whole<W: Write>(
     options: &ForecastOptions,
-    labels: &[Label],
+    details: &Details,
     plans: &[Plan],
     listed: &[VersionNo],
     rows: &[Counts],
     writer: &mut W,
 ) -> Result<(), WriteFault>
-    ensures { WritesText (told_of options.now labels.now plans.now listed.now rows.now)
+    ensures { WritesText (told_of options.now details.now plans.now listed.now rows.now)
         (W.contents writer.old) (W.contents writer.new) result }
 {
     let mut printer = Printer::new(writer);
-    put_told(options, labels, plans, listed, rows, &mut printer);
+    put_told(options, details, plans, listed, rows, &mut printer);
     printer.hand_over()
 }
 
 // Puts what is told.
 fn put_told<W: Write>(
     options: &ForecastOptions,
-    labels: &[Label],
+    details: &Details,
     plans: &[Plan],
     listed: &[VersionNo],
     rows: &[Counts],
     printer: &mut Printer<'_, W>,
 )
     ensures { Prints W.contents printer.old printer.new
-        (told_of options.now labels.now plans.now listed.now rows.now) }
+        (told_of options.now details.now plans.now listed.now rows.now) }
 {
     match options.form {
-        Form::Table => put_told_table(options, labels, plans, printer),
+        Form::Table => put_told_table(options, details, plans, printer),
         Form::Drawing => put_told_drawing(plans, printer),
-        Form::Due | Form::Kept => put_names(labels, listed, printer),
+        Form::Due | Form::Kept => put_names(details.labels.as_slice(), listed, printer),
+        Form::Json => put_json(details, plans, printer),
+        Form::Csv => put_csv(details, plans, printer),
         Form::Every(_) => put_over_time(plans, rows, printer),
     }
 }
@@ -302,39 +329,31 @@ fn put_told_drawing<W: Write>(plans: &[Plan], printer: &mut Printer<'_, W>)
 // Puts the table of one policy, or of several side by side.
 fn put_told_table<W: Write>(
     options: &ForecastOptions,
-    labels: &[Label],
+    details: &Details,
     plans: &[Plan],
     printer: &mut Printer<'_, W>,
 )
     ensures { Prints W.contents printer.old printer.new
-        (told_table options.now.named options.now.labels labels.now plans.now
-        (length options.now.moments.items)) }
+        (told_table options.now.named details.now plans.now (length options.now.moments.items)) }
 {
     match only_plan(plans) {
-        Some(plan) => put_named_table(options.named, options.labels, labels, plan, printer),
-        None => put_compared(
-            options.labels,
-            labels,
-            plans,
-            options.moments.len(),
-            printer,
-        ),
+        Some(plan) => put_named_table(options.named, details, plan, printer),
+        None => put_compared(details, plans, options.moments.len(), printer),
     }
 }
 
 // Puts the line that names a policy, if it is named, and the policy's table.
 fn put_named_table<W: Write>(
     named: bool,
-    labelled: bool,
-    labels: &[Label],
+    details: &Details,
     plan: &Plan,
     printer: &mut Printer<'_, W>,
 )
     ensures { Prints W.contents printer.old printer.new
-        (policy_line named plan.now ++ plan_table labelled labels.now plan.now) }
+        (policy_line named plan.now ++ plan_table details.now plan.now) }
 {
     put_policy_line(named, plan, printer);
-    put_plan_table(labelled, labels, plan, printer);
+    put_plan_table(details, plan, printer);
 }
 
 // Puts the line that names a policy, if it is named.
@@ -356,22 +375,13 @@ fn put_policy_name<W: Write>(policy: &Policy, printer: &mut Printer<'_, W>)
     printer.put(b"\n");
 }
 
-// Puts the table of one policy, with a label in each row if there are labels.
-fn put_plan_table<W: Write>(
-    labelled: bool,
-    labels: &[Label],
-    plan: &Plan,
-    printer: &mut Printer<'_, W>,
-)
-    ensures { Prints W.contents printer.old printer.new (plan_table labelled labels.now plan.now) }
+// Puts the table of one policy.
+fn put_plan_table<W: Write>(details: &Details, plan: &Plan, printer: &mut Printer<'_, W>)
+    ensures { Prints W.contents printer.old printer.new (plan_table details.now plan.now) }
 {
     let forecasts = plan.forecasts.as_slice();
     let stayings = plan.stayings.as_slice();
-    if labelled {
-        put_labelled_table(&plan.policy, labels, forecasts, stayings, printer);
-    } else {
-        put_table(&plan.policy, forecasts, stayings, printer);
-    }
+    put_table(&plan.policy, details, forecasts, stayings, printer);
 }
 
 // Whether there are too many versions for the form.
@@ -380,7 +390,7 @@ fn are_too_many(form: Form, count: usize) -> bool
 {
     match form {
         Form::Drawing => MOST < count as u64,
-        Form::Table | Form::Due | Form::Kept | Form::Every(_) => false,
+        Form::Table | Form::Due | Form::Kept | Form::Json | Form::Csv | Form::Every(_) => false,
     }
 }
 

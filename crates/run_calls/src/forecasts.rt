@@ -55,6 +55,7 @@ fn ask_about(alloc: Global, policy: Policy, words: &[&[u8]]) -> Result<Invocatio
         named: false,
         moments,
         labels: false,
+        sizes: false,
         form: Form::Table,
     }))
 }
@@ -66,6 +67,7 @@ fn drawing(alloc: Global) -> Result<Invocation, Fail> {
         named: false,
         moments: Vec::new(alloc),
         labels: false,
+        sizes: false,
         form: Form::Drawing,
     }))
 }

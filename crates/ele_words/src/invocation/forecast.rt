@@ -3,9 +3,10 @@ ghost use Rattle.ele_words.specs.Invocation.{IsAsked, IsRefusal};
 
 use crate::invocation::{Invocation, flag, not_understood};
 use clap::{Arg, ArgAction, ArgMatches, Command};
+use ele_forecast_text::Columns;
 use ele_outlook::{ForecastOptions, Form, MOST_POLICIES};
 use ele_policy::Policy;
-use ele_tool_policy::read_policy;
+use ele_tool_policy::{read_length, read_policy};
 use ele_tool_time::read_time;
 use std::alloc::{AllocError, Global};
 
@@ -21,14 +22,25 @@ const AT: &str = "Tells which versions stay at that moment; may be given several
 
 const SVG: &str = "Draws it as SVG, up to 2000 versions, in place of the table";
 
+const EVERY: &str =
+    "Prints how many versions each policy keeps, at moments from the first closing on \
+    that follow each other by this length";
+
+const JSON: &str = "Prints JSON in place of the table";
+
+const CSV: &str = "Prints CSV in place of the table";
+
 const LABELS: &str =
     "Takes a tab and a label behind the time of each line, and prints it in each row";
+
+const SIZES: &str =
+    "Takes a tab and a size in bytes behind the time of each line, before a label, and prints it";
 
 const LIST: &str =
     "Lists the labels of the versions that are due at the moment of --at, or kept then, \
     in place of the table; numbers without --labels";
 
-const BAD_LIST: &str = "error: --list takes due or kept, one --policy, one --at, and no --svg\n\n\
+const BAD_LIST: &str = "error: --list takes due or kept, one --policy and one --at\n\n\
     For more information, try 'elephant forecast --help'.\n";
 
 const BAD_POLICY: &str = "error: --policy takes one, all, standard, safe:LENGTH, safe:LENGTH/FLOOR \
@@ -36,6 +48,12 @@ const BAD_POLICY: &str = "error: --policy takes one, all, standard, safe:LENGTH,
     For more information, try 'elephant forecast --help'.\n";
 
 const MANY_POLICIES: &str = "error: --policy is given at most 16 times\n\n\
+    For more information, try 'elephant forecast --help'.\n";
+
+const TWO_FORMS: &str = "error: --every, --list, --svg, --json and --csv exclude each other\n\n\
+    For more information, try 'elephant forecast --help'.\n";
+
+const BAD_EVERY: &str = "error: --every takes a length as 3600, 90m, 7d or 1y, and no --at\n\n\
     For more information, try 'elephant forecast --help'.\n";
 
 const ONE_DRAWN: &str = "error: --svg draws one --policy\n\n\
@@ -58,6 +76,10 @@ pub(crate) fn forecast<'a>(alloc: Global) -> Result<Command<'a>, AllocError> {
         .value_name("M")
         .help(AT)
         .action(ArgAction::Append);
+    let every = Arg::new(alloc, "every")
+        .long("every")
+        .value_name("LENGTH")
+        .help(EVERY);
     let list = Arg::new(alloc, "list")
         .long("list")
         .value_name("WHICH")
@@ -66,20 +88,84 @@ pub(crate) fn forecast<'a>(alloc: Global) -> Result<Command<'a>, AllocError> {
         .about(FORECAST)
         .arg(policy)?
         .arg(at)?
+        .arg(every)?
         .arg(flag(alloc, "labels", LABELS))?
+        .arg(flag(alloc, "sizes", SIZES))?
         .arg(list)?
-        .arg(flag(alloc, "svg", SVG))
+        .arg(flag(alloc, "svg", SVG))?
+        .arg(flag(alloc, "json", JSON))?
+        .arg(flag(alloc, "csv", CSV))
 }
 
-// The form in which it is to be told. None if there is no such list, or a drawing is asked for too.
+// How many forms are asked for.
+fn count_forms(forecast: &ArgMatches) -> usize {
+    let flags = [
+        forecast.get_flag("svg"),
+        forecast.get_flag("json"),
+        forecast.get_flag("csv"),
+        forecast.contains_id("list"),
+        forecast.contains_id("every"),
+    ];
+    flags.iter().filter(|is_given| **is_given).count()
+}
+
+// The form in which it is to be told, of which one is asked for at most. None if there is no such list or length.
 fn form_in(forecast: &ArgMatches) -> Option<Form> {
-    let is_drawn = forecast.get_flag("svg");
-    match forecast.get_str("list") {
-        None if is_drawn => Some(Form::Drawing),
-        None => Some(Form::Table),
-        Some("due") if !is_drawn => Some(Form::Due),
-        Some("kept") if !is_drawn => Some(Form::Kept),
-        Some(_) => None,
+    if let Some(which) = forecast.get_str("list") {
+        return list_of(which);
+    }
+    if let Some(word) = forecast.get_str("every") {
+        return every_of(word);
+    }
+    Some(flagged_form(forecast))
+}
+
+// The form that a flag asks for, which is the table without one.
+fn flagged_form(forecast: &ArgMatches) -> Form {
+    if forecast.get_flag("svg") {
+        Form::Drawing
+    } else if forecast.get_flag("json") {
+        Form::Json
+    } else if forecast.get_flag("csv") {
+        Form::Csv
+    } else {
+        Form::Table
+    }
+}
+
+// The list of that name.
+fn list_of(which: &str) -> Option<Form> {
+    match which {
+        "due" => Some(Form::Due),
+        "kept" => Some(Form::Kept),
+        _ => None,
+    }
+}
+
+// A table over time with steps of the length that a word spells.
+fn every_of(word: &str) -> Option<Form> {
+    match read_length(word.as_bytes()) {
+        Some(step) if step > 0 => Some(Form::Every(step)),
+        _ => None,
+    }
+}
+
+// The refusal of a form that isn't one.
+fn no_form(alloc: Global, forecast: &ArgMatches) -> Invocation
+    ensures { IsRefusal result }
+{
+    if forecast.contains_id("list") {
+        not_understood(alloc, BAD_LIST)
+    } else {
+        not_understood(alloc, BAD_EVERY)
+    }
+}
+
+// Which columns each line has besides its time.
+fn columns_in(forecast: &ArgMatches) -> Columns {
+    Columns {
+        labels: forecast.get_flag("labels"),
+        sizes: forecast.get_flag("sizes"),
     }
 }
 
@@ -91,9 +177,10 @@ fn is_plain(word: &str) -> bool {
 // Whether the form tells of that many policies and moments.
 fn suits(form: Form, policies: usize, moments: usize) -> bool {
     match form {
-        Form::Table => true,
+        Form::Table | Form::Json | Form::Csv => true,
         Form::Drawing => policies == 1,
         Form::Due | Form::Kept => policies == 1 && moments == 1,
+        Form::Every(_) => moments == 0,
     }
 }
 
@@ -103,7 +190,10 @@ fn unsuited(alloc: Global, form: Form) -> Invocation
 {
     match form {
         Form::Drawing => not_understood(alloc, ONE_DRAWN),
-        Form::Table | Form::Due | Form::Kept => not_understood(alloc, BAD_LIST),
+        Form::Every(_) => not_understood(alloc, BAD_EVERY),
+        Form::Table | Form::Json | Form::Csv | Form::Due | Form::Kept => {
+            not_understood(alloc, BAD_LIST)
+        }
     }
 }
 
@@ -112,7 +202,7 @@ fn asked_under(
     alloc: Global,
     policy_words: &[&str],
     time_words: &[&str],
-    labels: bool,
+    columns: Columns,
     form: Form,
 ) -> Invocation
     ensures { IsAsked result }
@@ -134,7 +224,7 @@ fn asked_under(
             return Invocation::NoMemory;
         }
     }
-    asked_at(alloc, policies, named, time_words, labels, form)
+    asked_at(alloc, policies, named, time_words, columns, form)
 }
 
 // What a forecast under these policies asks for at the times that these words spell.
@@ -143,7 +233,7 @@ fn asked_at(
     policies: Vec<Policy>,
     named: bool,
     words: &[&str],
-    labels: bool,
+    columns: Columns,
     form: Form,
 ) -> Invocation
     ensures { IsAsked result }
@@ -161,7 +251,8 @@ fn asked_at(
         policies,
         named,
         moments,
-        labels,
+        labels: columns.labels,
+        sizes: columns.sizes,
         form,
     })
 }
@@ -170,15 +261,18 @@ fn asked_at(
 pub(crate) fn asked_forecast(alloc: Global, forecast: &ArgMatches) -> Invocation
     ensures { IsAsked result }
 {
+    if count_forms(forecast) > 1 {
+        return not_understood(alloc, TWO_FORMS);
+    }
     let Some(form) = form_in(forecast) else {
-        return not_understood(alloc, BAD_LIST);
+        return no_form(alloc, forecast);
     };
     let Some(policies) = forecast.get_strs("policy") else {
         return not_understood(alloc, BAD_POLICY);
     };
-    let labels = forecast.get_flag("labels");
+    let columns = columns_in(forecast);
     match forecast.get_strs("at") {
-        Some(words) => asked_under(alloc, policies, words, labels, form),
-        None => asked_under(alloc, policies, &[], labels, form),
+        Some(words) => asked_under(alloc, policies, words, columns, form),
+        None => asked_under(alloc, policies, &[], columns, form),
     }
 }

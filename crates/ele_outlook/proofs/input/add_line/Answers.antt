@@ -5,5 +5,4 @@ use Rattle.ele_outlook.proofs.input.add_line.Goals as goal
 pub returns-in_default : goal.returns-in_default
 returns-in_default c =
     let next = c.number_of_next-number.ensures in
-    let label = c.has_label.ensures.0 c.if-not-has_label.false in
-    (next.number, next.rises, (label, λ m h. let e = c.in_default.ensures.only m (subst (λ (time : List ℕ). SpellsTime time m) (sym c.time_of.ensures) h) in absurd cc))
+    (next.number, next.rises, (c.in-None.ensures, λ m h. let e = c.in_default.ensures.only m (subst (λ (time : List ℕ). SpellsTime time m) (sym c.time_of.ensures) h) in absurd cc))

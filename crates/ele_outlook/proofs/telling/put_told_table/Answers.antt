@@ -6,4 +6,4 @@ pub returns-in-Some : goal.returns-in-Some
 returns-in-Some g c = rw c.in-Some.ensures c.put_named_table.ensures
 
 pub returns-in-None : goal.returns-in-None
-returns-in-None g c = puts_as (compared_for _ _ _ _ _ c.in-None.ensures) c.put_compared.ensures
+returns-in-None g c = puts_as (compared_for _ _ _ _ c.in-None.ensures) c.put_compared.ensures
