@@ -23,6 +23,11 @@ pub joined : (first : List ℕ) (words : List (List ℕ)) → join_with_byte 32 
 joined first [] = sym (append-nil first)
 joined first (word ∷ words) = ap (λ (rest : List ℕ). first ++ 32 ∷ rest) (joined word words)
 
+-- a word with a space in front, joined with others
+pub fronted : (word : List ℕ) (words : List (List ℕ)) → join_with_byte 32 ((32 ∷ word) ∷ words) ≡ spaced (word ∷ words)
+fronted word words = joined (32 ∷ word) words
+
+-- why a version is displaced, in words with a space between each two
 pub displaced : (by width : ℕ) → codes "version" ++ spaced (decimal by ∷ codes "closed in the same" ∷ span_words width)
     ≡ join_with_byte 32 (codes "version" ∷ decimal by ∷ codes "closed in the same" ∷ span_words width)
 displaced by width = sym (joined (codes "version") (decimal by ∷ codes "closed in the same" ∷ span_words width))
