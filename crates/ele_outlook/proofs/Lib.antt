@@ -9,6 +9,6 @@ mod Labelled
 -- the sizes of lines
 mod Sized
 -- what is told of lines
-mod Telling
+mod ToldOf
 -- the tables of plans, and the moments that they are asked about
 mod Tables

@@ -49,6 +49,7 @@ ReadsClosings form input (Err (BadInput number why)) = IsFirstBad form input num
 ReadsClosings form input (Err NoMemory) = input ≢ []
 ReadsClosings form input (Err ReadFault) = ⊥
 ReadsClosings form input (Err TooMany) = ⊥
+ReadsClosings form input (Err TooLong) = ⊥
 ReadsClosings form input (Err WriteFault) = ⊥
 
 -- these lines were read, and have these labels

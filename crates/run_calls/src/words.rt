@@ -107,6 +107,11 @@ fn a_forecast_has_a_policy_and_moments(rt: HostRuntime) -> Result<(), Fail> {
         ask_of(alloc, line)?,
         Some((Policy::All, [Some(5), Some(9)]))
     );
+    let seconds = ask_of(alloc, "elephant forecast --policy safe:604800/3")?;
+    assert_eq!(rt;
+        ask_of(alloc, "elephant forecast --policy safe:7d/3")?,
+        seconds
+    );
     Ok(())
 }
 
@@ -145,6 +150,12 @@ fn other_words_are_not_understood(rt: HostRuntime) -> Result<(), Fail> {
         "elephant forecast",
         "elephant forecast --policy none",
         "elephant forecast --policy safe:0",
+        "elephant forecast --policy safe:7x",
+        "elephant forecast --policy safe:18446744073709551615w",
+        "elephant forecast --policy one --every 0",
+        "elephant forecast --policy one --every 1d --at 5",
+        "elephant forecast --policy one --json --csv",
+        "elephant forecast --policy one --policy all --list due --at 5",
         "elephant forecast --policy one --at now",
         "elephant forecast --policy one 5",
         "elephant run script",
