@@ -11,7 +11,7 @@ use Rattle.ele_outlook.specs.Reading.{FailsToRead, IsMemory, LabelsSoFar}
 use Rattle.ele_outlook.specs.Told.{texts_of}
 use Rattle.ele_outlook.specs.declared.options.LineForm.{LineForm}
 use Rattle.ele_outlook.specs.declared.fault.ForecastFault.{ForecastFault}
-use Rattle.ele_outlook.specs.declared.fault.ForecastFault.TheVariants.{ReadFault, BadInput, TooMany, TooLong, WriteFault, NoMemory}
+use Rattle.ele_outlook.specs.declared.fault.ForecastFault.TheVariants.{ReadFault, BadInput, TooLong, WriteFault, NoMemory}
 use Rattle.ele_outlook.proofs.Lines.{not_empty}
 
 -- one more label
@@ -36,6 +36,5 @@ pub labels_bad : {form : LineForm} {input rest : List ℕ} {labels : List Label}
 labels_bad {input = input} line behind NoMemory far cut bad = not_empty input far.done line behind (far.lines ∙ ap (λ (ls : List (List ℕ)). far.done ++ ls) cut)
 labels_bad line behind (BadInput number why) far cut bad = absurd bad
 labels_bad line behind ReadFault far cut bad = absurd bad
-labels_bad line behind TooMany far cut bad = absurd bad
 labels_bad line behind TooLong far cut bad = absurd bad
 labels_bad line behind WriteFault far cut bad = absurd bad

@@ -14,7 +14,7 @@ use Rattle.ele_outlook.specs.Input.{SpellClosings, SpellsLine, lines_of, without
 use Rattle.ele_outlook.specs.Reading.{FailsToAdd, ReadSoFar, ReadsClosings}
 use Rattle.ele_outlook.specs.declared.options.LineForm.{LineForm}
 use Rattle.ele_outlook.specs.declared.fault.ForecastFault.{ForecastFault}
-use Rattle.ele_outlook.specs.declared.fault.ForecastFault.TheVariants.{ReadFault, BadInput, TooMany, TooLong, WriteFault, NoMemory}
+use Rattle.ele_outlook.specs.declared.fault.ForecastFault.TheVariants.{ReadFault, BadInput, TooLong, WriteFault, NoMemory}
 
 abbrev is_feed : ℕ → Bool
 is_feed byte = byte == 10
@@ -103,7 +103,6 @@ read_bad {form} {input = input} {closings = closings} line behind (BadInput numb
     }
 read_bad {input = input} line behind NoMemory far cut bad = not_empty input far.done line behind (far.lines ∙ ap (λ (ls : List (List ℕ)). far.done ++ ls) cut)
 read_bad line behind ReadFault far cut bad = absurd bad
-read_bad line behind TooMany far cut bad = absurd bad
 read_bad line behind TooLong far cut bad = absurd bad
 read_bad line behind WriteFault far cut bad = absurd bad
 

@@ -6,7 +6,7 @@ use Rattle.ele_outlook.specs.Input.{lines_of}
 use Rattle.ele_outlook.specs.Reading.{FailsToRead, IsMemory, IsSizeOf, SizesSoFar}
 use Rattle.ele_outlook.specs.declared.options.LineForm.{LineForm}
 use Rattle.ele_outlook.specs.declared.fault.ForecastFault.{ForecastFault}
-use Rattle.ele_outlook.specs.declared.fault.ForecastFault.TheVariants.{ReadFault, BadInput, TooMany, TooLong, WriteFault, NoMemory}
+use Rattle.ele_outlook.specs.declared.fault.ForecastFault.TheVariants.{ReadFault, BadInput, TooLong, WriteFault, NoMemory}
 use Rattle.ele_outlook.proofs.Lines.{not_empty}
 
 sizes_push : (form : LineForm) (lines : List (List ℕ)) (sizes : List ℕ) (line : List ℕ) (size : ℕ) → AllZip (IsSizeOf form) lines sizes → IsSizeOf form line size → AllZip (IsSizeOf form) (lines ++ line ∷ []) (sizes ++ size ∷ [])
@@ -36,6 +36,5 @@ pub sizes_bad : {form : LineForm} {input rest sizes : List ℕ} (line : List ℕ
 sizes_bad {input = input} line behind NoMemory far cut bad = not_empty input far.done line behind (far.lines ∙ ap (λ (ls : List (List ℕ)). far.done ++ ls) cut)
 sizes_bad line behind (BadInput number why) far cut bad = absurd bad
 sizes_bad line behind ReadFault far cut bad = absurd bad
-sizes_bad line behind TooMany far cut bad = absurd bad
 sizes_bad line behind TooLong far cut bad = absurd bad
 sizes_bad line behind WriteFault far cut bad = absurd bad

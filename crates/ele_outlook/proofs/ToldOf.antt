@@ -10,7 +10,7 @@ use Rattle.ele_outlook.specs.Told.{line_form}
 use Rattle.ele_outlook.specs.declared.options.ForecastOptions.{ForecastOptions}
 use Rattle.ele_outlook.specs.declared.options.LineForm.{LineForm}
 use Rattle.ele_outlook.specs.declared.fault.ForecastFault.{ForecastFault}
-use Rattle.ele_outlook.specs.declared.fault.ForecastFault.TheVariants.{ReadFault, BadInput, TooMany, TooLong, WriteFault, NoMemory}
+use Rattle.ele_outlook.specs.declared.fault.ForecastFault.TheVariants.{ReadFault, BadInput, TooLong, WriteFault, NoMemory}
 
 -- a size is what its word spells
 size_is : (form : LineForm) (line : List ℕ) (size : ℕ) → (n : ℕ) × SpellsNumber (size_word form line) n → IsSizeOf form line size → decimal size ≡ size_word form line
@@ -44,7 +44,6 @@ pub tells : {A : Type 0} (options : ForecastOptions) (given closings : List ℕ)
     → TellsClosings options closings (labels_of (line_form options) (lines_of given)) (size_words_of (line_form options) (lines_of given)) old new r → TellsForecast options given old new r
 tells options given closings old new (Ok x) spell told = (told.0, record { closings = closings; spell = spell; told = told.1 }, told.2)
 tells options given closings old new (Err WriteFault) spell told = (told.0, record { closings = closings; spell = spell; told = told.1 }, told.2)
-tells options given closings old new (Err TooMany) spell told = (closings, spell, told.0, told.1)
 tells options given closings old new (Err TooLong) spell told = (closings, spell, told.0, told.1)
 tells options given closings old new (Err NoMemory) spell (inl some, same) = (inl (some_given (line_form options) given closings spell some), same)
 tells options given closings old new (Err NoMemory) spell (inr some, same) = (inr some, same)

@@ -1,12 +1,12 @@
 -- A forecast from the bytes that are read to those that are written, by how it ends.
-use Rattle.std.specs.Prelude.{◌≡◌, ◌≢◌, ◌<◌, ℕ, true, length, List, [], Option, Result, Ok, Err, ◌⊎◌}
+use Rattle.std.specs.Prelude.{◌≡◌, ◌≢◌, ◌<◌, ℕ, length, List, [], Option, Result, Ok, Err, ◌⊎◌}
 use Rattle.std.specs.Io.KnownBytes.{Appends, Consumes, IsAtEnd, Keeps}
 use Rattle.ele_output.specs.Front.{AppendsFront}
 use Rattle.ele_outlook.specs.Input.{IsFirstBad, SpellClosings, labels_of, lines_of, size_words_of}
-use Rattle.ele_outlook.specs.Told.{IsForecastText, IsOver, are_too_many, line_form}
+use Rattle.ele_outlook.specs.Told.{IsForecastText, IsOver, line_form}
 use Rattle.ele_outlook.specs.declared.options.ForecastOptions.{ForecastOptions}
 use Rattle.ele_outlook.specs.declared.fault.ForecastFault.{ForecastFault}
-use Rattle.ele_outlook.specs.declared.fault.ForecastFault.TheVariants.{ReadFault, BadInput, TooMany, TooLong, WriteFault, NoMemory}
+use Rattle.ele_outlook.specs.declared.fault.ForecastFault.TheVariants.{ReadFault, BadInput, TooLong, WriteFault, NoMemory}
 
 -- the text tells of the closings that the input spells
 pub record IsToldOf (options : ForecastOptions) (input text : List ℕ) : Type 0 where
@@ -19,8 +19,6 @@ pub record IsToldOf (options : ForecastOptions) (input text : List ℕ) : Type 0
 abbrev pub TellsForecast : {A : Type 0} → ForecastOptions → List ℕ → Option (List ℕ) → Option (List ℕ) → Result A ForecastFault → Type 0
 TellsForecast options given old new (Ok _) = (text : List ℕ) × IsToldOf options given text × Appends old new text
 TellsForecast options given old new (Err (BadInput number why)) = IsFirstBad (line_form options) given number why × Keeps old new
-TellsForecast options given old new (Err TooMany) =
-    (closings : List ℕ) × SpellClosings (line_form options) (lines_of given) closings × (are_too_many options.form (length closings) ≡ true) × Keeps old new
 TellsForecast options given old new (Err TooLong) =
     (closings : List ℕ) × SpellClosings (line_form options) (lines_of given) closings × IsOver options closings × Keeps old new
 TellsForecast options given old new (Err WriteFault) = (text : List ℕ) × IsToldOf options given text × AppendsFront old new text

@@ -6,19 +6,18 @@ use Rattle.ele_moment.specs.Number.{SpellsNumber}
 use Rattle.ele_lists.specs.Lists.{AllLater}
 use Rattle.ele_output.specs.Front.{AppendsFront}
 use Rattle.ele_outlook.specs.Input.{IsBad, IsFirstBad, SpellClosings, SpellsLine, label_of, lines_of, size_word}
-use Rattle.ele_outlook.specs.Told.{IsForecastText, IsOver, are_too_many, texts_of}
+use Rattle.ele_outlook.specs.Told.{IsForecastText, IsOver, texts_of}
 use Rattle.ele_forecast_text.specs.declared.label.Label.{Label}
 use Rattle.ele_outlook.specs.declared.options.ForecastOptions.{ForecastOptions}
 use Rattle.ele_outlook.specs.declared.options.LineForm.{LineForm}
 use Rattle.ele_outlook.specs.declared.fault.ForecastFault.{ForecastFault}
-use Rattle.ele_outlook.specs.declared.fault.ForecastFault.TheVariants.{ReadFault, BadInput, TooMany, TooLong, WriteFault, NoMemory}
+use Rattle.ele_outlook.specs.declared.fault.ForecastFault.TheVariants.{ReadFault, BadInput, TooLong, WriteFault, NoMemory}
 
 -- bytes were read, some if memory was wanting for them
 abbrev pub GivesUp : Option (List ℕ) → Option (List ℕ) → ForecastFault → Type 0
 GivesUp input rest ReadFault = (given : List ℕ) × Consumes input rest given
 GivesUp input rest NoMemory = (given : List ℕ) × (given ≢ []) × Consumes input rest given
 GivesUp input rest (BadInput number why) = ⊥
-GivesUp input rest TooMany = ⊥
 GivesUp input rest TooLong = ⊥
 GivesUp input rest WriteFault = ⊥
 
@@ -33,7 +32,6 @@ abbrev pub FailsToAdd : LineForm → List ℕ → List ℕ → ForecastFault →
 FailsToAdd form line closings (BadInput number why) = (number ≡ length closings + 1) × AllLater ◌≤◌ closings × IsBad form closings line why
 FailsToAdd form line closings NoMemory = Unit {0}
 FailsToAdd form line closings ReadFault = ⊥
-FailsToAdd form line closings TooMany = ⊥
 FailsToAdd form line closings TooLong = ⊥
 FailsToAdd form line closings WriteFault = ⊥
 
@@ -48,7 +46,6 @@ ReadsClosings form input (Ok closings) = SpellClosings form (lines_of input) clo
 ReadsClosings form input (Err (BadInput number why)) = IsFirstBad form input number why
 ReadsClosings form input (Err NoMemory) = input ≢ []
 ReadsClosings form input (Err ReadFault) = ⊥
-ReadsClosings form input (Err TooMany) = ⊥
 ReadsClosings form input (Err TooLong) = ⊥
 ReadsClosings form input (Err WriteFault) = ⊥
 
@@ -78,7 +75,6 @@ abbrev pub IsMemory : ForecastFault → Type 0
 IsMemory NoMemory = Unit {0}
 IsMemory (BadInput number why) = ⊥
 IsMemory ReadFault = ⊥
-IsMemory TooMany = ⊥
 IsMemory TooLong = ⊥
 IsMemory WriteFault = ⊥
 
@@ -97,7 +93,6 @@ abbrev pub FailsToRead : List ℕ → ForecastFault → Type 0
 FailsToRead input NoMemory = input ≢ []
 FailsToRead input (BadInput number why) = ⊥
 FailsToRead input ReadFault = ⊥
-FailsToRead input TooMany = ⊥
 FailsToRead input TooLong = ⊥
 FailsToRead input WriteFault = ⊥
 
@@ -107,7 +102,6 @@ TellsClosings options closings labels words old new (Ok _) =
     (text : List ℕ) × IsForecastText options closings labels words text × Appends old new text
 TellsClosings options closings labels words old new (Err WriteFault) =
     (text : List ℕ) × IsForecastText options closings labels words text × AppendsFront old new text
-TellsClosings options closings labels words old new (Err TooMany) = (are_too_many options.form (length closings) ≡ true) × Keeps old new
 TellsClosings options closings labels words old new (Err TooLong) = IsOver options closings × Keeps old new
 TellsClosings options closings labels words old new (Err NoMemory) = ((closings ≢ []) ⊎ (options.moments.items ≢ []) ⊎ (1 < length options.policies.items)) × Keeps old new
 TellsClosings options closings labels words old new (Err (BadInput number why)) = ⊥

@@ -1,5 +1,5 @@
 -- What is written of a forecast, in either form.
-use Rattle.std.specs.Prelude.{◌≡◌, ℕ, nat_lt, Bool, true, false, List, [], ◌∷◌, ◌++◌, codes, decimal, length, map}
+use Rattle.std.specs.Prelude.{◌≡◌, ℕ, Bool, true, false, List, [], ◌∷◌, ◌++◌, codes, decimal, length, map}
 use Rattle.ele_forecast.specs.declared.forecast.Forecast.{Forecast}
 use Rattle.ele_svg.specs.Drawing.{drawing_text}
 use Rattle.ele_policy.specs.PolicyText.{policy_word}
@@ -55,14 +55,9 @@ told_table named details [] moments = compared_text details [] moments
 told_table named details (plan ∷ []) moments = policy_line named plan ++ plan_table details plan
 told_table named details (plan ∷ next ∷ plans) moments = compared_text details (plan ∷ next ∷ plans) moments
 
--- the drawing of the first plan
-abbrev pub told_drawing : List Plan → List ℕ
-told_drawing [] = []
-told_drawing (plan ∷ plans) = drawing_text plan.policy plan.forecasts.items plan.stayings.items
-
 abbrev pub told_text : Form → ForecastOptions → Details → List Plan → List ℕ → List Counts → List ℕ
 told_text Table options details plans listed rows = told_table options.named details plans (length options.moments.items)
-told_text Drawing options details plans listed rows = told_drawing plans
+told_text Drawing options details plans listed rows = drawing_text options.title.items plans
 told_text Due options details plans listed rows = names_text details.labels.items listed
 told_text Kept options details plans listed rows = names_text details.labels.items listed
 told_text Json options details plans listed rows = json_text details plans
@@ -109,16 +104,6 @@ is_json (Every step) = false
 abbrev pub line_form : ForecastOptions → LineForm
 line_form options = record { columns = record { labels = options.labels; sizes = options.sizes }; texts = is_json options.form }
 
--- a drawing has at most 2,000 versions
-abbrev pub are_too_many : Form → ℕ → Bool
-are_too_many Drawing count = nat_lt 2000 count
-are_too_many Table count = false
-are_too_many Due count = false
-are_too_many Kept count = false
-are_too_many Json count = false
-are_too_many Csv count = false
-are_too_many (Every step) count = false
-
 -- what versions have besides their moments: these columns, with these labels and the sizes that these words spell
 pub record AreDetails (columns : Columns) (texts words : List (List ℕ)) (details : Details) : Type 0 where
   pub columns_are : details.columns ≡ columns
@@ -128,7 +113,6 @@ pub record AreDetails (columns : Columns) (texts words : List (List ℕ)) (detai
 -- the text tells, in the form that is asked for, what becomes of the versions of a file under each of the policies that closed at
 -- these moments and have these labels and sizes, and which stay at the moments that are asked about
 pub record IsForecastText (options : ForecastOptions) (closings : List ℕ) (texts words : List (List ℕ)) (text : List ℕ) : Type 0 where
-  pub fit : are_too_many options.form (length closings) ≡ false
   pub plans : List Plan
   pub are : ArePlans options.policies.items closings options.moments.items plans
   pub details : Details

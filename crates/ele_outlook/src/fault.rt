@@ -38,9 +38,6 @@ pub enum ForecastFault {
     /// The line of that number is the first that is no closing; the first line is 1.
     #[error("line {0}: {1}")]
     BadInput(u64, BadLine),
-    /// There are too many versions for a drawing.
-    #[error("too many versions to draw")]
-    TooMany,
     /// There are too many moments for a table over time.
     #[error("too many moments")]
     TooLong,

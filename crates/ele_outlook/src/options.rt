@@ -11,7 +11,7 @@ use ele_policy::Policy;
 pub enum Form {
     /// A line for each version, and one for each moment that is asked about.
     Table,
-    /// An SVG drawing, of 2,000 versions at most.
+    /// An SVG drawing.
     Drawing,
     /// The names of the versions that are due at the first of the moments, one a line: their labels, or
     /// their numbers if they have none.
@@ -42,7 +42,9 @@ pub struct ForecastOptions {
     pub labels: bool,
     /// Whether each line has a size behind its time, before its label.
     pub sizes: bool,
-    /// A drawing and a list are those of the first policy.
+    /// The title of a drawing, in UTF-8; none if it is empty.
+    pub title: Vec<u8>,
+    /// A list is that of the first policy.
     pub form: Form,
 }
 

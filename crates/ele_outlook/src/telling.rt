@@ -1,5 +1,5 @@
 //! A forecast from the first byte to the last. A contract sees what was read and what was written.
-ghost use Rattle.std.specs.Prelude.{◌≡◌, ◌≢◌, ◌∷◌, ◌++◌, ℕ, List, [], false, IfErr, IfOk, MatchOption, OnErr, codes, decimal, length, map};
+ghost use Rattle.std.specs.Prelude.{◌≡◌, ◌≢◌, ◌∷◌, ◌++◌, ℕ, List, [], IfErr, IfOk, MatchOption, OnErr, codes, decimal, length, map};
 ghost use Rattle.std.specs.Io.KnownBytes.{Keeps};
 ghost use Rattle.ele_policy.specs.PolicyText.{policy_word};
 ghost use Rattle.ele_output.specs.Front.{WritesText};
@@ -9,7 +9,7 @@ ghost use Rattle.ele_forecast_plans.specs.Compared.{forecasts_of};
 ghost use Rattle.ele_outlook.specs.Foretold.{Foretells, TellsForecast};
 ghost use Rattle.ele_outlook.specs.Input.{SpellClosings, labels_of, lines_of, size_words_of};
 ghost use Rattle.ele_outlook.specs.Reading.{FailsToRead, TellsClosings};
-ghost use Rattle.ele_outlook.specs.Told.{AreDetails, AreRows, are_too_many, is_over, line_form, listed_numbers, numbers_at, plan_table, policy_line, stayings_of, texts_of, told_drawing, told_of, told_table};
+ghost use Rattle.ele_outlook.specs.Told.{AreDetails, AreRows, is_over, line_form, listed_numbers, numbers_at, plan_table, policy_line, stayings_of, texts_of, told_of, told_table};
 
 use crate::fault::ForecastFault;
 use crate::input::{read_closings, read_input};
@@ -25,7 +25,7 @@ use ele_forecast_text::{
 use ele_moment::{NoMemory, VersionNo};
 use ele_output::{Printer, WriteFault};
 use ele_policy::Policy;
-use ele_svg::{MOST, put_drawing};
+use ele_svg::put_drawing;
 use std::alloc::Global;
 use std::io::{Read, Write};
 
@@ -37,7 +37,6 @@ use std::io::{Read, Write};
 /// - ReadFault: the reader failed. What is only interrupted is read again.
 /// - BadInput: a line lacks its size or label, spells no time, or one before that of the line ahead; the first such
 ///   line.
-/// - TooMany: there are more than 2,000 versions to draw.
 /// - TooLong: a table over time would have more than 400 moments.
 /// - WriteFault: the writer failed, took no byte of some, or wasn't flushed; it took a front.
 /// - NoMemory: there was none for the closings, or for what is told of them.
@@ -97,9 +96,6 @@ fn tell_closings<W: Write>(
     ensures { TellsClosings options.now closings.now (texts_of details.now.labels.items)
         (map decimal details.now.sizes.items) (W.contents writer.old) (W.contents writer.new) result }
 {
-    if are_too_many(options.form, closings.len()) {
-        return Err(ForecastFault::TooMany);
-    }
     let moments = options.moments.as_slice();
     let Some(policy) = only_policy(options.policies.as_slice()) else {
         return tell_several(alloc, options, closings, details, writer);
@@ -120,7 +116,6 @@ fn tell_several<W: Write>(
     writer: &mut W,
 ) -> Result<(), ForecastFault>
     requires columns { details.now.columns ≡ (line_form options.now).columns }
-    requires fit { are_too_many options.now.form (length closings.now) ≡ false }
     requires several { length options.now.policies.items ≢ 1 }
     ensures { TellsClosings options.now closings.now (texts_of details.now.labels.items)
         (map decimal details.now.sizes.items) (W.contents writer.old) (W.contents writer.new) result }
@@ -142,7 +137,6 @@ fn tell_plans<W: Write>(
     writer: &mut W,
 ) -> Result<(), ForecastFault>
     requires columns { details.now.columns ≡ (line_form options.now).columns }
-    requires fit { are_too_many options.now.form (length closings.now) ≡ false }
     requires are { ArePlans options.now.policies.items closings.now options.now.moments.items plans.now }
     ensures { TellsClosings options.now closings.now (texts_of details.now.labels.items)
         (map decimal details.now.sizes.items) (W.contents writer.old) (W.contents writer.new) result }
@@ -304,25 +298,11 @@ fn put_told<W: Write>(
 {
     match options.form {
         Form::Table => put_told_table(options, details, plans, printer),
-        Form::Drawing => put_told_drawing(plans, printer),
+        Form::Drawing => put_drawing(options.title.as_slice(), plans, printer),
         Form::Due | Form::Kept => put_names(details.labels.as_slice(), listed, printer),
         Form::Json => put_json(details, plans, printer),
         Form::Csv => put_csv(details, plans, printer),
         Form::Every(_) => put_over_time(plans, rows, printer),
-    }
-}
-
-// Puts the drawing of the first plan.
-fn put_told_drawing<W: Write>(plans: &[Plan], printer: &mut Printer<'_, W>)
-    ensures { Prints W.contents printer.old printer.new (told_drawing plans.now) }
-{
-    if let Some(plan) = plans.first() {
-        put_drawing(
-            &plan.policy,
-            plan.forecasts.as_slice(),
-            plan.stayings.as_slice(),
-            printer,
-        );
     }
 }
 
@@ -382,16 +362,6 @@ fn put_plan_table<W: Write>(details: &Details, plan: &Plan, printer: &mut Printe
     let forecasts = plan.forecasts.as_slice();
     let stayings = plan.stayings.as_slice();
     put_table(&plan.policy, details, forecasts, stayings, printer);
-}
-
-// Whether there are too many versions for the form.
-fn are_too_many(form: Form, count: usize) -> bool
-    ensures { result ≡ are_too_many form count }
-{
-    match form {
-        Form::Drawing => MOST < count as u64,
-        Form::Table | Form::Due | Form::Kept | Form::Json | Form::Csv | Form::Every(_) => false,
-    }
 }
 
 // Flushes the writer.

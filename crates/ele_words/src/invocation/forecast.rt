@@ -20,7 +20,9 @@ const POLICY: &str = "The file's policy: one, all, standard, safe:LENGTH, safe:L
 
 const AT: &str = "Tells which versions stay at that moment; may be given several times";
 
-const SVG: &str = "Draws it as SVG, up to 2000 versions, in place of the table";
+const SVG: &str = "Draws it as SVG in place of the table";
+
+const TITLE: &str = "The title of the drawing";
 
 const EVERY: &str =
     "Prints how many versions each policy keeps, at moments from the first closing on \
@@ -56,13 +58,6 @@ const TWO_FORMS: &str = "error: --every, --list, --svg, --json and --csv exclude
 const BAD_EVERY: &str = "error: --every takes a length as 3600, 90m, 7d or 1y, and no --at\n\n\
     For more information, try 'elephant forecast --help'.\n";
 
-const ONE_DRAWN: &str = "error: --svg draws one --policy\n\n\
-    For more information, try 'elephant forecast --help'.\n";
-
-const BAD_MOMENT: &str =
-    "error: --at takes seconds since 1970 or a time as 2026-01-31T12:00:00Z\n\n\
-    For more information, try 'elephant forecast --help'.\n";
-
 /// The words of a forecast.
 pub(crate) fn forecast<'a>(alloc: Global) -> Result<Command<'a>, AllocError> {
     let policy = Arg::new(alloc, "policy")
@@ -84,6 +79,10 @@ pub(crate) fn forecast<'a>(alloc: Global) -> Result<Command<'a>, AllocError> {
         .long("list")
         .value_name("WHICH")
         .help(LIST);
+    let title = Arg::new(alloc, "title")
+        .long("title")
+        .value_name("TEXT")
+        .help(TITLE);
     Command::new(alloc, "forecast")
         .about(FORECAST)
         .arg(policy)?
@@ -93,6 +92,7 @@ pub(crate) fn forecast<'a>(alloc: Global) -> Result<Command<'a>, AllocError> {
         .arg(flag(alloc, "sizes", SIZES))?
         .arg(list)?
         .arg(flag(alloc, "svg", SVG))?
+        .arg(title)?
         .arg(flag(alloc, "json", JSON))?
         .arg(flag(alloc, "csv", CSV))
 }
@@ -161,6 +161,22 @@ fn no_form(alloc: Global, forecast: &ArgMatches) -> Invocation
     }
 }
 
+// The title of a drawing, which is empty if none is given. None if there was no memory.
+fn title_in(alloc: Global, forecast: &ArgMatches) -> Option<Vec<u8>> {
+    let mut title = Vec::new(alloc);
+    if let Some(text) = forecast.get_str("title") {
+        title.extend_from_slice(text.as_bytes()).ok()?;
+    }
+    Some(title)
+}
+
+// What a line and a drawing have besides moments.
+#[derive(Debug, Drop)]
+struct Extras {
+    columns: Columns,
+    title: Vec<u8>,
+}
+
 // Which columns each line has besides its time.
 fn columns_in(forecast: &ArgMatches) -> Columns {
     Columns {
@@ -177,8 +193,7 @@ fn is_plain(word: &str) -> bool {
 // Whether the form tells of that many policies and moments.
 fn suits(form: Form, policies: usize, moments: usize) -> bool {
     match form {
-        Form::Table | Form::Json | Form::Csv => true,
-        Form::Drawing => policies == 1,
+        Form::Table | Form::Drawing | Form::Json | Form::Csv => true,
         Form::Due | Form::Kept => policies == 1 && moments == 1,
         Form::Every(_) => moments == 0,
     }
@@ -189,9 +204,8 @@ fn unsuited(alloc: Global, form: Form) -> Invocation
     ensures { IsRefusal result }
 {
     match form {
-        Form::Drawing => not_understood(alloc, ONE_DRAWN),
         Form::Every(_) => not_understood(alloc, BAD_EVERY),
-        Form::Table | Form::Json | Form::Csv | Form::Due | Form::Kept => {
+        Form::Table | Form::Drawing | Form::Json | Form::Csv | Form::Due | Form::Kept => {
             not_understood(alloc, BAD_LIST)
         }
     }
@@ -202,7 +216,7 @@ fn asked_under(
     alloc: Global,
     policy_words: &[&str],
     time_words: &[&str],
-    columns: Columns,
+    extras: Extras,
     form: Form,
 ) -> Invocation
     ensures { IsAsked result }
@@ -224,7 +238,7 @@ fn asked_under(
             return Invocation::NoMemory;
         }
     }
-    asked_at(alloc, policies, named, time_words, columns, form)
+    asked_at(alloc, policies, named, time_words, extras, form)
 }
 
 // What a forecast under these policies asks for at the times that these words spell.
@@ -233,7 +247,7 @@ fn asked_at(
     policies: Vec<Policy>,
     named: bool,
     words: &[&str],
-    columns: Columns,
+    extras: Extras,
     form: Form,
 ) -> Invocation
     ensures { IsAsked result }
@@ -251,8 +265,9 @@ fn asked_at(
         policies,
         named,
         moments,
-        labels: columns.labels,
-        sizes: columns.sizes,
+        labels: extras.columns.labels,
+        sizes: extras.columns.sizes,
+        title: extras.title,
         form,
     })
 }
@@ -270,9 +285,13 @@ pub(crate) fn asked_forecast(alloc: Global, forecast: &ArgMatches) -> Invocation
     let Some(policies) = forecast.get_strs("policy") else {
         return not_understood(alloc, BAD_POLICY);
     };
+    let Some(title) = title_in(alloc, forecast) else {
+        return Invocation::NoMemory;
+    };
     let columns = columns_in(forecast);
+    let extras = Extras { columns, title };
     match forecast.get_strs("at") {
-        Some(words) => asked_under(alloc, policies, words, columns, form),
-        None => asked_under(alloc, policies, &[], columns, form),
+        Some(words) => asked_under(alloc, policies, words, extras, form),
+        None => asked_under(alloc, policies, &[], extras, form),
     }
 }
