@@ -1,9 +1,9 @@
 -- The sizes of lines.
-use Rattle.std.proofs.Common.{◌≡◌, ℕ, ◌+◌, List, [], ◌∷◌, ◌++◌, length, refl, sym, ap, ◌∙◌, subst, arith, append_assoc}
+use Rattle.std.proofs.Common.{◌≡◌, ℕ, ◌+◌, Bool, true, false, not, IfOk, Result, List, [], ◌∷◌, ◌++◌, length, refl, sym, ap, ◌∙◌, subst, arith, append_assoc}
 use Rattle.std.proofs.lemmas.List.{append-nil}
 use Rattle.std.specs.List.{AllZip}
 use Rattle.ele_outlook.specs.Input.{lines_of}
-use Rattle.ele_outlook.specs.Reading.{FailsToRead, IsMemory, IsSizeOf, SizesSoFar}
+use Rattle.ele_outlook.specs.Reading.{AreSizesIf, FailsToRead, IsMemory, IsSizeOf, SizesSoFar}
 use Rattle.ele_outlook.specs.declared.options.LineForm.{LineForm}
 use Rattle.ele_outlook.specs.declared.fault.ForecastFault.{ForecastFault}
 use Rattle.ele_outlook.specs.declared.fault.ForecastFault.TheVariants.{ReadFault, BadInput, TooLong, WriteFault, NoMemory}
@@ -29,6 +29,14 @@ pub sizes_all : {form : LineForm} {input rest sizes : List ℕ} → SizesSoFar f
 sizes_all {form} {input} {rest} {sizes} far none =
     let all : lines_of input ≡ far.done = far.lines ∙ ap (λ (ls : List (List ℕ)). far.done ++ ls) none ∙ append-nil far.done in
     subst (λ (ls : List (List ℕ)). AllZip (IsSizeOf form) ls sizes) (sym all) far.spelled
+
+is_true : (b : Bool) → not b ≡ false → b ≡ true
+is_true true e = refl
+is_true false e = sym e
+
+-- if lines have sizes
+pub sizes_if : {T E : Type 0} (form : LineForm) (lines : List (List ℕ)) (r : Result T E) (items : T → List ℕ) → not form.columns.sizes ≡ false → IfOk r (λ v. AllZip (IsSizeOf form) lines (items v)) → IfOk r (λ v. AreSizesIf form.columns.sizes form lines (items v))
+sizes_if form lines r items has all = subst (λ (b : Bool). IfOk r (λ v. AreSizesIf b form lines (items v))) (sym (is_true form.columns.sizes has)) all
 
 -- there is no memory for one more
 pub sizes_bad : {form : LineForm} {input rest sizes : List ℕ} (line : List ℕ) (behind : List (List ℕ)) (fault : ForecastFault) → SizesSoFar form input rest sizes

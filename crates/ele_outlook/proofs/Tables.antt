@@ -1,5 +1,5 @@
 -- The tables of plans, and the moments that they are asked about.
-use Rattle.std.proofs.Common.{◌≡◌, ◌≢◌, ℕ, ◌<◌, Bool, List, [], ◌∷◌, length, map, refl, ap, ◌∙◌, arith}
+use Rattle.std.proofs.Common.{◌≡◌, ◌≢◌, ℕ, ◌<◌, Bool, false, List, [], ◌∷◌, length, map, refl, ap, ◌∙◌, arith}
 use Rattle.ele_policy.specs.declared.policy.Policy.{Policy}
 use Rattle.ele_forecast_plans.specs.Compared.{compared_text, forecasts_of}
 use Rattle.ele_forecast.specs.FileOf.{lives_from}
@@ -9,7 +9,10 @@ use Rattle.ele_forecast_text.specs.Plan.{ArePlans}
 use Rattle.ele_forecast_text.specs.declared.details.Details.{Details}
 use Rattle.ele_forecast_text.specs.declared.plan.Plan.{Plan}
 use Rattle.ele_forecast_text.specs.declared.staying.Staying.{Staying}
-use Rattle.ele_outlook.specs.Told.{stayings_of, told_table}
+use Rattle.std.specs.Prelude.{decimal}
+use Rattle.ele_forecast_plans.specs.declared.counts.Counts.{Counts}
+use Rattle.ele_outlook.specs.declared.options.ForecastOptions.{ForecastOptions}
+use Rattle.ele_outlook.specs.Told.{AreRows, IsForecastText, is_over, line_form, listed_numbers, stayings_of, texts_of, told_of, told_table}
 
 -- the table of plans that aren't one
 pub compared_for : (named : Bool) (details : Details) (plans : List Plan) (moments : ℕ) → length plans ≢ 1 → compared_text details plans moments ≡ told_table named details plans moments
@@ -42,3 +45,19 @@ pub several : (policies : List Policy) → length policies ≢ 1 → policies �
 several [] one some = absurd (some refl)
 several (policy ∷ []) one some = absurd (one refl)
 several (policy ∷ next ∷ policies) one some = omega arith
+
+-- what is told of plans is a text of their closings
+pub is_text : (options : ForecastOptions) (closings : List ℕ) (plans : List Plan) (details : Details) (listed : List ℕ) (rows : List Counts) → details.columns ≡ (line_form options).columns
+    → ArePlans options.policies.items closings options.moments.items plans → is_over options.form plans ≡ false → listed ≡ listed_numbers options.form plans → AreRows options.form closings plans rows
+    → IsForecastText options closings (texts_of details.labels.items) (map decimal details.sizes.items) (told_of options details plans listed rows)
+is_text options closings plans details listed rows columns are short listed_are rows_are =
+    record {
+      plans = plans;
+      are = are;
+      details = details;
+      detailed = record { columns_are = columns; labels_are = refl; sizes_are = refl };
+      short = short;
+      rows = rows;
+      rows_are = rows_are;
+      text_is = ap (λ (numbers : List ℕ). told_of options details plans numbers rows) listed_are;
+    }

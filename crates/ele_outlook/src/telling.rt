@@ -5,7 +5,7 @@ ghost use Rattle.ele_policy.specs.PolicyText.{policy_word};
 ghost use Rattle.ele_output.specs.Front.{WritesText};
 ghost use Rattle.ele_output.specs.Prints.{Prints};
 ghost use Rattle.ele_forecast_text.specs.Plan.{ArePlans};
-ghost use Rattle.ele_forecast_plans.specs.Compared.{forecasts_of};
+ghost use Rattle.ele_forecast_plans.specs.Compared.{compared_text, forecasts_of};
 ghost use Rattle.ele_outlook.specs.Foretold.{Foretells, TellsForecast};
 ghost use Rattle.ele_outlook.specs.Input.{SpellClosings, labels_of, lines_of, size_words_of};
 ghost use Rattle.ele_outlook.specs.Reading.{FailsToRead, TellsClosings};
@@ -22,7 +22,7 @@ use ele_forecast_plans::{Counts, counts_every, is_too_long, put_compared, put_ov
 use ele_forecast_text::{
     Details, Plan, Staying, listed_at, plan_of, plans_of, put_names, put_policy, put_table,
 };
-use ele_moment::{NoMemory, VersionNo};
+use ele_moment::{Moment, NoMemory, VersionNo};
 use ele_output::{Printer, WriteFault};
 use ele_policy::Policy;
 use ele_svg::put_drawing;
@@ -318,8 +318,21 @@ fn put_told_table<W: Write>(
 {
     match only_plan(plans) {
         Some(plan) => put_named_table(options.named, details, plan, printer),
-        None => put_compared(details, plans, options.moments.len(), printer),
+        None => put_side_by_side(details, plans, options.moments.as_slice(), printer),
     }
+}
+
+// Puts the table of several policies side by side, with these moments.
+fn put_side_by_side<W: Write>(
+    details: &Details,
+    plans: &[Plan],
+    moments: &[Moment],
+    printer: &mut Printer<'_, W>,
+)
+    ensures { Prints W.contents printer.old printer.new
+        (compared_text details.now plans.now (length moments.now)) }
+{
+    put_compared(details, plans, moments.len(), printer);
 }
 
 // Puts the line that names a policy, if it is named, and the policy's table.

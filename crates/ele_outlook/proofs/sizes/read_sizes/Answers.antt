@@ -1,7 +1,7 @@
 use Rattle.std.proofs.Common.{◌+◌, drop}
 use Rattle.std.proofs.lemmas.Result.{err_from_is_err_and}
 use Rattle.ele_outlook.specs.Input.{lines_of}
-use Rattle.ele_outlook.proofs.Sized.{sizes_bad, sizes_more}
+use Rattle.ele_outlook.proofs.Sized.{sizes_bad, sizes_if, sizes_more}
 use Rattle.ele_outlook.proofs.Lines.{first_line}
 use Rattle.ele_outlook.proofs.sizes.read_sizes.Goals as goal
 
@@ -15,3 +15,6 @@ returns-in_err-add_size-clause-err c =
     let p = err_from_is_err_and c.from_residual.result c.from_residual.ensures.1 in
     let behind = lines_of (drop (c.in-Some.at + 1) c.lines.rest.now) in
     rw (p.1, p.2) (sizes_bad c.cut_line.result.0.now behind _ c.lines.invariant (rw c.cut_line.ensures.line (first_line _ _ c.in-Some.ensures)) c.in_err-add_size.ensures)
+
+pub returns-clause-ok : goal.returns-clause-ok
+returns-clause-ok c = sizes_if c.args.form (lines_of c.args.input.now) c.add_last_size.result (λ sizes. sizes.items) c.if-not-form.false (c.add_last_size.ensures.ok c.args.input.now c.lines.invariant)
