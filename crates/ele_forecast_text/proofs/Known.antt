@@ -1,16 +1,22 @@
 -- What the words of a line come to.
-use Rattle.std.proofs.Common.{◌≡◌, ℕ, List, [], ◌∷◌, ◌++◌, refl, sym, ap, ◌∙◌, append_assoc}
+use Rattle.std.proofs.Common.{◌≡◌, ℕ, List, [], ◌∷◌, ◌++◌, length, Option, refl, sym, ap, ◌∙◌, append_assoc}
 use Rattle.std.proofs.lemmas.List.{append-nil}
-use Rattle.std.specs.List.{join_with_byte}
-use Rattle.std.specs.Prelude.{decimal}
+use Rattle.std.specs.List.{IsFirstAndRest, flat_map, join_with_byte}
+use Rattle.std.specs.Prelude.{codes, decimal}
+use Rattle.ele_output.proofs.Lists.{joined_are}
 use Rattle.ele_output.specs.Line.{line_text}
-use Rattle.ele_forecast_text.specs.Labels.{labelled_line, name_of}
+use Rattle.ele_policy.specs.Ladder.{Rung}
+use Rattle.ele_policy.specs.PolicyText.{ladder_word, pair_word}
+use Rattle.ele_forecast_text.specs.Details.{detail_headings, detail_words, total_words}
 use Rattle.ele_forecast_text.specs.Stamp.{stamp_of, stamp_or}
-use Rattle.ele_forecast_text.specs.Table.{table_line}
-use Rattle.ele_forecast_text.specs.Why.{spaced, why_words}
+use Rattle.ele_forecast_text.specs.Table.{detailed_line, heading, numbered_line, table_line, told_words}
+use Rattle.ele_forecast_text.specs.Why.{length_words, never_word, span_words, spaced, why_words, width_at}
+use Rattle.ele_policy.specs.declared.cause.Cause.TheVariants.{AtOnce, Age, Displaced}
 use Rattle.ele_policy.specs.declared.policy.Policy.{Policy}
 use Rattle.ele_forecast.specs.declared.forecast.Forecast.{Forecast}
-use Rattle.ele_forecast_text.specs.declared.label.Label.{Label}
+use Rattle.ele_forecast.specs.declared.forecast.Why.{Why}
+use Rattle.ele_forecast.specs.declared.forecast.Why.TheVariants.{Current, Never, Goes}
+use Rattle.ele_forecast_text.specs.declared.details.Details.{Details}
 
 -- joined words are the first, and each other with a space in front
 pub joined : (first : List ℕ) (words : List (List ℕ)) → join_with_byte 32 (first ∷ words) ≡ first ++ spaced words
@@ -21,8 +27,22 @@ joined first (word ∷ words) = ap (λ (rest : List ℕ). first ++ 32 ∷ rest) 
 pub fronted : (word : List ℕ) (words : List (List ℕ)) → join_with_byte 32 ((32 ∷ word) ∷ words) ≡ spaced (word ∷ words)
 fronted word words = joined (32 ∷ word) words
 
+-- why a version is displaced, in words with a space between each two
+pub displaced : (by width : ℕ) → codes "version" ++ spaced (decimal by ∷ codes "closed in the same" ∷ span_words width)
+    ≡ join_with_byte 32 (codes "version" ∷ decimal by ∷ codes "closed in the same" ∷ span_words width)
+displaced by width = sym (joined (codes "version") (decimal by ∷ codes "closed in the same" ∷ span_words width))
+
+-- a reason has a word, so it is a space and its words
+pub why_spaced : (policy : Policy) (ended : Option ℕ) (why : Why) → spaced (why_words policy ended why) ≡ 32 ∷ join_with_byte 32 (why_words policy ended why)
+why_spaced policy ended Current = refl
+why_spaced policy ended Never = sym (ap (λ (rest : List ℕ). 32 ∷ rest) (joined (never_word policy ended) []))
+why_spaced policy ended (Goes AtOnce) = refl
+why_spaced policy ended (Goes (Age seconds)) = sym (ap (λ (rest : List ℕ). 32 ∷ rest) (joined (codes "ended for") (length_words seconds)))
+why_spaced policy ended (Goes (Displaced level by)) =
+    sym (ap (λ (rest : List ℕ). 32 ∷ rest) (joined (codes "version") (decimal by ∷ codes "closed in the same" ∷ span_words (width_at policy level))))
+
 -- words behind others
-spaced_both : (words more : List (List ℕ)) → spaced (words ++ more) ≡ spaced words ++ spaced more
+pub spaced_both : (words more : List (List ℕ)) → spaced (words ++ more) ≡ spaced words ++ spaced more
 spaced_both [] more = refl
 spaced_both (word ∷ words) more = ap (λ (rest : List ℕ). (32 ∷ word) ++ rest) (spaced_both words more) ∙ sym (append_assoc (32 ∷ word) (spaced words) (spaced more))
 
@@ -31,31 +51,49 @@ joined_both first words more =
     joined first (words ++ more) ∙ ap (λ (rest : List ℕ). first ++ rest) (spaced_both words more) ∙ sym (append_assoc first (spaced words) (spaced more))
     ∙ ap (λ (front : List ℕ). front ++ spaced more) (sym (joined first words))
 
--- a line is its first four words, and each other with a space in front
-pub line_parts : (a b c d : List ℕ) (words : List (List ℕ)) → line_text (a ∷ b ∷ c ∷ d ∷ words) ≡ join_with_byte 32 (a ∷ b ∷ c ∷ d ∷ []) ++ (spaced words ++ 10 ∷ [])
-line_parts a b c d words =
-    let s = spaced words in
-    let front = join_with_byte 32 (a ∷ b ∷ c ∷ d ∷ []) in
-    let apart : front ++ s ≡ a ++ 32 ∷ (b ++ 32 ∷ (c ++ 32 ∷ (d ++ s))) =
-    append_assoc a (32 ∷ (b ++ 32 ∷ (c ++ 32 ∷ d))) s
-    ∙ ap (λ (r : List ℕ). a ++ 32 ∷ r) (append_assoc b (32 ∷ (c ++ 32 ∷ d)) s ∙ ap (λ (r : List ℕ). b ++ 32 ∷ r) (append_assoc c (32 ∷ d) s)) in
-    ap (λ (r : List ℕ). (a ++ 32 ∷ (b ++ 32 ∷ (c ++ 32 ∷ r))) ++ 10 ∷ []) (joined d words)
-    ∙ ap (λ (line : List ℕ). line ++ 10 ∷ []) (sym apart) ∙ append_assoc front s (10 ∷ [])
+-- a line is its first word, and each other with a space in front
+line_parts : (first : List ℕ) (words : List (List ℕ)) → line_text (first ∷ words) ≡ first ++ (spaced words ++ 10 ∷ [])
+line_parts first words = ap (λ (line : List ℕ). line ++ 10 ∷ []) (joined first words) ∙ append_assoc first (spaced words) (10 ∷ [])
 
--- the line of a version in its parts
-pub version_parts : (policy : Policy) (told : Forecast) → table_line policy told
-    ≡ join_with_byte 32 (decimal told.number ∷ stamp_of told.closed ∷ stamp_or told.ended ∷ stamp_or told.ripe ∷ []) ++ (spaced (why_words policy told.ended told.why) ++ 10 ∷ [])
-version_parts policy told = line_parts (decimal told.number) (stamp_of told.closed) (stamp_or told.ended) (stamp_or told.ripe) (why_words policy told.ended told.why)
-
--- the line of a version that has a label in its parts
-pub labelled_parts : (policy : Policy) (labels : List Label) (told : Forecast) → labelled_line policy labels told
-    ≡ join_with_byte 32 (decimal told.number ∷ name_of labels told.number ∷ [])
-    ++ (spaced (stamp_of told.closed ∷ stamp_or told.ended ∷ stamp_or told.ripe ∷ []) ++ (spaced (why_words policy told.ended told.why) ++ 10 ∷ []))
-labelled_parts policy labels told =
-    let named = decimal told.number in
-    let name = name_of labels told.number ∷ [] in
+-- what is told of a version in its parts
+pub told_parts : (policy : Policy) (told : Forecast) → spaced (told_words policy told) ++ 10 ∷ []
+    ≡ spaced (stamp_of told.closed ∷ stamp_or told.ended ∷ stamp_or told.ripe ∷ []) ++ (spaced (why_words policy told.ended told.why) ++ 10 ∷ [])
+told_parts policy told =
     let moments = stamp_of told.closed ∷ stamp_or told.ended ∷ stamp_or told.ripe ∷ [] in
     let why = why_words policy told.ended told.why in
-    ap (λ (r : List ℕ). r ++ 10 ∷ []) (joined_both named name (moments ++ why) ∙ ap (λ (r : List ℕ). join_with_byte 32 (named ∷ name) ++ r) (spaced_both moments why))
-    ∙ append_assoc (join_with_byte 32 (named ∷ name)) (spaced moments ++ spaced why) (10 ∷ [])
-    ∙ ap (λ (r : List ℕ). join_with_byte 32 (named ∷ name) ++ r) (append_assoc (spaced moments) (spaced why) (10 ∷ []))
+    ap (λ (r : List ℕ). r ++ 10 ∷ []) (spaced_both moments why) ∙ append_assoc (spaced moments) (spaced why) (10 ∷ [])
+
+-- the line of a version in its parts
+pub version_parts : (policy : Policy) (told : Forecast) → table_line policy told ≡ decimal told.number ++ (spaced (told_words policy told) ++ 10 ∷ [])
+version_parts policy told = line_parts (decimal told.number) (told_words policy told)
+
+-- the line of a version with its details in its parts
+pub detailed_parts : (policy : Policy) (details : Details) (told : Forecast) → detailed_line policy details told
+    ≡ decimal told.number ++ (spaced (detail_words details told.number) ++ (spaced (told_words policy told) ++ 10 ∷ []))
+detailed_parts policy details told =
+    let more = detail_words details told.number in
+    let words = told_words policy told in
+    line_parts (decimal told.number) (more ++ words)
+    ∙ ap (λ (r : List ℕ). decimal told.number ++ r) (ap (λ (r : List ℕ). r ++ 10 ∷ []) (spaced_both more words) ∙ append_assoc (spaced more) (spaced words) (10 ∷ []))
+
+-- the headings in their parts
+pub heading_parts : (details : Details) → heading details ≡ codes "version" ++ (spaced (detail_headings details) ++ codes " closed ended due why\n")
+heading_parts details =
+    let more = detail_headings details in
+    let last = codes "closed ended due why" ∷ [] in
+    line_parts (codes "version") (more ++ last)
+    ∙ ap (λ (r : List ℕ). codes "version" ++ r) (ap (λ (r : List ℕ). r ++ 10 ∷ []) (spaced_both more last) ∙ append_assoc (spaced more) (spaced last) (10 ∷ []))
+
+-- the line of a moment in its parts
+pub numbered_parts : (details : Details) (at : ℕ) (numbers : List ℕ) → numbered_line details at numbers
+    ≡ join_with_byte 32 (codes "at" ∷ stamp_of at ∷ codes "stay" ∷ decimal (length numbers) ∷ [])
+    ++ (spaced (total_words details numbers) ++ (codes ":" ++ (flat_map (λ (number : ℕ). 32 ∷ decimal number) numbers ++ codes "\n")))
+numbered_parts details at numbers =
+    let count = stamp_of at ∷ codes "stay" ∷ decimal (length numbers) ∷ [] in
+    let total = total_words details numbers in
+    let rest = codes ":" ++ (flat_map (λ (number : ℕ). 32 ∷ decimal number) numbers ++ codes "\n") in
+    ap (λ (r : List ℕ). r ++ rest) (joined_both (codes "at") count total) ∙ append_assoc (join_with_byte 32 (codes "at" ∷ count)) (spaced total) rest
+
+-- the words of pairs are that of the first, and a comma and a word for each other
+pub pairs_are : (pairs : List Rung) (first : Rung) (rest : List Rung) → IsFirstAndRest pairs first rest → ladder_word pairs ≡ pair_word first ++ flat_map (λ (pair : Rung). 44 ∷ pair_word pair) rest
+pairs_are pairs first rest is = rw is.0 (joined_are 44 pair_word (pair_word first) rest)

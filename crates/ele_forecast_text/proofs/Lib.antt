@@ -4,3 +4,5 @@ pub mod Known
 mod Dates
 -- marks of versions
 mod Marks
+-- plans, one after another
+mod Plans

@@ -1,12 +1,8 @@
--- A forecast of versions that have labels: as a table, and as the list of those that are due or kept at a moment.
-use Rattle.std.specs.Prelude.{ℕ, ◌-◌, ◌==◌, ◌&&◌, nat_le, not, Bool, List, [], ◌∷◌, ◌++◌, Option, Some, None, codes, decimal, filter, map, slice_get, if◌then◌else◌}
+-- The names of versions, and the list of those that are due or kept at a moment.
+use Rattle.std.specs.Prelude.{ℕ, ◌-◌, ◌==◌, ◌&&◌, nat_le, not, Bool, List, [], ◌∷◌, Option, Some, None, decimal, filter, map, slice_get, if◌then◌else◌}
 use Rattle.std.specs.List.{flat_map, list_any}
-use Rattle.ele_policy.specs.declared.policy.Policy.{Policy}
 use Rattle.ele_output.specs.Line.{line_text}
 use Rattle.ele_forecast.specs.declared.forecast.Forecast.{Forecast}
-use Rattle.ele_forecast_text.specs.Stamp.{stamp_of, stamp_or}
-use Rattle.ele_forecast_text.specs.Table.{staying_line}
-use Rattle.ele_forecast_text.specs.Why.{why_words}
 use Rattle.ele_forecast_text.specs.declared.label.Label.{Label}
 use Rattle.ele_forecast_text.specs.declared.staying.Staying.{Staying}
 
@@ -17,18 +13,6 @@ name_or None number = decimal number
 -- the label of the version of that number, the first of which is 1, or the number if there is none
 abbrev pub name_of : List Label → ℕ → List ℕ
 name_of labels number = name_or (slice_get labels (number - 1)) number
-
-abbrev pub labelled_heading : List ℕ
-labelled_heading = line_text (codes "version label closed ended due why" ∷ [])
-
--- the line of a version, with its label behind its number
-abbrev pub labelled_line : Policy → List Label → Forecast → List ℕ
-labelled_line policy labels told =
-    line_text (decimal told.number ∷ name_of labels told.number ∷ stamp_of told.closed ∷ stamp_or told.ended ∷ stamp_or told.ripe ∷ why_words policy told.ended told.why)
-
-abbrev pub labelled_text : Policy → List Label → List Forecast → List Staying → List ℕ
-labelled_text policy labels forecasts stayings =
-    labelled_heading ++ (flat_map (labelled_line policy labels) forecasts ++ flat_map staying_line stayings)
 
 -- the version of that number is among those that stay
 abbrev pub stays_in : Staying → ℕ → Bool

@@ -5,29 +5,41 @@ use Rattle.ele_policy.specs.declared.policy.Policy.{Policy}
 use Rattle.ele_output.specs.Line.{line_text}
 use Rattle.ele_forecast.specs.Stays.{AreKept}
 use Rattle.ele_forecast.specs.declared.forecast.Forecast.{Forecast}
+use Rattle.ele_forecast_text.specs.Details.{detail_headings, detail_words, total_words}
 use Rattle.ele_forecast_text.specs.Stamp.{stamp_of, stamp_or}
 use Rattle.ele_forecast_text.specs.Why.{why_words}
+use Rattle.ele_forecast_text.specs.declared.details.Details.{Details}
 use Rattle.ele_forecast_text.specs.declared.staying.Staying.{Staying}
 
-abbrev pub heading : List ℕ
-heading = line_text (codes "version closed ended due why" ∷ [])
+-- the headings of the columns
+abbrev pub heading : Details → List ℕ
+heading details = line_text (codes "version" ∷ (detail_headings details ++ codes "closed ended due why" ∷ []))
 
--- the line of a version: its number, when it closed and ended, the moment from which it may be forgotten, and why
+-- what is told of a version: when it closed and ended, the moment from which it may be forgotten, and why
+abbrev pub told_words : Policy → Forecast → List (List ℕ)
+told_words policy told =
+    stamp_of told.closed ∷ stamp_or told.ended ∷ stamp_or told.ripe ∷ why_words policy told.ended told.why
+
+-- the line of a version: its number, and what is told of it
 abbrev pub table_line : Policy → Forecast → List ℕ
-table_line policy told =
-    line_text (decimal told.number ∷ stamp_of told.closed ∷ stamp_or told.ended ∷ stamp_or told.ripe ∷ why_words policy told.ended told.why)
+table_line policy told = line_text (decimal told.number ∷ told_words policy told)
 
--- the line of a moment: how many versions stay, and the numbers of these
-abbrev pub numbered_line : ℕ → List ℕ → List ℕ
-numbered_line at numbers =
-    join_with_byte 32 (codes "at" ∷ stamp_of at ∷ codes "stay" ∷ decimal (length numbers) ∷ [])
+-- the same, with the version's label and its size behind its number
+abbrev pub detailed_line : Policy → Details → Forecast → List ℕ
+detailed_line policy details told = line_text (decimal told.number ∷ (detail_words details told.number ++ told_words policy told))
+
+-- the line of a moment: how many versions stay, their bytes if versions have sizes, and their numbers
+abbrev pub numbered_line : Details → ℕ → List ℕ → List ℕ
+numbered_line details at numbers =
+    join_with_byte 32 (codes "at" ∷ stamp_of at ∷ codes "stay" ∷ decimal (length numbers) ∷ total_words details numbers)
     ++ (codes ":" ++ (flat_map (λ number. 32 ∷ decimal number) numbers ++ codes "\n"))
 
-abbrev pub staying_line : Staying → List ℕ
-staying_line staying = numbered_line staying.at staying.numbers.items
+abbrev pub staying_line : Details → Staying → List ℕ
+staying_line details staying = numbered_line details staying.at staying.numbers.items
 
-abbrev pub table_text : Policy → List Forecast → List Staying → List ℕ
-table_text policy forecasts stayings = heading ++ (flat_map (table_line policy) forecasts ++ flat_map staying_line stayings)
+abbrev pub table_text : Policy → Details → List Forecast → List Staying → List ℕ
+table_text policy details forecasts stayings =
+    heading details ++ (flat_map (detailed_line policy details) forecasts ++ flat_map (staying_line details) stayings)
 
 -- one for each of the moments, in their order: the versions that stay then
 pub record AreStayings (policy : Policy) (closings moments : List ℕ) (stayings : List Staying) : Type 0 where

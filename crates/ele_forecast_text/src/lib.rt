@@ -2,17 +2,23 @@
 //! bytes, and a printer as its outlet.
 #![tactic(auto)]
 
+mod details;
 mod label;
 mod listing;
+mod plan;
+mod policy;
 mod row;
 mod staying;
 mod table;
 mod unit;
 mod why;
 
-pub use label::{Label, put_names};
+pub use details::{Columns, Details, bytes_of, size_of};
+pub use label::{Label, name_of, put_names};
 pub use listing::listed_at;
+pub use plan::{Plan, plan_of, plans_of};
+pub use policy::put_policy;
 pub use row::{put_version, stamp_of};
 pub use staying::{Staying, staying_at};
-pub use table::{put_labelled_table, put_table};
-pub use why::put_length;
+pub use table::put_table;
+pub use why::{put_length, put_reason};

@@ -1,17 +1,17 @@
 //! The line of a version. A contract sees it as the words of its forecast, and a printer as its
 //! outlet.
-ghost use Rattle.std.specs.Prelude.{◌≡◌, ◌∷◌, [], decimal};
-ghost use Rattle.std.specs.List.{join_with_byte};
+ghost use Rattle.std.specs.Prelude.{◌≡◌, ◌∷◌, ◌++◌, [], decimal};
 ghost use Rattle.ele_output.specs.Prints.{Prints};
 ghost use Rattle.ele_forecast_text.specs.Stamp.{stamp_of, stamp_or};
-ghost use Rattle.ele_forecast_text.specs.Table.{table_line};
+ghost use Rattle.ele_forecast_text.specs.Table.{detailed_line, table_line, told_words};
+ghost use Rattle.ele_forecast_text.specs.Why.{spaced};
 
+use crate::details::{Details, put_details};
 use crate::why::put_why;
 use ele_forecast::Forecast;
-use ele_moment::Moment;
-use ele_output::{Printer, put_words};
+use ele_moment::{Moment, VersionNo};
+use ele_output::{Printer, put_number, put_words};
 use ele_policy::Policy;
-use itoa::Buffer;
 use std::io::Write;
 
 /// The date and time of day of a moment.
@@ -39,24 +39,53 @@ pub(crate) fn stamp_or<'s>(moment: Option<Moment>, stamp: &'s mut [u8; 20]) -> &
 pub fn put_version<W: Write>(policy: &Policy, forecast: &Forecast, printer: &mut Printer<'_, W>)
     ensures { Prints W.contents printer.old printer.new (table_line policy.now forecast.now) }
 {
+    put_version_number(forecast.number, printer);
+    put_told(policy, forecast, printer);
+}
+
+/// Puts the line of a version, with its details.
+pub(crate) fn put_detailed<W: Write>(
+    policy: &Policy,
+    details: &Details,
+    forecast: &Forecast,
+    printer: &mut Printer<'_, W>,
+)
+    ensures { Prints W.contents printer.old printer.new
+        (detailed_line policy.now details.now forecast.now) }
+{
+    put_version_number(forecast.number, printer);
+    put_details(details, forecast.number, printer);
+    put_told(policy, forecast, printer);
+}
+
+// Puts the number of a version.
+fn put_version_number<W: Write>(number: VersionNo, printer: &mut Printer<'_, W>)
+    ensures { Prints W.contents printer.old printer.new (decimal number) }
+{
+    put_number(number.0, printer);
+}
+
+// Puts a space and each word of what is told of a version, and a line feed.
+fn put_told<W: Write>(policy: &Policy, forecast: &Forecast, printer: &mut Printer<'_, W>)
+    ensures { Prints W.contents printer.old printer.new
+        (spaced (told_words policy.now forecast.now) ++ 10 ∷ []) }
+{
     put_moments(forecast, printer);
     put_why(policy, forecast.ended, forecast.why, printer);
     printer.put(b"\n");
 }
 
-// Puts the number of a version, when it closed and ended, and the moment from which it may be
+// Puts a space and each moment of a version: when it closed and ended, and from when on it may be
 // forgotten.
 fn put_moments<W: Write>(forecast: &Forecast, printer: &mut Printer<'_, W>)
     ensures { Prints W.contents printer.old printer.new
-        (join_with_byte 32 (decimal forecast.now.number ∷ stamp_of forecast.now.closed
-        ∷ stamp_or forecast.now.ended ∷ stamp_or forecast.now.ripe ∷ [])) }
+        (spaced (stamp_of forecast.now.closed ∷ stamp_or forecast.now.ended
+        ∷ stamp_or forecast.now.ripe ∷ [])) }
 {
-    let mut digits = Buffer::new();
     let mut ended = [0; 20];
     let mut due = [0; 20];
-    let number = digits.format(forecast.number.0).as_bytes();
     let closed = stamp_of(forecast.closed);
     let ended = stamp_or(forecast.ended, &mut ended);
     let due = stamp_or(forecast.ripe, &mut due);
-    put_words(number, &[&closed, ended, due], printer);
+    put_words(b"", &[&closed, ended, due], printer);
 }

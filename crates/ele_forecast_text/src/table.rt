@@ -2,97 +2,87 @@
 ghost use Rattle.std.specs.Prelude.{◌∷◌, [], codes, decimal, length};
 ghost use Rattle.std.specs.List.{flat_map, join_with_byte};
 ghost use Rattle.ele_output.specs.Prints.{Prints};
-ghost use Rattle.ele_forecast_text.specs.Labels.{labelled_line, labelled_text};
 ghost use Rattle.ele_forecast_text.specs.Stamp.{stamp_of};
-ghost use Rattle.ele_forecast_text.specs.Table.{numbered_line, staying_line, table_text, table_line};
+ghost use Rattle.ele_forecast_text.specs.Table.{detailed_line, heading, numbered_line, staying_line, table_text};
 
-use crate::label::{Label, put_labelled};
-use crate::row::{put_version, stamp_of};
+use crate::details::{Details, put_headings, put_total};
+use crate::row::{put_detailed, stamp_of};
 use crate::staying::Staying;
 use ele_forecast::Forecast;
 use ele_moment::{Moment, VersionNo};
-use ele_output::{Printer, put_line, put_word, put_words};
+use ele_output::{Printer, put_word, put_words};
 use ele_policy::Policy;
 use itoa::Buffer;
 use std::io::Write;
 
-/// Puts a table.
+/// Puts a table, with a column for each detail that versions have.
 pub fn put_table<W: Write>(
     policy: &Policy,
+    details: &Details,
     forecasts: &[Forecast],
     stayings: &[Staying],
     printer: &mut Printer<'_, W>,
 )
     ensures { Prints W.contents printer.old printer.new
-        (table_text policy.now forecasts.now stayings.now) }
+        (table_text policy.now details.now forecasts.now stayings.now) }
 {
-    put_line(b"version closed ended due why", &[], printer);
-    put_versions(policy, forecasts, printer);
-    put_stayings(stayings, printer);
+    put_heading(details, printer);
+    put_versions(policy, details, forecasts, printer);
+    put_stayings(details, stayings, printer);
 }
 
-/// Puts a table of versions that have labels.
-pub fn put_labelled_table<W: Write>(
-    policy: &Policy,
-    labels: &[Label],
-    forecasts: &[Forecast],
-    stayings: &[Staying],
-    printer: &mut Printer<'_, W>,
-)
-    ensures { Prints W.contents printer.old printer.new
-        (labelled_text policy.now labels.now forecasts.now stayings.now) }
+// Puts the headings of the columns.
+fn put_heading<W: Write>(details: &Details, printer: &mut Printer<'_, W>)
+    ensures { Prints W.contents printer.old printer.new (heading details.now) }
 {
-    put_line(b"version label closed ended due why", &[], printer);
-    put_labelled_versions(policy, labels, forecasts, printer);
-    put_stayings(stayings, printer);
-}
-
-// Puts the line of each version, with its label.
-fn put_labelled_versions<W: Write>(
-    policy: &Policy,
-    labels: &[Label],
-    forecasts: &[Forecast],
-    printer: &mut Printer<'_, W>,
-)
-    ensures { Prints W.contents printer.old printer.new
-        (flat_map (labelled_line policy.now labels.now) forecasts.now) }
-{
-    for forecast in forecasts {
-        put_labelled(policy, labels, forecast, printer);
-    }
+    printer.put(b"version");
+    put_headings(details, printer);
+    printer.put(b" closed ended due why\n");
 }
 
 // Puts the line of each version.
-fn put_versions<W: Write>(policy: &Policy, forecasts: &[Forecast], printer: &mut Printer<'_, W>)
+fn put_versions<W: Write>(
+    policy: &Policy,
+    details: &Details,
+    forecasts: &[Forecast],
+    printer: &mut Printer<'_, W>,
+)
     ensures { Prints W.contents printer.old printer.new
-        (flat_map (table_line policy.now) forecasts.now) }
+        (flat_map (detailed_line policy.now details.now) forecasts.now) }
 {
     for forecast in forecasts {
-        put_version(policy, forecast, printer);
+        put_detailed(policy, details, forecast, printer);
     }
 }
 
 // Puts the line of each moment.
-fn put_stayings<W: Write>(stayings: &[Staying], printer: &mut Printer<'_, W>)
-    ensures { Prints W.contents printer.old printer.new (flat_map staying_line stayings.now) }
+fn put_stayings<W: Write>(details: &Details, stayings: &[Staying], printer: &mut Printer<'_, W>)
+    ensures { Prints W.contents printer.old printer.new
+        (flat_map (staying_line details.now) stayings.now) }
 {
     for staying in stayings {
-        put_staying(staying, printer);
+        put_staying(details, staying, printer);
     }
 }
 
 // Puts the line of a moment.
-fn put_staying<W: Write>(staying: &Staying, printer: &mut Printer<'_, W>)
-    ensures { Prints W.contents printer.old printer.new (staying_line staying.now) }
+fn put_staying<W: Write>(details: &Details, staying: &Staying, printer: &mut Printer<'_, W>)
+    ensures { Prints W.contents printer.old printer.new (staying_line details.now staying.now) }
 {
-    put_numbered(staying.at, staying.numbers.as_slice(), printer);
+    put_numbered(details, staying.at, staying.numbers.as_slice(), printer);
 }
 
 // Puts the line of a moment at which these versions stay.
-fn put_numbered<W: Write>(at: Moment, numbers: &[VersionNo], printer: &mut Printer<'_, W>)
-    ensures { Prints W.contents printer.old printer.new (numbered_line at numbers.now) }
+fn put_numbered<W: Write>(
+    details: &Details,
+    at: Moment,
+    numbers: &[VersionNo],
+    printer: &mut Printer<'_, W>,
+)
+    ensures { Prints W.contents printer.old printer.new (numbered_line details.now at numbers.now) }
 {
     put_count(at, numbers, printer);
+    put_total(details, numbers, printer);
     printer.put(b":");
     put_numbers(numbers, printer);
     printer.put(b"\n");

@@ -1,6 +1,6 @@
 //! Why a version may be forgotten or stays, in words. A contract sees these, and a printer as its
 //! outlet.
-ghost use Rattle.std.specs.Prelude.{◌≡◌, ◌∷◌, codes, decimal};
+ghost use Rattle.std.specs.Prelude.{◌≡◌, ◌∷◌, ◌++◌, codes, decimal};
 ghost use Rattle.std.specs.List.{join_with_byte};
 ghost use Rattle.ele_output.specs.Prints.{Prints};
 ghost use Rattle.ele_forecast_text.specs.Why.{cause_words, is_in_time, length_words, never_word, spaced, span_words, width_at, width_of, why_words};
@@ -8,7 +8,7 @@ ghost use Rattle.ele_forecast_text.specs.Why.{cause_words, is_in_time, length_wo
 use crate::unit::{count_of, unit_of};
 use ele_forecast::Why;
 use ele_moment::Moment;
-use ele_output::{Printer, put_word, put_words};
+use ele_output::{Printer, put_words};
 use ele_policy::{Cause, Policy};
 use itoa::Buffer;
 use std::io::Write;
@@ -22,20 +22,35 @@ pub(crate) fn put_why<W: Write>(
 )
     ensures { Prints W.contents printer.old printer.new (spaced (why_words policy.now ended why)) }
 {
+    printer.put_byte(b' ');
+    put_reason(policy, ended, why, printer);
+}
+
+/// Puts why a version may be forgotten or stays, in words with a space between each two.
+pub fn put_reason<W: Write>(
+    policy: &Policy,
+    ended: Option<Moment>,
+    why: Why,
+    printer: &mut Printer<'_, W>,
+)
+    ensures { Prints W.contents printer.old printer.new
+        (join_with_byte 32 (why_words policy.now ended why)) }
+{
     match why {
-        Why::Current => put_word(b"current", printer),
-        Why::Never => put_word(never_word(policy, ended), printer),
+        Why::Current => printer.put(b"current"),
+        Why::Never => printer.put(never_word(policy, ended)),
         Why::Goes(cause) => put_cause(policy, cause, printer),
     }
 }
 
 // Puts why a policy lets a version go.
 fn put_cause<W: Write>(policy: &Policy, cause: Cause, printer: &mut Printer<'_, W>)
-    ensures { Prints W.contents printer.old printer.new (spaced (cause_words policy.now cause)) }
+    ensures { Prints W.contents printer.old printer.new
+        (join_with_byte 32 (cause_words policy.now cause)) }
 {
     match cause {
-        Cause::AtOnce => put_word(b"only the current one is kept", printer),
-        Cause::Age(interval) => put_length(b" ended for", interval.seconds(), printer),
+        Cause::AtOnce => printer.put(b"only the current one is kept"),
+        Cause::Age(interval) => put_length(b"ended for", interval.seconds(), printer),
         Cause::Displaced { level, by } => put_displaced(by.0, width_at(policy, level), printer),
     }
 }
@@ -81,7 +96,7 @@ pub fn put_length<W: Write>(front: &[u8], seconds: u64, printer: &mut Printer<'_
 // Puts that the version of that number closed in the same span of that width.
 fn put_displaced<W: Write>(by: u64, width: u64, printer: &mut Printer<'_, W>)
     ensures { Prints W.contents printer.old printer.new
-        (spaced (codes "version" ∷ decimal by ∷ codes "closed in the same" ∷ span_words width)) }
+        (codes "version" ++ spaced (decimal by ∷ codes "closed in the same" ∷ span_words width)) }
 {
     let mut by_digits = Buffer::new();
     let mut digits = Buffer::new();
@@ -90,12 +105,12 @@ fn put_displaced<W: Write>(by: u64, width: u64, printer: &mut Printer<'_, W>)
     let count = count_of(width);
     if count == 1 {
         let name = unit.one().as_bytes();
-        return put_words(b" version", &[by, b"closed in the same", name], printer);
+        return put_words(b"version", &[by, b"closed in the same", name], printer);
     }
     let count = digits.format(count).as_bytes();
     let name = unit.many().as_bytes();
     put_words(
-        b" version",
+        b"version",
         &[by, b"closed in the same", count, name],
         printer,
     );

@@ -12,8 +12,9 @@ use Rattle.ele_lists.specs.Lists.{AllLater}
 use Rattle.ele_lists.proofs.Taken.{cut-at}
 use Rattle.ele_outlook.specs.Input.{SpellClosings, SpellsLine, lines_of, without_empty_last}
 use Rattle.ele_outlook.specs.Reading.{FailsToAdd, ReadSoFar, ReadsClosings}
+use Rattle.ele_outlook.specs.declared.options.LineForm.{LineForm}
 use Rattle.ele_outlook.specs.declared.fault.ForecastFault.{ForecastFault}
-use Rattle.ele_outlook.specs.declared.fault.ForecastFault.TheVariants.{ReadFault, BadInput, TooMany, WriteFault, NoMemory}
+use Rattle.ele_outlook.specs.declared.fault.ForecastFault.TheVariants.{ReadFault, BadInput, TooLong, WriteFault, NoMemory}
 
 abbrev is_feed : ℕ → Bool
 is_feed byte = byte == 10
@@ -54,31 +55,31 @@ pub only_line : (rest : List ℕ) → IsFirstByte (is_byte 10) rest None → 0 <
 only_line [] h some = absurd (omega (arith, some))
 only_line (byte ∷ bytes) h some = ap without_empty_last (slice_split_none is_feed (byte ∷ bytes) (plain_all (byte ∷ bytes) h))
 
-zip_push : (labelled : Bool) (words : List (List ℕ)) (closings : List ℕ) (word : List ℕ) (closing : ℕ) → AllZip (SpellsLine labelled) words closings → SpellsLine labelled word closing → AllZip (SpellsLine labelled) (words ++ word ∷ []) (closings ++ closing ∷ [])
-zip_push labelled [] [] word closing all is = (is, tt)
-zip_push labelled (w ∷ words) (c ∷ closings) word closing all is = (all.0, zip_push labelled words closings word closing all.1 is)
-zip_push labelled words closings word closing all is = grind arith
+zip_push : (form : LineForm) (words : List (List ℕ)) (closings : List ℕ) (word : List ℕ) (closing : ℕ) → AllZip (SpellsLine form) words closings → SpellsLine form word closing → AllZip (SpellsLine form) (words ++ word ∷ []) (closings ++ closing ∷ [])
+zip_push form [] [] word closing all is = (is, tt)
+zip_push form (w ∷ words) (c ∷ closings) word closing all is = (all.0, zip_push form words closings word closing all.1 is)
+zip_push form words closings word closing all is = grind arith
 
-zip_length : (labelled : Bool) (words : List (List ℕ)) (closings : List ℕ) → AllZip (SpellsLine labelled) words closings → length words ≡ length closings
-zip_length labelled [] [] all = refl
-zip_length labelled (w ∷ words) (c ∷ closings) all = ap suc (zip_length labelled words closings all.1)
-zip_length labelled words closings all = grind arith
+zip_length : (form : LineForm) (words : List (List ℕ)) (closings : List ℕ) → AllZip (SpellsLine form) words closings → length words ≡ length closings
+zip_length form [] [] all = refl
+zip_length form (w ∷ words) (c ∷ closings) all = ap suc (zip_length form words closings all.1)
+zip_length form words closings all = grind arith
 
 -- one more line
-pub read_more : {labelled : Bool} {input rest closings new : List ℕ} (line behind : List ℕ) → ReadSoFar labelled input rest closings → lines_of rest ≡ line ∷ lines_of behind
-    → (closing : ℕ) → SpellsLine labelled line closing → new ≡ closings ++ closing ∷ [] → ReadSoFar labelled input behind new
-read_more {labelled} {input} {rest} {closings} {new} line behind far cut closing is new_is =
+pub read_more : {form : LineForm} {input rest closings new : List ℕ} (line behind : List ℕ) → ReadSoFar form input rest closings → lines_of rest ≡ line ∷ lines_of behind
+    → (closing : ℕ) → SpellsLine form line closing → new ≡ closings ++ closing ∷ [] → ReadSoFar form input behind new
+read_more {form} {input} {rest} {closings} {new} line behind far cut closing is new_is =
     record {
       done = far.done ++ line ∷ [];
       lines = far.lines ∙ ap (λ (ls : List (List ℕ)). far.done ++ ls) cut ∙ sym (append_assoc far.done (line ∷ []) (lines_of behind));
-      spelled = rw new_is (zip_push labelled far.done closings line closing far.spelled is);
+      spelled = rw new_is (zip_push form far.done closings line closing far.spelled is);
     }
 
 -- all lines
-pub read_all : {labelled : Bool} {input rest closings : List ℕ} → ReadSoFar labelled input rest closings → lines_of rest ≡ [] → AllLater ◌≤◌ closings → SpellClosings labelled (lines_of input) closings
-read_all {labelled} {input} {rest} {closings} far none rise =
+pub read_all : {form : LineForm} {input rest closings : List ℕ} → ReadSoFar form input rest closings → lines_of rest ≡ [] → AllLater ◌≤◌ closings → SpellClosings form (lines_of input) closings
+read_all {form} {input} {rest} {closings} far none rise =
     let all : lines_of input ≡ far.done = far.lines ∙ ap (λ (ls : List (List ℕ)). far.done ++ ls) none ∙ append-nil far.done in
-    record { spelled = subst (λ (ls : List (List ℕ)). AllZip (SpellsLine labelled) ls closings) (sym all) far.spelled; rise = rise }
+    record { spelled = subst (λ (ls : List (List ℕ)). AllZip (SpellsLine form) ls closings) (sym all) far.spelled; rise = rise }
 
 -- an input with a line isn't empty
 pub not_empty : (input : List ℕ) (before : List (List ℕ)) (line : List ℕ) (behind : List (List ℕ)) → lines_of input ≡ before ++ line ∷ behind → input ≢ []
@@ -87,22 +88,22 @@ not_empty [] (first ∷ before) line behind e = λ is. absurd cc
 not_empty (byte ∷ bytes) before line behind e = λ is. absurd cc
 
 -- the next line is bad, or there is no memory for it
-pub read_bad : {labelled : Bool} {input rest closings : List ℕ} (line : List ℕ) (behind : List (List ℕ)) (fault : ForecastFault) → ReadSoFar labelled input rest closings → lines_of rest ≡ line ∷ behind
-    → FailsToAdd labelled line closings fault → ReadsClosings labelled input (Err fault)
-read_bad {labelled} {input = input} {closings = closings} line behind (BadInput number why) far cut bad =
+pub read_bad : {form : LineForm} {input rest closings : List ℕ} (line : List ℕ) (behind : List (List ℕ)) (fault : ForecastFault) → ReadSoFar form input rest closings → lines_of rest ≡ line ∷ behind
+    → FailsToAdd form line closings fault → ReadsClosings form input (Err fault)
+read_bad {form} {input = input} {closings = closings} line behind (BadInput number why) far cut bad =
     record {
       before = far.done;
       line = line;
       behind = behind;
       closings = closings;
       lines = far.lines ∙ ap (λ (ls : List (List ℕ)). far.done ++ ls) cut;
-      number_is = bad.0 ∙ ap (λ (n : ℕ). n + 1) (sym (zip_length labelled far.done closings far.spelled));
+      number_is = bad.0 ∙ ap (λ (n : ℕ). n + 1) (sym (zip_length form far.done closings far.spelled));
       spell = record { spelled = far.spelled; rise = bad.1 };
       bad = bad.2;
     }
 read_bad {input = input} line behind NoMemory far cut bad = not_empty input far.done line behind (far.lines ∙ ap (λ (ls : List (List ℕ)). far.done ++ ls) cut)
 read_bad line behind ReadFault far cut bad = absurd bad
-read_bad line behind TooMany far cut bad = absurd bad
+read_bad line behind TooLong far cut bad = absurd bad
 read_bad line behind WriteFault far cut bad = absurd bad
 
 -- some bytes more were given

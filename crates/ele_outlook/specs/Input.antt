@@ -1,11 +1,14 @@
 -- The closings that an input spells, a moment a line, and its first line that is none.
-use Rattle.std.specs.Prelude.{◌≡◌, ◌≢◌, ℕ, Bool, true, false, map, ◌+◌, ◌-◌, ◌<◌, ◌≤◌, ◌==◌, List, [], ◌∷◌, ◌++◌, length, slice_get, IfSome, codes, decimal}
+use Rattle.std.specs.Prelude.{◌≡◌, ◌≢◌, ℕ, Bool, true, false, map, ◌+◌, ◌-◌, ◌<◌, ◌≤◌, ◌==◌, ◌||◌, ◌&&◌, List, [], ◌∷◌, ◌++◌, length, slice_get, IfSome, codes, decimal}
 use Rattle.std.specs.List.{AllZip, after_first, before_first, slice_split}
+use Rattle.std.specs.Str.{IsUtf8}
 use Rattle.ele_lists.specs.Lists.{AllLater}
+use Rattle.ele_moment.specs.Number.{SpellsNumber}
 use Rattle.ele_tool_time.specs.Time.{SpellsTime}
 use Rattle.ele_output.specs.Line.{line_text}
 use Rattle.ele_outlook.specs.declared.fault.BadLine.{BadLine}
-use Rattle.ele_outlook.specs.declared.fault.BadLine.TheVariants.{NotMoment, NoLabel, OutOfOrder}
+use Rattle.ele_outlook.specs.declared.fault.BadLine.TheVariants.{NotMoment, NoSize, NoLabel, NotUtf8, OutOfOrder}
+use Rattle.ele_outlook.specs.declared.options.LineForm.{LineForm}
 
 -- these without the last, if it is empty
 abbrev pub without_empty_last : List (List ℕ) → List (List ℕ)
@@ -21,57 +24,107 @@ lines_of input = without_empty_last (slice_split (λ byte. byte == 10) input)
 abbrev pub is_tab : ℕ → Bool
 is_tab byte = byte == 9
 
--- the time of a line: all of it, or what stands before its first tab (9) if lines have labels
-abbrev pub time_of : Bool → List ℕ → List ℕ
-time_of false line = line
-time_of true line = before_first is_tab line
+-- a text, or what stands before its first tab (9)
+abbrev pub before_tab_if : Bool → List ℕ → List ℕ
+before_tab_if false text = text
+before_tab_if true text = before_first is_tab text
 
--- the label of a line: what stands behind its first tab
-abbrev pub label_of : List ℕ → List ℕ
-label_of line = after_first is_tab line
+-- a text, or what stands behind its first tab
+abbrev pub after_tab_if : Bool → List ℕ → List ℕ
+after_tab_if false text = text
+after_tab_if true text = after_first is_tab text
 
--- the labels of lines, if they have any
-abbrev pub labels_of : Bool → List (List ℕ) → List (List ℕ)
-labels_of false lines = []
-labels_of true lines = map label_of lines
+-- the time of a line: all of it, or what stands before its first tab if lines have more
+abbrev pub time_of : LineForm → List ℕ → List ℕ
+time_of form line = before_tab_if (form.columns.labels || form.columns.sizes) line
+
+-- the word of a line's size: what stands behind its first tab, up to the next one if lines have labels
+abbrev pub size_word : LineForm → List ℕ → List ℕ
+size_word form line = before_tab_if form.columns.labels (after_first is_tab line)
+
+-- the label of a line: what stands behind its first tab, or behind its second if lines have sizes
+abbrev pub label_of : LineForm → List ℕ → List ℕ
+label_of form line = after_tab_if form.columns.sizes (after_first is_tab line)
+
+-- of each line, if lines have it
+abbrev pub words_of : Bool → (List ℕ → List ℕ) → List (List ℕ) → List (List ℕ)
+words_of false word lines = []
+words_of true word lines = map word lines
+
+-- the labels of lines, and the words of their sizes
+abbrev pub labels_of : LineForm → List (List ℕ) → List (List ℕ)
+labels_of form lines = words_of form.columns.labels (label_of form) lines
+
+abbrev pub size_words_of : LineForm → List (List ℕ) → List (List ℕ)
+size_words_of form lines = words_of form.columns.sizes (size_word form) lines
+
+-- what is to be so, if it is asked for
+abbrev pub Asked : Bool → Type 0 → Type 0
+Asked false A = Unit {0}
+Asked true A = A
+
+-- a line has a size, if lines have sizes
+abbrev pub HasSize : LineForm → List ℕ → Type 0
+HasSize form line = Asked form.columns.sizes ((size : ℕ) × SpellsNumber (size_word form line) size)
 
 -- a line has a label, if lines have labels
-abbrev pub HasLabel : Bool → List ℕ → Type 0
-HasLabel false line = Unit {0}
-HasLabel true line = label_of line ≢ []
+abbrev pub HasLabel : LineForm → List ℕ → Type 0
+HasLabel form line = Asked form.columns.labels (label_of form line ≢ [])
+
+-- its label is UTF-8, if it is to be
+abbrev pub HasText : LineForm → List ℕ → Type 0
+HasText form line = Asked (form.columns.labels && form.texts) (IsUtf8 (label_of form line))
+
+-- a line has what it is to have besides its time
+pub record HasFields (form : LineForm) (line : List ℕ) : Type 0 where
+  pub size : HasSize form line
+  pub label : HasLabel form line
+  pub text : HasText form line
 
 -- the line's time is this moment
-pub record SpellsLine (labelled : Bool) (line : List ℕ) (moment : ℕ) : Type 0 where
-  pub label : HasLabel labelled line
-  pub time : SpellsTime (time_of labelled line) moment
+pub record SpellsLine (form : LineForm) (line : List ℕ) (moment : ℕ) : Type 0 where
+  pub fields : HasFields form line
+  pub time : SpellsTime (time_of form line) moment
 
 -- each line spells its closing, and none comes before the one ahead of it
-pub record SpellClosings (labelled : Bool) (lines : List (List ℕ)) (closings : List ℕ) : Type 0 where
-  pub spelled : AllZip (SpellsLine labelled) lines closings
+pub record SpellClosings (form : LineForm) (lines : List (List ℕ)) (closings : List ℕ) : Type 0 where
+  pub spelled : AllZip (SpellsLine form) lines closings
   pub rise : AllLater ◌≤◌ closings
 
+-- what a line lacks besides its time
+abbrev pub LacksField : LineForm → List ℕ → BadLine → Type 0
+LacksField form line NoSize = ¬ HasSize form line
+LacksField form line NoLabel = HasSize form line × (¬ HasLabel form line)
+LacksField form line NotUtf8 = HasSize form line × HasLabel form line × (¬ HasText form line)
+LacksField form line NotMoment = ⊥
+LacksField form line OutOfOrder = ⊥
+
 -- what is wrong with a line behind those that spell these closings
-abbrev pub IsBad : Bool → List ℕ → List ℕ → BadLine → Type 0
-IsBad labelled closings line NoLabel = ¬ HasLabel labelled line
-IsBad labelled closings line NotMoment = HasLabel labelled line × ((moment : ℕ) → ¬ SpellsTime (time_of labelled line) moment)
-IsBad labelled closings line OutOfOrder =
-    (moment : ℕ) × SpellsLine labelled line moment × IfSome (slice_get closings (length closings - 1)) (λ last. moment < last)
+abbrev pub IsBad : LineForm → List ℕ → List ℕ → BadLine → Type 0
+IsBad form closings line NoSize = LacksField form line NoSize
+IsBad form closings line NoLabel = LacksField form line NoLabel
+IsBad form closings line NotUtf8 = LacksField form line NotUtf8
+IsBad form closings line NotMoment = HasFields form line × ((moment : ℕ) → ¬ SpellsTime (time_of form line) moment)
+IsBad form closings line OutOfOrder =
+    (moment : ℕ) × SpellsLine form line moment × IfSome (slice_get closings (length closings - 1)) (λ last. moment < last)
 
 -- the lines up to that one spell closings, and it is bad; the first line is 1
-pub record IsFirstBad (labelled : Bool) (input : List ℕ) (number : ℕ) (why : BadLine) : Type 0 where
+pub record IsFirstBad (form : LineForm) (input : List ℕ) (number : ℕ) (why : BadLine) : Type 0 where
   pub before : List (List ℕ)
   pub line : List ℕ
   pub behind : List (List ℕ)
   pub closings : List ℕ
   pub lines : lines_of input ≡ before ++ line ∷ behind
   pub number_is : number ≡ length before + 1
-  pub spell : SpellClosings labelled before closings
-  pub bad : IsBad labelled closings line why
+  pub spell : SpellClosings form before closings
+  pub bad : IsBad form closings line why
 
 -- what is told of a bad line
 abbrev pub bad_word : BadLine → List ℕ
 bad_word NotMoment = codes "is not a moment"
+bad_word NoSize = codes "has no size"
 bad_word NoLabel = codes "has no label"
+bad_word NotUtf8 = codes "has a label that is not UTF-8"
 bad_word OutOfOrder = codes "comes before the line ahead of it"
 
 abbrev pub bad_line_text : ℕ → BadLine → List ℕ

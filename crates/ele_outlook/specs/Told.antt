@@ -1,57 +1,129 @@
 -- What is written of a forecast, in either form.
-use Rattle.std.specs.Prelude.{◌≡◌, ℕ, nat_lt, Bool, true, false, List, [], ◌∷◌, length, map}
-use Rattle.ele_policy.specs.declared.policy.Policy.{Policy}
-use Rattle.ele_forecast.specs.ForecastOf.{AreForecasts}
+use Rattle.std.specs.Prelude.{◌≡◌, ℕ, Bool, true, false, List, [], ◌∷◌, ◌++◌, codes, decimal, length, map}
 use Rattle.ele_forecast.specs.declared.forecast.Forecast.{Forecast}
 use Rattle.ele_svg.specs.Drawing.{drawing_text}
-use Rattle.ele_forecast_text.specs.Table.{AreStayings, table_text}
-use Rattle.ele_outlook.specs.declared.options.Form.{Form}
-use Rattle.ele_outlook.specs.declared.options.Form.TheVariants.{Table, Drawing, Due, Kept}
-use Rattle.ele_outlook.specs.declared.options.ForecastOptions.{ForecastOptions}
-use Rattle.ele_forecast_text.specs.Labels.{labelled_text, listed_at, names_text}
+use Rattle.ele_policy.specs.PolicyText.{policy_word}
+use Rattle.ele_forecast_plans.specs.Compared.{compared_text}
+use Rattle.ele_forecast_plans.specs.OverTime.{AreCountsEvery, is_too_long, over_time_text}
+use Rattle.ele_forecast_plans.specs.declared.counts.Counts.{Counts}
+use Rattle.ele_forecast_data.specs.Csv.{csv_text}
+use Rattle.ele_forecast_data.specs.Json.{json_text}
+use Rattle.ele_forecast_text.specs.Labels.{listed_at, names_text}
+use Rattle.ele_forecast_text.specs.Plan.{ArePlans}
+use Rattle.ele_forecast_text.specs.Table.{table_text}
+use Rattle.ele_forecast_text.specs.declared.details.Columns.{Columns}
+use Rattle.ele_forecast_text.specs.declared.details.Details.{Details}
 use Rattle.ele_forecast_text.specs.declared.label.Label.{Label}
+use Rattle.ele_forecast_text.specs.declared.plan.Plan.{Plan}
 use Rattle.ele_forecast_text.specs.declared.staying.Staying.{Staying}
+use Rattle.ele_outlook.specs.declared.options.ForecastOptions.{ForecastOptions}
+use Rattle.ele_outlook.specs.declared.options.Form.{Form}
+use Rattle.ele_outlook.specs.declared.options.Form.TheVariants.{Table, Drawing, Due, Kept, Json, Csv, Every}
+use Rattle.ele_outlook.specs.declared.options.LineForm.{LineForm}
 
 -- the numbers of the versions that are listed: those that are due at the first of the moments, or kept then
-abbrev pub listed_numbers : Form → List Forecast → List Staying → List ℕ
-listed_numbers form forecasts [] = []
-listed_numbers Due forecasts (staying ∷ others) = listed_at false forecasts staying
-listed_numbers Kept forecasts (staying ∷ others) = listed_at true forecasts staying
-listed_numbers Table forecasts (staying ∷ others) = []
-listed_numbers Drawing forecasts (staying ∷ others) = []
+abbrev pub numbers_at : Form → List Forecast → List Staying → List ℕ
+numbers_at form forecasts [] = []
+numbers_at Due forecasts (staying ∷ others) = listed_at false forecasts staying
+numbers_at Kept forecasts (staying ∷ others) = listed_at true forecasts staying
+numbers_at Table forecasts (staying ∷ others) = []
+numbers_at Drawing forecasts (staying ∷ others) = []
+numbers_at Json forecasts (staying ∷ others) = []
+numbers_at Csv forecasts (staying ∷ others) = []
+numbers_at (Every step) forecasts (staying ∷ others) = []
 
--- a table, with a label in each row if there are labels
-abbrev pub told_table : Bool → Policy → List Label → List Forecast → List Staying → List ℕ
-told_table false policy labels forecasts stayings = table_text policy forecasts stayings
-told_table true policy labels forecasts stayings = labelled_text policy labels forecasts stayings
+abbrev pub listed_numbers : Form → List Plan → List ℕ
+listed_numbers form [] = []
+listed_numbers form (plan ∷ plans) = numbers_at form plan.forecasts.items plan.stayings.items
 
-abbrev pub told_text : Bool → Form → Policy → List Label → List Forecast → List Staying → List ℕ → List ℕ
-told_text labelled Table policy labels forecasts stayings listed = told_table labelled policy labels forecasts stayings
-told_text labelled Drawing policy labels forecasts stayings listed = drawing_text policy forecasts stayings
-told_text labelled Due policy labels forecasts stayings listed = names_text labels listed
-told_text labelled Kept policy labels forecasts stayings listed = names_text labels listed
+-- the moments of the first plan, with the versions that stay then
+abbrev pub stayings_of : List Plan → List Staying
+stayings_of [] = []
+stayings_of (plan ∷ plans) = plan.stayings.items
 
-abbrev pub told_of : ForecastOptions → List Label → List Forecast → List Staying → List ℕ → List ℕ
-told_of options labels forecasts stayings listed = told_text options.labels options.form options.policy labels forecasts stayings listed
+abbrev pub plan_table : Details → Plan → List ℕ
+plan_table details plan = table_text plan.policy details plan.forecasts.items plan.stayings.items
+
+-- the line that names a policy, if it is named
+abbrev pub policy_line : Bool → Plan → List ℕ
+policy_line false plan = []
+policy_line true plan = codes "policy " ++ (policy_word plan.policy ++ codes "\n")
+
+-- the table of one policy, or of several side by side, with so many moments
+abbrev pub told_table : Bool → Details → List Plan → ℕ → List ℕ
+told_table named details [] moments = compared_text details [] moments
+told_table named details (plan ∷ []) moments = policy_line named plan ++ plan_table details plan
+told_table named details (plan ∷ next ∷ plans) moments = compared_text details (plan ∷ next ∷ plans) moments
+
+abbrev pub told_text : Form → ForecastOptions → Details → List Plan → List ℕ → List Counts → List ℕ
+told_text Table options details plans listed rows = told_table options.named details plans (length options.moments.items)
+told_text Drawing options details plans listed rows = drawing_text options.title.items plans
+told_text Due options details plans listed rows = names_text details.labels.items listed
+told_text Kept options details plans listed rows = names_text details.labels.items listed
+told_text Json options details plans listed rows = json_text details plans
+told_text Csv options details plans listed rows = csv_text details plans
+told_text (Every step) options details plans listed rows = over_time_text plans rows
+
+abbrev pub told_of : ForecastOptions → Details → List Plan → List ℕ → List Counts → List ℕ
+told_of options details plans listed rows = told_text options.form options details plans listed rows
+
+-- the rows of a table over time count the versions that stay; another form has none
+abbrev pub AreRows : Form → List ℕ → List Plan → List Counts → Type 0
+AreRows Table closings plans rows = rows ≡ []
+AreRows Drawing closings plans rows = rows ≡ []
+AreRows Due closings plans rows = rows ≡ []
+AreRows Kept closings plans rows = rows ≡ []
+AreRows Json closings plans rows = rows ≡ []
+AreRows Csv closings plans rows = rows ≡ []
+AreRows (Every step) closings plans rows = AreCountsEvery step closings plans rows
+
+-- a table over time has at most 400 moments
+abbrev pub is_over : Form → List Plan → Bool
+is_over Table plans = false
+is_over Drawing plans = false
+is_over Due plans = false
+is_over Kept plans = false
+is_over Json plans = false
+is_over Csv plans = false
+is_over (Every step) plans = is_too_long step plans
 
 abbrev pub texts_of : List Label → List (List ℕ)
 texts_of labels = map (λ label. label.text.items) labels
 
--- a drawing has at most 2,000 versions
-abbrev pub are_too_many : Form → ℕ → Bool
-are_too_many Table count = false
-are_too_many Drawing count = nat_lt 2000 count
-are_too_many Due count = false
-are_too_many Kept count = false
+-- only in JSON must a label be UTF-8
+abbrev pub is_json : Form → Bool
+is_json Json = true
+is_json Table = false
+is_json Drawing = false
+is_json Due = false
+is_json Kept = false
+is_json Csv = false
+is_json (Every step) = false
 
--- the text tells, in the form that is asked for, what becomes of the versions of a file under the policy that closed at these
--- moments and have these labels, and which stay at the moments that are asked about
-pub record IsForecastText (options : ForecastOptions) (closings : List ℕ) (texts : List (List ℕ)) (text : List ℕ) : Type 0 where
-  pub fit : are_too_many options.form (length closings) ≡ false
-  pub forecasts : List Forecast
-  pub told : AreForecasts options.policy closings forecasts
-  pub stayings : List Staying
-  pub stay : AreStayings options.policy closings options.moments.items stayings
-  pub labels : List Label
-  pub labels_are : texts_of labels ≡ texts
-  pub text_is : text ≡ told_of options labels forecasts stayings (listed_numbers options.form forecasts stayings)
+-- what each line of an input has
+abbrev pub line_form : ForecastOptions → LineForm
+line_form options = record { columns = record { labels = options.labels; sizes = options.sizes }; texts = is_json options.form }
+
+-- what versions have besides their moments: these columns, with these labels and the sizes that these words spell
+pub record AreDetails (columns : Columns) (texts words : List (List ℕ)) (details : Details) : Type 0 where
+  pub columns_are : details.columns ≡ columns
+  pub labels_are : texts_of details.labels.items ≡ texts
+  pub sizes_are : map decimal details.sizes.items ≡ words
+
+-- the text tells, in the form that is asked for, what becomes of the versions of a file under each of the policies that closed at
+-- these moments and have these labels and sizes, and which stay at the moments that are asked about
+pub record IsForecastText (options : ForecastOptions) (closings : List ℕ) (texts words : List (List ℕ)) (text : List ℕ) : Type 0 where
+  pub plans : List Plan
+  pub are : ArePlans options.policies.items closings options.moments.items plans
+  pub details : Details
+  pub detailed : AreDetails (line_form options).columns texts words details
+  pub short : is_over options.form plans ≡ false
+  pub rows : List Counts
+  pub rows_are : AreRows options.form closings plans rows
+  pub text_is : text ≡ told_of options details plans (listed_numbers options.form plans) rows
+
+-- under the policies these closings have too many moments for a table over time
+pub record IsOver (options : ForecastOptions) (closings : List ℕ) : Type 0 where
+  pub plans : List Plan
+  pub are : ArePlans options.policies.items closings options.moments.items plans
+  pub long : is_over options.form plans ≡ true

@@ -15,9 +15,15 @@ pub enum BadLine {
     /// It spells no time.
     #[error("not a moment")]
     NotMoment,
+    /// It is to have a tab and a size, and has none.
+    #[error("no size")]
+    NoSize,
     /// It is to have a tab and a label, and has none.
     #[error("no label")]
     NoLabel,
+    /// Its label is to be UTF-8, and isn't.
+    #[error("label is not UTF-8")]
+    NotUtf8,
     /// Its moment comes before that of the line ahead.
     #[error("before the closing ahead of it")]
     OutOfOrder,
@@ -32,9 +38,9 @@ pub enum ForecastFault {
     /// The line of that number is the first that is no closing; the first line is 1.
     #[error("line {0}: {1}")]
     BadInput(u64, BadLine),
-    /// There are too many versions for a drawing.
-    #[error("too many versions to draw")]
-    TooMany,
+    /// There are too many moments for a table over time.
+    #[error("too many moments")]
+    TooLong,
     /// The writer failed, or took no byte of some.
     #[error("the output can't be written")]
     WriteFault,
@@ -61,7 +67,9 @@ impl BadLine {
     {
         match self {
             BadLine::NotMoment => "is not a moment",
+            BadLine::NoSize => "has no size",
             BadLine::NoLabel => "has no label",
+            BadLine::NotUtf8 => "has a label that is not UTF-8",
             BadLine::OutOfOrder => "comes before the line ahead of it",
         }
     }

@@ -7,7 +7,8 @@ ghost use Rattle.ele_lists.specs.Lists.{AllLater};
 ghost use Rattle.ele_outlook.specs.Reading.{AddsClosing, GivesUp, ReadSoFar, ReadsClosings};
 
 use crate::fault::{BadLine, ForecastFault};
-use crate::labels::{has_label, time_of};
+use crate::fields::{lacking, time_of};
+use crate::options::LineForm;
 use ele_forecast::{Closings, NotClosed};
 use ele_tool_time::read_time;
 use memchr::memchr;
@@ -47,32 +48,32 @@ pub(crate) fn read_input<R: Read>(alloc: Global, reader: &mut R) -> Result<Vec<u
 /// The closings that the lines of an input spell, or the first line that is none.
 pub(crate) fn read_closings(
     alloc: Global,
-    labelled: bool,
+    form: LineForm,
     input: &[u8],
 ) -> Result<Closings, ForecastFault>
-    ensures { ReadsClosings labelled input.now result }
+    ensures { ReadsClosings form input.now result }
 {
     let mut closings = Closings::new(alloc);
     let mut rest = input;
     'lines: while let Some(at) = line_end(rest) {
         let (line, behind) = cut_line(rest, at);
-        add_line(labelled, line, &mut closings)?;
+        add_line(form, line, &mut closings)?;
         rest = behind;
     }
-    add_last(labelled, rest, closings)
+    add_last(form, rest, closings)
 }
 
 // Adds the closing that the last line spells, which has no line feed; none stands there if no bytes do.
-fn add_last(labelled: bool, rest: &[u8], mut closings: Closings) -> Result<Closings, ForecastFault>
+fn add_last(form: LineForm, rest: &[u8], mut closings: Closings) -> Result<Closings, ForecastFault>
     requires { IsFirstByte (is_byte 10) rest.now None }
-    ensures { (input : List ℕ) → ReadSoFar labelled input rest.now closings
-        → ReadsClosings labelled input result }
+    ensures { (input : List ℕ) → ReadSoFar form input rest.now closings
+        → ReadsClosings form input result }
 {
     if rest.is_empty() {
         closings.lemma_sorted();
         return Ok(closings);
     }
-    add_line(labelled, rest, &mut closings)?;
+    add_line(form, rest, &mut closings)?;
     closings.lemma_sorted();
     Ok(closings)
 }
@@ -95,14 +96,14 @@ pub(crate) fn cut_line(rest: &[u8], at: usize) -> (&[u8], &[u8])
 }
 
 // Adds the closing that the next line spells.
-fn add_line(labelled: bool, line: &[u8], closings: &mut Closings) -> Result<(), ForecastFault>
-    ensures { AddsClosing labelled line.now closings.old closings.new result }
+fn add_line(form: LineForm, line: &[u8], closings: &mut Closings) -> Result<(), ForecastFault>
+    ensures { AddsClosing form line.now closings.old closings.new result }
 {
     let number = number_of_next(closings);
-    if !has_label(labelled, line) {
-        return Err(ForecastFault::BadInput(number, BadLine::NoLabel));
+    if let Some(why) = lacking(form, line) {
+        return Err(ForecastFault::BadInput(number, why));
     }
-    let Ok(moment) = read_time(time_of(labelled, line)) else {
+    let Ok(moment) = read_time(time_of(form, line)) else {
         return Err(ForecastFault::BadInput(number, BadLine::NotMoment));
     };
     match closings.push(moment) {

@@ -5,11 +5,13 @@
 #![tactic(auto)]
 
 mod fault;
+mod fields;
 mod input;
 mod labels;
 mod options;
+mod sizes;
 mod telling;
 
 pub use fault::{BadLine, ForecastFault, write_bad_line};
-pub use options::{ForecastOptions, Form};
+pub use options::{ForecastOptions, Form, LineForm, MOST_POLICIES};
 pub use telling::write_forecast;

@@ -1,35 +1,43 @@
 //! A forecast from the first byte to the last. A contract sees what was read and what was written.
-ghost use Rattle.std.specs.Prelude.{◌≡◌, ◌≢◌, [], IfOk, OnErr};
+ghost use Rattle.std.specs.Prelude.{◌≡◌, ◌≢◌, ◌∷◌, ◌++◌, ℕ, List, [], IfErr, IfOk, MatchOption, OnErr, codes, decimal, length, map};
 ghost use Rattle.std.specs.Io.KnownBytes.{Keeps};
+ghost use Rattle.ele_policy.specs.PolicyText.{policy_word};
 ghost use Rattle.ele_output.specs.Front.{WritesText};
 ghost use Rattle.ele_output.specs.Prints.{Prints};
+ghost use Rattle.ele_forecast_text.specs.Plan.{ArePlans};
+ghost use Rattle.ele_forecast_plans.specs.Compared.{compared_text, forecasts_of};
 ghost use Rattle.ele_outlook.specs.Foretold.{Foretells, TellsForecast};
-ghost use Rattle.ele_outlook.specs.Reading.{TellsClosings};
-ghost use Rattle.ele_outlook.specs.Told.{are_too_many, listed_numbers, texts_of, told_of, told_table};
+ghost use Rattle.ele_outlook.specs.Input.{SpellClosings, labels_of, lines_of, size_words_of};
+ghost use Rattle.ele_outlook.specs.Reading.{FailsToRead, TellsClosings};
+ghost use Rattle.ele_outlook.specs.Told.{AreDetails, AreRows, is_over, line_form, listed_numbers, numbers_at, plan_table, policy_line, stayings_of, texts_of, told_of, told_table};
 
 use crate::fault::ForecastFault;
 use crate::input::{read_closings, read_input};
 use crate::labels::read_labels;
-use crate::options::{ForecastOptions, Form};
+use crate::options::{ForecastOptions, Form, LineForm, line_form};
+use crate::sizes::read_sizes;
 use ele_forecast::{Closings, Forecast};
+use ele_forecast_data::{put_csv, put_json};
+use ele_forecast_plans::{Counts, counts_every, is_too_long, put_compared, put_over_time};
 use ele_forecast_text::{
-    Label, Staying, listed_at, put_labelled_table, put_names, put_table, staying_at,
+    Details, Plan, Staying, listed_at, plan_of, plans_of, put_names, put_policy, put_table,
 };
-use ele_moment::{NoMemory, VersionNo};
+use ele_moment::{Moment, NoMemory, VersionNo};
 use ele_output::{Printer, WriteFault};
-use ele_svg::{MOST, put_drawing};
+use ele_policy::Policy;
+use ele_svg::put_drawing;
 use std::alloc::Global;
 use std::io::{Read, Write};
 
-/// Reads the closings of a file to the end of the input, a time a line, and a tab and a label behind it if
-/// labels are asked for. Writes what becomes of its versions, and which stay at the moments that are asked
-/// about, in the form that is asked for.
+/// Reads the closings of a file to the end of the input, a time a line, and behind it a tab and a size and
+/// a tab and a label, if these are asked for. Writes what becomes of its versions under each of the policies, and which
+/// stay at the moments that are asked about, in the form that is asked for.
 /// The writer is flushed. The last line may lack its line feed. At an error nothing is written, but at a
 /// WriteFault:
 /// - ReadFault: the reader failed. What is only interrupted is read again.
-/// - BadInput: a line lacks its label, spells no time, or one before that of the line ahead; the first such
+/// - BadInput: a line lacks its size or label, spells no time, or one before that of the line ahead; the first such
 ///   line.
-/// - TooMany: there are more than 2,000 versions to draw.
+/// - TooLong: a table over time would have more than 400 moments.
 /// - WriteFault: the writer failed, took no byte of some, or wasn't flushed; it took a front.
 /// - NoMemory: there was none for the closings, or for what is told of them.
 pub fn write_forecast<R: Read, W: Write>(
@@ -54,9 +62,26 @@ fn tell<W: Write>(
 ) -> Result<(), ForecastFault>
     ensures { TellsForecast options.now input.now (W.contents writer.old) (W.contents writer.new) result }
 {
-    let closings = read_closings(alloc, options.labels, input)?;
-    let labels = read_labels(alloc, options.labels, input)?;
-    tell_closings(alloc, options, &closings, labels.as_slice(), writer)
+    let form = line_form(options);
+    let closings = read_closings(alloc, form, input)?;
+    let details = read_details(alloc, form, input)?;
+    tell_closings(alloc, options, &closings, &details, writer)
+}
+
+// What the lines say of versions besides their moments.
+fn read_details(alloc: Global, form: LineForm, input: &[u8]) -> Result<Details, ForecastFault>
+    ensures ok { (closings : List ℕ) → SpellClosings form (lines_of input.now) closings
+        → IfOk result (AreDetails form.columns (labels_of form (lines_of input.now))
+        (size_words_of form (lines_of input.now))) }
+    ensures err { IfErr result (FailsToRead input.now) }
+{
+    let labels = read_labels(alloc, form, input)?;
+    let sizes = read_sizes(alloc, form, input)?;
+    Ok(Details {
+        columns: form.columns,
+        labels,
+        sizes,
+    })
 }
 
 // Writes what becomes of the versions of these closings.
@@ -64,57 +89,163 @@ fn tell_closings<W: Write>(
     alloc: Global,
     options: &ForecastOptions,
     closings: &Closings,
-    labels: &[Label],
+    details: &Details,
     writer: &mut W,
 ) -> Result<(), ForecastFault>
-    ensures { TellsClosings options.now closings.now (texts_of labels.now) (W.contents writer.old)
-        (W.contents writer.new) result }
+    requires { details.now.columns ≡ (line_form options.now).columns }
+    ensures { TellsClosings options.now closings.now (texts_of details.now.labels.items)
+        (map decimal details.now.sizes.items) (W.contents writer.old) (W.contents writer.new) result }
 {
-    if are_too_many(options.form, closings.len()) {
-        return Err(ForecastFault::TooMany);
-    }
-    let Ok(forecasts) = closings.forecasts(&options.policy) else {
-        return Err(ForecastFault::NoMemory);
-    };
     let moments = options.moments.as_slice();
-    let Ok(stayings) = staying_at(alloc, &options.policy, closings, moments) else {
+    let Some(policy) = only_policy(options.policies.as_slice()) else {
+        return tell_several(alloc, options, closings, details, writer);
+    };
+    let Ok(plan) = plan_of(alloc, policy, closings, moments) else {
         return Err(ForecastFault::NoMemory);
     };
-    let Ok(listed) = listed(
-        alloc,
-        options.form,
-        forecasts.as_slice(),
-        stayings.as_slice(),
-    ) else {
+    let plans = [plan];
+    tell_plans(alloc, options, closings, details, &plans, writer)
+}
+
+// Writes what becomes of the versions of these closings under several policies, or none.
+fn tell_several<W: Write>(
+    alloc: Global,
+    options: &ForecastOptions,
+    closings: &Closings,
+    details: &Details,
+    writer: &mut W,
+) -> Result<(), ForecastFault>
+    requires columns { details.now.columns ≡ (line_form options.now).columns }
+    requires several { length options.now.policies.items ≢ 1 }
+    ensures { TellsClosings options.now closings.now (texts_of details.now.labels.items)
+        (map decimal details.now.sizes.items) (W.contents writer.old) (W.contents writer.new) result }
+{
+    let policies = options.policies.as_slice();
+    let Ok(plans) = plans_of(alloc, policies, closings, options.moments.as_slice()) else {
+        return Err(ForecastFault::NoMemory);
+    };
+    tell_plans(alloc, options, closings, details, plans.as_slice(), writer)
+}
+
+// Writes what becomes of the versions of these closings, of which these are the plans.
+fn tell_plans<W: Write>(
+    alloc: Global,
+    options: &ForecastOptions,
+    closings: &Closings,
+    details: &Details,
+    plans: &[Plan],
+    writer: &mut W,
+) -> Result<(), ForecastFault>
+    requires columns { details.now.columns ≡ (line_form options.now).columns }
+    requires are { ArePlans options.now.policies.items closings.now options.now.moments.items plans.now }
+    ensures { TellsClosings options.now closings.now (texts_of details.now.labels.items)
+        (map decimal details.now.sizes.items) (W.contents writer.old) (W.contents writer.new) result }
+{
+    if is_over(options.form, plans) {
+        return Err(ForecastFault::TooLong);
+    }
+    let Ok(listed) = listed(alloc, options.form, plans) else {
+        return Err(ForecastFault::NoMemory);
+    };
+    let Ok(rows) = counted(alloc, options.form, closings, plans) else {
         return Err(ForecastFault::NoMemory);
     };
     write_told(
         options,
-        labels,
-        forecasts.as_slice(),
-        stayings.as_slice(),
+        details,
+        plans,
         listed.as_slice(),
+        rows.as_slice(),
         writer,
     )?;
     Ok(())
 }
 
+// Whether there are too many moments for the form.
+fn is_over(form: Form, plans: &[Plan]) -> bool
+    ensures { result ≡ is_over form plans.now }
+{
+    match form {
+        Form::Every(step) => is_too_long(step, plans),
+        Form::Table | Form::Drawing | Form::Due | Form::Kept | Form::Json | Form::Csv => false,
+    }
+}
+
+// The rows of a table over time, if the form is one.
+fn counted(
+    alloc: Global,
+    form: Form,
+    closings: &Closings,
+    plans: &[Plan],
+) -> Result<Vec<Counts>, NoMemory>
+    ensures ok { IfOk result (λ rows. AreRows form closings.now plans.now rows.items) }
+    ensures err { OnErr result (forecasts_of plans.now ≢ []) }
+{
+    match form {
+        Form::Every(step) => counts_every(alloc, step, closings, plans),
+        Form::Table | Form::Drawing | Form::Due | Form::Kept | Form::Json | Form::Csv => Ok(
+            Vec::new(alloc),
+        ),
+    }
+}
+
+// The policy, if it is the only one.
+fn only_policy(policies: &[Policy]) -> Option<&Policy>
+    ensures { MatchOption result (length policies.now ≢ 1)
+        (λ policy. policies.now ≡ policy.now ∷ []) }
+{
+    if policies.len() == 1 {
+        policies.first()
+    } else {
+        None
+    }
+}
+
+// The plan, if it is the only one.
+fn only_plan(plans: &[Plan]) -> Option<&Plan>
+    ensures { MatchOption result (length plans.now ≢ 1) (λ plan. plans.now ≡ plan.now ∷ []) }
+{
+    if plans.len() == 1 {
+        plans.first()
+    } else {
+        None
+    }
+}
+
 // The numbers of the versions that the form lists.
-fn listed(
+fn listed(alloc: Global, form: Form, plans: &[Plan]) -> Result<Vec<VersionNo>, NoMemory>
+    ensures ok { IfOk result (λ numbers. numbers.items ≡ listed_numbers form plans.now) }
+    ensures err { OnErr result (stayings_of plans.now ≢ []) }
+{
+    match plans.first() {
+        Some(plan) => listed_of(
+            alloc,
+            form,
+            plan.forecasts.as_slice(),
+            plan.stayings.as_slice(),
+        ),
+        None => Ok(Vec::new(alloc)),
+    }
+}
+
+// Those that are listed of these forecasts.
+fn listed_of(
     alloc: Global,
     form: Form,
     forecasts: &[Forecast],
     stayings: &[Staying],
 ) -> Result<Vec<VersionNo>, NoMemory>
     ensures ok { IfOk result
-        (λ numbers. numbers.items ≡ listed_numbers form forecasts.now stayings.now) }
+        (λ numbers. numbers.items ≡ numbers_at form forecasts.now stayings.now) }
     ensures err { OnErr result (stayings.now ≢ []) }
 {
     let Some(staying) = stayings.first() else {
         return Ok(Vec::new(alloc));
     };
     match form {
-        Form::Table | Form::Drawing => Ok(Vec::new(alloc)),
+        Form::Table | Form::Drawing | Form::Json | Form::Csv | Form::Every(_) => {
+            Ok(Vec::new(alloc))
+        }
         Form::Due => listed_at(alloc, false, forecasts, staying),
         Form::Kept => listed_at(alloc, true, forecasts, staying),
     }
@@ -123,81 +254,127 @@ fn listed(
 // Writes what is told, and flushes it.
 fn write_told<W: Write>(
     options: &ForecastOptions,
-    labels: &[Label],
-    forecasts: &[Forecast],
-    stayings: &[Staying],
+    details: &Details,
+    plans: &[Plan],
     listed: &[VersionNo],
+    rows: &[Counts],
     writer: &mut W,
 ) -> Result<(), WriteFault>
-    ensures { WritesText (told_of options.now labels.now forecasts.now stayings.now listed.now)
+    ensures { WritesText (told_of options.now details.now plans.now listed.now rows.now)
         (W.contents writer.old) (W.contents writer.new) result }
 {
-    put_whole(options, labels, forecasts, stayings, listed, writer)?;
+    put_whole(options, details, plans, listed, rows, writer)?;
     flush(writer)
 }
 
 // Writes what is told.
 fn put_whole<W: Write>(
     options: &ForecastOptions,
-    labels: &[Label],
-    forecasts: &[Forecast],
-    stayings: &[Staying],
+    details: &Details,
+    plans: &[Plan],
     listed: &[VersionNo],
+    rows: &[Counts],
     writer: &mut W,
 ) -> Result<(), WriteFault>
-    ensures { WritesText (told_of options.now labels.now forecasts.now stayings.now listed.now)
+    ensures { WritesText (told_of options.now details.now plans.now listed.now rows.now)
         (W.contents writer.old) (W.contents writer.new) result }
 {
     let mut printer = Printer::new(writer);
-    put_told(options, labels, forecasts, stayings, listed, &mut printer);
+    put_told(options, details, plans, listed, rows, &mut printer);
     printer.hand_over()
 }
 
 // Puts what is told.
 fn put_told<W: Write>(
     options: &ForecastOptions,
-    labels: &[Label],
-    forecasts: &[Forecast],
-    stayings: &[Staying],
+    details: &Details,
+    plans: &[Plan],
     listed: &[VersionNo],
+    rows: &[Counts],
     printer: &mut Printer<'_, W>,
 )
     ensures { Prints W.contents printer.old printer.new
-        (told_of options.now labels.now forecasts.now stayings.now listed.now) }
+        (told_of options.now details.now plans.now listed.now rows.now) }
 {
     match options.form {
-        Form::Table => put_told_table(options, labels, forecasts, stayings, printer),
-        Form::Drawing => put_drawing(&options.policy, forecasts, stayings, printer),
-        Form::Due | Form::Kept => put_names(labels, listed, printer),
+        Form::Table => put_told_table(options, details, plans, printer),
+        Form::Drawing => put_drawing(options.title.as_slice(), plans, printer),
+        Form::Due | Form::Kept => put_names(details.labels.as_slice(), listed, printer),
+        Form::Json => put_json(details, plans, printer),
+        Form::Csv => put_csv(details, plans, printer),
+        Form::Every(_) => put_over_time(plans, rows, printer),
     }
 }
 
-// Puts a table, with a label in each row if there are labels.
+// Puts the table of one policy, or of several side by side.
 fn put_told_table<W: Write>(
     options: &ForecastOptions,
-    labels: &[Label],
-    forecasts: &[Forecast],
-    stayings: &[Staying],
+    details: &Details,
+    plans: &[Plan],
     printer: &mut Printer<'_, W>,
 )
     ensures { Prints W.contents printer.old printer.new
-        (told_table options.now.labels options.now.policy labels.now forecasts.now stayings.now) }
+        (told_table options.now.named details.now plans.now (length options.now.moments.items)) }
 {
-    if options.labels {
-        put_labelled_table(&options.policy, labels, forecasts, stayings, printer);
-    } else {
-        put_table(&options.policy, forecasts, stayings, printer);
+    match only_plan(plans) {
+        Some(plan) => put_named_table(options.named, details, plan, printer),
+        None => put_side_by_side(details, plans, options.moments.as_slice(), printer),
     }
 }
 
-// Whether there are too many versions for the form.
-fn are_too_many(form: Form, count: usize) -> bool
-    ensures { result ≡ are_too_many form count }
+// Puts the table of several policies side by side, with these moments.
+fn put_side_by_side<W: Write>(
+    details: &Details,
+    plans: &[Plan],
+    moments: &[Moment],
+    printer: &mut Printer<'_, W>,
+)
+    ensures { Prints W.contents printer.old printer.new
+        (compared_text details.now plans.now (length moments.now)) }
 {
-    match form {
-        Form::Drawing => MOST < count as u64,
-        Form::Table | Form::Due | Form::Kept => false,
+    put_compared(details, plans, moments.len(), printer);
+}
+
+// Puts the line that names a policy, if it is named, and the policy's table.
+fn put_named_table<W: Write>(
+    named: bool,
+    details: &Details,
+    plan: &Plan,
+    printer: &mut Printer<'_, W>,
+)
+    ensures { Prints W.contents printer.old printer.new
+        (policy_line named plan.now ++ plan_table details.now plan.now) }
+{
+    put_policy_line(named, plan, printer);
+    put_plan_table(details, plan, printer);
+}
+
+// Puts the line that names a policy, if it is named.
+fn put_policy_line<W: Write>(named: bool, plan: &Plan, printer: &mut Printer<'_, W>)
+    ensures { Prints W.contents printer.old printer.new (policy_line named plan.now) }
+{
+    if named {
+        put_policy_name(&plan.policy, printer);
     }
+}
+
+// Puts the line that names a policy.
+fn put_policy_name<W: Write>(policy: &Policy, printer: &mut Printer<'_, W>)
+    ensures { Prints W.contents printer.old printer.new
+        (codes "policy " ++ (policy_word policy.now ++ codes "\n")) }
+{
+    printer.put(b"policy ");
+    put_policy(policy, printer);
+    printer.put(b"\n");
+}
+
+// Puts the table of one policy.
+fn put_plan_table<W: Write>(details: &Details, plan: &Plan, printer: &mut Printer<'_, W>)
+    ensures { Prints W.contents printer.old printer.new (plan_table details.now plan.now) }
+{
+    let forecasts = plan.forecasts.as_slice();
+    let stayings = plan.stayings.as_slice();
+    put_table(&plan.policy, details, forecasts, stayings, printer);
 }
 
 // Flushes the writer.

@@ -1,1 +1,1 @@
-mod Known
+mod Ranges

@@ -1,3 +1,2 @@
 pub mod Drawing
-pub mod Mark
-pub mod Page
+pub mod Summary

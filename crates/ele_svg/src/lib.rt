@@ -1,10 +1,8 @@
 //! A forecast as an SVG document. A contract sees its text, and a printer as its outlet.
 #![tactic(auto)]
 
-mod drawing;
-mod mark;
-mod marks;
-mod page;
+mod curve;
+mod strip;
+mod summary;
 
-pub use drawing::put_drawing;
-pub use page::MOST;
+pub use summary::put_drawing;

@@ -7,13 +7,13 @@ use Rattle.ele_outlook.specs.Foretold.{Foretells}
 use Rattle.ele_outlook.specs.Input.{bad_line_text}
 use Rattle.ele_outlook.specs.declared.options.ForecastOptions.{ForecastOptions}
 use Rattle.ele_outlook.specs.declared.fault.ForecastFault.{ForecastFault}
-use Rattle.ele_outlook.specs.declared.fault.ForecastFault.TheVariants.{ReadFault, BadInput, TooMany, WriteFault, NoMemory}
+use Rattle.ele_outlook.specs.declared.fault.ForecastFault.TheVariants.{ReadFault, BadInput, TooLong, WriteFault, NoMemory}
 use Rattle.ele_words.specs.Status.{fault_line}
 
 abbrev pub forecast_status : ForecastFault → ℕ
 forecast_status ReadFault = 1
 forecast_status (BadInput number why) = 2
-forecast_status TooMany = 2
+forecast_status TooLong = 2
 forecast_status WriteFault = 1
 forecast_status NoMemory = 3
 
@@ -21,7 +21,7 @@ forecast_status NoMemory = 3
 abbrev pub forecast_line : ForecastFault → List ℕ
 forecast_line ReadFault = fault_line shell.ReadFault
 forecast_line (BadInput number why) = bad_line_text number why
-forecast_line TooMany = codes "elephant: more than 2000 versions to draw\n"
+forecast_line TooLong = codes "elephant: more than 400 moments; --every takes a longer step\n"
 forecast_line WriteFault = fault_line shell.WriteFault
 forecast_line NoMemory = fault_line shell.NoMemory
 

@@ -41,19 +41,22 @@ fn tell_fault<E: Write>(fault: ForecastFault, errors: &mut E) -> u8
     match fault {
         ForecastFault::ReadFault => tell(Some(ShellFault::ReadFault), errors),
         ForecastFault::BadInput(number, why) => tell_bad_line(number, why, errors),
-        ForecastFault::TooMany => tell_too_many(errors),
+        ForecastFault::TooLong => tell_too_long(errors),
         ForecastFault::WriteFault => tell(Some(ShellFault::WriteFault), errors),
         ForecastFault::NoMemory => tell(Some(ShellFault::NoMemory), errors),
     }
 }
 
-// Tells that there are too many versions, and answers the status to end with.
-fn tell_too_many<E: Write>(errors: &mut E) -> u8
+// Tells that there are too many moments, and answers the status to end with.
+fn tell_too_long<E: Write>(errors: &mut E) -> u8
     ensures status { result ≡ 2 }
     ensures told { AppendsFront (E.contents errors.old) (E.contents errors.new)
-        (codes "elephant: more than 2000 versions to draw\n") }
+        (codes "elephant: more than 400 moments; --every takes a longer step\n") }
 {
-    let _ = write_all(errors, b"elephant: more than 2000 versions to draw\n");
+    let _ = write_all(
+        errors,
+        b"elephant: more than 400 moments; --every takes a longer step\n",
+    );
     let _ = errors.flush();
     status(Failure::BadInput)
 }

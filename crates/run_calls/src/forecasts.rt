@@ -51,21 +51,27 @@ fn ask_about(alloc: Global, policy: Policy, words: &[&[u8]]) -> Result<Invocatio
         moments.push(Moment::read(word).map_err(|_| "not a moment")?)?;
     }
     Ok(Invocation::Forecast(ForecastOptions {
-        policy,
+        policies: vec![in alloc; policy]?,
+        named: false,
+        title: Vec::new(alloc),
         moments,
         labels: false,
+        sizes: false,
         form: Form::Table,
     }))
 }
 
 // A drawing under a policy that keeps one version.
-fn drawing(alloc: Global) -> Invocation {
-    Invocation::Forecast(ForecastOptions {
-        policy: Policy::One,
+fn drawing(alloc: Global) -> Result<Invocation, Fail> {
+    Ok(Invocation::Forecast(ForecastOptions {
+        policies: vec![in alloc; Policy::One]?,
+        named: false,
+        title: Vec::new(alloc),
         moments: Vec::new(alloc),
         labels: false,
+        sizes: false,
         form: Form::Drawing,
-    })
+    }))
 }
 
 // So many versions that closed at one moment.
@@ -140,14 +146,14 @@ fn a_flush_that_fails_ends_a_forecast(rt: HostRuntime) -> Result<(), Fail> {
 }
 
 #[test]
-fn a_drawing_is_an_svg_document_of_at_most_2000_versions(rt: HostRuntime) -> Result<(), Fail> {
+fn a_drawing_of_many_versions_is_an_svg_document(rt: HostRuntime) -> Result<(), Fail> {
     let alloc = rt.alloc();
     let mut drawn = Vec::<u8>::new(alloc);
     let closings = closed_at_once(alloc, 2_000)?;
     let most = ask(
         &rt,
         alloc,
-        &drawing(alloc),
+        &drawing(alloc)?,
         false,
         closings.as_slice(),
         &mut drawn,
@@ -156,14 +162,5 @@ fn a_drawing_is_an_svg_document_of_at_most_2000_versions(rt: HostRuntime) -> Res
     let text = str::from_utf8(drawn.as_slice()).map_err(|_| "no text")?;
     assert!(rt; text.contains("<svg xmlns='http://www.w3.org/2000/svg'"));
     assert!(rt; text.ends_with("</svg>\n"));
-    let closings = closed_at_once(alloc, 2_001)?;
-    let told = "elephant: more than 2000 versions to draw\n";
-    expect(
-        &rt,
-        alloc,
-        &drawing(alloc),
-        closings.as_slice(),
-        ("", told, 2),
-    );
     Ok(())
 }

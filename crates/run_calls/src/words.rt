@@ -88,10 +88,13 @@ fn ask_of(alloc: Global, line: &str) -> Result<Option<(Policy, [Option<u64>; 2])
     let Invocation::Forecast(ask) = asked_by(alloc, line)? else {
         return Ok(None);
     };
+    let Some(policy) = ask.policies.first() else {
+        return Ok(None);
+    };
     let moments = ask.moments.as_slice();
     let first = moments.first().map(|at| at.seconds());
     let last = moments.last().map(|at| at.seconds());
-    Ok(Some((ask.policy, [first, last])))
+    Ok(Some((*policy, [first, last])))
 }
 
 #[test]
@@ -103,6 +106,11 @@ fn a_forecast_has_a_policy_and_moments(rt: HostRuntime) -> Result<(), Fail> {
     assert_eq!(rt;
         ask_of(alloc, line)?,
         Some((Policy::All, [Some(5), Some(9)]))
+    );
+    let seconds = ask_of(alloc, "elephant forecast --policy safe:604800/3")?;
+    assert_eq!(rt;
+        ask_of(alloc, "elephant forecast --policy safe:7d/3")?,
+        seconds
     );
     Ok(())
 }
@@ -142,6 +150,12 @@ fn other_words_are_not_understood(rt: HostRuntime) -> Result<(), Fail> {
         "elephant forecast",
         "elephant forecast --policy none",
         "elephant forecast --policy safe:0",
+        "elephant forecast --policy safe:7x",
+        "elephant forecast --policy safe:18446744073709551615w",
+        "elephant forecast --policy one --every 0",
+        "elephant forecast --policy one --every 1d --at 5",
+        "elephant forecast --policy one --json --csv",
+        "elephant forecast --policy one --policy all --list due --at 5",
         "elephant forecast --policy one --at now",
         "elephant forecast --policy one 5",
         "elephant run script",

@@ -1,11 +1,12 @@
 //! What the words of a forecast ask for.
-ghost use Rattle.ele_words.specs.Invocation.{IsAsked};
+ghost use Rattle.ele_words.specs.Invocation.{IsAsked, IsRefusal};
 
 use crate::invocation::{Invocation, flag, not_understood};
 use clap::{Arg, ArgAction, ArgMatches, Command};
-use ele_outlook::{ForecastOptions, Form};
+use ele_forecast_text::Columns;
+use ele_outlook::{ForecastOptions, Form, MOST_POLICIES};
 use ele_policy::Policy;
-use ele_tool_policy::read_policy;
+use ele_tool_policy::{read_length, read_policy};
 use ele_tool_time::read_time;
 use std::alloc::{AllocError, Global};
 
@@ -14,28 +15,47 @@ const FORECAST: &str = "Tells from when on each version of a file may be forgott
     one a line, oldest first";
 
 const POLICY: &str = "The file's policy: one, all, standard, safe:LENGTH, safe:LENGTH/FLOOR, \
-    or landmarks:AGE/WIDTH,..; a length is seconds, or a number and s, m, h, d, w or y";
+    or landmarks:AGE/WIDTH,..; a length is seconds, or a number and s, m, h, d, w or y; \
+    up to 16 policies are compared";
 
 const AT: &str = "Tells which versions stay at that moment; may be given several times";
 
-const SVG: &str = "Draws it as SVG, up to 2000 versions, in place of the table";
+const SVG: &str = "Draws it as SVG in place of the table";
+
+const TITLE: &str = "The title of the drawing";
+
+const EVERY: &str =
+    "Prints how many versions each policy keeps, at moments from the first closing on \
+    that follow each other by this length";
+
+const JSON: &str = "Prints JSON in place of the table";
+
+const CSV: &str = "Prints CSV in place of the table";
 
 const LABELS: &str =
     "Takes a tab and a label behind the time of each line, and prints it in each row";
+
+const SIZES: &str =
+    "Takes a tab and a size in bytes behind the time of each line, before a label, and prints it";
 
 const LIST: &str =
     "Lists the labels of the versions that are due at the moment of --at, or kept then, \
     in place of the table; numbers without --labels";
 
-const BAD_LIST: &str = "error: --list takes due or kept, one --at, and no --svg\n\n\
+const BAD_LIST: &str = "error: --list takes due or kept, one --policy and one --at\n\n\
     For more information, try 'elephant forecast --help'.\n";
 
 const BAD_POLICY: &str = "error: --policy takes one, all, standard, safe:LENGTH, safe:LENGTH/FLOOR \
     or landmarks:AGE/WIDTH,.., with lengths as 3600, 90m, 7d or 1y\n\n\
     For more information, try 'elephant forecast --help'.\n";
 
-const BAD_MOMENT: &str =
-    "error: --at takes seconds since 1970 or a time as 2026-01-31T12:00:00Z\n\n\
+const MANY_POLICIES: &str = "error: --policy is given at most 16 times\n\n\
+    For more information, try 'elephant forecast --help'.\n";
+
+const TWO_FORMS: &str = "error: --every, --list, --svg, --json and --csv exclude each other\n\n\
+    For more information, try 'elephant forecast --help'.\n";
+
+const BAD_EVERY: &str = "error: --every takes a length as 3600, 90m, 7d or 1y, and no --at\n\n\
     For more information, try 'elephant forecast --help'.\n";
 
 /// The words of a forecast.
@@ -44,49 +64,194 @@ pub(crate) fn forecast<'a>(alloc: Global) -> Result<Command<'a>, AllocError> {
         .long("policy")
         .value_name("POL")
         .help(POLICY)
+        .action(ArgAction::Append)
         .required(true);
     let at = Arg::new(alloc, "at")
         .long("at")
         .value_name("M")
         .help(AT)
         .action(ArgAction::Append);
+    let every = Arg::new(alloc, "every")
+        .long("every")
+        .value_name("LENGTH")
+        .help(EVERY);
     let list = Arg::new(alloc, "list")
         .long("list")
         .value_name("WHICH")
         .help(LIST);
+    let title = Arg::new(alloc, "title")
+        .long("title")
+        .value_name("TEXT")
+        .help(TITLE);
     Command::new(alloc, "forecast")
         .about(FORECAST)
         .arg(policy)?
         .arg(at)?
+        .arg(every)?
         .arg(flag(alloc, "labels", LABELS))?
+        .arg(flag(alloc, "sizes", SIZES))?
         .arg(list)?
-        .arg(flag(alloc, "svg", SVG))
+        .arg(flag(alloc, "svg", SVG))?
+        .arg(title)?
+        .arg(flag(alloc, "json", JSON))?
+        .arg(flag(alloc, "csv", CSV))
 }
 
-// The policy that stands behind its option, which the words must have.
-fn policy_in(forecast: &ArgMatches) -> Option<Policy> {
-    read_policy(forecast.get_str("policy")?.as_bytes())
+// How many forms are asked for.
+fn count_forms(forecast: &ArgMatches) -> usize {
+    let flags = [
+        forecast.get_flag("svg"),
+        forecast.get_flag("json"),
+        forecast.get_flag("csv"),
+        forecast.contains_id("list"),
+        forecast.contains_id("every"),
+    ];
+    flags.iter().filter(|is_given| **is_given).count()
 }
 
-// The form in which it is to be told. None if there is no such list, or a drawing is asked for too.
+// The form in which it is to be told, of which one is asked for at most. None if there is no such list or length.
 fn form_in(forecast: &ArgMatches) -> Option<Form> {
-    let is_drawn = forecast.get_flag("svg");
-    match forecast.get_str("list") {
-        None if is_drawn => Some(Form::Drawing),
-        None => Some(Form::Table),
-        Some("due") if !is_drawn => Some(Form::Due),
-        Some("kept") if !is_drawn => Some(Form::Kept),
-        Some(_) => None,
+    if let Some(which) = forecast.get_str("list") {
+        return list_of(which);
+    }
+    if let Some(word) = forecast.get_str("every") {
+        return every_of(word);
+    }
+    Some(flagged_form(forecast))
+}
+
+// The form that a flag asks for, which is the table without one.
+fn flagged_form(forecast: &ArgMatches) -> Form {
+    if forecast.get_flag("svg") {
+        Form::Drawing
+    } else if forecast.get_flag("json") {
+        Form::Json
+    } else if forecast.get_flag("csv") {
+        Form::Csv
+    } else {
+        Form::Table
     }
 }
 
-// What a forecast under that policy asks for at the times that these words spell.
-fn asked_at(alloc: Global, policy: Policy, words: &[&str], labels: bool, form: Form) -> Invocation
+// The list of that name.
+fn list_of(which: &str) -> Option<Form> {
+    match which {
+        "due" => Some(Form::Due),
+        "kept" => Some(Form::Kept),
+        _ => None,
+    }
+}
+
+// A table over time with steps of the length that a word spells.
+fn every_of(word: &str) -> Option<Form> {
+    match read_length(word.as_bytes()) {
+        Some(step) if step > 0 => Some(Form::Every(step)),
+        _ => None,
+    }
+}
+
+// The refusal of a form that isn't one.
+fn no_form(alloc: Global, forecast: &ArgMatches) -> Invocation
+    ensures { IsRefusal result }
+{
+    if forecast.contains_id("list") {
+        not_understood(alloc, BAD_LIST)
+    } else {
+        not_understood(alloc, BAD_EVERY)
+    }
+}
+
+// The title of a drawing, which is empty if none is given. None if there was no memory.
+fn title_in(alloc: Global, forecast: &ArgMatches) -> Option<Vec<u8>> {
+    let mut title = Vec::new(alloc);
+    if let Some(text) = forecast.get_str("title") {
+        title.extend_from_slice(text.as_bytes()).ok()?;
+    }
+    Some(title)
+}
+
+// What a line and a drawing have besides moments.
+#[derive(Debug, Drop)]
+struct Extras {
+    columns: Columns,
+    title: Vec<u8>,
+}
+
+// Which columns each line has besides its time.
+fn columns_in(forecast: &ArgMatches) -> Columns {
+    Columns {
+        labels: forecast.get_flag("labels"),
+        sizes: forecast.get_flag("sizes"),
+    }
+}
+
+// Whether a script spells a policy by that word too.
+fn is_plain(word: &str) -> bool {
+    ele_script::read_policy(word.as_bytes()).is_ok()
+}
+
+// Whether the form tells of that many policies and moments.
+fn suits(form: Form, policies: usize, moments: usize) -> bool {
+    match form {
+        Form::Table | Form::Drawing | Form::Json | Form::Csv => true,
+        Form::Due | Form::Kept => policies == 1 && moments == 1,
+        Form::Every(_) => moments == 0,
+    }
+}
+
+// The refusal of too many policies or moments for the form.
+fn unsuited(alloc: Global, form: Form) -> Invocation
+    ensures { IsRefusal result }
+{
+    match form {
+        Form::Every(_) => not_understood(alloc, BAD_EVERY),
+        Form::Table | Form::Drawing | Form::Json | Form::Csv | Form::Due | Form::Kept => {
+            not_understood(alloc, BAD_LIST)
+        }
+    }
+}
+
+// What a forecast under the policies of these words asks for at the times of those.
+fn asked_under(
+    alloc: Global,
+    policy_words: &[&str],
+    time_words: &[&str],
+    extras: Extras,
+    form: Form,
+) -> Invocation
     ensures { IsAsked result }
 {
-    if matches!(form, Form::Due | Form::Kept) && words.len() != 1 {
-        return not_understood(alloc, BAD_LIST);
+    if policy_words.len() > MOST_POLICIES {
+        return not_understood(alloc, MANY_POLICIES);
     }
+    if !suits(form, policy_words.len(), time_words.len()) {
+        return unsuited(alloc, form);
+    }
+    let mut policies = Vec::new(alloc);
+    let mut named = false;
+    for word in policy_words {
+        let Some(policy) = read_policy(word.as_bytes()) else {
+            return not_understood(alloc, BAD_POLICY);
+        };
+        named = named || !is_plain(word);
+        if policies.push(policy).is_err() {
+            return Invocation::NoMemory;
+        }
+    }
+    asked_at(alloc, policies, named, time_words, extras, form)
+}
+
+// What a forecast under these policies asks for at the times that these words spell.
+fn asked_at(
+    alloc: Global,
+    policies: Vec<Policy>,
+    named: bool,
+    words: &[&str],
+    extras: Extras,
+    form: Form,
+) -> Invocation
+    ensures { IsAsked result }
+{
     let mut moments = Vec::new(alloc);
     for word in words {
         let Ok(at) = read_time(word.as_bytes()) else {
@@ -97,9 +262,12 @@ fn asked_at(alloc: Global, policy: Policy, words: &[&str], labels: bool, form: F
         }
     }
     Invocation::Forecast(ForecastOptions {
-        policy,
+        policies,
+        named,
         moments,
-        labels,
+        labels: extras.columns.labels,
+        sizes: extras.columns.sizes,
+        title: extras.title,
         form,
     })
 }
@@ -108,15 +276,22 @@ fn asked_at(alloc: Global, policy: Policy, words: &[&str], labels: bool, form: F
 pub(crate) fn asked_forecast(alloc: Global, forecast: &ArgMatches) -> Invocation
     ensures { IsAsked result }
 {
-    let Some(policy) = policy_in(forecast) else {
+    if count_forms(forecast) > 1 {
+        return not_understood(alloc, TWO_FORMS);
+    }
+    let Some(form) = form_in(forecast) else {
+        return no_form(alloc, forecast);
+    };
+    let Some(policies) = forecast.get_strs("policy") else {
         return not_understood(alloc, BAD_POLICY);
     };
-    let Some(form) = form_in(forecast) else {
-        return not_understood(alloc, BAD_LIST);
+    let Some(title) = title_in(alloc, forecast) else {
+        return Invocation::NoMemory;
     };
-    let labels = forecast.get_flag("labels");
+    let columns = columns_in(forecast);
+    let extras = Extras { columns, title };
     match forecast.get_strs("at") {
-        Some(words) => asked_at(alloc, policy, words, labels, form),
-        None => asked_at(alloc, policy, &[], labels, form),
+        Some(words) => asked_under(alloc, policies, words, extras, form),
+        None => asked_under(alloc, policies, &[], extras, form),
     }
 }

@@ -3,5 +3,5 @@ use Rattle.ele_forecast_text.proofs.table.put_table.Goals as goal
 
 pub returns : goal.returns
 returns g c =
-    puts_then c.put_line.ensures (
+    puts_then c.put_heading.ensures (
     puts_then c.put_versions.ensures c.put_stayings.ensures)

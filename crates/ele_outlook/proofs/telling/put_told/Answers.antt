@@ -1,4 +1,7 @@
 use Rattle.ele_outlook.proofs.telling.put_told.Goals as goal
 
+pub returns-in-Table : goal.returns-in-Table
+returns-in-Table g c = rw c.in-Table.is c.put_told_table.ensures
+
 pub returns-in-Drawing : goal.returns-in-Drawing
-returns-in-Drawing g c = rw c.in-Drawing.is c.put_drawing.ensures
+returns-in-Drawing g c = rw c.in-Drawing.is (rw c.as_slice.ensures.value at c.put_drawing.ensures)

@@ -1,0 +1,2 @@
+-- joined texts, and what a list is put by
+mod Commas

@@ -1,0 +1,89 @@
+//! The details of versions in a table of several policies. A contract sees them as words, and a printer as its outlet.
+ghost use Rattle.std.specs.Prelude.{◌∷◌, [], decimal};
+ghost use Rattle.ele_output.specs.Prints.{Prints};
+ghost use Rattle.ele_forecast_text.specs.Details.{detail_headings, detail_words, size_of, total_words, words_if};
+ghost use Rattle.ele_forecast_text.specs.Labels.{name_of};
+ghost use Rattle.ele_forecast_text.specs.Why.{spaced};
+
+use ele_forecast_text::{Details, bytes_of, name_of, size_of};
+use ele_moment::VersionNo;
+use ele_output::{Printer, put_word, put_words};
+use itoa::Buffer;
+use std::io::Write;
+
+/// Puts a space and each heading of the details.
+pub(crate) fn put_headings<W: Write>(details: &Details, printer: &mut Printer<'_, W>)
+    ensures { Prints W.contents printer.old printer.new (spaced (detail_headings details.now)) }
+{
+    put_heading(details.columns.labels, b"label", printer);
+    put_heading(details.columns.sizes, b"bytes", printer);
+}
+
+// Puts a space and the heading of a column, if there is that column.
+fn put_heading<W: Write>(has_column: bool, heading: &[u8], printer: &mut Printer<'_, W>)
+    ensures { Prints W.contents printer.old printer.new
+        (spaced (words_if has_column (heading.now ∷ []))) }
+{
+    if has_column {
+        put_word(heading, printer);
+    }
+}
+
+/// Puts a space and each detail of the version of that number.
+pub(crate) fn put_details<W: Write>(
+    details: &Details,
+    number: VersionNo,
+    printer: &mut Printer<'_, W>,
+)
+    ensures { Prints W.contents printer.old printer.new (spaced (detail_words details.now number)) }
+{
+    put_label(details, number, printer);
+    put_size(details, number, printer);
+}
+
+// Puts a space and the label of the version of that number, if versions have labels.
+fn put_label<W: Write>(details: &Details, number: VersionNo, printer: &mut Printer<'_, W>)
+    ensures { Prints W.contents printer.old printer.new (spaced
+        (words_if details.now.columns.labels (name_of details.now.labels.items number ∷ []))) }
+{
+    if details.columns.labels {
+        let mut digits = Buffer::new();
+        put_word(
+            name_of(details.labels.as_slice(), number, &mut digits),
+            printer,
+        );
+    }
+}
+
+// Puts a space and the size of the version of that number, if versions have sizes.
+fn put_size<W: Write>(details: &Details, number: VersionNo, printer: &mut Printer<'_, W>)
+    ensures { Prints W.contents printer.old printer.new (spaced (words_if details.now.columns.sizes
+        (decimal (size_of details.now.sizes.items number) ∷ []))) }
+{
+    if details.columns.sizes {
+        let mut digits = Buffer::new();
+        let size = size_of(details.sizes.as_slice(), number);
+        put_word(digits.format(size).as_bytes(), printer);
+    }
+}
+
+/// Puts a space and each word of how many bytes the versions of these numbers have together, if
+/// versions have sizes.
+pub(crate) fn put_total<W: Write>(
+    details: &Details,
+    numbers: &[VersionNo],
+    printer: &mut Printer<'_, W>,
+)
+    ensures { Prints W.contents printer.old printer.new
+        (spaced (total_words details.now numbers.now)) }
+{
+    if details.columns.sizes {
+        let mut digits = Buffer::new();
+        let bytes = bytes_of(details.sizes.as_slice(), numbers);
+        put_words(
+            b" with",
+            &[digits.format(bytes).as_bytes(), b"bytes"],
+            printer,
+        );
+    }
+}

@@ -1,7 +1,0 @@
-use Rattle.ele_output.proofs.Known.{puts_then}
-use Rattle.ele_forecast_text.proofs.table.put_labelled_table.Goals as goal
-
-pub returns : goal.returns
-returns g c =
-    puts_then c.put_line.ensures (
-    puts_then c.put_labelled_versions.ensures c.put_stayings.ensures)

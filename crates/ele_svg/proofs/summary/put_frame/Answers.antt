@@ -1,0 +1,9 @@
+use Rattle.ele_output.proofs.Known.{puts_then}
+use Rattle.ele_svg.proofs.summary.put_frame.Goals as goal
+
+pub returns : goal.returns
+returns g c =
+    puts_then c.put_head.ensures (
+    puts_then (rw c.versions_of.ensures at c.put_heading.ensures) (
+    puts_then c.put_keys.ensures (
+    puts_then c.put_foot.ensures c.put_axis.ensures)))

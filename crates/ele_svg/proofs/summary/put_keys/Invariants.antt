@@ -1,0 +1,13 @@
+use Rattle.std.proofs.Common.{◌≡◌}
+use Rattle.std.specs.Prelude.{drop}
+use Rattle.ele_output.specs.Prints.{outlet}
+use Rattle.ele_svg.specs.Summary.{key_drawn, keys_drawn, place_after}
+use Rattle.ele_svg_rows.specs.Walk.{walked}
+use Rattle.ele_output.proofs.Known.{HasPut}
+use Rattle.ele_svg.proofs.summary.put_keys.Given as goal
+
+-- the policies so far are put, and the others are left
+abbrev pub invariant-loop-plan : goal.invariant-loop-plan
+invariant-loop-plan g l =
+    (l.place ≡ l.plan-index)
+    × HasPut (outlet g.W.Write.contents l.fn.printer) (outlet g.W.Write.contents l.printer) (keys_drawn l.plans) (walked key_drawn place_after l.place (drop l.plan-index l.plans))

@@ -1,0 +1,7 @@
+pub mod Calendar
+pub mod Drawing
+pub mod Head
+pub mod Labels
+pub mod Mark
+pub mod Page
+pub mod Walk
