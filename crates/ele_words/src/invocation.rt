@@ -4,9 +4,13 @@ ghost use Rattle.std.specs.Prelude.{◌≡◌};
 ghost use Rattle.ele_model.specs.Bounds.{largest_bounds};
 ghost use Rattle.ele_words.specs.Invocation.{IsEvents, IsAsked, IsRefusal};
 
+mod errors;
 mod forecast;
+mod pages;
+mod paragraphs;
 mod script;
 mod storm;
+mod topics;
 
 use clap::error::ErrorKind;
 use clap::{Arg, ArgAction, ArgMatches, Command, Error};
@@ -16,10 +20,10 @@ use ele_outlook::ForecastOptions;
 use ele_runs::RunOptions;
 use ele_storm::StormPlan;
 use forecast::{asked_forecast, forecast};
-use script::COMMANDS;
 use std::alloc::{AllocError, Global};
 use std::{io, mem};
 use storm::{asked_storm, storm};
+use topics::{asked_help, asked_topic};
 
 /// What the words ask for.
 #[derive(Debug, Drop)]
@@ -51,7 +55,7 @@ const FILE_GIVEN: &str =
 
 const NO_WORDS: &str = "error: the words can't be read as text\n";
 
-const VERSION: &str = "0.2.0";
+const VERSION: &str = "0.3.0";
 
 const EXAMPLE: &str = "\
 A script is lines, and each is answered as it comes. This one saves a file, and reads it as it was:
@@ -62,9 +66,13 @@ A script is lines, and each is answered as it comes. This one saves a file, and 
     close 1                 ok closed version 2
     read /notes             ok bytes 4 706c616e
 
-'elephant run < FILE' runs the script in FILE, and 'elephant help script' tells all commands.";
+'elephant run < FILE' runs the script in FILE, and 'elephant help script' lists all commands.
+'elephant help TOPIC' explains script, policies, refusals, limits, run, storm, forecast, or a command,
+as in 'elephant help create'.";
 
 const SCRIPT: &str = "Tells the commands of scripts";
+
+const ALL_COMMANDS: &str = "'elephant help script' lists all commands.";
 
 const STRICT: &str = "Ends the run, with status 5, at the first line that isn't answered by `ok`, \
     and tells it on standard error, with the word at fault where it is `bad`";
@@ -107,7 +115,7 @@ fn command<'a>(alloc: Global) -> Result<Command<'a>, AllocError> {
         .arg(flag(alloc, "explain", EXPLAIN))?;
     let script = Command::new(alloc, "script")
         .about(SCRIPT)
-        .after_help(COMMANDS);
+        .after_help(ALL_COMMANDS);
     Command::new(alloc, "elephant")
         .about("A file system's core that keeps earlier versions")
         .version(VERSION)
@@ -126,16 +134,6 @@ fn not_understood(alloc: Global, text: &str) -> Invocation
 {
     match String::from_str(alloc, text) {
         Ok(text) => Invocation::NotUnderstood(text),
-        Err(_) => Invocation::NoMemory,
-    }
-}
-
-// Help in these words.
-fn help(alloc: Global, text: &str) -> Invocation
-    ensures { IsAsked result }
-{
-    match String::from_str(alloc, text) {
-        Ok(text) => Invocation::Help(text),
         Err(_) => Invocation::NoMemory,
     }
 }
@@ -179,7 +177,7 @@ fn understood(alloc: Global, matches: &ArgMatches) -> Invocation
         return asked_forecast(alloc, forecast);
     }
     if matches.subcommand_matches("script").is_some() {
-        return help(alloc, COMMANDS);
+        return asked_topic(alloc, "script", None);
     }
     let Some(run) = matches.subcommand_matches("run") else {
         return not_understood(alloc, NO_COMMAND);
@@ -211,6 +209,9 @@ fn refused(alloc: Global, error: &Error) -> Invocation
 pub fn words(alloc: Global, words: &[String]) -> Invocation
     ensures { IsAsked result }
 {
+    if let Some(asked) = asked_help(alloc, words) {
+        return asked;
+    }
     let Ok(command) = command(alloc) else {
         return Invocation::NoMemory;
     };

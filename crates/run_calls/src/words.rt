@@ -182,12 +182,57 @@ fn help_is_given_to_those_who_ask(rt: HostRuntime) -> Result<(), Fail> {
     for line in [
         "elephant --help",
         "elephant help",
-        "elephant help script",
+        "elephant help run",
+        "elephant help storm",
         "elephant run --help",
     ] {
         match asked_by(rt.alloc(), line)? {
             Invocation::Help(text) => assert!(rt;
                 text.as_str().contains("Usage: elephant"),
+                "{line}"
+            ),
+            _ => assert!(rt; false, "{line}"),
+        }
+    }
+    Ok(())
+}
+
+// Whether the words ask for a help that has this text.
+fn helps_with(alloc: Global, line: &str, wanted: &str) -> Result<bool, Fail> {
+    match asked_by(alloc, line)? {
+        Invocation::Help(text) => Ok(text.as_str().contains(wanted)),
+        _ => Ok(false),
+    }
+}
+
+#[test]
+fn help_is_given_on_a_topic(rt: HostRuntime) -> Result<(), Fail> {
+    for (line, wanted) in [
+        ("elephant help script", "mark G M [U]"),
+        ("elephant script", "rename P Q"),
+        ("elephant help refusals", "27 Full"),
+        ("elephant help policies", "safe:SECONDS/FLOOR"),
+        ("elephant help limits", "bad 33 LineTooLong"),
+        ("elephant help create", "Line:   create P"),
+        ("elephant help open", "Line:   open write P"),
+        ("elephant help open", "Line:   open read T"),
+        ("elephant help group drop", "Line:   group drop G"),
+    ] {
+        assert!(rt; helps_with(rt.alloc(), line, wanted)?, "{line}");
+    }
+    Ok(())
+}
+
+#[test]
+fn an_unknown_topic_lists_those_that_there_are(rt: HostRuntime) -> Result<(), Fail> {
+    for line in [
+        "elephant help foo",
+        "elephant help group foo",
+        "elephant help script foo",
+    ] {
+        match asked_by(rt.alloc(), line)? {
+            Invocation::NotUnderstood(text) => assert!(rt;
+                text.as_str().contains("Topics: script"),
                 "{line}"
             ),
             _ => assert!(rt; false, "{line}"),
@@ -207,7 +252,7 @@ fn words_that_cannot_be_had_are_told_as_such(rt: HostRuntime) {
 #[test]
 fn the_version_is_told_alone(rt: HostRuntime) -> Result<(), Fail> {
     match asked_by(rt.alloc(), "elephant --version")? {
-        Invocation::Help(text) => assert_eq!(rt; text.as_str(), "elephant 0.2.0\n"),
+        Invocation::Help(text) => assert_eq!(rt; text.as_str(), "elephant 0.3.0\n"),
         _ => assert!(rt; false),
     }
     Ok(())

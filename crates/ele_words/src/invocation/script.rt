@@ -1,53 +1,125 @@
-//! The commands of scripts, as the program tells them. `tools/examples` compares the lines with those of `docs/SCRIPT.md`.
+//! The commands of scripts, as the program lists them: a heading for each topic, and a line for each
+//! command. `tools/examples` compares the lines with those of `docs/SCRIPT.md`.
 
-/// What stands behind the words of `elephant help script`.
-pub(super) const COMMANDS: &str = "\
+use ele_commands::{HELP, ROWS, Row, Topic, WordKind};
+use std::alloc::{AllocError, Global};
+
+const HEAD: &str = "\
 A script is lines of words with one space between each two. Each line gets one answer, which begins with
 ok, with no and the number and name of a refusal, with bad where the line is no command, or with stop.
+'elephant help COMMAND' explains one command, as in 'elephant help create'.
 
 Lines and their answers:
-  clock M               ok now S TEXT
-  tick N                ok now S TEXT
-  mkdir P               ok directory D
-  rmdir P               ok done
-  create P              ok file F
-  link P Q              ok done
-  unlink P              ok done
-  rename P Q            ok done
-  undelete P            ok version V, or ok done
-  open write P          ok handle H
-  open read T           ok handle H
-  write H N X           ok done
-  truncate H N          ok done
-  close H               ok closed, or ok closed version V
-  revert P V            ok version V
-  policy P POL          ok done
-  default P POL         ok done
-  group make G          ok done
-  group drop G          ok done
-  group add G P         ok done
-  group remove G P      ok done
-  mark G M, mark G M U  ok done
-  unmark G M            ok done
-  clean                 ok removed RIPE FILE NUMBER, or ok nothing
-  read T                ok bytes LENGTH X
-  read H                ok bytes LENGTH X
-  stat T                ok file F version N opened O closed C ended E length L policy POL, or ok directory D default POL
-  versions A            ok versions K, then K lines - N O C E L by number
-  list A                ok names K, then K lines - NAME file F or - NAME directory D by the bytes of the names
-  restorable            ok restorable K, then K lines - DIR NAME file F or - DIR NAME directory D in order
-  due                   ok due K, then K lines - RIPE FILE NUMBER in order
-  usage                 ok usage 4, then - one FILES VERSIONS BYTES BLOCKS, and the same for all, safe and landmarks
-  groups                ok groups K, then K lines - G members F,F marks M,M in order of making
-  pass N                ok pass finished R, ok pass budget R, or stop NUMBER Name removed R
-  history               ok history F K, then K lines - LINE in order
-  trim                  ok trimmed K
+";
 
+const LETTERS: &str = "
   N, H, V  a number, a handle, a version's number: digits without a zero in front
   M, U     a moment: seconds since 1970, or a time as 2026-01-31T12:00:00Z
   P, Q     a path: / or names as /docs/notes
-  A        a path, or a path@M for what stood there at that moment
+  A        a path, or a path@M for what was there at that moment
   T        the same, or a path#V for the version of that number
   G        the name of a group
   X        bytes as hexadecimal digits, or - for none
-  POL      one, all, safe:SECONDS, safe:SECONDS/FLOOR, or landmarks:AGE/WIDTH,.. in seconds";
+  POL      one, all, safe:SECONDS, safe:SECONDS/FLOOR, or landmarks:AGE/WIDTH,.. in seconds
+  [U]      a word that you may leave out; T|H is either of two
+";
+
+// The headings, in the order in which they are printed.
+static HEADINGS: [(Topic, &str); 9] = [
+    (Topic::Time, "Time\n"),
+    (Topic::Names, "Directories and names\n"),
+    (Topic::Contents, "Sessions and versions\n"),
+    (Topic::Questions, "Questions\n"),
+    (Topic::Policies, "Policies\n"),
+    (Topic::Cleaning, "Forgetting\n"),
+    (Topic::Groups, "Groups and marks\n"),
+    (Topic::History, "Histories\n"),
+    (
+        Topic::Why,
+        "Explaining, only with the option --explain of elephant run\n",
+    ),
+];
+
+// The column of the answers.
+const WIDTH: usize = 19;
+
+// The letters that stand for a word. A path after another path is Q.
+fn letters(kind: WordKind, after_path: bool) -> &'static str {
+    match kind {
+        WordKind::Number => "N",
+        WordKind::Handle => "H",
+        WordKind::Version => "V",
+        WordKind::Moment => "M",
+        WordKind::End => "[U]",
+        WordKind::Name => "G",
+        WordKind::Path if after_path => "Q",
+        WordKind::Path => "P",
+        WordKind::Tagged => "T",
+        WordKind::Timed => "A",
+        WordKind::Source => "T|H",
+        WordKind::Bytes => "X",
+        WordKind::Policy => "POL",
+    }
+}
+
+/// Appends the words of a command, and the letters of the words after them.
+pub(super) fn put_usage(text: &mut String, row: &Row) -> Result<(), AllocError> {
+    let (_, first, second, kinds, _) = *row;
+    text.push_str(first)?;
+    if !second.is_empty() {
+        text.push_str(" ")?;
+        text.push_str(second)?;
+    }
+    let mut after_path = false;
+    for kind in kinds {
+        text.push_str(" ")?;
+        text.push_str(letters(*kind, after_path))?;
+        after_path = *kind == WordKind::Path;
+    }
+    Ok(())
+}
+
+/// Appends spaces to a text that is shorter than a width.
+pub(super) fn pad(text: &mut String, width: usize) -> Result<(), AllocError> {
+    let length = text.len();
+    for _ in length..width {
+        text.push_str(" ")?;
+    }
+    Ok(())
+}
+
+// Appends the line of a command.
+fn put_line(alloc: Global, text: &mut String, row: &Row, answer: &str) -> Result<(), AllocError> {
+    let mut usage = String::new(alloc);
+    put_usage(&mut usage, row)?;
+    pad(&mut usage, WIDTH)?;
+    text.push_str("    ")?;
+    text.push_str(usage.as_str())?;
+    text.push_str(answer)?;
+    text.push_str("\n")
+}
+
+// Appends the lines of the commands of a topic.
+fn put_topic(alloc: Global, text: &mut String, wanted: Topic) -> Result<(), AllocError> {
+    for row in ROWS.iter() {
+        let (command, _, _, _, _) = *row;
+        let (topic, answer) = HELP[command as usize];
+        if topic == wanted {
+            put_line(alloc, text, row, answer)?;
+        }
+    }
+    Ok(())
+}
+
+/// What `elephant help script` prints.
+pub(super) fn script_help(alloc: Global) -> Result<String, AllocError> {
+    let mut text = String::from_str(alloc, HEAD)?;
+    for entry in HEADINGS.iter() {
+        let (topic, heading) = *entry;
+        text.push_str("  ")?;
+        text.push_str(heading)?;
+        put_topic(alloc, &mut text, topic)?;
+    }
+    text.push_str(LETTERS)?;
+    Ok(text)
+}
