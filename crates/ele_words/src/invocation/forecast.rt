@@ -42,6 +42,10 @@ const LIST: &str =
     "Lists the labels of the versions that are due at the moment of --at, or kept then, \
     in place of the table; numbers without --labels";
 
+const BAD_MOMENT: &str =
+    "error: --at takes a time as 2026-01-31T12:00:00Z, 2026-01-31 or seconds since 1970\n\n\
+    For more information, try 'elephant forecast --help'.\n";
+
 const BAD_LIST: &str = "error: --list takes due or kept, one --policy and one --at\n\n\
     For more information, try 'elephant forecast --help'.\n";
 
