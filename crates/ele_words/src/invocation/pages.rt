@@ -1,4 +1,4 @@
-//! The pages of help on policies and on limits. `tools/examples` compares the limits with `docs/SCRIPT.md`.
+//! The pages of help on policies and on limits. `tools/examples` runs the example.
 
 /// What `elephant help policies` prints.
 pub(super) const POLICIES: &str = "\
@@ -30,7 +30,7 @@ What was ever made counts for good: nothing that you remove, unlink or close mak
 
   What                                    Most             Answer above it
   files ever made                         100,000          no 27 Full files
-  directories ever made, without the root  10,000         no 27 Full directories
+  directories ever made, but the root     10,000           no 27 Full directories
   names ever made                         200,000          no 27 Full names
   versions ever made, and open drafts     1,000,000        no 27 Full versions
   handles ever opened                     1,000,000        no 27 Full handles
