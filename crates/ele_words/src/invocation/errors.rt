@@ -94,116 +94,102 @@ fn put_error(
     text.push_str("\n")
 }
 
+// The refusal with that number.
+fn refusal_at(number: u8) -> Option<Refusal> {
+    match number {
+        3 => Some(Refusal::ClockBack),
+        4 => Some(Refusal::ClockEnd),
+        5 => Some(Refusal::NoEntry),
+        6 => Some(Refusal::NotDirectory),
+        7 => Some(Refusal::IsDirectory),
+        8 => Some(Refusal::Exists),
+        9 => Some(Refusal::NotEmpty),
+        10 => Some(Refusal::IntoItself),
+        11 => Some(Refusal::IsRoot),
+        12 => Some(Refusal::Future),
+        13 => Some(Refusal::Forgotten(None)),
+        14 => Some(Refusal::NoVersion),
+        15 => Some(Refusal::NoHandle),
+        16 => Some(Refusal::NotWriter),
+        17 => Some(Refusal::TooBig),
+        18 => Some(Refusal::Drafting),
+        19 => Some(Refusal::NotRestorable),
+        20 => Some(Refusal::NoGroup),
+        21 => Some(Refusal::GroupExists),
+        22 => Some(Refusal::NoMark),
+        23 => Some(Refusal::MarkExists),
+        24 => Some(Refusal::NotPast),
+        25 => Some(Refusal::AlreadyMember),
+        26 => Some(Refusal::NotMember),
+        27 => Some(Refusal::Full(Which::Files)),
+        41 => Some(Refusal::NotAhead),
+        _ => None,
+    }
+}
+
+// What a refusal means, and what to do.
+fn meaning_of(refusal: &Refusal) -> &'static str {
+    match refusal {
+        Refusal::ClockBack => "the moment is earlier than now. The clock never goes back",
+        Refusal::ClockEnd => { "the moment would be later than the year 9999. Use fewer seconds" }
+        Refusal::NoEntry => "the path names nothing. 'list' shows what is there",
+        Refusal::NotDirectory => {
+            "the path leads to a file, or through one. Give the path of a directory"
+        }
+        Refusal::IsDirectory => "the path leads to a directory. Give the path of a file",
+        Refusal::Exists => {
+            "the name is in use. Nothing is ever replaced: unlink or rename it first"
+        }
+        Refusal::NotEmpty => "the directory has names. Remove or move them first",
+        Refusal::IntoItself => { "the directory would be moved below itself. Choose another place" }
+        Refusal::IsRoot => { "the root can't be made, moved or removed. Give a path with a name" }
+        Refusal::Future => "the moment is later than now. Ask for now or earlier",
+        Refusal::Forgotten(_) => {
+            "the version was removed. The word after it is an older one that you can read, or -"
+        }
+        Refusal::NoVersion => { "no version has had the number yet. 'versions' lists the numbers" }
+        Refusal::NoHandle => {
+            "no open handle has the number. 'open' answers with the number to use"
+        }
+        Refusal::NotWriter => { "the handle is one that reads. Open the file by 'open write'" }
+        Refusal::TooBig => { "the content would be longer than 1,048,576 bytes. Use several files" }
+        Refusal::Drafting => "a handle writes the file. Close it first",
+        Refusal::NotRestorable => {
+            "nothing can be restored by this name. 'restorable' lists what can"
+        }
+        Refusal::NoGroup => "no group has the name. Make it by 'group make'",
+        Refusal::GroupExists => { "a group has the name already. Use it, or choose another name" }
+        Refusal::NoMark => { "the group has no mark for the moment. 'groups' lists the marks" }
+        Refusal::MarkExists => {
+            "the group has a mark for the moment already. 'unmark' removes it"
+        }
+        Refusal::NotPast => {
+            "the moment of a mark must be earlier than now. Let the clock move first"
+        }
+        Refusal::AlreadyMember => "the file is in the group already. There is nothing to do",
+        Refusal::NotMember => "the file isn't in the group. 'groups' lists the members",
+        Refusal::Full(_) => {
+            "a limit is reached, for good. The word after it says which; see 'elephant help limits'"
+        }
+        Refusal::NotAhead => {
+            "the end of a mark must be later than now, and the moment of 'ahead' not earlier"
+        }
+    }
+}
+
+// Appends the line of a refusal.
+fn put_refusal(alloc: Global, text: &mut String, refusal: &Refusal) -> Result<(), AllocError> {
+    let meaning = meaning_of(refusal);
+    put_error(alloc, text, refusal.number(), refusal.name(), meaning)
+}
+
 // Appends the refusals.
 fn put_refusals(alloc: Global, text: &mut String) -> Result<(), AllocError> {
     text.push_str("After no: the command was refused, and has changed nothing.\n")?;
-    for (refusal, meaning) in [
-        (
-            Refusal::ClockBack,
-            "the moment is earlier than now. The clock never goes back",
-        ),
-        (
-            Refusal::ClockEnd,
-            "the moment would be later than the year 9999. Use fewer seconds",
-        ),
-        (
-            Refusal::NoEntry,
-            "the path names nothing. 'list' shows what is there",
-        ),
-        (
-            Refusal::NotDirectory,
-            "the path leads to a file, or through one. Give the path of a directory",
-        ),
-        (
-            Refusal::IsDirectory,
-            "the path leads to a directory. Give the path of a file",
-        ),
-        (
-            Refusal::Exists,
-            "the name is in use. Nothing is ever replaced: unlink or rename it first",
-        ),
-        (
-            Refusal::NotEmpty,
-            "the directory has names. Remove or move them first",
-        ),
-        (
-            Refusal::IntoItself,
-            "the directory would be moved below itself. Choose another place",
-        ),
-        (
-            Refusal::IsRoot,
-            "the root can't be made, moved or removed. Give a path with a name",
-        ),
-        (
-            Refusal::Future,
-            "the moment is later than now. Ask for now or earlier",
-        ),
-        (
-            Refusal::Forgotten(None),
-            "the version was removed. The word after it is an older one that you can read, or -",
-        ),
-        (
-            Refusal::NoVersion,
-            "no version has had the number yet. 'versions' lists the numbers",
-        ),
-        (
-            Refusal::NoHandle,
-            "no open handle has the number. 'open' answers with the number to use",
-        ),
-        (
-            Refusal::NotWriter,
-            "the handle is one that reads. Open the file by 'open write'",
-        ),
-        (
-            Refusal::TooBig,
-            "the content would be longer than 1,048,576 bytes. Use several files",
-        ),
-        (
-            Refusal::Drafting,
-            "a handle writes the file. Close it first",
-        ),
-        (
-            Refusal::NotRestorable,
-            "nothing can be restored by this name. 'restorable' lists what can",
-        ),
-        (
-            Refusal::NoGroup,
-            "no group has the name. Make it by 'group make'",
-        ),
-        (
-            Refusal::GroupExists,
-            "a group has the name already. Use it, or choose another name",
-        ),
-        (
-            Refusal::NoMark,
-            "the group has no mark for the moment. 'groups' lists the marks",
-        ),
-        (
-            Refusal::MarkExists,
-            "the group has a mark for the moment already. 'unmark' removes it",
-        ),
-        (
-            Refusal::NotPast,
-            "the moment of a mark must be earlier than now. Let the clock move first",
-        ),
-        (
-            Refusal::AlreadyMember,
-            "the file is in the group already. There is nothing to do",
-        ),
-        (
-            Refusal::NotMember,
-            "the file isn't in the group. 'groups' lists the members",
-        ),
-        (
-            Refusal::Full(Which::Files),
-            "a limit is reached, for good. The word after it says which; see 'elephant help limits'",
-        ),
-        (
-            Refusal::NotAhead,
-            "the end of a mark must be later than now, and the moment of 'ahead' not earlier",
-        ),
-    ] {
-        put_error(alloc, text, refusal.number(), refusal.name(), meaning)?;
+    for number in 1..100 {
+        if let Some(refusal) = refusal_at(number) {
+            put_refusal(alloc, text, &refusal)?;
+        }
     }
     Ok(())
 }
