@@ -15,13 +15,13 @@
 //!     session.write_all(b"buy milk")?;
 //!     session.close()?;
 //!
-//! You move the store's clock.
+//!     // You move the store's clock.
 //!     store.tick(60)?;
 //!     store.save("/notes", b"oops")?;
 //!     assert_eq!(store.read(at("/notes", 59))?, b"buy milk");
 //!     assert_eq!(store.read(version("/notes", 2))?, b"buy milk");
 //!
-//! Undo: the file gets one more version.
+//!     // Undo: the file gets one more version.
 //!     store.revert("/notes", 2)?;
 //!     assert_eq!(store.read("/notes")?, b"buy milk");
 //!     Ok(())
