@@ -36,7 +36,7 @@ impl Path {
     const MOST_NAMES: usize = 32;
 
     /// Makes the path of these names, from the root on. `BadPath` for more than 32. It takes no memory.
-    /// Cost: grows with the names, at most 32, each of which it reads.
+    /// Cost: grows with the names, at most 32, and with their letters.
     pub fn new(names: Vec<Name>) -> Result<Path, PathFault>
         ensures valid { IsOk result ↔ (length names.items ≤ 32) }
         ensures value { IfOk result (λ path. path ≡ names.items) }
