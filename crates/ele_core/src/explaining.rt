@@ -1,13 +1,14 @@
 //! A core explains why a version is held, and which versions will be due. Generic code over the
 //! trait sees the core as its flat world.
-ghost use Rattle.std.specs.Prelude.{◌≡◌, find};
+ghost use Rattle.std.specs.Prelude.{◌≡◌, IfOk, find};
 ghost use Rattle.std.specs.Option.{option_map};
 ghost use Rattle.ele_model.specs.Why.{IsWhy};
 ghost use Rattle.ele_model.specs.World.{is_draft};
 
 use crate::Core;
 use ele_model::{
-    Explain, Fate, FileId, HandleRow, KeyList, Moment, NoMemory, Refusal, TaggedPath, VersionNo,
+    Explain, Fate, FileId, HandleRow, KeyList, Moment, NameRow, NoMemory, Refusal, TaggedPath,
+    VersionNo,
 };
 
 impl Core {
@@ -38,6 +39,16 @@ impl Core {
     {
         self.state.draft_opened(file)
     }
+
+    /// Returns a copy of the rows of names, live and dead, in order of making.
+    ///
+    /// `NoMemory` if memory is refused.
+    /// Cost: grows with the rows, which take memory.
+    pub fn name_rows(&self) -> Result<Vec<NameRow>, NoMemory>
+        ensures { IfOk result (λ rows. rows.items ≡ self.now.world.names) }
+    {
+        self.state.name_rows()
+    }
 }
 
 impl Explain for Core {
@@ -59,5 +70,9 @@ impl Explain for Core {
 
     fn draft_opened(&self, file: FileId) -> Option<Moment> {
         Core::draft_opened(self, file)
+    }
+
+    fn name_rows(&self) -> Result<Vec<NameRow>, NoMemory> {
+        Core::name_rows(self)
     }
 }

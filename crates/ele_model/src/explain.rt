@@ -5,7 +5,7 @@ ghost use Rattle.std.specs.Prelude.{◌≡◌, IfOk};
 use crate::fate::Fate;
 use crate::list::KeyList;
 use crate::refusal::Refusal;
-use crate::rows::HandleRow;
+use crate::rows::{HandleRow, NameRow};
 use crate::step::Step;
 use ele_moment::{FileId, Moment, NoMemory, VersionNo};
 use ele_path::TaggedPath;
@@ -48,4 +48,10 @@ pub trait Explain: Step {
     fn draft_opened(&self, file: FileId) -> Option<Moment>
         ensures { result
             ≡ option_map (λ draft. draft.opened) (find (is_draft file) (Self.world self.now).drafts) };
+
+    /// Returns a copy of the rows of names, live and dead, in order of making.
+    ///
+    /// `NoMemory` if memory is refused.
+    fn name_rows(&self) -> Result<Vec<NameRow>, NoMemory>
+        ensures { IfOk result (λ rows. rows.items ≡ (Self.world self.now).names) };
 }

@@ -16,7 +16,7 @@ use crate::append::head;
 use crate::keys::put_changed;
 use crate::policy::freed;
 use crate::rows::Rows;
-use ele_model::{DirId, FileId, ListOf, Moment, Name, NameList, NoMemory, Target};
+use ele_model::{DirId, FileId, ListOf, Moment, Name, NameList, NameRow, NoMemory, Target};
 use ele_names::Found;
 
 impl State {
@@ -43,6 +43,15 @@ impl State {
     {
         let names = self.rows.names.list(directory, moment)?;
         Ok(ListOf::from_vec(names))
+    }
+
+    /// Returns a copy of the rows of names, live and dead, in order of making.
+    ///
+    /// `NoMemory` if memory is refused.
+    pub fn name_rows(&self) -> Result<Vec<NameRow>, NoMemory>
+        ensures { IfOk result (λ rows. rows.items ≡ self.now.world.names) }
+    {
+        self.rows.names.rows()
     }
 
     /// Returns the target of the newest such name, if that name is dead. No such name is live then.

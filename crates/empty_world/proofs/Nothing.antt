@@ -63,6 +63,9 @@ nothing_held w file number is = rw is.3 refl
 pub nothing_open : (w : World) → IsEmpty w → [] ≡ w.handles
 nothing_open w is = rw is.3 refl
 
+pub nothing_named : (w : World) → IsEmpty w → [] ≡ w.names
+nothing_named w is = rw is.3 refl
+
 pub nothing_drafted : (w : World) (file : ℕ) → IsEmpty w → None ≡ option_map (λ draft. draft.opened) (find (is_draft file) w.drafts)
 nothing_drafted w file is = rw is.3 refl
 

@@ -13,7 +13,7 @@ mod refusing;
 
 use ele_model::{
     Audit, Boxed, Counts, DeadNameList, DirId, DirectoryRow, Event, Explain, Fate, Flat, HandleRow,
-    KeyList, Limits, ListOf, NoMemory, Refusal, Reply, Step, laws,
+    KeyList, Limits, ListOf, NameRow, NoMemory, Refusal, Reply, Step, laws,
 };
 use ele_moment::{FileId, Moment, VersionNo};
 use ele_path::{Path, Tag, TaggedPath};
@@ -275,5 +275,11 @@ impl Explain for EmptyWorld {
     fn draft_opened(&self, _file: FileId) -> Option<Moment> {
         self.lemma_empty();
         None
+    }
+
+    #[tactic(auto, using(crate::proofs::Nothing::nothing_named))]
+    fn name_rows(&self) -> Result<Vec<NameRow>, NoMemory> {
+        self.lemma_empty();
+        Ok(Vec::new(self.alloc))
     }
 }
