@@ -9,8 +9,7 @@ COLUMNS = ("Call", "What it does", "Errors", "Cost")
 HEAD = """## All calls
 
 Each public call of the library, by the crate that declares it. The tables leave out laws and lemmas, which only a proof calls, and \
-what types do by traits, as `Display` and `Clone`. A call that returns `Halt` may also return `Halt::NoMemory`. \
-[ele_core](../crates/ele_core/README.md#cost) lists what each call of a `Core` costs."""
+what types do by traits, as `Display` and `Clone`. A call that returns `Halt` may also return `Halt::NoMemory`."""
 
 
 def row_of(call, names):
