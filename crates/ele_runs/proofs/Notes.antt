@@ -7,7 +7,7 @@ use Rattle.ele_printer.specs.Printed.{bad_text}
 use Rattle.ele_runs.specs.Note as note
 use Rattle.ele_runs.specs.WhyBad.{IsToldReason, cut_reason, why_line}
 use Rattle.ele_runs.specs.declared.options.RunOptions.{RunOptions}
-use Rattle.ele_script.specs.declared.reasons.Reason.{Reason}
+use Rattle.ele_reasons.specs.declared.reasons.Reason.{Reason}
 
 -- the only front of nothing is nothing
 first_none : (front back : List ℕ) → [] ≡ front ++ back → front ≡ []

@@ -8,7 +8,7 @@ use Rattle.ele_runs.specs.RunState.{RunState}
 use Rattle.ele_runs.specs.RunOptions.{tells_reasons}
 use Rattle.ele_runs.specs.WhyBad.{IsToldReason, cut_reason, why_line}
 use Rattle.ele_runs.specs.declared.options.RunOptions.{RunOptions}
-use Rattle.ele_script.specs.declared.reasons.Reason.{Reason}
+use Rattle.ele_reasons.specs.declared.reasons.Reason.{Reason}
 
 -- nothing, or, where reasons are told and the block of the line with this number is that of a bad one, why it is; a writer that
 -- fails has a front of that, and the run goes on

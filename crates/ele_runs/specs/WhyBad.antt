@@ -4,11 +4,11 @@ use Rattle.ele_printer.specs.declared.fault.LineFault.{LineFault}
 use Rattle.ele_runs.specs.declared.options.RunOptions.{RunOptions}
 use Rattle.ele_script.specs.FirstFault.{IsFirstFault}
 use Rattle.ele_script.specs.Memory.{WordTakesMemory}
-use Rattle.ele_script.specs.Reason.{IsReason}
-use Rattle.ele_script.specs.ReasonText.{reason_text}
+use Rattle.ele_reasons.specs.Reason.{IsReason}
+use Rattle.ele_reasons.specs.ReasonText.{reason_text}
 use Rattle.ele_script.specs.Words.{words_of}
-use Rattle.ele_script.specs.declared.reasons.Reason.{Reason}
-use Rattle.ele_script.specs.declared.reasons.Reason.TheVariants.{Cut, TooLong}
+use Rattle.ele_reasons.specs.declared.reasons.Reason.{Reason}
+use Rattle.ele_reasons.specs.declared.reasons.Reason.TheVariants.{Cut, TooLong}
 
 -- the reason of a line as it is kept, in the manner of the run
 abbrev pub IsToldReason : RunOptions → Option (List ℕ) → Reason → Type 0

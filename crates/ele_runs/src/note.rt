@@ -7,7 +7,7 @@ ghost use Rattle.ele_runs.specs.WhyBad.{IsToldReason, IsUntold, cut_reason, why_
 
 use crate::options::RunOptions;
 use ele_output::write_all;
-use ele_script::{Reason, reason};
+use ele_reasons::{Reason, reason};
 use std::alloc::Global;
 use std::io::Write;
 

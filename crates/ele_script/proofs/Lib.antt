@@ -4,7 +4,6 @@ pub mod Commands
 pub mod Letters
 pub mod Behind
 pub mod Words
-pub mod Cuts
 pub mod Decided
 pub mod Dates
 pub mod Moments
@@ -23,6 +22,3 @@ pub mod PolicyMeanings
 pub mod WordMeanings
 pub mod EveryLine
 pub mod LineLaws
-pub mod WhyBad
-pub mod Unknown
-pub mod PolicyDetail

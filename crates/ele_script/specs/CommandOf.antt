@@ -1,4 +1,4 @@
--- The command that words begin with, looked for in a table. No public clause cites this module.
+-- The command that words begin with, looked up in a table.
 use Rattle.std.specs.Prelude.{◌≡◌, Bool, ℕ, List, [], ◌∷◌, Option, Some, None, map, if◌then◌else◌}
 use Rattle.std.specs.Borrow.{Bor}
 use Rattle.std.specs.Str.{bytes_eq}

@@ -1,4 +1,4 @@
--- The first pairs of a text. No public clause cites this module.
+-- The first pairs of a text.
 use Rattle.std.specs.Prelude.{◌≡◌, ℕ, List, take}
 use Rattle.std.specs.List.{AllZip}
 use Rattle.ele_policy.specs.Ladder.{Rung}

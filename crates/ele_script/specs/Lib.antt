@@ -15,8 +15,3 @@ pub mod FirstFault
 pub mod OnePolicy
 pub mod PolicyBack
 pub mod Reads
-pub mod Reason
-pub mod ReasonText
-pub mod ReasonFound
-pub mod Hints
-pub mod PolicyDetail

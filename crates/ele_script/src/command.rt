@@ -43,7 +43,7 @@ fn first_letter(words: &[&[u8]]) -> Option<u8>
 /// The command in front of the words of a run that explains, or of one that doesn't, and the words
 /// behind it. It is inlined, so that what it finds stays in registers.
 #[inline(always)]
-pub(crate) fn read_command<'w, 'l>(
+pub fn read_command<'w, 'l>(
     explains: bool,
     words: &'w [&'l [u8]],
 ) -> Option<(Command, &'w [&'l [u8]])>
@@ -109,7 +109,7 @@ fn behind_word<'w, 'l>(words: &'w [&'l [u8]], name: &str) -> Option<&'w [&'l [u8
 
 /// The kinds of the words behind a command where so many stand there: with an end only if each kind
 /// has its word.
-pub(crate) fn kinds_for(command: Command, count: usize) -> &'static [WordKind]
+pub fn kinds_for(command: Command, count: usize) -> &'static [WordKind]
     ensures { result.now ≡ kinds_if command (count == length (kinds_of command)) }
 {
     let kinds = command.kinds();

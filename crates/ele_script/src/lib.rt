@@ -4,27 +4,22 @@
 #![tactic(auto)]
 
 mod arguments;
-mod bad_word;
 mod command;
-mod cut;
-mod hints;
 pub mod line_laws;
 mod pairs;
-mod policy_detail;
 pub mod policy_laws;
 mod reading;
-mod reasons;
 mod word;
 mod writing;
 
-pub use bad_word::reason;
+pub use command::{kinds_for, read_command};
 pub use ele_commands::WordKind;
 pub use ele_output::{Printer, WriteFault};
 pub use ele_printer::{
     LineFault, put_ahead, put_answer, put_fault, put_history, put_pass, put_reply, put_stop,
     put_trimmed, put_why, write_named, write_placed, write_reply,
 };
-pub use reading::{LONGEST_LINE, Line, Question, read_event, read_line, read_line_in};
-pub use reasons::{Detail, Hint, Reason};
-pub use word::policy as read_policy;
+pub use pairs::ladder_pairs;
+pub use reading::{LONGEST_LINE, Line, Question, read_event, read_line, read_line_in, word_end};
+pub use word::{begins_path, check_word, policy as read_policy, safe_numbers};
 pub use writing::write_event;

@@ -12,7 +12,7 @@ use ele_moment::read_number;
 const MOST_PAIRS: usize = 9;
 
 /// The first pairs behind `landmarks:`, if all that stands there is pairs.
-pub(crate) fn ladder_pairs(word: &[u8]) -> Option<ArrayVec<(u64, u64), MOST_PAIRS>>
+pub fn ladder_pairs(word: &[u8]) -> Option<ArrayVec<(u64, u64), MOST_PAIRS>>
     ensures some { IfSome result (λ pairs. KeepsLadder word.now pairs.items) }
     ensures none { IfNone result ((pairs : List Rung) → ¬ IsLadderWord word.now pairs) }
 {

@@ -163,7 +163,7 @@ fn cut_words<'l>(line: &'l [u8], words: &mut ArrayVec<&'l [u8], MOST_WORDS>) -> 
 }
 
 /// Where the first byte stands that is in no word.
-pub(crate) fn word_end(text: &[u8]) -> Option<usize>
+pub fn word_end(text: &[u8]) -> Option<usize>
     ensures { result ≡ position ends_word text.now }
 {
     text.iter()

@@ -9,8 +9,10 @@ ghost use Rattle.ele_script.specs.Value.{NumberWord, HandleWord, VersionWord, Mo
 ghost use Rattle.ele_script.specs.PolicyWord.{ReadsPolicy, IsSafeWord, SpellsSafe};
 ghost use Rattle.ele_script.specs.PathWord.{begins_path};
 ghost use Rattle.ele_script.specs.FirstFault.{IsOfKind, IsWordFault};
+ghost use Rattle.ele_script.specs.Memory.{word_takes};
 
 use crate::pairs::{ladder_pairs, read_pair};
+use ele_commands::WordKind;
 use ele_model::{ByteList, Handle, Source};
 use ele_moment::{Moment, Name, read_number};
 use ele_path::{Path, PathAt, TaggedPath};
@@ -123,8 +125,57 @@ pub(crate) fn source(alloc: Global, word: &[u8]) -> Result<Source, LineFault>
     Ok(Source::Of(Handle(number(word)?)))
 }
 
+/// Checks that a word is of the kind. `Err` has its fault, or `NoMemory`, which only a word that takes
+/// memory can meet.
+pub fn check_word(alloc: Global, kind: WordKind, word: &[u8]) -> Result<(), LineFault>
+    ensures kind { OnOk result (IsOfKind kind word.now) }
+    ensures fault { IfErr result
+        (λ fault. (fault ≡ LineFault.NoMemory) ⊎ IsWordFault kind word.now fault) }
+    ensures memory { result ≡ Err LineFault.NoMemory → word_takes kind word.now ≡ true }
+{
+    match kind {
+        WordKind::Number => {
+            number(word)?;
+        }
+        WordKind::Handle => {
+            handle(word)?;
+        }
+        WordKind::Version => {
+            version(word)?;
+        }
+        WordKind::Moment => {
+            moment(word)?;
+        }
+        WordKind::End => {
+            end(word)?;
+        }
+        WordKind::Name => {
+            name(word)?;
+        }
+        WordKind::Path => {
+            path(alloc, word)?;
+        }
+        WordKind::Tagged => {
+            tagged(alloc, word)?;
+        }
+        WordKind::Timed => {
+            path_at(alloc, word)?;
+        }
+        WordKind::Source => {
+            source(alloc, word)?;
+        }
+        WordKind::Bytes => {
+            bytes(alloc, word)?;
+        }
+        WordKind::Policy => {
+            policy(word)?;
+        }
+    }
+    Ok(())
+}
+
 /// Whether a slash stands in front.
-pub(crate) fn begins_path(word: &[u8]) -> bool
+pub fn begins_path(word: &[u8]) -> bool
     ensures { result ≡ begins_path word.now }
 {
     match word {
@@ -173,7 +224,7 @@ pub fn policy(word: &[u8]) -> Result<Policy, LineFault>
 }
 
 /// The seconds and the floor behind `safe:`.
-pub(crate) fn safe_numbers(word: &[u8]) -> Option<(u64, u64)>
+pub fn safe_numbers(word: &[u8]) -> Option<(u64, u64)>
     ensures some { IfSome result (λ numbers. IsSafeWord word.now numbers.0 numbers.1) }
     ensures none { IfNone result ((seconds floor : ℕ) → ¬ IsSafeWord word.now seconds floor) }
 {

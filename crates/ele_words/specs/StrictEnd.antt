@@ -5,7 +5,7 @@ use Rattle.ele_output.specs.Line.{line_text}
 use Rattle.ele_runs.specs.WhyBad.{IsBadReason, cut_reason, why_line}
 use Rattle.ele_runs.specs.declared.end.EndLine.{EndLine}
 use Rattle.ele_runs.specs.declared.options.RunOptions.{RunOptions}
-use Rattle.ele_script.specs.declared.reasons.Reason.{Reason}
+use Rattle.ele_reasons.specs.declared.reasons.Reason.{Reason}
 
 -- 0 where all lines were answered, 5 where one ended a strict run
 abbrev pub end_status : Option EndLine → ℕ

@@ -5,8 +5,8 @@ use Rattle.ele_output.specs.Front.{AppendsFront}
 use Rattle.ele_runs.specs.declared.options.RunOptions.{RunOptions}
 use Rattle.ele_runs.specs.declared.tally.BadLine.{BadLine}
 use Rattle.ele_runs.specs.declared.tally.Tally.{Tally}
-use Rattle.ele_script.specs.ReasonText.{reason_text}
-use Rattle.ele_script.specs.declared.reasons.Reason.{Reason}
+use Rattle.ele_reasons.specs.ReasonText.{reason_text}
+use Rattle.ele_reasons.specs.declared.reasons.Reason.{Reason}
 use Rattle.ele_words.specs.StrictEnd.{IsWhyEnded}
 use Rattle.ele_words.specs.declared.summary.First.{First}
 use Rattle.ele_words.specs.declared.summary.First.TheVariants.{Answered, Bad, BadFor}

@@ -8,8 +8,9 @@ ghost use Rattle.ele_words.specs.StrictEnd.{IsWhyEnded, end_line, end_status, sh
 
 use crate::failure::{Failure, status};
 use crate::summary::report_summary;
+use ele_reasons::Reason;
 use ele_runs::{LineBuffer, RunEnd, RunOptions, tell_why, why_bad, why_cut};
-use ele_script::{Reason, write_placed};
+use ele_script::write_placed;
 use std::alloc::Global;
 use std::io::Write;
 

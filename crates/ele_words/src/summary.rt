@@ -7,8 +7,8 @@ ghost use Rattle.ele_words.specs.Summary.{IsFirst, TellsSummary, bad_first, firs
 use crate::strict::why_ended;
 use arrayvec::ArrayString;
 use ele_output::write_all;
+use ele_reasons::Reason;
 use ele_runs::{RunOptions, Tally};
-use ele_script::Reason;
 use std::alloc::Global;
 use std::fmt;
 use std::fmt::Write as _;

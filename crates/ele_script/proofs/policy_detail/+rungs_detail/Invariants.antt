@@ -1,5 +1,0 @@
-use Rattle.std.proofs.Common.{length}
-use Rattle.ele_script.proofs.policy_detail.+rungs_detail.Given as goal
-
-abbrev pub decreases-rungs_detail : goal.decreases-rungs_detail
-decreases-rungs_detail l = length l.pairs.now
