@@ -22,8 +22,8 @@ use std::alloc::Global;
 // Some editors begin a text with it.
 const BYTE_ORDER_MARK: [u8; 3] = [0xef, 0xbb, 0xbf];
 
-/// Returns why a line, without its line feed, is no command, or `None` if it is one. `explains` says
-/// whether the run explains.
+/// Returns why a line, without its line feed, is no command, or `None` if it is one. `explains`
+/// says whether the run explains.
 ///
 /// The reason is that of the fault for which `read_line_in` refuses the line, and names the first
 /// word that has it. `NoMemory` comes only if the command takes a path or bytes.
@@ -138,8 +138,8 @@ fn bad_word(
     bad_word(alloc, number, kinds, words)
 }
 
-// Why the word with this number isn't of its kind. `NoMemory` comes only if a word of the kind takes
-// memory.
+// Why the word with this number isn't of its kind. `NoMemory` comes only if a word of the kind
+// takes memory.
 fn word_reason(
     alloc: Global,
     number: u64,

@@ -8,11 +8,11 @@ use crate::reasons::Reason;
 use arrayvec::ArrayVec;
 use ele_script::{LONGEST_LINE, word_end};
 
-// One more than a command has, so that too many words can be seen.
+// One more word than a command has, so that too many words can be seen.
 const FIRST_WORDS: usize = 5;
 
-/// Returns the first words of a line. `Err` names the first word that is empty or has a byte that no
-/// word may have.
+/// Returns the first words of a line. `Err` names the first word that is empty or has a byte that
+/// no word may have.
 pub(crate) fn first_words(line: &[u8]) -> Result<ArrayVec<&[u8], FIRST_WORDS>, Reason>
     requires short { length line.now ≤ LONGEST_LINE }
     ensures found { IfOk result

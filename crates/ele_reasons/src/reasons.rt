@@ -41,7 +41,7 @@ pub enum Detail {
 pub enum Hint {
     /// A command that only a run that explains has.
     Explaining,
-    /// Perhaps a command in capital letters.
+    /// A word that begins with a capital letter, which no command does.
     Case,
     /// The name that another tool has for this command.
     Instead(Command),
@@ -53,9 +53,9 @@ pub enum Hint {
     Place,
     /// A remark, which begins with `#`.
     Remark,
-    /// A command of `group`.
+    /// `group` with no known word after it.
     Group,
-    /// A command of `open`.
+    /// `open` with no known word after it.
     Open,
     /// Nothing known.
     Unknown,

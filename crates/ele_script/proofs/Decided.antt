@@ -25,12 +25,12 @@ dec_in low high n = elim (dec_le low n) [
   ]
 ]
 
--- what stands behind a front is one text
+-- only one text follows a prefix
 pub same_behind : (front a b : List ℕ) → front ++ a ≡ front ++ b → a ≡ b
 same_behind front a b same =
     sym (drop-append_seam front a) ∙ ap (λ (xs : List ℕ). drop (length front) xs) same ∙ drop-append_seam front b
 
--- and a word has one or none
+-- a word begins with a prefix or doesn't
 pub dec_behind : (front word : List ℕ) → Dec ((rest : List ℕ) × (word ≡ front ++ rest))
 dec_behind front word = elim (dec_same word (front ++ drop (length front) word)) [
   | yes is ↦ yes (drop (length front) word, is)

@@ -50,7 +50,7 @@ bytes_back [] all = inl (refl, refl)
 bytes_back (byte ∷ bytes) all =
     inr (omega (arith, length-encode_with lower_digits (byte ∷ bytes)), decode_of-encode_lower (byte ∷ bytes) (are_bytes (byte ∷ bytes) all))
 
--- the word of a value stands for it
+-- the word of a value spells it
 value_back : (value : Value) → IsValue value → SpellsValue (value_word value) value
 value_back (Number n) is = number_back n is
 value_back (Handle n) is = number_back n is

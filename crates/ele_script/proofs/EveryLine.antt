@@ -16,7 +16,7 @@ use Rattle.ele_script.proofs.Commands.{allowed_found, fault_of_words, unfit_word
 use Rattle.ele_script.proofs.Laws.{value_kinds}
 use Rattle.ele_script.proofs.WordMeanings.{words_meaning}
 
--- a command and values of the kinds behind it ask for something
+-- a command and values of its kinds ask for something
 asked_by : (name : Command) (ended : Bool) (values : List Value) → value_kinds values ≡ kinds_if name ended → (asked : Line) × ((line_parts asked).0 ≡ name) × ((line_parts asked).1 ≡ values)
 asked_by command.Clock ended (Moment moment ∷ []) kinds = (asks.Event (event.Clock moment), refl, refl)
 asked_by command.Tick ended (Number seconds ∷ []) kinds = (asks.Event (event.Tick seconds), refl, refl)
@@ -58,7 +58,7 @@ asked_by command.Why ended (Tagged tagged ∷ []) kinds = (asks.Question (questi
 asked_by command.Ahead ended (Moment moment ∷ []) kinds = (asks.Question (question.Ahead moment), refl, refl)
 asked_by name ended values kinds = absurd cc
 
--- words ask for something in a run that explains, or in one that doesn't, or have a first fault there
+-- words ask for something or have a first fault, in a run that explains and in one that doesn't
 abbrev Means : Bool → List (List ℕ) → Type 0
 Means explains words =
     ((asked : Line) × SpellsWords words asked × (is_allowed explains (line_parts asked).0 ≡ true)) ⊎ ((fault : LineFault) × IsFaultOfWords explains words fault)

@@ -27,7 +27,7 @@ unspaced : (word : List ℕ) → is_word word ≡ true → All (λ byte. (byte =
 unspaced word is =
     All-weaker _ _ no_space word (AllPass-from_list_all is_inner word (both (has_byte word) (list_all is_inner word) is).1)
 
--- they are cut into these words
+-- the line is cut into these words
 pub joined_words : (words : List (List ℕ)) → 0 < length words → list_all is_word words ≡ true → words_of (join_with_byte 32 words) ≡ words
 joined_words [] some are = absurd (omega (arith, some))
 joined_words (first ∷ []) some are = slice_split_none _ first (unspaced first (both (is_word first) _ are).0)

@@ -1,4 +1,4 @@
--- What is true of lines: each asks for one thing, or has a first fault, and not both.
+-- A line asks for at most one thing, has at most one first fault, and doesn't do both.
 use Rattle.ele_commands.specs.Command.{is_allowed}
 use Rattle.ele_script.proofs.Basics.{Bool, false, nat_tests, ◌≡◌, ◌≢◌, ◌==◌, None, Some, ℕ, ◌≤◌, true, true≢false, List, [], ◌∷◌, length, refl, sym, ap, ◌∙◌, arith, ◌⊎◌, inl, inr, Result, Ok, Err, IfOk, IfErr, same_Some}
 use Rattle.ele_script.proofs.Prelude.{OneMeaning, Line, Command, LineFault, NoMemory, WordKind, Value, word_kind, kinds_behind, kinds_if, kinds_of, longest_line, words_of, is_worded, SpellsValues, SpellsWords, SpellsLine, Asks, AsksEvent}
@@ -54,7 +54,7 @@ pub moved : (fault : LineFault) {c d : Command} {xs ys : List (List ℕ)} → c 
 moved fault {c} {d} {xs} {ys} p q h = grind (arith, nat_tests)
 
 module _ (law : OneMeaning) where
-  -- words stand for one list of values of their kinds
+  -- words spell at most one list of values of their kinds
   one_list : (words : List (List ℕ)) (vs us : List Value) → value_kinds vs ≡ value_kinds us → SpellsValues words vs → SpellsValues words us → vs ≡ us
   one_list (word ∷ words) (v ∷ vs) (u ∷ us) k a b = grind (arith, nat_tests, one_value law, tails, one_list words vs us (tails k) a.1 b.1)
   one_list words vs us k a b = grind arith
@@ -63,7 +63,7 @@ module _ (law : OneMeaning) where
   pub one_spelling : (line : List ℕ) (a b : Line) → SpellsLine line a → SpellsLine line b → a ≡ b
   one_spelling line a b h k = grind (arith, nat_tests, one_fit, one_list, parts_is, same_Some, spelled_kinds)
 
-  -- words that stand for values of their kinds have no fault
+  -- words that spell values of their kinds have no fault
   no_first : (words : List (List ℕ)) (values : List Value) (fault : LineFault) → SpellsValues words values → IsFirstWordFault (value_kinds values) words fault → ⊥
   no_first (word ∷ words) (v ∷ vs) fault h (inl bad) = faultless_word law (word_kind v) word fault (v, refl, h.0) bad
   no_first (word ∷ words) (v ∷ vs) fault h (inr bad) = no_first words vs fault h.1 bad.1
@@ -101,13 +101,13 @@ module _ (law : OneMeaning) where
   one_fault line a b (of_words short whole x) (not_worded also broken y) = absurd (true≢false (sym whole ∙ broken))
   one_fault line a b (of_words short whole x) (of_words also other y) = one_of_words (words_of line) a b x y
 
-  -- what was read of a line is all that it asks for
+  -- a line asks for what was read, and for nothing else
   pub only_read : {explains : Bool} (line : List ℕ) (r : Result Line LineFault) → IfOk r (Asks explains line) → IfErr r (λ fault. (fault ≡ NoMemory) ⊎ IsFirstFault explains line fault) → (asked : Line) → Asks explains line asked → (r ≡ Ok asked) ⊎ (r ≡ Err NoMemory)
   only_read line (Ok other) found fault asked h = inl (ap Ok (one_spelling line other asked found.spells h.spells))
   only_read line (Err other) found (inl memory) asked h = inr (ap Err memory)
   only_read line (Err other) found (inr bad) asked h = absurd (spelled_faultless line asked other h bad)
 
-  -- and what it was refused with is its fault, where it has one
+  -- and a line that was refused has that fault, if it has one
   pub only_refused : {explains : Bool} (line : List ℕ) (r : Result Line LineFault) → IfOk r (Asks explains line) → IfErr r (λ fault. (fault ≡ NoMemory) ⊎ IsFirstFault explains line fault) → (fault : LineFault) → IsFirstFault explains line fault → (r ≡ Err fault) ⊎ (r ≡ Err NoMemory)
   only_refused line (Ok asked) found is fault bad = absurd (spelled_faultless line asked fault found bad)
   only_refused line (Err other) found (inl memory) fault bad = inr (ap Err memory)
@@ -131,11 +131,11 @@ no_trim event h = cc
 no_question : (question : Question) (event : Event) → asks.Question question ≢ asks.Event event
 no_question question event h = cc
 
--- the event in what was read is the line's
+-- the event that was read is the one that the line asks for
 pub event_found : (line : List ℕ) (r : Result Line LineFault) → IfOk r (Asks false line) → IfOk (event_of r) (AsksEvent line)
 event_found line x1 found = grind (arith, nat_tests)
 
--- and why there is none is its fault
+-- if none was read, the line has that fault
 pub event_refused : (line : List ℕ) (r : Result Line LineFault) → IfOk r (Asks false line) → IfErr r (λ fault. (fault ≡ NoMemory) ⊎ IsFirstFault false line fault) → IfErr (event_of r) (λ fault. (fault ≡ NoMemory) ⊎ IsEventFault line fault)
 event_refused line (Ok (asks.Event event)) found fault = tt
 event_refused line (Ok (asks.Pass budget)) found fault = inr (no_event (asks.Pass budget) found (no_pass budget) refl)
@@ -145,16 +145,16 @@ event_refused line (Ok (asks.Question question)) found fault = inr (no_event (as
 event_refused line (Err other) found (inl memory) = inl memory
 event_refused line (Err other) found (inr bad) = inr (of_line bad)
 
--- and where there was no memory for it, there was none for the line
+-- if memory was refused, it was for the line
 pub event_memory : (r : Result Line LineFault) → event_of r ≡ Err NoMemory → r ≡ Err NoMemory
 event_memory r is = grind arith
 
--- what is read of a line makes the event, or there was no memory
+-- if the line asks for an event, it was read or memory was refused
 pub event_so : (r s : Result Line LineFault) → (r ≡ s) ⊎ (r ≡ Err NoMemory) → (event_of r ≡ event_of s) ⊎ (event_of r ≡ Err NoMemory)
 event_so r s (inl is) = inl (ap event_of is)
 event_so r s (inr none) = inr (ap event_of none)
 
--- and what is no event is refused with its fault
+-- if it asks for none, it was refused with its fault
 pub event_fault : (line : List ℕ) (r : Result Line LineFault) → ((asked : Line) → Asks false line asked → (r ≡ Ok asked) ⊎ (r ≡ Err NoMemory)) → ((fault : LineFault) → IsFirstFault false line fault → (r ≡ Err fault) ⊎ (r ≡ Err NoMemory)) → (fault : LineFault) → IsEventFault line fault → (event_of r ≡ Err fault) ⊎ (event_of r ≡ Err NoMemory)
 event_fault line r only refused fault (of_line bad) = event_so r (Err fault) (refused fault bad)
 event_fault line r only refused fault (no_event (asks.Event event) is other syntax) = absurd (other event refl)

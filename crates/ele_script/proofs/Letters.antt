@@ -1,16 +1,16 @@
--- The command in front of words, by the first letter of the first of them.
+-- The command that words begin with, by its first letter.
 use Rattle.ele_script.proofs.Basics.{nat_tests, arith, ◌≡◌, ◌≢◌, ℕ, List, [], ◌∷◌, refl, Some, None}
 use Rattle.ele_script.proofs.Prelude.{Command, find_command}
 use Rattle.ele_script.specs.CommandOf.{command_of, first_letter, FindsAll}
 
--- words without a first letter name none
+-- words without a first letter begin with no command
 pub no_letter : (words : List (List ℕ)) → first_letter words ≡ None → command_of words ≡ None
 unfolding command_of
 no_letter [] none = refl
 no_letter ([] ∷ words) none = refl
 no_letter ((letter ∷ word) ∷ words) none = absurd cc
 
--- the table of the letter finds what the table finds
+-- the rows of the letter give the command that all rows give
 pub by_letter : (words : List (List ℕ)) (letter : ℕ) (table : List (List (List ℕ) × Command)) → first_letter words ≡ Some letter → FindsAll letter table → find_command table words ≡ command_of words
 by_letter [] letter table some finds = absurd cc
 by_letter ([] ∷ words) letter table some finds = absurd cc
@@ -18,7 +18,7 @@ by_letter ((first ∷ word) ∷ words) letter table some finds =
     let same : first ≡ letter = cc in
     rw same (finds word words)
 
--- no name begins with another letter than these
+-- no name begins with any other letter
 pub none_begin : (letter : ℕ) → letter ≢ 97 → letter ≢ 99 → letter ≢ 100 → letter ≢ 103 → letter ≢ 104 → letter ≢ 108 → letter ≢ 109 → letter ≢ 111 → letter ≢ 112 → letter ≢ 114 → letter ≢ 115 → letter ≢ 116 → letter ≢ 117 → letter ≢ 118 → letter ≢ 119 → FindsAll letter []
 unfolding command_of
 none_begin letter a b c d e f g h i j k l m n o = λ word words. grind (arith, nat_tests)

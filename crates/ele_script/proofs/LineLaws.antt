@@ -1,4 +1,4 @@
--- Each line has one meaning.
+-- A line has at most one meaning.
 use Rattle.ele_script.proofs.Basics.{◌≡◌, ℕ, Bool, List, inl, inr, Ok, Err, Result}
 use Rattle.ele_script.proofs.Prelude.{OneMeaning, Line, LineFault, Asks}
 use Rattle.ele_script.proofs.Laws.{only_read, one_fault, one_spelling, spelled_faultless}

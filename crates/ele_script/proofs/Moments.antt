@@ -8,7 +8,7 @@ use Rattle.ele_moment.proofs.Moments.{short_number}
 use Rattle.ele_script.proofs.Dates.{dec_timestamp}
 use Rattle.ele_script.proofs.Decided.{dec_same}
 
--- a word stands for one number
+-- a word spells at most one number
 pub one_number : (word : List ℕ) (m n : ℕ) → SpellsNumber word m → SpellsNumber word n → m ≡ n
 one_number word m n a b = decimal_injective m n a.fits b.fits (sym a.digits ∙ b.digits)
 
@@ -30,7 +30,7 @@ one_moment word m n a b =
 value_of : (word : List ℕ) (n : ℕ) → SpellsNumber word n → digits_value 10 word ≡ n
 value_of word n is = ap (digits_value 10) is.digits ∙ (decimal_is_IsNumeral n is.fits).1
 
--- a word stands for the number of its digits or for none
+-- a word spells the number of its digits, or none
 pub dec_number : (word : List ℕ) → Dec ((n : ℕ) × SpellsNumber word n)
 dec_number word = elim (dec_lt (digits_value 10 word) (2 ^ 64)) [
   | no large ↦ no (λ h. large (subst (λ n. n < 2 ^ 64) (sym (value_of word h.0 h.1)) h.1.fits))
@@ -46,7 +46,7 @@ dec_in_range word m form only = elim (dec_le m last_moment) [
   | no late ↦ no (λ h. late (subst (λ n. n ≤ last_moment) (only h.0 h.1) h.1.in_range))
 ]
 
--- and for one moment or none
+-- and a moment or none
 pub dec_moment : (word : List ℕ) → Dec ((m : ℕ) × SpellsMoment word m)
 dec_moment word = elim (dec_timestamp word) [
   | yes stamp ↦ dec_in_range word stamp.0 (inr stamp.1) (λ n h. elim h.form [

@@ -26,7 +26,7 @@ slash_behind : (front rest : List ℕ) → All (λ c. (c == 47) ≡ false) front
 slash_behind [] rest none = refl
 slash_behind (c ∷ front) rest none = grind (arith, All-head, slash_behind front rest (All-tail (λ c. (c == 47) ≡ false) c front none))
 
--- the slash of a pair stands behind its age
+-- the slash of a pair follows its age
 slash_at : (word : List ℕ) (pair : Rung) → (is : SpellsPair word pair) → position is_slash word ≡ Some (length is.age)
 slash_at word pair is = grind (arith, nat_tests, slash_behind, number_unmarked, lt-ltb, length-append)
 
@@ -34,11 +34,11 @@ slash_there : (front rest : List ℕ) → All (λ c. (c == 47) ≡ false) (front
 slash_there [] rest none = true≢false (All-head (λ c. (c == 47) ≡ false) 47 rest none)
 slash_there (c ∷ front) rest none = slash_there front rest (All-tail (λ c. (c == 47) ≡ false) c (front ++ 47 ∷ rest) none)
 
--- so a pair has one
+-- a pair has a slash
 pub slashed : (word : List ℕ) (pair : Rung) → SpellsPair word pair → All (λ c. (c == 47) ≡ false) word → ⊥
 slashed word pair is none = slash_there is.age is.width (subst (All (λ c. (c == 47) ≡ false)) is.are none)
 
--- in front of the first slash stands the age, and behind it the width
+-- the age precedes the first slash, and the width follows it
 pub parts_at : (word : List ℕ) (pair : Rung) (at : ℕ) → SpellsPair word pair → position is_slash word ≡ Some at → SpellsNumber (take at word) pair.0 × SpellsNumber (drop 1 (drop at word)) pair.1
 parts_at word pair at is found =
     let place : at ≡ length is.age = same_Some _ _ (sym found ∙ slash_at word pair is) in
@@ -46,22 +46,22 @@ parts_at word pair at is found =
     let width : drop 1 (drop at word) ≡ is.width = rw (place, is.are, drop-append_seam is.age (47 ∷ is.width)) refl in
     (rw age is.age_is, rw width is.width_is)
 
--- what has no slash is no pair
+-- a word without a slash is no pair
 pub unslashed : (word : List ℕ) (r : Option Rung) → None ≡ position is_slash word → r ≡ None → IfNone r ((pair : Rung) → ¬ SpellsPair word pair)
 unslashed word r none is = rw is (λ pair spelled. none-some _ (none ∙ slash_at word pair spelled))
 
--- nor is what has no number in front of the slash
+-- nor is one without a number before the slash
 pub bad_age : (word front : List ℕ) (at : ℕ) (r : Option Rung) → Some at ≡ position is_slash word → front ≡ take at word → ((n : ℕ) → SpellsNumber front n → ◌≡◌ {A = Option ℕ} None (Some n)) → r ≡ None
     → IfNone r ((pair : Rung) → ¬ SpellsPair word pair)
 bad_age word front at r found before none is = grind (arith, nat_tests, none-some, parts_at)
 
--- or behind it
+-- or after it
 pub bad_width : (word behind rest : List ℕ) (at : ℕ) (r : Option Rung) → Some at ≡ position is_slash word → behind ≡ drop at word → rest ≡ drop 1 behind → ((n : ℕ) → SpellsNumber rest n → ◌≡◌ {A = Option ℕ} None (Some n)) → r ≡ None
     → IfNone r ((pair : Rung) → ¬ SpellsPair word pair)
 bad_width word behind rest at r found after more none is =
     rw is (λ pair spelled. none-some _ (none pair.1 (rw (more, after) (parts_at word pair at spelled (sym found)).1)))
 
--- and the numbers around it are the pair
+-- the numbers around the slash are the pair
 pub made_pair : (word front behind rest : List ℕ) (at m n : ℕ) → Some at ≡ position is_slash word → front ≡ take at word → behind ≡ drop at word → rest ≡ drop 1 behind → SpellsNumber front m → SpellsNumber rest n
     → SpellsPair word (m, n)
 made_pair word front behind rest at m n found before after more age width =
@@ -77,7 +77,7 @@ made_pair word front behind rest at m n found before after more age width =
       width_is = width;
     }
 
--- a word is one pair
+-- a word is at most one pair
 pub one_pair : (word : List ℕ) (p q : Rung) → SpellsPair word p → SpellsPair word q → p ≡ q
 one_pair word (age, width) (other, wide) a b =
     let found = slash_at word (other, wide) b in
@@ -89,7 +89,7 @@ pub one_pairs : (words : List (List ℕ)) (ps qs : List Rung) → AllZip SpellsP
 one_pairs (word ∷ words) (p ∷ ps) (q ∷ qs) a b = cc (one_pair word p q a.0 b.0, one_pairs words ps qs a.1 b.1)
 one_pairs words ps qs a b = grind arith
 
--- if words are pairs, so is each
+-- if the words are pairs, each is one
 pub all_pairs : (words : List (List ℕ)) (ps : List Rung) (i : ℕ) (word : List ℕ) → AllZip SpellsPair words ps → i < length words → word ≡ get_or words i word → ((p : Rung) → ¬ SpellsPair word p) → ⊥
 all_pairs (w ∷ words) (p ∷ ps) zero word all lt here bad = bad p (rw here all.0)
 all_pairs (w ∷ words) (p ∷ ps) (suc i) word all lt here bad = all_pairs words ps i word all.1 (omega (arith, lt)) here bad
@@ -104,7 +104,7 @@ pairs_push : (words : List (List ℕ)) (ps : List Rung) (word : List ℕ) (p : R
 pairs_push (w ∷ words) (q ∷ ps) word p all is = (all.0, pairs_push words ps word p all.1 is)
 pairs_push words ps word p all is = grind arith
 
--- a pair behind few is kept, and behind many it isn't
+-- a pair is kept unless nine are
 take_more : (n : ℕ) (ps : List Rung) (p : Rung) → length (take n ps) < n → take n (ps ++ p ∷ []) ≡ take n ps ++ p ∷ []
 take_more zero ps p few = absurd (omega (arith, few))
 take_more (suc zero) [] p few = refl

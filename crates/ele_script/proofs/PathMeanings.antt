@@ -28,7 +28,7 @@ use Rattle.ele_model.specs.declared.event.Source.TheVariants.{Tagged, Of}
 use Rattle.ele_script.specs.PathWord.{IsTimedWordFault, of_tagged}
 use Rattle.ele_script.proofs.Moments.{dec_moment, dec_number}
 
--- a piece in front of which and at which there is no fault is a name
+-- a piece without a fault, up to its end, is a name
 head_passes : (n : ℕ) (piece : List ℕ) (faults : List PathFault) → slice_get (cons_option (piece_fault n piece) faults) 0 ≡ None → (n < 32) × IsName piece × (slice_get faults 0 ≡ None)
 head_passes n [] faults none = absurd cc
 head_passes n (byte ∷ bytes) faults none = grind (arith, nat_tests, is_name-decides)

@@ -43,15 +43,15 @@ either : {P : Type 0} {b : Bool} → b ≡ true → b ≡ false → P
 either is other = absurd (true≢false (sym is ∙ other))
 
 module _ (law : OneMeaning) where
-  -- a word stands for one path with a tag
+  -- a word spells at most one path with a tag
   pub one_tagged : (word : List ℕ) (a b : TaggedPath) → SpellsTaggedPath word a → SpellsTaggedPath word b → a ≡ b
   one_tagged word a b x y = grind (arith, nat_tests, law.tagged_parts word a x, law.tagged_parts word b y, law.one_path (path_part word) a.path b.path, one_tag (tag_part word) a.tag b.tag)
 
-  -- and for one path at one moment
+  -- and at most one path at a moment
   pub one_timed : (word : List ℕ) (a b : PathAt) → SpellsPathAt word a → SpellsPathAt word b → a ≡ b
   one_timed word a b x y = grind (arith, nat_tests, one_tagged word _ _ x y, moment_is a.moment b.moment)
 
-  -- for one source
+  -- and at most one source
   pub one_source : (word : List ℕ) (a b : Source) → SpellsSource word a → SpellsSource word b → a ≡ b
   one_source word x1 x2 x y = grind (arith, nat_tests, one_tagged, either, begins_tagged, begins_number, one_number)
 
@@ -61,11 +61,11 @@ module _ (law : OneMeaning) where
   pub one_tagged_word : (word : List ℕ) (a b : LineFault) → IsTaggedWordFault word a → IsTaggedWordFault word b → a ≡ b
   one_tagged_word word a b x y = x.2 ∙ ap fault_of_path (law.one_tagged_fault word x.0 y.0 x.1 y.1) ∙ sym y.2
 
-  -- a word that stands for a source has no fault
+  -- a word that spells a source has no fault of one
   pub faultless_source : (word : List ℕ) (value : Source) (fault : LineFault) → SpellsSource word value → IsSourceFault word fault → ⊥
   faultless_source word (Tagged value) fault is bad = let slash = begins_tagged word value is in let none = faultless_tagged word value fault is in grind arith
   faultless_source word (Of handle) fault is bad = let plain = begins_number word handle is in grind arith
 
-  -- and a word has one
+  -- and a word has at most one
   pub one_source_fault : (word : List ℕ) (a b : LineFault) → IsSourceFault word a → IsSourceFault word b → a ≡ b
   one_source_fault word a b x y = grind (arith, one_tagged_word word a b)

@@ -13,7 +13,7 @@ use Rattle.ele_commands.specs.EventText.{IsTag}
 use Rattle.ele_path.specs.PathText.{path_word, tag_text, tagged_word}
 use Rattle.ele_script.proofs.Words.{has_byte}
 
--- a byte that may stand in a word
+-- a byte that a word may have
 abbrev pub is_inner : ℕ → Bool
 is_inner byte = nat_lt 32 byte && nat_le byte 126
 
@@ -26,7 +26,7 @@ all_so p q so xs all = list_all-from_AllPass q xs (All-weaker _ _ so xs (AllPass
 pub word_is : (word : List ℕ) → 0 < length word → list_all is_inner word ≡ true → is_word word ≡ true
 word_is word some inner = rw (lt-ltb 0 (length word) some, inner) refl
 
--- words with a mark between each two are of such bytes as these and the mark
+-- words joined by a mark have the bytes of the words and the mark
 pub joined_all : (p : ℕ → Bool) (mark : ℕ) → p mark ≡ true → (words : List (List ℕ)) → list_all (list_all p) words ≡ true → list_all p (join_with_byte mark words) ≡ true
 joined_all p mark is [] all = refl
 joined_all p mark is (first ∷ []) all = grind (arith, nat_tests)

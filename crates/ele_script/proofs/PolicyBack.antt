@@ -1,4 +1,4 @@
--- The words by which policies are printed spell them.
+-- The word that a policy is printed as reads back as it.
 use Rattle.ele_script.proofs.Basics.{◌≡◌, ℕ, zero, suc, ◌++◌, inl, inr, sym, subst, append-nil, ◌<◌, ◌≤◌, ◌==◌, true, false, List, [], ◌∷◌, length, map, refl, ap, ◌∙◌, arith, length-append, AllZip, join_with_byte, slice_split, decimal, nat_tests, All-append, All-cons}
 use Rattle.ele_script.proofs.Basics.{slice_split_none, slice_split_at}
 use Rattle.ele_script.proofs.Prelude.{SpellsNumber, One, KeepAll, Safe, Landmarks, Rung, IsLadder, climbs, ground, is_above, SpellsPair, SpellsPairs, SpellsSafe, pair_word}
@@ -30,7 +30,7 @@ spelled_pairs low [] up = tt
 spelled_pairs low (rung ∷ rungs) up =
     (spelled_pair low rung (grind (arith, nat_tests)), spelled_pairs rung rungs (grind (arith, nat_tests)))
 
--- no comma stands in the word of a pair
+-- the word of a pair has no comma
 whole_pair : (word : List ℕ) (rung : Rung) → SpellsPair word rung → All (λ byte. (byte == 44) ≡ false) word
 whole_pair word rung is =
     let age = number_unmarked 44 (omega arith) is.age rung.0 is.age_is in
@@ -58,7 +58,7 @@ joined_pairs (first ∷ rungs) is =
     let text = join_with_byte 44 (map pair_word (first ∷ rungs)) in
     rw (parts_are text (is_some (length text) (some_bytes first rungs)), cut_pairs first rungs are) are
 
--- seconds, with a floor behind them if there is one
+-- seconds, with a floor after them if there is one
 spelled_safe : (seconds floor : ℕ) → seconds ≤ last_moment → floor ≤ 16 → SpellsSafe (decimal seconds ++ floor_word floor) seconds floor
 spelled_safe seconds zero fits few = inl (subst (λ (text : List ℕ). SpellsNumber text seconds) (sym (append-nil (decimal seconds))) (spelled seconds fits), refl)
 spelled_safe seconds (suc n) fits few = inr (record { age = decimal seconds; width = decimal (suc n); are = refl; age_is = spelled seconds fits; width_is = spelled (suc n) (omega (arith, few)) })

@@ -1,4 +1,4 @@
--- Words and what they stand for: each one value of a kind.
+-- Words and their values: each has at most one of a kind.
 use Rattle.ele_script.proofs.Basics.{nat_tests, arith, ◌≡◌, ℕ, List, refl, sym, ap, subst, ◌∙◌, Ok, Err, Result, codes, IfErr, ok_or, decode_of, option_map, same_Some}
 use Rattle.ele_script.proofs.Prelude.{SpellsMoment, OneMeaning, LineFault, BadMoment, WordKind, NumberWord, HandleWord, VersionWord, MomentWord, EndWord, NameWord, PathWord, TaggedWord, TimedWord, SourceWord, BytesWord}
 use Rattle.ele_script.proofs.Prelude.{PolicyWord, Value, Moment, Name, Path, Timed, Bytes, word_kind, SpellsBytes, SpellsValue, fault_of_path, fault_of_path_at, IsOfKind, IsWordFault}
@@ -20,7 +20,7 @@ one_bytes : (word : List ℕ) (a b : List ℕ) → SpellsBytes word a → Spells
 one_bytes word a b x3 x4 = grind (arith, nat_tests, no_dash)
 
 module _ (law : OneMeaning) where
-  -- a word stands for one value of a kind
+  -- a word spells at most one value of a kind
   pub one_value : (word : List ℕ) (a b : Value) → word_kind a ≡ word_kind b → SpellsValue word a → SpellsValue word b → a ≡ b
   one_value word (Number m) (Number n) k a b = ap Number (one_number word m n a b)
   one_value word (Handle m) (Handle n) k a b = ap Handle (one_number word m n a b)
@@ -36,7 +36,7 @@ module _ (law : OneMeaning) where
   one_value word (Policy m) (Policy n) k a b = let same = one_policy word (Ok m) (Ok n) a b in cc
   one_value word _ _ k a b = absurd cc
 
-  -- a word that stands for a value of its kind has no fault
+  -- a word that spells a value of its kind has no fault
   pub faultless_word : (kind : WordKind) (word : List ℕ) (fault : LineFault) → IsOfKind kind word → IsWordFault kind word fault → ⊥
   faultless_word HandleWord word fault (Handle n, k, is) bad = bad.1 (Number n, refl, is)
   faultless_word VersionWord word fault (Version n, k, is) bad = bad.1 (Number n, refl, is)
@@ -48,7 +48,7 @@ module _ (law : OneMeaning) where
   faultless_word PolicyWord word fault (Policy policy, k, is) bad = let same = one_policy word (Ok policy) (Err fault) is bad in cc
   faultless_word kind word fault is bad = grind arith
 
-  -- a word has one fault of its kind
+  -- a word has at most one fault of its kind
   pub one_word_fault : (kind : WordKind) (word : List ℕ) (a b : LineFault) → IsWordFault kind word a → IsWordFault kind word b → a ≡ b
   one_word_fault NumberWord word a b x y = x.0 ∙ sym y.0
   one_word_fault HandleWord word a b x y = x.0 ∙ sym y.0
@@ -67,7 +67,7 @@ pub moment_of : (word : List ℕ) → IsOfKind MomentWord word → (m : ℕ) × 
 moment_of word (Moment m, k, is) = (m, is)
 moment_of word (value, k, is) = absurd cc
 
--- what is said where no moment was read
+-- the fault of a word that was read as no moment
 pub moment_fault : {E : Type 0} (word : List ℕ) (read : Result ℕ E) (r : Result ℕ LineFault) → ((m : ℕ) → SpellsMoment word m → read ≡ Ok m) → r ≡ ok_or (result_ok read) BadMoment → IfErr r (IsWordFault MomentWord word)
 moment_fault word (Ok m) r only is = subst (λ r. IfErr r (IsWordFault MomentWord word)) (sym is) tt
 moment_fault word (Err e) r only is =

@@ -1,4 +1,4 @@
--- The words behind a command: what they stand for, or the first fault of them.
+-- The words after a command: their values, or their first fault.
 use Rattle.ele_script.proofs.Basics.{◌≡◌, ℕ, List, [], ◌∷◌, length, codes, refl, arith, ◌⊎◌, inl, inr, Result, Ok, Err, decode_of, option_map, ap, dec_lt}
 use Rattle.ele_script.proofs.Prelude.{LineFault, BadMoment, Syntax, WordKind, NumberWord, HandleWord, VersionWord, MomentWord, EndWord, NameWord, PathWord, TaggedWord, TimedWord, SourceWord, BytesWord, PolicyWord, Value, Moment, Name, Path, Timed, Bytes, SpellsNumber, SpellsBytes}
 use Rattle.ele_script.proofs.Prelude.{fault_of_path, SpellsValues, IsOfKind, IsWordFault, IsFirstWordFault}
@@ -14,7 +14,7 @@ use Rattle.ele_script.proofs.PathMeanings.{path_meaning, tagged_meaning, timed_m
 use Rattle.ele_script.proofs.PolicyMeanings.{policy_meaning}
 use Rattle.ele_script.proofs.Values.{moment_of}
 
--- a word of a kind stands for such a value
+-- a word of a kind has a value of it
 number_of : (word : List ℕ) → IsOfKind NumberWord word → (n : ℕ) × SpellsNumber word n
 number_of word (Number n, k, is) = (n, is)
 number_of word (value, k, is) = absurd cc
@@ -68,7 +68,7 @@ word_more kind kinds word words (inr bad) more = inr (bad.0, inl bad.1)
 word_more kind kinds word words (inl is) (inr bad) = inr (bad.0, inr (is, bad.1))
 word_more kind kinds word words (inl is) (inl more) = inl (is.0 ∷ more.0, cc (is.1, more.1), (is.2, more.2))
 
--- as many words as kinds stand for values of these, or have a first fault
+-- as many words as kinds have values of these, or a first fault
 pub words_meaning : (kinds : List WordKind) (words : List (List ℕ)) → length words ≡ length kinds → WordsMeaning kinds words
 words_meaning [] [] same = inl ([], refl, tt)
 words_meaning (kind ∷ kinds) (word ∷ words) same =

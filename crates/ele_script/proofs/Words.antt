@@ -23,7 +23,7 @@ AreOfWords text n = (k : ℕ) → k < n → ends_word (get_or text k 0) ≡ fals
 pub later : (x : ℕ) (xs : List ℕ) (n : ℕ) → AreOfWords (x ∷ xs) (suc n) → AreOfWords xs n
 later x xs n h k lt = h (suc k) (omega (arith, lt))
 
--- behind a word stands a space
+-- a space follows a word
 pub word_before : (n : ℕ) (xs ys : List ℕ) → n ≤ length xs → AreOfWords xs n → words_of (take n xs ++ 32 ∷ ys) ≡ take n xs ∷ words_of ys
 word_before zero xs ys le h = refl
 word_before (suc n) [] ys le h = absurd (omega (arith, le))
@@ -35,7 +35,7 @@ plain_before zero xs le h = refl
 plain_before (suc n) [] le h = absurd (omega (arith, le))
 plain_before (suc n) (x ∷ xs) le h = rw (plain_byte x (h 0 (omega arith))) (plain_before n xs (omega (arith, le)) (later x xs n h))
 
--- what has no end is one plain word
+-- a text with no end of a word is one plain word
 pub whole_word : (xs : List ℕ) → AreOfWords xs (length xs) → (words_of xs ≡ xs ∷ []) × (list_all is_plain xs ≡ true)
 whole_word [] h = (refl, refl)
 whole_word (x ∷ xs) h = grind (arith, nat_tests, no_space x, plain_byte x, h 0, whole_word xs (later x xs (length xs) h))
@@ -50,7 +50,7 @@ has_byte word = nat_lt 0 (length word)
 positive : (n : ℕ) → (n == 0) ≡ false → 0 < n
 positive x0 some = grind (arith, nat_tests)
 
--- these words were cut off in front of the rest, none is empty, and all that was cut off is plain
+-- these words precede the rest, none is empty, and the bytes before the rest are plain
 pub record AreCut (line : List ℕ) (front : List (List ℕ)) (rest : List ℕ) : Type 0 where
   pub words : words_of line ≡ front ++ words_of rest
   pub plain : list_all is_plain line ≡ list_all is_plain rest
@@ -59,13 +59,13 @@ pub record AreCut (line : List ℕ) (front : List (List ℕ)) (rest : List ℕ) 
 map_push : {A : Type 0} (v : A → List ℕ) (front now : List A) (x : A) → now ≡ front ++ x ∷ [] → map v now ≡ map v front ++ v x ∷ []
 map_push {A} v front now x pushed = ap (λ (xs : List A). map v xs) pushed ∙ map-append v front (x ∷ [])
 
--- with one word more none is empty
+-- with one more word none is empty
 push_spaced : {A : Type 0} (v : A → List ℕ) (front now : List A) (x : A) → now ≡ front ++ x ∷ [] → list_all has_byte (map v front) ≡ true → 0 < length (v x) → list_all has_byte (map v now) ≡ true
 push_spaced {A} v front now x pushed before some =
     let one : has_byte (v x) ≡ true = lt-ltb 0 (length (v x)) some in
     ap (list_all has_byte) (map_push v front now x pushed) ∙ list_all-append has_byte (map v front) (v x ∷ []) ∙ rw (before, one) refl
 
--- a word more is cut off
+-- one more word is cut off
 pub cut_more : (line : List ℕ) (front now : List (Bor (List ℕ))) (word : Bor (List ℕ)) (rest behind : List ℕ) (at : ℕ) → AreCut line (map (λ word. word.now) front) rest → position ends_word rest ≡ Some at
     → get_or rest at 0 ≡ 32 → 0 < at → word.now ≡ take at rest → behind ≡ drop 1 (drop at rest) → now ≡ front ++ word ∷ [] → AreCut line (map (λ word. word.now) now) behind
 cut_more line front now word rest behind at are found space some here there pushed =
@@ -83,7 +83,7 @@ cut_more line front now word rest behind at are found space some here there push
 words_unspaced : (line : List ℕ) (front behind : List (List ℕ)) → words_of line ≡ front ++ [] ∷ behind → is_worded line ≡ false
 words_unspaced line front behind are = grind (arith, nat_tests, list_all-append, and-false)
 
--- a space in front of the rest leaves an empty word
+-- a rest that begins with a space begins with an empty word
 pub cut_empty : (line : List ℕ) (front : List (List ℕ)) (rest : List ℕ) (at : ℕ) → AreCut line front rest → position ends_word rest ≡ Some at → get_or rest at 0 ≡ 32 → at ≡ 0 → is_worded line ≡ false
 cut_empty line front [] at are found space none = absurd (let f = position-Some ends_word [] at 0 found in omega (arith, f.0))
 cut_empty line front (x ∷ xs) at are found space none =
@@ -91,7 +91,7 @@ cut_empty line front (x ∷ xs) at are found space none =
     let words : words_of (x ∷ xs) ≡ [] ∷ words_of xs = ap (λ b. words_of (b ∷ xs)) first in
     words_unspaced line front (words_of xs) (are.words ∙ ap (λ (ws : List (List ℕ)). front ++ ws) words)
 
--- and so does no rest
+-- and an empty rest is one
 pub cut_none : (line : List ℕ) (front : List (List ℕ)) (rest : List ℕ) → AreCut line front rest → (length rest == 0) ≡ true → is_worded line ≡ false
 cut_none line front [] are none = words_unspaced line front [] are.words
 cut_none line front (x ∷ xs) are none = grind (arith, nat_tests)
@@ -100,12 +100,12 @@ cut_none line front (x ∷ xs) are none = grind (arith, nat_tests)
 pub cut_unplain : (line : List ℕ) (front : List (List ℕ)) (rest : List ℕ) (at : ℕ) → AreCut line front rest → position ends_word rest ≡ Some at → get_or rest at 0 ≢ 32 → list_all is_plain line ≡ false
 cut_unplain line front rest at are found other = grind (arith, nat_tests, position-Some, list_all_at)
 
--- what is left is the last word
+-- a rest without an end of a word is the last word
 pub cut_last : (line : List ℕ) (front now : List (Bor (List ℕ))) (last : Bor (List ℕ)) → AreCut line (map (λ word. word.now) front) (last.now) → position ends_word (last.now) ≡ None → now ≡ front ++ last ∷ []
     → map (λ word. word.now) now ≡ words_of line
 cut_last line front now last are none pushed = grind (arith, nat_tests, whole_word last.now, no_end last.now none, map_push (λ (word : Bor (List ℕ)). word.now) front now last pushed, append_assoc)
 
--- and with it the line is worded
+-- with it the line is worded
 pub cut_worded : (line : List ℕ) (front now : List (Bor (List ℕ))) (last : Bor (List ℕ)) → AreCut line (map (λ word. word.now) front) (last.now) → position ends_word (last.now) ≡ None → now ≡ front ++ last ∷ []
     → (length (last.now) == 0) ≡ false → is_worded line ≡ true
 cut_worded line front now last are none pushed some =
@@ -120,6 +120,6 @@ cut_some line front rest are = omega (arith, ap length are.words, length-append 
 pub unworded : (line : List ℕ) → list_all is_plain line ≡ false → is_worded line ≡ false
 unworded line broken = ap (λ b. b && list_all (λ word. nat_lt 0 (length word)) (words_of line)) broken
 
--- a line that isn't worded, or has more than four words, is at fault
+-- a line that isn't worded or has more than four words has a fault
 pub unfit_line : {explains : Bool} (line : List ℕ) → length line ≤ longest_line → (is_worded line ≡ false) ⊎ (4 < length (words_of line)) → IsFirstFault explains line Syntax
 unfit_line line short x2 = grind (arith, nat_tests, length-append)

@@ -9,7 +9,7 @@ use Rattle.ele_commands.specs.declared.command.TheConstants.{ROWS}
 use Rattle.ele_commands.specs.declared.kind.WordKind.{WordKind}
 use Rattle.ele_commands.specs.Command.{command_words, is_allowed, name_of}
 
--- what stands behind a name
+-- the words after a name
 abbrev pub behind : List (List ℕ) → List (List ℕ) → Option (List (List ℕ))
 behind [] words = Some words
 behind (word ∷ name) [] = None
@@ -19,7 +19,7 @@ abbrev pub or_next : Command → Option (List (List ℕ)) → Option (Command ×
 or_next command (Some rest) next = Some (command, rest)
 or_next command None next = next
 
--- the first command of the table whose name stands in front, and the words behind it
+-- the first command of the table whose name the words begin with, and the words after it
 abbrev pub find_command : List (List (List ℕ) × Command) → List (List ℕ) → Option (Command × List (List ℕ))
 find_command [] words = None
 find_command (named ∷ table) words = or_next named.1 (behind named.0 words) (find_command table words)
@@ -32,11 +32,11 @@ commands = map (λ row. row.0) ROWS
 abbrev pub named : Command → List (List ℕ) × Command
 named command = (command_words command, command)
 
--- the command in front of the words, and the words behind it
+-- the command that the words begin with, and the words after it
 unfoldable pub command_of : List (List ℕ) → Option (Command × List (List ℕ))
 command_of words = find_command (map named commands) words
 
--- if it is a command of a run that explains, or of one that doesn't
+-- if the run has the command
 abbrev pub if_allowed : Bool → Command × List (List ℕ) → Option (Command × List (List ℕ))
 if_allowed explains found = if is_allowed explains found.0 then Some found else None
 
@@ -47,12 +47,11 @@ command_in explains words = option_and_then (if_allowed explains) (command_of wo
 abbrev pub entry : Command × Bor (List ℕ) × Bor (List ℕ) × Bor (List WordKind) × When → List (List ℕ) × Command
 entry row = (name_of row.1.now row.2.now, row.0)
 
--- the first letter of the words, if the first of them has one
 abbrev pub first_letter : List (List ℕ) → Option ℕ
 first_letter ((letter ∷ word) ∷ words) = Some letter
 first_letter words = None
 
--- of words that begin with the letter, this table finds the command
+-- the table finds the command of all words that begin with the letter
 abbrev pub FindsAll : ℕ → List (List (List ℕ) × Command) → Type 0
 FindsAll letter table =
     (word : List ℕ) (words : List (List ℕ)) → find_command table ((letter ∷ word) ∷ words) ≡ command_of ((letter ∷ word) ∷ words)

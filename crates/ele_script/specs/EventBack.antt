@@ -5,6 +5,6 @@ use Rattle.ele_commands.specs.EventText.{IsValue, event_text}
 use Rattle.ele_commands.specs.Parts.{parts_of}
 use Rattle.ele_script.specs.Spells.{Spells}
 
--- where its values are as their types say
+-- for values that are as their types say
 abbrev pub EventBack : Type 0
 EventBack = (event : Event) → AllByRecursion IsValue (parts_of event).1 → Spells (event_text event) event

@@ -42,18 +42,18 @@ IsFirstWordFault (kind ∷ kinds) (word ∷ words) fault =
     IsWordFault kind word fault ⊎ (IsOfKind kind word × IsFirstWordFault kinds words fault)
 IsFirstWordFault kinds words fault = ⊥
 
--- the words are a command of a run that explains, or of one that doesn't, and as many words behind it as it wants
+-- the words are a command that the run has, and as many words as it takes
 pub record FitsCommand (explains : Bool) (words : List (List ℕ)) (command : Command) (arguments : List (List ℕ)) : Type 0 where
   pub allowed : is_allowed explains command ≡ true
   pub are : words ≡ command_words command ++ arguments
   pub count : length arguments ≡ length (kinds_behind command arguments)
 
--- the fault of plain words: they fit no command, or the first bad one
+-- the fault of plain words: they fit no command, or that of the first bad word
 pub data IsFaultOfWords (explains : Bool) (words : List (List ℕ)) (fault : LineFault) : Type 0 where
   no_command : ((command : Command) (arguments : List (List ℕ)) → ¬ FitsCommand explains words command arguments) → fault ≡ Syntax → IsFaultOfWords explains words fault
   of_word : (command : Command) (arguments : List (List ℕ)) → FitsCommand explains words command arguments → IsFirstWordFault (kinds_behind command arguments) arguments fault → IsFaultOfWords explains words fault
 
--- the first fault of a line in such a run: its length, its bytes and spaces, its command and number of words, its first bad word
+-- the first fault of a line: its length, its bytes and spaces, its command and number of words, its first bad word
 pub data IsFirstFault (explains : Bool) (line : List ℕ) (fault : LineFault) : Type 0 where
   too_long : longest_line < length line → fault ≡ LineTooLong → IsFirstFault explains line fault
   not_worded : length line ≤ longest_line → is_worded line ≡ false → fault ≡ Syntax → IsFirstFault explains line fault

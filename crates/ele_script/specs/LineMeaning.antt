@@ -1,11 +1,11 @@
--- No line has two meanings in a run that explains, nor in one that doesn't: what it asks for, or its first fault.
+-- No line has two meanings, in a run that explains or in one that doesn't. Its meaning is what it asks for, or its first fault.
 use Rattle.std.specs.Prelude.{◌≡◌, ℕ, Bool, List}
 use Rattle.ele_script.specs.FirstFault.{IsFirstFault}
 use Rattle.ele_script.specs.Spells.{Asks, SpellsLine}
 use Rattle.ele_printer.specs.declared.fault.LineFault.{LineFault}
 use Rattle.ele_script.specs.declared.reading.Line.{Line}
 
--- what a line spells, however long, is one thing; what it asks for is one, its first fault is one, and no line has both
+-- a line of any length spells at most one thing. It asks for at most one, has at most one first fault, and doesn't do both
 pub record OneLineMeaning : Type 0 where
   pub one_spelling : (line : List ℕ) (a b : Line) → SpellsLine line a → SpellsLine line b → a ≡ b
   pub one_line : (explains : Bool) (line : List ℕ) (a b : Line) → Asks explains line a → Asks explains line b → a ≡ b

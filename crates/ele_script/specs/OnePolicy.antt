@@ -1,4 +1,4 @@
--- No word is read as two things where a policy stands.
+-- No word is read as two policies, as two faults, or as a policy and a fault.
 use Rattle.std.specs.Prelude.{◌≡◌, ℕ, List, Result}
 use Rattle.ele_policy.specs.declared.policy.Policy.{Policy}
 use Rattle.ele_printer.specs.declared.fault.LineFault.{LineFault}

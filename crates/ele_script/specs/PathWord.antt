@@ -1,4 +1,4 @@
--- What is wrong with a word where a path stands with a tag or at a moment, or a handle in its place.
+-- What is wrong with a word that is to be a path with a tag, a path at a moment, or a source.
 use Rattle.std.specs.Prelude.{◌≡◌, ℕ, ◌==◌, Bool, true, false, List, [], ◌∷◌}
 use Rattle.ele_moment.specs.Number.{SpellsNumber}
 use Rattle.ele_path.specs.TaggedFault.{IsTaggedFault}
@@ -15,12 +15,12 @@ IsTaggedWordFault word fault = (bad : PathFault) × IsTaggedFault word bad × (f
 abbrev pub IsTimedWordFault : List ℕ → LineFault → Type 0
 IsTimedWordFault word fault = (bad : PathAtFault) × IsPathAtFault word bad × (fault ≡ fault_of_path_at bad)
 
--- a slash (47) stands in front
+-- the word begins with a slash (47)
 abbrev pub begins_path : List ℕ → Bool
 begins_path [] = false
 begins_path (byte ∷ bytes) = byte == 47
 
--- a word with a slash in front is at fault as a path with a tag, and any other is no number
+-- the fault of a word that begins with a slash is that of a path with a tag; any other word is no number
 pub data IsSourceFault (word : List ℕ) (fault : LineFault) : Type 0 where
   of_tagged : begins_path word ≡ true → IsTaggedWordFault word fault → IsSourceFault word fault
   of_handle : begins_path word ≡ false → ((handle : ℕ) → ¬ SpellsNumber word handle) → fault ≡ Syntax → IsSourceFault word fault

@@ -1,4 +1,4 @@
--- The word by which a policy is printed spells it.
+-- The word that a policy is printed as reads back as that policy.
 use Rattle.std.specs.Prelude.{Ok}
 use Rattle.ele_policy.specs.declared.policy.Policy.{Policy}
 use Rattle.ele_policy.specs.Policy.{IsPolicy}

@@ -17,17 +17,17 @@ pub record SpellsPair (word : List ℕ) (pair : Rung) : Type 0 where
   pub age_is : SpellsNumber age pair.0
   pub width_is : SpellsNumber width pair.1
 
--- a number of seconds and no floor, or a floor behind it
+-- a number of seconds with no floor, or with a floor after it
 abbrev pub SpellsSafe : List ℕ → ℕ → ℕ → Type 0
 SpellsSafe text seconds floor = (SpellsNumber text seconds × (floor ≡ 0)) ⊎ SpellsPair text (seconds, floor)
 
--- `safe:` and these
+-- `safe:` and such a text
 pub record IsSafeWord (word : List ℕ) (seconds floor : ℕ) : Type 0 where
   pub text : List ℕ
   pub are : word ≡ codes "safe:" ++ text
   pub spelled : SpellsSafe text seconds floor
 
--- what stands between commas (44), and nothing in no bytes
+-- what is between commas (44); no bytes have no parts
 abbrev pub parts_of : List ℕ → List (List ℕ)
 parts_of [] = []
 parts_of (byte ∷ bytes) = slice_split (λ b. b == 44) (byte ∷ bytes)
@@ -36,7 +36,7 @@ parts_of (byte ∷ bytes) = slice_split (λ b. b == 44) (byte ∷ bytes)
 abbrev pub SpellsPairs : List ℕ → List Rung → Type 0
 SpellsPairs text pairs = AllZip SpellsPair (parts_of text) pairs
 
--- `landmarks:` and pairs, however many
+-- `landmarks:` and any number of pairs
 pub record IsLadderWord (word : List ℕ) (pairs : List Rung) : Type 0 where
   pub text : List ℕ
   pub are : word ≡ codes "landmarks:" ++ text
@@ -49,7 +49,7 @@ HasForm word All = word ≡ codes "all"
 HasForm word (Safe seconds floor) = IsSafeWord word seconds floor
 HasForm word (Landmarks rungs) = IsLadderWord word rungs
 
--- what a word is read as: the policy of its form; `Syntax` where it has none, and `BadLadder` where its numbers are no policy's
+-- what a word is read as: the policy of its form; `Syntax` if it has none, and `BadLadder` if its numbers are those of no policy
 abbrev pub ReadsPolicy : List ℕ → Result Policy LineFault → Type 0
 ReadsPolicy word (Ok policy) = HasForm word policy × IsPolicy policy
 ReadsPolicy word (Err Syntax) = (policy : Policy) → ¬ HasForm word policy

@@ -1,4 +1,4 @@
--- What a word of a line may stand for.
+-- What a word of a line may spell.
 use Rattle.std.specs.Prelude.{◌≡◌, ℕ, ◌<◌, List, [], length, codes, ◌⊎◌, Ok}
 use Rattle.hex.specs.Hex.{decode_of}
 use Rattle.ele_moment.specs.Name.{IsName}
@@ -14,7 +14,7 @@ use Rattle.ele_model.specs.declared.event.Source.{Source as AnySource}
 use Rattle.ele_model.specs.declared.event.Source.TheVariants as source
 use Rattle.ele_script.specs.PolicyWord.{ReadsPolicy}
 
--- the kind of words that stand for such a value
+-- the kind of words that spell the value
 abbrev pub word_kind : Value → WordKind
 word_kind (Number n) = NumberWord
 word_kind (Handle n) = HandleWord
@@ -42,7 +42,7 @@ abbrev pub SpellsSource : List ℕ → AnySource → Type 0
 SpellsSource word (source.Tagged tagged) = SpellsTaggedPath word tagged
 SpellsSource word (source.Of handle) = SpellsNumber word handle
 
--- the word stands for the value
+-- the word spells the value
 abbrev pub SpellsValue : List ℕ → Value → Type 0
 SpellsValue word (Number n) = SpellsNumber word n
 SpellsValue word (Handle n) = SpellsNumber word n

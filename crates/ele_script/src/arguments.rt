@@ -1,5 +1,5 @@
-//! The words behind a command, by their number and kinds. A contract sees a word as its bytes, and
-//! what it spells as itself.
+//! Readers of the words after a command, by their number and kinds. A contract sees a word as its
+//! bytes, and what it spells as itself.
 ghost use Rattle.std.specs.Prelude.{◌≡◌, ◌≢◌, ◌∷◌, [], map, length, IfOk, IfErr};
 ghost use Rattle.ele_script.specs.Value.{NumberWord, HandleWord, VersionWord, MomentWord, EndWord, NameWord, PathWord, TaggedWord, TimedWord, SourceWord, BytesWord, PolicyWord};
 ghost use Rattle.ele_script.specs.Value as value;
@@ -13,7 +13,7 @@ use ele_policy::Policy;
 use ele_printer::LineFault;
 use std::alloc::Global;
 
-// The only word.
+// The only word; any other number of words is `Syntax`.
 fn one<'l>(words: &[&'l [u8]]) -> Result<&'l [u8], LineFault>
     ensures found { IfOk result (λ word. map (λ word. word.now) words.now ≡ word.now ∷ []) }
     ensures miscounted { IfErr result
@@ -25,7 +25,6 @@ fn one<'l>(words: &[&'l [u8]]) -> Result<&'l [u8], LineFault>
     Ok(*word)
 }
 
-// The only two words.
 fn two<'l>(words: &[&'l [u8]]) -> Result<(&'l [u8], &'l [u8]), LineFault>
     ensures found { IfOk result
         (λ both. map (λ word. word.now) words.now ≡ both.0.now ∷ both.1.now ∷ []) }
@@ -38,7 +37,6 @@ fn two<'l>(words: &[&'l [u8]]) -> Result<(&'l [u8], &'l [u8]), LineFault>
     Ok((*first, *second))
 }
 
-// The only three words.
 fn three<'l>(words: &[&'l [u8]]) -> Result<(&'l [u8], &'l [u8], &'l [u8]), LineFault>
     ensures found { IfOk result
         (λ all. map (λ word. word.now) words.now ≡ all.0.now ∷ all.1.now ∷ all.2.now ∷ []) }
@@ -51,7 +49,6 @@ fn three<'l>(words: &[&'l [u8]]) -> Result<(&'l [u8], &'l [u8], &'l [u8]), LineF
     Ok((*first, *second, *third))
 }
 
-/// No word.
 pub(crate) fn nothing(words: &[&[u8]]) -> Result<(), LineFault>
     ensures { Reads [] (λ _. []) (map (λ word. word.now) words.now) result }
 {
@@ -61,7 +58,6 @@ pub(crate) fn nothing(words: &[&[u8]]) -> Result<(), LineFault>
     Ok(())
 }
 
-/// A number.
 pub(crate) fn number(words: &[&[u8]]) -> Result<u64, LineFault>
     ensures { Reads (NumberWord ∷ []) (λ number. value.Number number ∷ [])
         (map (λ word. word.now) words.now) result }
@@ -69,7 +65,6 @@ pub(crate) fn number(words: &[&[u8]]) -> Result<u64, LineFault>
     word::number(one(words)?)
 }
 
-/// A handle.
 pub(crate) fn handle(words: &[&[u8]]) -> Result<u64, LineFault>
     ensures { Reads (HandleWord ∷ []) (λ handle. value.Handle handle ∷ [])
         (map (λ word. word.now) words.now) result }
@@ -77,7 +72,6 @@ pub(crate) fn handle(words: &[&[u8]]) -> Result<u64, LineFault>
     word::handle(one(words)?)
 }
 
-/// A moment.
 pub(crate) fn moment(words: &[&[u8]]) -> Result<Moment, LineFault>
     ensures { Reads (MomentWord ∷ []) (λ moment. value.Moment moment ∷ [])
         (map (λ word. word.now) words.now) result }
@@ -85,7 +79,6 @@ pub(crate) fn moment(words: &[&[u8]]) -> Result<Moment, LineFault>
     word::moment(one(words)?)
 }
 
-/// A name.
 pub(crate) fn name(alloc: Global, words: &[&[u8]]) -> Result<Boxed<Name>, LineFault>
     ensures { Reads (NameWord ∷ []) (λ name. value.Name name ∷ [])
         (map (λ word. word.now) words.now) result }
@@ -94,7 +87,6 @@ pub(crate) fn name(alloc: Global, words: &[&[u8]]) -> Result<Boxed<Name>, LineFa
     Ok(Boxed::new(alloc, name)?)
 }
 
-/// A path.
 pub(crate) fn path(alloc: Global, words: &[&[u8]]) -> Result<Path, LineFault>
     ensures { Reads (PathWord ∷ []) (λ path. value.Path path ∷ [])
         (map (λ word. word.now) words.now) result }
@@ -102,7 +94,6 @@ pub(crate) fn path(alloc: Global, words: &[&[u8]]) -> Result<Path, LineFault>
     word::path(alloc, one(words)?)
 }
 
-/// A path with a tag.
 pub(crate) fn tagged(alloc: Global, words: &[&[u8]]) -> Result<TaggedPath, LineFault>
     ensures { Reads (TaggedWord ∷ []) (λ tagged. value.Tagged tagged ∷ [])
         (map (λ word. word.now) words.now) result }
@@ -110,7 +101,6 @@ pub(crate) fn tagged(alloc: Global, words: &[&[u8]]) -> Result<TaggedPath, LineF
     word::tagged(alloc, one(words)?)
 }
 
-/// A path at a moment.
 pub(crate) fn path_at(alloc: Global, words: &[&[u8]]) -> Result<PathAt, LineFault>
     ensures { Reads (TimedWord ∷ []) (λ path_at. value.Timed path_at ∷ [])
         (map (λ word. word.now) words.now) result }
@@ -118,7 +108,6 @@ pub(crate) fn path_at(alloc: Global, words: &[&[u8]]) -> Result<PathAt, LineFaul
     word::path_at(alloc, one(words)?)
 }
 
-/// A path with a tag, or a handle.
 pub(crate) fn source(alloc: Global, words: &[&[u8]]) -> Result<Source, LineFault>
     ensures { Reads (SourceWord ∷ []) (λ source. value.Source source ∷ [])
         (map (λ word. word.now) words.now) result }
@@ -126,7 +115,6 @@ pub(crate) fn source(alloc: Global, words: &[&[u8]]) -> Result<Source, LineFault
     word::source(alloc, one(words)?)
 }
 
-/// A handle and a number.
 pub(crate) fn handle_and_number(words: &[&[u8]]) -> Result<(u64, u64), LineFault>
     ensures { Reads (HandleWord ∷ NumberWord ∷ [])
         (λ both. value.Handle both.0 ∷ value.Number both.1 ∷ [])
@@ -137,7 +125,6 @@ pub(crate) fn handle_and_number(words: &[&[u8]]) -> Result<(u64, u64), LineFault
     Ok((first, word::number(second)?))
 }
 
-/// Two paths.
 pub(crate) fn two_paths(alloc: Global, words: &[&[u8]]) -> Result<(Path, Path), LineFault>
     ensures { Reads (PathWord ∷ PathWord ∷ [])
         (λ both. value.Path both.0 ∷ value.Path both.1 ∷ [])
@@ -148,7 +135,6 @@ pub(crate) fn two_paths(alloc: Global, words: &[&[u8]]) -> Result<(Path, Path), 
     Ok((first, word::path(alloc, second)?))
 }
 
-/// A path and a version's number.
 pub(crate) fn path_and_version(alloc: Global, words: &[&[u8]]) -> Result<(Path, u64), LineFault>
     ensures { Reads (PathWord ∷ VersionWord ∷ [])
         (λ both. value.Path both.0 ∷ value.Version both.1 ∷ [])
@@ -159,7 +145,6 @@ pub(crate) fn path_and_version(alloc: Global, words: &[&[u8]]) -> Result<(Path, 
     Ok((first, word::version(second)?))
 }
 
-/// A path and a policy.
 pub(crate) fn path_and_policy(
     alloc: Global,
     words: &[&[u8]],
@@ -174,7 +159,6 @@ pub(crate) fn path_and_policy(
     Ok((first, Boxed::new(alloc, second)?))
 }
 
-/// A name and a path.
 pub(crate) fn name_and_path(
     alloc: Global,
     words: &[&[u8]],
@@ -189,7 +173,6 @@ pub(crate) fn name_and_path(
     Ok((Boxed::new(alloc, first)?, second))
 }
 
-/// A name and a moment.
 pub(crate) fn name_and_moment(
     alloc: Global,
     words: &[&[u8]],
@@ -204,7 +187,6 @@ pub(crate) fn name_and_moment(
     Ok((Boxed::new(alloc, first)?, second))
 }
 
-/// A name, a moment and an end.
 pub(crate) fn name_moment_and_end(
     alloc: Global,
     words: &[&[u8]],
@@ -220,7 +202,6 @@ pub(crate) fn name_moment_and_end(
     Ok((Boxed::new(alloc, first)?, second, third))
 }
 
-/// A handle, a number and bytes.
 pub(crate) fn handle_number_and_bytes(
     alloc: Global,
     words: &[&[u8]],

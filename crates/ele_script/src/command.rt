@@ -1,4 +1,4 @@
-//! The command in front of the words of a line, and the kinds of the words behind it.
+//! The command that the words of a line begin with, and the kinds of the words after it.
 ghost use Rattle.std.specs.Prelude.{◌≡◌, ◌==◌, ◌∷◌, [], length, map};
 ghost use Rattle.std.specs.Option.{option_map};
 ghost use Rattle.ele_commands.specs.Command.{kinds_of, name_of};
@@ -7,7 +7,7 @@ ghost use Rattle.ele_script.specs.CommandOf.{behind, command_in, command_of, ent
 
 use ele_commands::{Command, ROWS, Row, WordKind};
 
-// The rows from the first one on whose name begins with the letter.
+// The rows from the first one whose name begins with the letter.
 fn rows_from(letter: u8) -> &'static [Row]
     ensures { FindsAll letter (map entry result.now) }
 {
@@ -31,7 +31,6 @@ fn rows_from(letter: u8) -> &'static [Row]
     }
 }
 
-// The first letter of the words, if the first of them has one.
 fn first_letter(words: &[&[u8]]) -> Option<u8>
     ensures { result ≡ first_letter (map (λ word. word.now) words.now) }
 {
@@ -40,8 +39,9 @@ fn first_letter(words: &[&[u8]]) -> Option<u8>
     Some(*letter)
 }
 
-/// The command in front of the words of a run that explains, or of one that doesn't, and the words
-/// behind it. It is inlined, so that what it finds stays in registers.
+/// Returns the command that the words begin with, and the words after it, or `None` if the run has
+/// no such command. `explains` says whether the run explains.
+// Inlined, so that the result stays in registers.
 #[inline(always)]
 pub fn read_command<'w, 'l>(
     explains: bool,
@@ -58,7 +58,7 @@ pub fn read_command<'w, 'l>(
     }
 }
 
-// The command in front of the words, in whichever run, and the words behind it.
+// The same for a run that has all commands.
 #[inline(always)]
 #[tactic(auto, using(crate::proofs::Letters::no_letter, crate::proofs::Letters::by_letter))]
 fn any_command<'w, 'l>(words: &'w [&'l [u8]]) -> Option<(Command, &'w [&'l [u8]])>
@@ -69,7 +69,7 @@ fn any_command<'w, 'l>(words: &'w [&'l [u8]]) -> Option<(Command, &'w [&'l [u8]]
     find_command(rows_from(letter), words)
 }
 
-// The command of the first row whose name stands in front of the words.
+// The command of the first row whose name the words begin with.
 fn find_command<'w, 'l>(rows: &[Row], words: &'w [&'l [u8]]) -> Option<(Command, &'w [&'l [u8]])>
     ensures { option_map (λ x. (x.0, map (λ word. word.now) x.1.now)) result
         ≡ find_command (map entry rows.now) (map (λ word. word.now) words.now) }
@@ -83,7 +83,7 @@ fn find_command<'w, 'l>(rows: &[Row], words: &'w [&'l [u8]]) -> Option<(Command,
     None
 }
 
-// What stands behind a name of one word or of two.
+// The words after a name of one word or two.
 fn behind<'w, 'l>(words: &'w [&'l [u8]], first: &str, second: &str) -> Option<&'w [&'l [u8]]>
     ensures { option_map (λ rest. map (λ word. word.now) rest.now) result
         ≡ behind (name_of first.now second.now) (map (λ word. word.now) words.now) }
@@ -95,7 +95,7 @@ fn behind<'w, 'l>(words: &'w [&'l [u8]], first: &str, second: &str) -> Option<&'
     behind_word(rest, second)
 }
 
-// What stands behind a word.
+// The words after one word.
 fn behind_word<'w, 'l>(words: &'w [&'l [u8]], name: &str) -> Option<&'w [&'l [u8]]>
     ensures { option_map (λ rest. map (λ word. word.now) rest.now) result
         ≡ behind (name.now ∷ []) (map (λ word. word.now) words.now) }
@@ -107,8 +107,8 @@ fn behind_word<'w, 'l>(words: &'w [&'l [u8]], name: &str) -> Option<&'w [&'l [u8
     Some(rest)
 }
 
-/// The kinds of the words behind a command where so many stand there: with an end only if each kind
-/// has its word.
+/// Returns the kinds of the words after a command if there are `count` of them. An end is among the
+/// kinds only if each kind has its word.
 pub fn kinds_for(command: Command, count: usize) -> &'static [WordKind]
     ensures { result.now ≡ kinds_if command (count == length (kinds_of command)) }
 {

@@ -1,6 +1,5 @@
-//! The script's language: a line asks for something or has a first fault, and a reply is one line or
-//! more. Lines are read and events written here, and what `ele_printer` prints is given out again. A
-//! contract sees lines and replies as bytes.
+//! The script language: reads lines, and writes events as lines. It re-exports the calls of
+//! `ele_printer` that print answers. A contract sees lines and answers as bytes.
 #![tactic(auto)]
 
 mod arguments;

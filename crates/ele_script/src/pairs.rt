@@ -1,4 +1,4 @@
-//! Reading the pairs of a ladder. A contract sees a pair as its two numbers.
+//! Readers of the pairs of a ladder. A contract sees a pair as its two numbers.
 ghost use Rattle.std.specs.Prelude.{◌≡◌, ◌==◌, List, IfSome, IfNone};
 ghost use Rattle.std.specs.List.{position};
 ghost use Rattle.ele_policy.specs.Ladder.{Rung};
@@ -8,10 +8,11 @@ ghost use Rattle.ele_script.specs.PolicyWord.{IsLadderWord, SpellsPair, SpellsPa
 use arrayvec::ArrayVec;
 use ele_moment::read_number;
 
-/// One more than the longest ladder has, so that too many pairs are told from few enough.
+// One more than a ladder may have, so that too many pairs can be seen.
 const MOST_PAIRS: usize = 9;
 
-/// The first pairs behind `landmarks:`, if all that stands there is pairs.
+/// Returns the first nine pairs of a word of the form `landmarks:AGE/WIDTH,..`, and `None` for any
+/// other word. They may be those of no ladder.
 pub fn ladder_pairs(word: &[u8]) -> Option<ArrayVec<(u64, u64), MOST_PAIRS>>
     ensures some { IfSome result (λ pairs. KeepsLadder word.now pairs.items) }
     ensures none { IfNone result ((pairs : List Rung) → ¬ IsLadderWord word.now pairs) }
@@ -19,7 +20,7 @@ pub fn ladder_pairs(word: &[u8]) -> Option<ArrayVec<(u64, u64), MOST_PAIRS>>
     read_pairs(word.strip_prefix(b"landmarks:")?)
 }
 
-// The first pairs of a text, if it is pairs with a comma between each two.
+// Reads pairs with a comma between each two, and keeps the first nine.
 fn read_pairs(text: &[u8]) -> Option<ArrayVec<(u64, u64), MOST_PAIRS>>
     ensures some { IfSome result (λ pairs. KeepsPairs text.now pairs.items) }
     ensures none { IfNone result ((pairs : List Rung) → ¬ SpellsPairs text.now pairs) }
@@ -37,7 +38,7 @@ fn read_pairs(text: &[u8]) -> Option<ArrayVec<(u64, u64), MOST_PAIRS>>
     Some(pairs)
 }
 
-/// Two numbers with a slash between them.
+// Reads two numbers with a slash between them.
 pub(crate) fn read_pair(word: &[u8]) -> Option<(u64, u64)>
     ensures some { IfSome result (SpellsPair word.now) }
     ensures none { IfNone result ((pair : Rung) → ¬ SpellsPair word.now pair) }
@@ -46,7 +47,6 @@ pub(crate) fn read_pair(word: &[u8]) -> Option<(u64, u64)>
     Some((read_number(age)?, read_number(behind.split_at(1).1)?))
 }
 
-// Where the first slash stands.
 fn slash_in(word: &[u8]) -> Option<usize>
     ensures { result ≡ position (λ byte. byte == 47) word.now }
 {

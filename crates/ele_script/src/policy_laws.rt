@@ -1,4 +1,4 @@
-//! What is true of the words of policies. A law is the contract of a function that does nothing.
+//! Laws about the words of policies. A law is the contract of a function that does nothing.
 ghost use Rattle.ele_script.specs.OnePolicy.{OnePolicy};
 ghost use Rattle.ele_script.specs.PolicyBack.{PolicyBack};
 
@@ -8,7 +8,7 @@ pub fn one_policy()
     ensures { OnePolicy }
 {}
 
-/// The word by which a policy is printed spells it.
+/// The word that a policy is printed as reads back as that policy.
 #[tactic(auto, using(crate::proofs::PolicyBack::policy_back))]
 pub fn policy_back()
     ensures { PolicyBack }

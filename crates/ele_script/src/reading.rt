@@ -26,35 +26,35 @@ use std::alloc::Global;
 /// What a line of a script asks for.
 #[derive(Debug, Drop, PartialEq, Eq)]
 pub enum Line {
-    /// To run an event.
+    /// Run an event.
     Event(Event),
-    /// To clean until nothing is due, or so many versions are removed.
+    /// Clean until nothing is due, or until this many versions are removed.
     Pass(u64),
-    /// To tell the stored events.
+    /// Print the history.
     History,
-    /// To fold the stored events into the base.
+    /// Fold the history into its base.
     Trim,
-    /// To explain something, where a run explains.
+    /// Explain something. Only a run that explains reads it.
     Question(Question),
 }
 
 /// What a line asks to be explained.
 #[derive(Debug, Drop, PartialEq, Eq)]
 pub enum Question {
-    /// Why the version that the path and its tag mean is held, or may go.
+    /// Why the version that the path with its tag names is held, or may be removed.
     Why(TaggedPath),
-    /// Which versions will be due at the moment.
+    /// Which versions will be due at this moment.
     Ahead(Moment),
 }
 
-/// The most bytes of a line, without its line feed.
+/// The maximum number of bytes of a line, without its line feed.
 pub const LONGEST_LINE: usize = 8192;
 
-/// The most words of a line that asks for something.
+// The maximum number of words of a command.
 const MOST_WORDS: usize = 4;
 
-/// What a line asks for, without its line feed, in a run that doesn't explain. It is refused as
-/// `read_line_in` refuses it.
+/// Reads a line, without its line feed, for a run that doesn't explain. Errors are those of
+/// `read_line_in`.
 pub fn read_line(alloc: Global, line: &[u8]) -> Result<Line, LineFault>
     ensures found { IfOk result (Asks false line.now) }
     ensures only { (asked : Line) → Asks false line.now asked
@@ -68,11 +68,12 @@ pub fn read_line(alloc: Global, line: &[u8]) -> Result<Line, LineFault>
     read_line_in(alloc, false, line)
 }
 
-/// What a line asks for, without its line feed, in a run that explains, or in one that doesn't.
+/// Reads a line, without its line feed. `explains` says whether the run explains: only then are
+/// `why` and `ahead` commands.
 ///
-/// A line that asks for nothing is answered with its first fault: its length, its bytes and spaces,
-/// its command and number of words, and then the first bad word from the left. `NoMemory` may come
-/// in place of any other answer where the command takes a path, bytes or the name of a group.
+/// The error is the line's first fault: its length, its bytes and spaces, its command and number of
+/// words, then the first bad word from the left. `NoMemory` may replace any result if the command
+/// takes a path, bytes or the name of a group.
 #[tactic(auto, using(crate::proofs::Laws::one_fault, crate::proofs::Words::unfit_line))]
 pub fn read_line_in(alloc: Global, explains: bool, line: &[u8]) -> Result<Line, LineFault>
     ensures found { IfOk result (Asks explains line.now) }
@@ -84,7 +85,7 @@ pub fn read_line_in(alloc: Global, explains: bool, line: &[u8]) -> Result<Line, 
         → (result ≡ Err fault) ⊎ (result ≡ Err LineFault.NoMemory) }
     ensures memory { result ≡ Err LineFault.NoMemory → TakesMemory explains (words_of line.now) }
 {
-    // Told for the proof: as a path, a word means one thing.
+    // For the proof: a word means one path.
     one_meaning();
     if line.len() > LONGEST_LINE {
         return Err(LineFault::LineTooLong);
@@ -96,8 +97,8 @@ pub fn read_line_in(alloc: Global, explains: bool, line: &[u8]) -> Result<Line, 
     line_of(alloc, explains, words.as_slice())
 }
 
-/// The event that a line asks for, without its line feed. It is refused as `read_line` refuses it; a
-/// line that asks for something else is `Syntax`.
+/// Reads a line, without its line feed, that asks for an event. Errors are those of `read_line`,
+/// and `Syntax` for a line that asks for something else.
 #[tactic(auto, using(crate::proofs::Laws::event_found, crate::proofs::Laws::event_memory))]
 pub fn read_event(alloc: Global, line: &[u8]) -> Result<Event, LineFault>
     ensures found { IfOk result (AsksEvent line.now) }
@@ -113,7 +114,7 @@ pub fn read_event(alloc: Global, line: &[u8]) -> Result<Event, LineFault>
     event_in(asked)
 }
 
-// The event that was asked for.
+// The event that the line asks for; any other line is `Syntax`.
 fn event_in(asked: Result<Line, LineFault>) -> Result<Event, LineFault>
     ensures { result ≡ event_of asked }
 {
@@ -126,8 +127,8 @@ fn event_in(asked: Result<Line, LineFault>) -> Result<Event, LineFault>
     }
 }
 
-// Puts the words of a line into a list that has none, so that they aren't moved, and returns whether
-// the line has such words.
+// Puts the words of a line into an empty list of the caller's, so that they aren't moved. Returns
+// false if a byte is in no word, a word is empty or there are too many words.
 #[tactic(auto, using(crate::proofs::Words::cut_some, crate::proofs::Words::cut_unplain, crate::proofs::Words::cut_empty, crate::proofs::Words::cut_none, crate::proofs::Words::unworded))]
 fn cut_words<'l>(line: &'l [u8], words: &mut ArrayVec<&'l [u8], MOST_WORDS>) -> bool
     requires { words.old.items ≡ [] }
@@ -162,7 +163,8 @@ fn cut_words<'l>(line: &'l [u8], words: &mut ArrayVec<&'l [u8], MOST_WORDS>) -> 
     true
 }
 
-/// Where the first byte stands that is in no word.
+/// Returns the position of the first byte that ends a word: a space, or a byte that no word may
+/// have.
 pub fn word_end(text: &[u8]) -> Option<usize>
     ensures { result ≡ position ends_word text.now }
 {
@@ -170,7 +172,7 @@ pub fn word_end(text: &[u8]) -> Option<usize>
         .position(|byte| !(*byte > b' ' && *byte <= b'~'))
 }
 
-// What words ask for, in a run that explains, or in one that doesn't.
+// Reads the words of a line.
 #[tactic(auto, using(crate::proofs::Commands::spelled_words, crate::proofs::Commands::allowed_words, crate::proofs::Commands::memory_of_words))]
 fn line_of(alloc: Global, explains: bool, words: &[&[u8]]) -> Result<Line, LineFault>
     ensures found { IfOk result (SpellsWords (map (λ word. word.now) words.now)) }
@@ -188,8 +190,8 @@ fn line_of(alloc: Global, explains: bool, words: &[&[u8]]) -> Result<Line, LineF
     line_behind(alloc, command, behind)
 }
 
-// What the words behind a command make of it. Lines that set the clock or ask the queue are read
-// without the room on the stack that the many kinds of the others take.
+// Reads the words after a command. `clock` and `due` are read without the stack that the arms of
+// all others take.
 fn line_behind(alloc: Global, command: Command, words: &[&[u8]]) -> Result<Line, LineFault>
     ensures { ReadsLine command (map (λ word. word.now) words.now) result }
 {
@@ -200,7 +202,7 @@ fn line_behind(alloc: Global, command: Command, words: &[&[u8]]) -> Result<Line,
     }
 }
 
-// The same of any command. Each arm makes its line at once, so that no event is moved on its way.
+// The same for any command. Each arm makes its line at once, so that no event is moved.
 #[inline(never)]
 fn line_behind_any(alloc: Global, command: Command, words: &[&[u8]]) -> Result<Line, LineFault>
     ensures { ReadsLine command (map (λ word. word.now) words.now) result }
@@ -273,7 +275,7 @@ fn line_behind_any(alloc: Global, command: Command, words: &[&[u8]]) -> Result<L
     }
 }
 
-// A mark, and its end behind it, where there are three words.
+// Reads a mark, which has an end if there are three words.
 fn mark(alloc: Global, words: &[&[u8]]) -> Result<Line, LineFault>
     ensures { ReadsLine Command.Mark (map (λ word. word.now) words.now) result }
 {

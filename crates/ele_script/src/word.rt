@@ -1,4 +1,4 @@
-//! The words behind a command. A contract sees a word as its bytes, and what it spells as itself.
+//! Readers of single words. A contract sees a word as its bytes, and what it spells as itself.
 ghost use Rattle.std.specs.Prelude.{◌≡◌, ◌⊎◌, ℕ, true, Err, IfOk, IfErr, OnOk, IfSome, IfNone};
 ghost use Rattle.ele_moment.specs.Number.{SpellsNumber};
 ghost use Rattle.ele_moment.specs.Spelled.{SpellsMoment};
@@ -20,7 +20,6 @@ use ele_policy::{Floor, Interval, Ladder, Policy};
 use ele_printer::LineFault;
 use std::alloc::Global;
 
-/// A number.
 #[tactic(auto, using(crate::proofs::Behind::number_kind))]
 pub(crate) fn number(word: &[u8]) -> Result<u64, LineFault>
     ensures found { IfOk result (SpellsNumber word.now) }
@@ -30,7 +29,6 @@ pub(crate) fn number(word: &[u8]) -> Result<u64, LineFault>
     read_number(word).ok_or(LineFault::Syntax)
 }
 
-/// A number, of a handle.
 #[tactic(auto, using(crate::proofs::Behind::handle_kind))]
 pub(crate) fn handle(word: &[u8]) -> Result<u64, LineFault>
     ensures found { IfOk result (SpellsNumber word.now) }
@@ -40,7 +38,6 @@ pub(crate) fn handle(word: &[u8]) -> Result<u64, LineFault>
     number(word)
 }
 
-/// A number, of a version.
 #[tactic(auto, using(crate::proofs::Behind::version_kind))]
 pub(crate) fn version(word: &[u8]) -> Result<u64, LineFault>
     ensures found { IfOk result (SpellsNumber word.now) }
@@ -50,7 +47,6 @@ pub(crate) fn version(word: &[u8]) -> Result<u64, LineFault>
     number(word)
 }
 
-/// A moment.
 #[tactic(auto, using(crate::proofs::Values::moment_fault, crate::proofs::Behind::moment_kind))]
 pub(crate) fn moment(word: &[u8]) -> Result<Moment, LineFault>
     ensures found { IfOk result (SpellsMoment word.now) }
@@ -60,7 +56,7 @@ pub(crate) fn moment(word: &[u8]) -> Result<Moment, LineFault>
     Moment::read(word).ok().ok_or(LineFault::BadMoment)
 }
 
-/// A moment, at which a mark ends.
+// The moment at which a mark ends.
 #[tactic(auto, using(crate::proofs::Behind::end_kind))]
 pub(crate) fn end(word: &[u8]) -> Result<Moment, LineFault>
     ensures found { IfOk result (SpellsMoment word.now) }
@@ -70,7 +66,6 @@ pub(crate) fn end(word: &[u8]) -> Result<Moment, LineFault>
     moment(word)
 }
 
-/// A name.
 pub(crate) fn name(word: &[u8]) -> Result<Name, LineFault>
     ensures found { IfOk result (SpellsName word.now) }
     ensures kind { OnOk result (IsOfKind NameWord word.now) }
@@ -79,7 +74,6 @@ pub(crate) fn name(word: &[u8]) -> Result<Name, LineFault>
     Ok(Name::new(word)?)
 }
 
-/// A path.
 pub(crate) fn path(alloc: Global, word: &[u8]) -> Result<Path, LineFault>
     ensures found { IfOk result (SpellsPath word.now) }
     ensures kind { OnOk result (IsOfKind PathWord word.now) }
@@ -89,7 +83,7 @@ pub(crate) fn path(alloc: Global, word: &[u8]) -> Result<Path, LineFault>
     Ok(Path::read(alloc, word)?)
 }
 
-/// A path with a tag. A word without a slash in front takes no memory.
+// A word that doesn't begin with a slash takes no memory.
 pub(crate) fn tagged(alloc: Global, word: &[u8]) -> Result<TaggedPath, LineFault>
     ensures found { IfOk result (SpellsTaggedPath word.now) }
     ensures fault { IfErr result
@@ -102,7 +96,6 @@ pub(crate) fn tagged(alloc: Global, word: &[u8]) -> Result<TaggedPath, LineFault
     Ok(TaggedPath::read(alloc, word)?)
 }
 
-/// A path at a moment.
 pub(crate) fn path_at(alloc: Global, word: &[u8]) -> Result<PathAt, LineFault>
     ensures found { IfOk result (SpellsPathAt word.now) }
     ensures fault { IfErr result
@@ -111,7 +104,7 @@ pub(crate) fn path_at(alloc: Global, word: &[u8]) -> Result<PathAt, LineFault>
     Ok(PathAt::read(alloc, word)?)
 }
 
-/// A path with a tag, which begins with a slash, or else a handle.
+// A path with a tag, if the word begins with a slash, or else a handle.
 #[tactic(auto, using(std::proofs::lemmas::Result::err_from_is_err_and, std::proofs::Common::inr, crate::proofs::Behind::bad_handle))]
 pub(crate) fn source(alloc: Global, word: &[u8]) -> Result<Source, LineFault>
     ensures found { IfOk result (SpellsSource word.now) }
@@ -125,8 +118,8 @@ pub(crate) fn source(alloc: Global, word: &[u8]) -> Result<Source, LineFault>
     Ok(Source::Of(Handle(number(word)?)))
 }
 
-/// Checks that a word is of the kind. `Err` has its fault, or `NoMemory`, which only a word that takes
-/// memory can meet.
+/// Checks that a word is of the kind. The error is the fault of the word, or `NoMemory` if reading
+/// the word takes memory.
 pub fn check_word(alloc: Global, kind: WordKind, word: &[u8]) -> Result<(), LineFault>
     ensures kind { OnOk result (IsOfKind kind word.now) }
     ensures fault { IfErr result
@@ -174,7 +167,7 @@ pub fn check_word(alloc: Global, kind: WordKind, word: &[u8]) -> Result<(), Line
     Ok(())
 }
 
-/// Whether a slash stands in front.
+/// Returns whether the word begins with a slash.
 pub fn begins_path(word: &[u8]) -> bool
     ensures { result ≡ begins_path word.now }
 {
@@ -184,7 +177,7 @@ pub fn begins_path(word: &[u8]) -> bool
     }
 }
 
-/// Bytes: `-` for none, or hexadecimal digits.
+// `-` for none, or hexadecimal digits.
 pub(crate) fn bytes(alloc: Global, word: &[u8]) -> Result<ByteList, LineFault>
     ensures found { IfOk result (SpellsBytes word.now) }
     ensures fault { IfErr result
@@ -203,8 +196,8 @@ pub(crate) fn bytes(alloc: Global, word: &[u8]) -> Result<ByteList, LineFault>
     }
 }
 
-/// The policy that a word is: its form first, and then its numbers. `Syntax` where it has the form of
-/// none, and `BadLadder` where its numbers are no policy's.
+/// Reads the word of a policy. The error is `Syntax` if the word has the form of no policy, and
+/// `BadLadder` if its numbers are those of none.
 pub fn policy(word: &[u8]) -> Result<Policy, LineFault>
     ensures { ReadsPolicy word.now result }
 {
@@ -223,7 +216,8 @@ pub fn policy(word: &[u8]) -> Result<Policy, LineFault>
     Ok(Policy::Landmarks(Ladder::new(pairs.as_slice())?))
 }
 
-/// The seconds and the floor behind `safe:`.
+/// Returns the seconds and the floor of a word of the form `safe:SECONDS` or `safe:SECONDS/FLOOR`,
+/// and `None` for any other word. They may be those of no policy. A floor that isn't given is 0.
 pub fn safe_numbers(word: &[u8]) -> Option<(u64, u64)>
     ensures some { IfSome result (λ numbers. IsSafeWord word.now numbers.0 numbers.1) }
     ensures none { IfNone result ((seconds floor : ℕ) → ¬ IsSafeWord word.now seconds floor) }
@@ -231,7 +225,7 @@ pub fn safe_numbers(word: &[u8]) -> Option<(u64, u64)>
     read_safe(word.strip_prefix(b"safe:")?)
 }
 
-// Seconds with no floor, or with a slash and a floor behind them.
+// Reads seconds, or seconds, a slash and a floor.
 fn read_safe(text: &[u8]) -> Option<(u64, u64)>
     ensures some { IfSome result (λ numbers. SpellsSafe text.now numbers.0 numbers.1) }
     ensures none { IfNone result ((seconds floor : ℕ) → ¬ SpellsSafe text.now seconds floor) }
