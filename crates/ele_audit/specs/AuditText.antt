@@ -51,8 +51,8 @@ read_word (Version file number) = decimal number
 
 -- the line of an open handle: its number, its file, what it reads, since when, and the path
 abbrev pub handle_line : OpenHandle → List ℕ
-handle_line open =
-    line_text (codes "-" ∷ decimal open.row.number ∷ decimal (file_of open.row.reads) ∷ read_word open.row.reads ∷ end_word open.since ∷ path_or_dash (names_in open.path) ∷ [])
+handle_line handle =
+    line_text (codes "-" ∷ decimal handle.row.number ∷ decimal (file_of handle.row.reads) ∷ read_word handle.row.reads ∷ end_word handle.since ∷ path_or_dash (names_in handle.path) ∷ [])
 
 -- the text of open handles: how many, and a line for each
 abbrev pub handles_text : List OpenHandle → List ℕ

@@ -1,9 +1,8 @@
 -- Two lists whose elements belong together, place by place.
-use Rattle.std.specs.Prelude.{List, [], ◌∷◌}
+use Rattle.std.specs.Prelude.{⊥, List, [], ◌∷◌}
 
 -- the lists are equally long, and R holds between the elements at each place
 abbrev pub AreEach : {A B : Type 0} → (A → B → Type 0) → List A → List B → Type 0
 AreEach R [] [] = Unit {0}
-AreEach R [] (b ∷ bs) = Void {0}
-AreEach R (a ∷ as) [] = Void {0}
-AreEach R (a ∷ as) (b ∷ bs) = R a b × AreEach R as bs
+AreEach R (x ∷ xs) (y ∷ ys) = R x y × AreEach R xs ys
+AreEach R xs ys = ⊥

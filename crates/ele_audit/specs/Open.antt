@@ -38,10 +38,10 @@ since_of past number (Draft file) = option_map (λ draft. draft.opened) (find (i
 since_of past number (Version file version) = opened_at number past.base past.entries
 
 -- the handle, since when it has been open, and the path that leads to its file now
-pub record IsOpen (past : Past) (row : HandleRow) (open : OpenHandle) : Type 0 where
-  pub row : open.row ≡ row
-  pub since : open.since ≡ since_of past row.number row.reads
-  pub path : names_in open.path ≡ live_path (world_of past).names (File (file_of row.reads))
+pub record IsOpen (past : Past) (row : HandleRow) (handle : OpenHandle) : Type 0 where
+  pub row : handle.row ≡ row
+  pub since : handle.since ≡ since_of past row.number row.reads
+  pub path : names_in handle.path ≡ live_path (world_of past).names (File (file_of row.reads))
 
 -- these are the open handles, in order
 abbrev pub AreOpen : Past → List OpenHandle → Type 0
