@@ -148,7 +148,7 @@ pub enum Topic {
     Questions,
     /// What happened.
     History,
-    /// Why versions are held, and until when.
+    /// Why versions are held or removed, and what an audit asks.
     Why,
 }
 
@@ -160,7 +160,7 @@ pub static HELP: [(Topic, &str); 40] = [
     ),
     (
         Topic::Why,
-        "ok answers F K, then for each of K entries - LINE and its answer",
+        "ok answers F K, then K lines - LINE in order, each with its answer below",
     ),
     (Topic::Time, "ok now S TEXT"),
     (Topic::Contents, "ok closed, or ok closed version V"),
@@ -192,7 +192,7 @@ pub static HELP: [(Topic, &str); 40] = [
     ),
     (
         Topic::Why,
-        "ok handles K, then K lines - HANDLE FILE VERSION SINCE PATH by number",
+        "ok handles K, then K lines - HANDLE FILE VERSION SINCE PATH by handle",
     ),
     (Topic::Names, "ok done"),
     (
