@@ -22,6 +22,7 @@ asks words kinds = record { words = words; kinds = kinds; when = Explaining }
 -- a command's row; a last word that is an end may be left out
 abbrev pub row : Command → Row
 row command.Ahead = asks (codes "ahead" ∷ []) (Moment ∷ [])
+row command.Answers = asks (codes "answers" ∷ []) []
 row command.Clock = takes (codes "clock" ∷ []) (Moment ∷ [])
 row command.Close = takes (codes "close" ∷ []) (Handle ∷ [])
 row command.Clean = takes (codes "clean" ∷ []) []
@@ -33,7 +34,9 @@ row command.GroupDrop = takes (codes "group" ∷ codes "drop" ∷ []) (Name ∷ 
 row command.GroupAdd = takes (codes "group" ∷ codes "add" ∷ []) (Name ∷ Path ∷ [])
 row command.GroupRemove = takes (codes "group" ∷ codes "remove" ∷ []) (Name ∷ Path ∷ [])
 row command.Groups = takes (codes "groups" ∷ []) []
+row command.Gone = asks (codes "gone" ∷ []) []
 row command.History = takes (codes "history" ∷ []) []
+row command.Handles = asks (codes "handles" ∷ []) []
 row command.Link = takes (codes "link" ∷ []) (Path ∷ Path ∷ [])
 row command.ListNames = takes (codes "list" ∷ []) (Timed ∷ [])
 row command.Mark = takes (codes "mark" ∷ []) (Name ∷ Moment ∷ End ∷ [])

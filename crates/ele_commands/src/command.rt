@@ -12,6 +12,7 @@ use crate::kind::WordKind::{
 #[derive(Clone, Copy, Debug, PartialEq, Eq)]
 pub enum Command {
     Ahead,
+    Answers,
     Clock,
     Close,
     Clean,
@@ -23,7 +24,9 @@ pub enum Command {
     GroupAdd,
     GroupRemove,
     Groups,
+    Gone,
     History,
+    Handles,
     Link,
     ListNames,
     Mark,
@@ -71,8 +74,9 @@ pub type Row = (
 
 /// A row for each command, in the order of `Command`: those with one first letter stand together, and
 /// of these the ones that come often first.
-pub static ROWS: [Row; 37] = [
+pub static ROWS: [Row; 40] = [
     (Command::Ahead, "ahead", "", &[Moment], Explaining),
+    (Command::Answers, "answers", "", &[], Explaining),
     (Command::Clock, "clock", "", &[Moment], Always),
     (Command::Close, "close", "", &[Handle], Always),
     (Command::Clean, "clean", "", &[], Always),
@@ -90,7 +94,9 @@ pub static ROWS: [Row; 37] = [
         Always,
     ),
     (Command::Groups, "groups", "", &[], Always),
+    (Command::Gone, "gone", "", &[], Explaining),
     (Command::History, "history", "", &[], Always),
+    (Command::Handles, "handles", "", &[], Explaining),
     (Command::Link, "link", "", &[Path, Path], Always),
     (Command::ListNames, "list", "", &[Timed], Always),
     (Command::Mark, "mark", "", &[Name, Moment, End], Always),
@@ -142,15 +148,19 @@ pub enum Topic {
     Questions,
     /// What happened.
     History,
-    /// Why versions are held, and until when.
+    /// Why versions are held or removed, and what an audit asks.
     Why,
 }
 
 /// For help, what each command is about and how it is answered, in the order of `Command`.
-pub static HELP: [(Topic, &str); 37] = [
+pub static HELP: [(Topic, &str); 40] = [
     (
         Topic::Why,
         "ok ahead K, then K lines - RIPE FILE NUMBER in order",
+    ),
+    (
+        Topic::Why,
+        "ok answers F K, then K lines - LINE in order, each with its answer below",
     ),
     (Topic::Time, "ok now S TEXT"),
     (Topic::Contents, "ok closed, or ok closed version V"),
@@ -173,8 +183,16 @@ pub static HELP: [(Topic, &str); 37] = [
         "ok groups K, then K lines - G members F,F marks M,M in order of making",
     ),
     (
+        Topic::Why,
+        "ok gone F K, then K lines - MOMENT FILE NUMBER PATH FATE in order",
+    ),
+    (
         Topic::History,
         "ok history F K, then K lines - LINE in order",
+    ),
+    (
+        Topic::Why,
+        "ok handles K, then K lines - HANDLE FILE VERSION SINCE PATH by handle",
     ),
     (Topic::Names, "ok done"),
     (

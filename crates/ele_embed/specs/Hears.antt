@@ -12,7 +12,7 @@ use Rattle.ele_model.specs.declared.reply.Reply.{Reply}
 use Rattle.ele_printer.specs.declared.fault.LineFault.{LineFault}
 use Rattle.ele_printer.specs.declared.fault.LineFault.TheVariants.{Syntax, LineTooLong}
 use Rattle.ele_runs.specs.LineLength.{line_unless_long}
-use Rattle.ele_runs.specs.Said.{HearsKept}
+use Rattle.ele_runs.specs.Said.{HearsKept, SaysAhead}
 use Rattle.ele_runs.specs.declared.options.RunOptions.{RunOptions}
 use Rattle.ele_runs.specs.declared.said.Said.{Said}
 use Rattle.ele_runs.specs.declared.said.Said.TheVariants.{Nothing, Bad, Stopped, Replied, Passed, Why, Ahead}
@@ -24,15 +24,31 @@ use Rattle.ele_model.specs.Why.{IsAhead, IsWhy}
 use Rattle.ele_path.specs.declared.tagged.TaggedPath.{TaggedPath}
 use Rattle.ele_script.specs.Spells.{Asks}
 use Rattle.ele_script.specs.declared.reading.Line.TheVariants as asks
+use Rattle.ele_script.specs.declared.reading.Question.{Question}
 use Rattle.ele_script.specs.declared.reading.Question.TheVariants as question
 
 -- as a run hears lines that explains, and has no other option
 abbrev pub explaining : RunOptions
 explaining = record { strict = false; numbers = false; remarks = false; explain = true }
 
--- the fault of a line without a history: its first one, or that it asks for the history or to fold it
+-- the line asks what only a history knows
+abbrev pub AsksPast : List ℕ → Type 0
+AsksPast line =
+    Asks true line asks.History ⊎ Asks true line asks.Trim ⊎ Asks true line (asks.Question question.Gone)
+    ⊎ Asks true line (asks.Question question.Handles) ⊎ Asks true line (asks.Question question.Answers)
+
+-- the fault of a line without a history: its first one, or that it asks what only a history knows
 abbrev pub IsPlainFault : List ℕ → LineFault → Type 0
-IsPlainFault line fault = IsFirstFault true line fault ⊎ ((fault ≡ Syntax) × (Asks true line asks.History ⊎ Asks true line asks.Trim))
+IsPlainFault line fault = IsFirstFault true line fault ⊎ ((fault ≡ Syntax) × AsksPast line)
+
+-- without a history a question is answered from the world as it is, unless only a history knows the answer
+abbrev pub ExplainsPlain : World → Question → Said → Type 0
+ExplainsPlain w (question.Why tagged) (Why told) = IsWhy w tagged told
+ExplainsPlain w (question.Why tagged) said = ⊥
+ExplainsPlain w (question.Ahead moment) said = SaysAhead w moment said
+ExplainsPlain w question.Gone said = said ≡ Bad Syntax
+ExplainsPlain w question.Handles said = said ≡ Bad Syntax
+ExplainsPlain w question.Answers said = said ≡ Bad Syntax
 
 -- without a history a line may want memory: to be read, for its event, or to tell what will be due at a moment that hasn't passed
 pub data LineTakesMemory (before : World) (line : List ℕ) : Type 0 where

@@ -2,7 +2,7 @@
 ghost use Rattle.std.specs.Prelude.{◌≡◌, None, false, IfOk, Ok};
 ghost use Rattle.std.specs.Option.{option_copied};
 ghost use Rattle.ele_core.specs.Stopped.{is_stopped};
-ghost use Rattle.ele_embed.specs.Hears.{Answers, HearsPlain};
+ghost use Rattle.ele_embed.specs.Hears.{Answers, ExplainsPlain, HearsPlain};
 ghost use Rattle.ele_embed.specs.Takes.{Steps};
 ghost use Rattle.ele_model.specs.Pass.{EndsPass};
 ghost use Rattle.ele_model.specs.World.{fresh_world};
@@ -10,8 +10,8 @@ ghost use Rattle.ele_runs.specs.LineLength.{line_unless_long};
 
 use ele_core::Core;
 use ele_model::{Event, Limits, NoMemory, PassEnd, Reply, Stop};
-use ele_runs::{Said, explain, kept_line};
-use ele_script::{Line, LineFault, read_line_in};
+use ele_runs::{Said, hear_ahead, kept_line};
+use ele_script::{Line, LineFault, Question, read_line_in};
 use std::alloc::Global;
 
 /// A core, and the reply to the last event that it answered.
@@ -96,5 +96,16 @@ impl Plain {
         ensures { option_copied result ≡ self.now.last }
     {
         self.last.as_ref()
+    }
+}
+
+// Answers a question without a history.
+fn explain(question: &Question, core: &Core) -> Said
+    ensures { ExplainsPlain core.now.world question.now result }
+{
+    match question {
+        Question::Why(tagged) => Said::Why(core.fate_at(tagged)),
+        Question::Ahead(moment) => hear_ahead(*moment, core),
+        Question::Gone | Question::Handles | Question::Answers => Said::Bad(LineFault::Syntax),
     }
 }

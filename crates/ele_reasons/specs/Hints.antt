@@ -28,12 +28,20 @@ shell_hint word =
     else if bytes_eq word (codes "mv") then Instead Rename
     else session_hint word
 
+-- a word that asks what happened, or another one
+abbrev pub audit_hint : List ℕ → Hint
+audit_hint word =
+    if bytes_eq word (codes "gone") then Explaining
+    else if bytes_eq word (codes "handles") then Explaining
+    else if bytes_eq word (codes "answers") then Explaining
+    else shell_hint word
+
 -- a word that begins no command
 abbrev pub word_hint : List ℕ → Hint
 word_hint word =
     if bytes_eq word (codes "why") then Explaining
     else if bytes_eq word (codes "ahead") then Explaining
-    else shell_hint word
+    else audit_hint word
 
 -- a word that begins commands of two words
 abbrev pub second_hint : List ℕ → Hint

@@ -1,7 +1,7 @@
 //! What an unknown command probably means. A contract sees a word as its bytes, and a hint as
 //! itself.
 ghost use Rattle.std.specs.Prelude.{◌≡◌, map};
-ghost use Rattle.ele_reasons.specs.Hints.{hint_of, letter_hint, second_hint, session_hint, shell_hint, word_hint};
+ghost use Rattle.ele_reasons.specs.Hints.{audit_hint, hint_of, letter_hint, second_hint, session_hint, shell_hint, word_hint};
 
 use crate::reasons::Hint;
 use ele_commands::Command;
@@ -40,6 +40,21 @@ fn word_hint(word: &[u8]) -> Hint
     if word == b"why".as_slice() {
         Hint::Explaining
     } else if word == b"ahead".as_slice() {
+        Hint::Explaining
+    } else {
+        audit_hint(word)
+    }
+}
+
+// What is meant by a word that asks what happened, or by another one.
+fn audit_hint(word: &[u8]) -> Hint
+    ensures { result ≡ audit_hint word.now }
+{
+    if word == b"gone".as_slice() {
+        Hint::Explaining
+    } else if word == b"handles".as_slice() {
+        Hint::Explaining
+    } else if word == b"answers".as_slice() {
         Hint::Explaining
     } else {
         shell_hint(word)

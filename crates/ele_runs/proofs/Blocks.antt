@@ -2,7 +2,7 @@
 use Rattle.ele_runs.proofs.Basics.{◌≡◌, ◌≢◌, ℕ, ◌≤◌, ◌+◌, Bool, true, false, List, [], ◌∷◌, length, Option, Some, None, Result, Ok, Err, ◌⊎◌, inl, inr, refl, sym, ap, subst, arith, nat_tests, ◌++◌, ◌-◌, ◌∙◌, length-append, slice_get}
 use Rattle.std.specs.Option.{option_map}
 use Rattle.std.specs.Prelude.{not, ◌&&◌, if◌then◌else◌, IsErr, ◌<◌}
-use Rattle.ele_runs.proofs.Words.{HistoryFull, RunState, Outlet, Puts, IsNoted, recorded, MayAnswer, MayMean, as_entry, as_told, as_trim, IsTold, front_of, heard, is_well, noting, Past, PutsBlock, reply_to, world_of}
+use Rattle.ele_runs.proofs.Words.{HistoryFull, RunState, Outlet, Puts, IsNoted, recorded, MayAnswer, MayMean, as_entry, as_gone, as_handles, as_told, as_trim, IsTold, front_of, heard, is_well, noting, Past, PutsBlock, reply_to, world_of}
 use Rattle.ele_model.specs.declared.entry.Entry.{Entry}
 use Rattle.ele_model.specs.declared.event.Event.{Event}
 use Rattle.ele_model.specs.declared.refusal.Stop.TheVariants.{NoMemory}
@@ -20,7 +20,7 @@ use Rattle.ele_runs.specs.Said.{Explains, Hears, HearsKept, HearsNext, Records, 
 use Rattle.ele_runs.specs.declared.options.RunOptions.{RunOptions}
 use Rattle.ele_runs.specs.Tally.{outcome_of, tallied}
 use Rattle.ele_runs.specs.declared.said.Said.{Said}
-use Rattle.ele_runs.specs.declared.said.Said.TheVariants.{Nothing, Bad, Stopped, Replied, Trimmed, Why, Ahead}
+use Rattle.ele_runs.specs.declared.said.Said.TheVariants.{Nothing, Bad, Stopped, Replied, Trimmed, Why, Ahead, Gone, Handles, Answers}
 use Rattle.ele_output.proofs.Known.{puts_no_more, puts_then}
 use Rattle.ele_runs.specs.Told.{cut_told}
 use Rattle.ele_runs.specs.Written.{WritesLast, end_by}
@@ -54,13 +54,22 @@ hears_trim before after line (Stopped NoMemory) asked trims = (as_trim asked, tr
 hears_trim before after line (Stopped HistoryFull) asked trims = absurd cc
 hears_trim before after line said asked trims = absurd trims
 
-pub hears_question : {explains : Bool} (past : Past) (line : List ℕ) (question : Question) (said : Said) → Asks explains line (asks.Question question) → Explains (world_of past) question said → Hears explains past line said past
+pub hears_question : {explains : Bool} (past : Past) (line : List ℕ) (question : Question) (said : Said) → Asks explains line (asks.Question question) → Explains past question said → Hears explains past line said past
 hears_question past line (question.Why tagged) (Why told) asked says = (tagged, asked, says, refl)
 hears_question past line (question.Why tagged) said asked says = absurd says
 hears_question past line (question.Ahead moment) (Ahead told) asked says = (moment, asked, says, refl)
 hears_question past line (question.Ahead moment) (Stopped NoMemory) asked says = (as_told moment asked says.1, refl)
 hears_question past line (question.Ahead moment) (Stopped HistoryFull) asked says = absurd (let never = says.0 in cc)
 hears_question past line (question.Ahead moment) said asked says = absurd says
+hears_question past line question.Gone (Gone rows) asked says = (asked, refl, says, refl)
+hears_question past line question.Gone (Stopped NoMemory) asked says = (as_gone asked, refl)
+hears_question past line question.Gone (Stopped HistoryFull) asked says = absurd cc
+hears_question past line question.Gone said asked says = absurd says
+hears_question past line question.Handles (Handles handles) asked says = (asked, says, refl)
+hears_question past line question.Handles (Stopped NoMemory) asked says = (as_handles asked, refl)
+hears_question past line question.Handles (Stopped HistoryFull) asked says = absurd cc
+hears_question past line question.Handles said asked says = absurd says
+hears_question past line question.Answers said asked says = rw says (asked, refl, refl, refl)
 
 pub hears_fault : {explains : Bool} (past : Past) (line : List ℕ) (why : LineFault) → (why ≡ fault.NoMemory) ⊎ IsFirstFault explains line why → why ≢ fault.NoMemory → Hears explains past line (Bad why) past
 hears_fault past line why (inl memory) other = absurd (other memory)

@@ -45,6 +45,9 @@ answer_within before after line (answer.History folded entries) within may = sub
 answer_within before after line (answer.Trimmed count) within may = subst IsWithin (sym may.2) (trimmed_within before within)
 answer_within before after line (answer.Why told) within may = subst IsWithin (sym may.3) within
 answer_within before after line (answer.Ahead told) within may = subst IsWithin (sym may.3) within
+answer_within before after line (answer.Gone folded rows) within may = subst IsWithin (sym may.3) within
+answer_within before after line (answer.Handles handles) within may = subst IsWithin (sym may.2) within
+answer_within before after line (answer.Answers folded entries) within may = subst IsWithin (sym may.3) within
 answer_within before after line answer.Nothing within may = absurd may
 
 block_within : (before after : Past) (line : Option (List ℕ)) (block : List ℕ) → IsWithin before → IsBlock false before line block after → IsWithin after

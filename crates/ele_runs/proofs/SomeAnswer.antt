@@ -66,6 +66,9 @@ asked_for before byte bytes asks.Trim is within = record {
 }
 asked_for before byte bytes (asks.Question (question.Why tagged)) is within = absurd (let never = is.allowed in cc)
 asked_for before byte bytes (asks.Question (question.Ahead moment)) is within = absurd (let never = is.allowed in cc)
+asked_for before byte bytes (asks.Question question.Gone) is within = absurd (let never = is.allowed in cc)
+asked_for before byte bytes (asks.Question question.Handles) is within = absurd (let never = is.allowed in cc)
+asked_for before byte bytes (asks.Question question.Answers) is within = absurd (let never = is.allowed in cc)
 
 pub some_answer : EveryLineMeaning → SomeAnswer
 some_answer law before None within =

@@ -45,6 +45,7 @@ answer_outcome (answer.Why (Ok found)) text is = fate_outcome found text is
 answer_outcome (answer.Why (Err why)) text is = rw is refl
 answer_outcome (answer.Ahead (Ok keys)) text is = rw is refl
 answer_outcome (answer.Ahead (Err why)) text is = rw is refl
+answer_outcome (answer.Answers folded entries) text is = rw is.2 refl
 answer_outcome said text is = rw is refl
 
 -- so the tally goes on by the answer

@@ -1,5 +1,7 @@
 -- What a line is answered.
 use Rattle.std.specs.Prelude.{ℕ, List, Result, Err}
+use Rattle.ele_audit.specs.declared.row.OpenHandle.{OpenHandle}
+use Rattle.ele_audit.specs.declared.row.Removed.{Removed}
 use Rattle.ele_due.specs.declared.key.Key.{Key}
 use Rattle.ele_model.specs.declared.entry.Entry.{Entry}
 use Rattle.ele_model.specs.declared.fate.Fate.{Fate}
@@ -13,7 +15,9 @@ use Rattle.ele_printer.specs.declared.fault.LineFault.{LineFault}
 
 -- nothing; that it is no command, by its first fault; what the command is answered, or why it was not run; how the pass ended
 -- that it asks for; how many entries were folded, and those that are stored; how many a trim folded; what becomes of the
--- version that it asks about, or why it means none; which versions will be due at a moment, or that this has passed
+-- version that it asks about, or why it means none; which versions will be due at a moment, or that this has passed; how many
+-- entries were folded, and which versions the stored ones removed; which handles are open; how many entries were folded, and
+-- the stored ones with their replies
 pub data Answer : Type 0 where
   Nothing : Answer
   Bad : LineFault → Answer
@@ -23,6 +27,9 @@ pub data Answer : Type 0 where
   Trimmed : ℕ → Answer
   Why : Result Fate Refusal → Answer
   Ahead : Result (List Key) Refusal → Answer
+  Gone : ℕ → List Removed → Answer
+  Handles : List OpenHandle → Answer
+  Answers : ℕ → List Entry → Answer
 
 -- want of memory stopped it
 abbrev pub IsForMemory : Answer → Type 0

@@ -1,5 +1,8 @@
 -- The block of one line: what is written for it.
 use Rattle.std.specs.Prelude.{◌≡◌, ℕ, ◌≤◌, Bool, List, [], ◌∷◌, length, Option, Some, None, Ok, Err}
+use Rattle.ele_audit.specs.AuditText.{IsAnswersText, gone_text, handles_text}
+use Rattle.ele_audit.specs.Open.{AreOpen}
+use Rattle.ele_audit.specs.Removals.{AreRemoved}
 use Rattle.ele_model.specs.Why.{IsAhead, IsWhy}
 use Rattle.ele_model.specs.declared.event.Event.{Event}
 use Rattle.ele_model.specs.declared.refusal.Stop.TheVariants.{NoMemory, HistoryFull}
@@ -20,17 +23,19 @@ use Rattle.ele_history.specs.Pass.{MayPass}
 use Rattle.ele_history.specs.Past.{Past, HasRoom, trimmed, world_of}
 use Rattle.ele_history.specs.Reply.{MayReply}
 
--- a line may want memory: its command takes a path or bytes, its event makes an entry, or it asks for a trim, or for what will
--- be due at a moment that hasn't passed
+-- a line may want memory: its command takes a path or bytes, its event makes an entry, or it asks for a trim, for what will be
+-- due at a moment that hasn't passed, for removed versions or for open handles
 pub data LineTakesMemory (explains : Bool) (before : Past) (line : List ℕ) : Type 0 where
   as_read : TakesMemory explains (words_of line) → LineTakesMemory explains before line
   as_entry : (event : Event) → Asks explains line (asks.Event event) → HasRoom before → LineTakesMemory explains before line
   as_trim : Asks explains line asks.Trim → LineTakesMemory explains before line
   as_told : (moment : ℕ) → Asks explains line (asks.Question (question.Ahead moment)) → (world_of before).now ≤ moment → LineTakesMemory explains before line
+  as_gone : Asks explains line (asks.Question question.Gone) → LineTakesMemory explains before line
+  as_handles : Asks explains line (asks.Question question.Handles) → LineTakesMemory explains before line
 
 -- a line that has bytes is answered its first fault, what the event is answered that it asks for, how the pass ends, the history or
--- how many entries the trim folds; in a run that explains an explanation too, from the world as it is, which stands in no
--- history and changes nothing; want of memory may stop it if it takes memory
+-- how many entries the trim folds; in a run that explains a question too, from the world as it is and the history, which stands
+-- in no history and changes nothing; want of memory may stop it if it takes memory
 abbrev pub MayMean : Bool → Past → List ℕ → Answer → Past → Type 0
 MayMean explains before line answer.Nothing after = ⊥
 MayMean explains before line (answer.Bad fault) after = IsFirstFault explains line fault × (after ≡ before)
@@ -49,6 +54,11 @@ MayMean explains before line (answer.Why told) after =
     (tagged : TaggedPath) × Asks explains line (asks.Question (question.Why tagged)) × IsWhy (world_of before) tagged told × (after ≡ before)
 MayMean explains before line (answer.Ahead told) after =
     (moment : ℕ) × Asks explains line (asks.Question (question.Ahead moment)) × IsAhead (world_of before) moment told × (after ≡ before)
+MayMean explains before line (answer.Gone folded rows) after =
+    Asks explains line (asks.Question question.Gone) × (folded ≡ before.folded) × AreRemoved before rows × (after ≡ before)
+MayMean explains before line (answer.Handles handles) after = Asks explains line (asks.Question question.Handles) × AreOpen before handles × (after ≡ before)
+MayMean explains before line (answer.Answers folded entries) after =
+    Asks explains line (asks.Question question.Answers) × (folded ≡ before.folded) × (entries ≡ before.entries) × (after ≡ before)
 
 -- and so is a line as it is kept: an empty one gets no answer, and one that is too long only that it is
 abbrev pub MayAnswer : Bool → Past → Option (List ℕ) → Answer → Past → Type 0
@@ -56,8 +66,8 @@ MayAnswer explains before None said after = (said ≡ answer.Bad LineTooLong) ×
 MayAnswer explains before (Some []) said after = (said ≡ answer.Nothing) × (after ≡ before)
 MayAnswer explains before (Some (byte ∷ bytes)) said after = MayMean explains before (byte ∷ bytes) said after
 
--- the text is that of the bad line, of the reply or the stop, of the end of the pass, of the history, of the trim or of the
--- explanation
+-- the text is that of the bad line, of the reply or the stop, of the end of the pass, of the history, of the trim or of what a
+-- question is answered
 abbrev pub IsText : Answer → List ℕ → Type 0
 IsText answer.Nothing text = text ≡ []
 IsText (answer.Bad fault) text = text ≡ bad_text fault
@@ -67,6 +77,9 @@ IsText (answer.History folded entries) text = text ≡ history_text folded entri
 IsText (answer.Trimmed count) text = text ≡ trimmed_text count
 IsText (answer.Why told) text = text ≡ why_text told
 IsText (answer.Ahead told) text = text ≡ ahead_text told
+IsText (answer.Gone folded rows) text = text ≡ gone_text folded rows
+IsText (answer.Handles handles) text = text ≡ handles_text handles
+IsText (answer.Answers folded entries) text = IsAnswersText folded entries text
 
 -- the block of a line as it is kept, in a run that explains, or in one that doesn't
 abbrev pub IsBlock : Bool → Past → Option (List ℕ) → List ℕ → Past → Type 0

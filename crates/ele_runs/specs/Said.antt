@@ -1,6 +1,9 @@
 -- What a line was answered, before it is told.
 use Rattle.std.specs.Prelude.{◌≡◌, ℕ, ◌+◌, ◌-◌, ◌≤◌, ◌==◌, Bool, true, ◌&&◌, List, [], ◌∷◌, ◌++◌, decimal, length, Option, Some, None, Ok, Err, slice_get, if◌then◌else◌}
-use Rattle.ele_history.specs.Past.{HasRoom, Past, recorded, trimmed}
+use Rattle.ele_audit.specs.Open.{AreOpen}
+use Rattle.ele_audit.specs.Removals.{AreRemoved}
+use Rattle.ele_audit.specs.declared.row.Removed.{Removed}
+use Rattle.ele_history.specs.Past.{HasRoom, Past, recorded, trimmed, world_of}
 use Rattle.ele_history.specs.Reply.{MayStop}
 use Rattle.ele_runs.specs.Answer.{Answer}
 use Rattle.ele_runs.specs.Answer as answer
@@ -9,7 +12,7 @@ use Rattle.ele_runs.specs.RunState.{RunState, advance}
 use Rattle.ele_runs.specs.RunOptions.{front_of, heard}
 use Rattle.ele_runs.specs.declared.options.RunOptions.{RunOptions}
 use Rattle.ele_runs.specs.declared.said.Said.{Said}
-use Rattle.ele_runs.specs.declared.said.Said.TheVariants.{Nothing, Bad, Stopped, Replied, Passed, History, Trimmed, Why, Ahead}
+use Rattle.ele_runs.specs.declared.said.Said.TheVariants.{Nothing, Bad, Stopped, Replied, Passed, History, Trimmed, Why, Ahead, Gone, Handles, Answers}
 use Rattle.ele_script.specs.declared.reading.Question.{Question}
 use Rattle.ele_script.specs.declared.reading.Question.TheVariants as question
 use Rattle.ele_model.specs.Why.{IsAhead, IsWhy}
@@ -33,6 +36,16 @@ abbrev pub history_of : Option Past → Answer
 history_of (Some past) = answer.History past.folded past.entries
 history_of None = answer.Nothing
 
+-- removed versions, if there is a history that removed them
+abbrev pub gone_of : Option Past → List Removed → Answer
+gone_of (Some past) rows = answer.Gone past.folded rows
+gone_of None rows = answer.Nothing
+
+-- the entries with their replies, if there is a history
+abbrev pub answers_of : Option Past → Answer
+answers_of (Some past) = answer.Answers past.folded past.entries
+answers_of None = answer.Nothing
+
 -- the answer, by the reply to the last event and the history that it left
 abbrev pub answer_by : Option Reply → Option Past → Said → Answer
 answer_by last history Nothing = answer.Nothing
@@ -44,6 +57,9 @@ answer_by last history History = history_of history
 answer_by last history (Trimmed count) = answer.Trimmed count
 answer_by last history (Why told) = answer.Why told
 answer_by last history (Ahead told) = answer.Ahead told
+answer_by last history (Gone rows) = gone_of history rows.items
+answer_by last history (Handles handles) = answer.Handles handles.items
+answer_by last history Answers = answers_of history
 
 -- the answer, where it left this history, whose last entry has the reply to an event
 abbrev pub answer_of : Past → Said → Answer
@@ -88,11 +104,26 @@ SaysAhead w moment (Ahead told) = IsAhead w moment told
 SaysAhead w moment (Stopped stop) = (stop ≡ NoMemory) × (w.now ≤ moment)
 SaysAhead w moment said = ⊥
 
--- a question was answered
-abbrev pub Explains : World → Question → Said → Type 0
-Explains w (question.Why tagged) (Why told) = IsWhy w tagged told
-Explains w (question.Why tagged) said = ⊥
-Explains w (question.Ahead moment) said = SaysAhead w moment said
+-- the removed versions were told, or there was no memory for them
+abbrev pub SaysGone : Past → Said → Type 0
+SaysGone past (Gone rows) = AreRemoved past rows.items
+SaysGone past (Stopped stop) = stop ≡ NoMemory
+SaysGone past said = ⊥
+
+-- the open handles were told, or there was no memory for them
+abbrev pub SaysHandles : Past → Said → Type 0
+SaysHandles past (Handles handles) = AreOpen past handles.items
+SaysHandles past (Stopped stop) = stop ≡ NoMemory
+SaysHandles past said = ⊥
+
+-- a question was answered, from the world as it is and the history
+abbrev pub Explains : Past → Question → Said → Type 0
+Explains past (question.Why tagged) (Why told) = IsWhy (world_of past) tagged told
+Explains past (question.Why tagged) said = ⊥
+Explains past (question.Ahead moment) said = SaysAhead (world_of past) moment said
+Explains past question.Gone said = SaysGone past said
+Explains past question.Handles said = SaysHandles past said
+Explains past question.Answers said = said ≡ Answers
 
 -- a line gets no answer: an empty one, or a remark that is passed over
 abbrev pub has_no_reply : RunOptions → List ℕ → Bool

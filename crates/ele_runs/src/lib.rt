@@ -21,6 +21,6 @@ pub use fault::ShellFault;
 pub use line_buffer::{LineBuffer, kept_line};
 pub use note::{tell_why, why_bad, why_cut};
 pub use options::RunOptions;
-pub use said::{Said, explain, hear_ahead, hear_event, hear_kept, hear_trim, last_reply};
+pub use said::{Said, hear_ahead, hear_event, hear_kept, hear_trim, last_reply};
 pub use script::{run_in, run_over};
 pub use tally::{BadLine, Tally};

@@ -6,10 +6,11 @@ ghost use Rattle.ele_output.specs.Prints.{Prints};
 ghost use Rattle.ele_runs.specs.RunOptions.{is_well};
 ghost use Rattle.ele_runs.specs.Tally.{outcome_of};
 ghost use Rattle.ele_runs.specs.Block.{IsText};
-ghost use Rattle.ele_runs.specs.Said.{Explains, Hears, HearsKept, Records, SaysAhead, Trims, answer_by, answer_of, has_no_reply, history_of, last_reply, reply_of, said_front};
+ghost use Rattle.ele_runs.specs.Said.{Explains, Hears, HearsKept, Records, SaysAhead, SaysGone, SaysHandles, Trims, answer_by, answer_of, answers_of, gone_of, has_no_reply, history_of, last_reply, reply_of, said_front};
 
 use crate::options::RunOptions;
 use crate::tally::Outcome;
+use ele_audit::{OpenHandle, Removed, open_handles, put_answers, put_gone, put_handles, removed};
 use ele_history::History;
 use ele_model::{Event, Explain, Fate, KeyList, Moment, PassEnd, Refusal, Reply, Stop};
 use ele_output::Printer;
@@ -42,6 +43,12 @@ pub enum Said {
     Why(Result<Fate, Refusal>),
     /// What will be due at the moment that it asks about.
     Ahead(Result<KeyList, Refusal>),
+    /// The versions that the history removed.
+    Gone(Vec<Removed>),
+    /// The open handles.
+    Handles(Vec<OpenHandle>),
+    /// The history, with its replies.
+    Answers,
 }
 
 /// Hears a line as it is kept, and answers it.
@@ -82,7 +89,7 @@ fn hear<C: Explain>(alloc: Global, explains: bool, line: &[u8], history: &mut Hi
         Ok(Line::Pass(budget)) => Said::Passed(history.pass(budget)),
         Ok(Line::History) => Said::History,
         Ok(Line::Trim) => hear_trim(history),
-        Ok(Line::Question(question)) => explain(&question, history.core()),
+        Ok(Line::Question(question)) => explain(alloc, &question, history),
         Err(fault) => match fault {
             LineFault::NoMemory => Said::Stopped(Stop::NoMemory),
             _ => Said::Bad(fault),
@@ -111,13 +118,36 @@ pub fn hear_trim<C: Explain>(history: &mut History<C>) -> Said
     }
 }
 
-/// Answers a question, from the world as it is.
-pub fn explain<C: Explain>(question: &Question, core: &C) -> Said
-    ensures { Explains (C.world core.now) question.now result }
+// Answers a question.
+fn explain<C: Explain>(alloc: Global, question: &Question, history: &History<C>) -> Said
+    ensures { Explains history.now question.now result }
 {
     match question {
-        Question::Why(tagged) => Said::Why(core.fate_at(tagged)),
-        Question::Ahead(moment) => hear_ahead(*moment, core),
+        Question::Why(tagged) => Said::Why(history.core().fate_at(tagged)),
+        Question::Ahead(moment) => hear_ahead(*moment, history.core()),
+        Question::Gone => hear_gone(alloc, history),
+        Question::Handles => hear_handles(alloc, history),
+        Question::Answers => Said::Answers,
+    }
+}
+
+// Returns the versions that the history removed.
+fn hear_gone<C: Explain>(alloc: Global, history: &History<C>) -> Said
+    ensures { SaysGone history.now result }
+{
+    match removed(alloc, history) {
+        Ok(rows) => Said::Gone(rows),
+        Err(_) => Said::Stopped(Stop::NoMemory),
+    }
+}
+
+// Returns the open handles.
+fn hear_handles<C: Explain>(alloc: Global, history: &History<C>) -> Said
+    ensures { SaysHandles history.now result }
+{
+    match open_handles(alloc, history) {
+        Ok(handles) => Said::Handles(handles),
+        Err(_) => Said::Stopped(Stop::NoMemory),
     }
 }
 
@@ -203,6 +233,9 @@ impl Said {
             Said::Trimmed(count) => put_trimmed(*count, printer),
             Said::Why(told) => put_why(told, printer),
             Said::Ahead(told) => put_ahead(told, printer),
+            Said::Gone(rows) => put_removed(rows.as_slice(), history, printer),
+            Said::Handles(handles) => put_handles(handles.as_slice(), printer),
+            Said::Answers => put_replies(history, printer),
         }
     }
 }
@@ -235,6 +268,32 @@ fn put_past<C: Explain, W: Write>(history: Option<&History<C>>, printer: &mut Pr
 {
     match history {
         Some(history) => put_history(history.folded(), history.entries(), printer),
+        None => {}
+    }
+}
+
+// Puts removed versions, if there is a history that removed them.
+fn put_removed<C: Explain, W: Write>(
+    rows: &[Removed],
+    history: Option<&History<C>>,
+    printer: &mut Printer<'_, W>,
+)
+    ensures { (text : List ℕ) × IsText (gone_of (option_copied history.entry) rows.now) text
+        × Prints W.contents printer.old printer.new text }
+{
+    match history {
+        Some(history) => put_gone(history.folded(), rows, printer),
+        None => {}
+    }
+}
+
+// Puts the history with its replies, if there is one.
+fn put_replies<C: Explain, W: Write>(history: Option<&History<C>>, printer: &mut Printer<'_, W>)
+    ensures { (text : List ℕ) × IsText (answers_of (option_copied history.entry)) text
+        × Prints W.contents printer.old printer.new text }
+{
+    match history {
+        Some(history) => put_answers(history.folded(), history.entries(), printer),
         None => {}
     }
 }

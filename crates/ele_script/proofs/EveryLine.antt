@@ -56,6 +56,9 @@ asked_by command.History ended [] kinds = (asks.History, refl, refl)
 asked_by command.Trim ended [] kinds = (asks.Trim, refl, refl)
 asked_by command.Why ended (Tagged tagged ∷ []) kinds = (asks.Question (question.Why tagged), refl, refl)
 asked_by command.Ahead ended (Moment moment ∷ []) kinds = (asks.Question (question.Ahead moment), refl, refl)
+asked_by command.Gone ended [] kinds = (asks.Question question.Gone, refl, refl)
+asked_by command.Handles ended [] kinds = (asks.Question question.Handles, refl, refl)
+asked_by command.Answers ended [] kinds = (asks.Question question.Answers, refl, refl)
 asked_by name ended values kinds = absurd cc
 
 -- words ask for something or have a first fault, in a run that explains and in one that doesn't

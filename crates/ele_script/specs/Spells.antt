@@ -2,7 +2,7 @@
 use Rattle.std.specs.Prelude.{◌≡◌, ℕ, Bool, false, ◌≤◌, List, [], ◌∷◌, ◌++◌, length, true}
 use Rattle.ele_model.specs.declared.event.Event.{Event}
 use Rattle.ele_commands.specs.declared.command.Command.{Command}
-use Rattle.ele_commands.specs.declared.command.Command.TheVariants.{Ahead, Pass, History, Trim, Why}
+use Rattle.ele_commands.specs.declared.command.Command.TheVariants.{Ahead, Answers, Gone, Handles, Pass, History, Trim, Why}
 use Rattle.ele_script.specs.declared.reading.Line.{Line}
 use Rattle.ele_script.specs.declared.reading.Line.TheVariants as asks
 use Rattle.ele_script.specs.declared.reading.Question.{Question}
@@ -12,10 +12,13 @@ use Rattle.ele_script.specs.Value.{Value, Moment, Number, SpellsValue, Tagged}
 use Rattle.ele_commands.specs.Command.{command_words, is_allowed}
 use Rattle.ele_script.specs.Words.{longest_line, words_of, is_worded}
 
--- the command of a question, and the value of the word after it
+-- the command of a question, and the value of the word after it, if it has one
 abbrev pub question_parts : Question → Command × List Value
 question_parts (question.Why tagged) = (Why, Tagged tagged ∷ [])
 question_parts (question.Ahead moment) = (Ahead, Moment moment ∷ [])
+question_parts question.Gone = (Gone, [])
+question_parts question.Handles = (Handles, [])
+question_parts question.Answers = (Answers, [])
 
 -- the command of what a line asks for, and the values of the words after it
 abbrev pub line_parts : Line → Command × List Value

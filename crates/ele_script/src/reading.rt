@@ -45,6 +45,12 @@ pub enum Question {
     Why(TaggedPath),
     /// Which versions will be due at this moment.
     Ahead(Moment),
+    /// Which versions were removed.
+    Gone,
+    /// Which handles are open.
+    Handles,
+    /// What the stored events were answered.
+    Answers,
 }
 
 /// The maximum number of bytes of a line, without its line feed.
@@ -272,6 +278,9 @@ fn line_behind_any(alloc: Global, command: Command, words: &[&[u8]]) -> Result<L
         Command::Trim => nothing(words).map(|()| Line::Trim),
         Command::Why => tagged(alloc, words).map(|tagged| Line::Question(Question::Why(tagged))),
         Command::Ahead => moment(words).map(|moment| Line::Question(Question::Ahead(moment))),
+        Command::Gone => nothing(words).map(|()| Line::Question(Question::Gone)),
+        Command::Handles => nothing(words).map(|()| Line::Question(Question::Handles)),
+        Command::Answers => nothing(words).map(|()| Line::Question(Question::Answers)),
     }
 }
 

@@ -1,0 +1,82 @@
+-- The versions that the stored entries of a history removed.
+use Rattle.std.specs.Prelude.{◌≡◌, ℕ, zero, suc, false, List, [], ◌∷◌, ◌++◌, Option, Some, None, find, ◌&&◌, ◌==◌, Bool, Result, Ok, Err}
+use Rattle.ele_due.specs.declared.key.Key.{Key}
+use Rattle.ele_history.specs.Past.{Past, world_of}
+use Rattle.ele_model.specs.declared.entry.Entry.{Entry}
+use Rattle.ele_model.specs.declared.fate.Fate.{Fate}
+use Rattle.ele_model.specs.declared.refusal.Refusal.{Refusal}
+use Rattle.ele_model.specs.declared.reply.Reply.{Reply}
+use Rattle.ele_model.specs.declared.reply.Reply.TheVariants as reply
+use Rattle.ele_model.specs.declared.rows.Target.TheVariants.{File}
+use Rattle.ele_model.specs.Fate.{HasFate}
+use Rattle.ele_model.specs.Step.{step}
+use Rattle.ele_model.specs.Walk.{file_now}
+use Rattle.ele_model.specs.World.{World, is_held}
+use Rattle.ele_path.specs.declared.tagged.Tag.{Tag}
+use Rattle.ele_path.specs.declared.tagged.Tag.TheVariants as tag
+use Rattle.ele_path.specs.declared.tagged.TaggedPath.{TaggedPath}
+use Rattle.ele_audit.specs.Each.{AreEach}
+use Rattle.ele_audit.specs.LivePath.{live_path, names_in}
+use Rattle.ele_audit.specs.declared.row.Removed.{Removed}
+
+-- ---- which entries removed a version
+
+-- the removal of the version with the key, in the world before it; no other event than a clean has such a reply
+abbrev pub removal_in : World → Reply → List (World × Key)
+removal_in w (reply.Removed key) = (w, key) ∷ []
+removal_in w reply = []
+
+-- the removals among the entries from this world on, in order: the world before each, and the key of its version
+abbrev pub removals : World → List Entry → List (World × Key)
+removals w [] = []
+removals w (entry ∷ entries) = removal_in w entry.reply ++ removals ((step w entry.event).1) entries
+
+-- ---- what is known of each
+
+-- what became of the version in the world; none if it isn't held there
+abbrev pub MayHaveFate : World → Key → Option Fate → Type 0
+MayHaveFate w key None = is_held w key.file key.number ≡ false
+MayHaveFate w key (Some fate) = HasFate w key.file key.number fate
+
+-- the row of a removal: its moment and key
+pub record IsRemoval (removal : World × Key) (row : Removed) : Type 0 where
+  pub at : row.at ≡ removal.0.now
+  pub key : row.key ≡ removal.1
+
+-- and where the world before it is known, the path that led to the file then, and what had become of the version
+pub record IsExplained (removal : World × Key) (row : Removed) : Type 0 where
+  pub is : IsRemoval removal row
+  pub path : names_in row.path ≡ live_path removal.0.names (File removal.1.file)
+  pub fate : MayHaveFate removal.0 removal.1 row.fate
+
+-- or neither, where entries were folded
+pub record IsBare (removal : World × Key) (row : Removed) : Type 0 where
+  pub is : IsRemoval removal row
+  pub path : row.path ≡ None
+  pub fate : row.fate ≡ None
+
+-- what a row says, after so many entries were folded
+abbrev pub IsRow : ℕ → World × Key → Removed → Type 0
+IsRow zero removal row = IsExplained removal row
+IsRow (suc folded) removal row = IsBare removal row
+
+-- the rows are those of the removals among the stored entries, in order
+abbrev pub AreRemoved : Past → List Removed → Type 0
+AreRemoved past rows = AreEach (IsRow past.folded) (removals past.base past.entries) rows
+
+-- ---- of one version
+
+-- the row of the file's version with that number
+abbrev pub is_row_of : ℕ → ℕ → Removed → Bool
+is_row_of file number row = (row.key.file == file) && (row.key.number == number)
+
+-- the row of the version of that number of the file that a path names
+abbrev pub row_at : Result ℕ Refusal → Tag → List Removed → Option Removed
+row_at (Ok file) (tag.Number number) rows = find (is_row_of file number) rows
+row_at found tag rows = None
+
+-- the row of the removed version that the path and its tag mean now; only the number of a version means one
+pub record IsRemovedVersion (past : Past) (tagged : TaggedPath) (row : Option Removed) : Type 0 where
+  pub rows : List Removed
+  pub are : AreRemoved past rows
+  pub is : row ≡ row_at (file_now (world_of past).names tagged.path) tagged.tag rows
