@@ -46,7 +46,7 @@ fn word_hint(word: &[u8]) -> Hint
     }
 }
 
-// What is meant by a word that asks what happened, or by another one.
+// For a word that asks what happened, or any other word.
 fn audit_hint(word: &[u8]) -> Hint
     ensures { result ≡ audit_hint word.now }
 {
