@@ -12,7 +12,7 @@ use Rattle.ele_script.specs.Value.{Value, Moment, Number, SpellsValue, Tagged}
 use Rattle.ele_commands.specs.Command.{command_words, is_allowed}
 use Rattle.ele_script.specs.Words.{longest_line, words_of, is_worded}
 
--- the command of a question, and the value of the word after it
+-- the command of a question, and the value of the word behind it
 abbrev pub question_parts : Question → Command × List Value
 question_parts (question.Why tagged) = (Why, Tagged tagged ∷ [])
 question_parts (question.Ahead moment) = (Ahead, Moment moment ∷ [])
