@@ -28,7 +28,7 @@ shell_hint word =
     else if bytes_eq word (codes "mv") then Instead Rename
     else session_hint word
 
--- a word that asks what happened, or another one
+-- of a word that asks what happened, or of another one
 abbrev pub audit_hint : List ℕ → Hint
 audit_hint word =
     if bytes_eq word (codes "gone") then Explaining
@@ -36,7 +36,7 @@ audit_hint word =
     else if bytes_eq word (codes "answers") then Explaining
     else shell_hint word
 
--- a word that begins no command
+-- of a word that begins no command of the run
 abbrev pub word_hint : List ℕ → Hint
 word_hint word =
     if bytes_eq word (codes "why") then Explaining

@@ -1,5 +1,5 @@
 //! Why a line is no command. A contract sees a line as its bytes, and a reason as itself.
-ghost use Rattle.std.specs.Prelude.{◌≡◌, ◌⊎◌, ◌+◌, ◌<◌, ◌≤◌, ◌^◌, nat_lt, true, map, length, Err, IfOk, IfErr, IfSome, IfNone, OnOk, OnErr};
+ghost use Rattle.std.specs.Prelude.{◌≡◌, ◌+◌, ◌<◌, ◌≤◌, ◌^◌, nat_lt, true, map, length, Err, IfOk, IfSome, IfNone, OnErr};
 ghost use Rattle.std.specs.List.{list_all, list_any};
 ghost use Rattle.ele_script.specs.FirstFault.{IsFirstFault, IsOfKind};
 ghost use Rattle.ele_script.specs.Memory.{WordTakesMemory, any_takes, word_takes};
