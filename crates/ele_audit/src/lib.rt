@@ -2,10 +2,10 @@
 //! A contract sees the answers as rows, and their text as bytes.
 #![tactic(auto)]
 
+mod fate;
 mod gone;
 mod listing;
 mod path;
-mod replay;
 mod row;
 mod text;
 
