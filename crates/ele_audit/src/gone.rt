@@ -3,14 +3,13 @@ ghost use Rattle.std.specs.Prelude.{◌≡◌, ◌++◌, IfOk, List};
 ghost use Rattle.ele_audit.specs.Clock.{clock_after};
 ghost use Rattle.ele_audit.specs.Each.{AreEach};
 ghost use Rattle.ele_model.specs.World.{World};
-ghost use Rattle.ele_audit.specs.Removals.{AreRemoved, IsBare, IsExplained, IsRemovedVersion, removal_in, removals};
+ghost use Rattle.ele_audit.specs.Removals.{AreRemoved, IsBare, IsExplained, removal_in, removals};
 
 use crate::path::path_of;
 use crate::row::Removed;
 use ele_history::History;
 use ele_model::{Explain, Key, NoMemory, Reply, Step, Target};
 use ele_moment::Moment;
-use ele_path::TaggedPath;
 use std::alloc::Global;
 
 /// Returns the versions that the stored entries removed, in order. If entries were folded, the rows
@@ -37,7 +36,8 @@ fn replayed<C: Explain>(alloc: Global, history: &History<C>) -> Result<Vec<Remov
 {
     let mut core = C::fresh(alloc, history.base().limits)?;
     let mut rows = Vec::new(alloc);
-    for entry in history.entries() {
+    let entries = history.entries();
+    for entry in entries {
         explain(alloc, &core, &entry.reply, &mut rows)?;
         let _reply = core.apply(&entry.event)?;
     }
@@ -82,7 +82,8 @@ fn listed<C: Step>(alloc: Global, history: &History<C>) -> Result<Vec<Removed>, 
 {
     let mut clock = history.base().now;
     let mut rows = Vec::new(alloc);
-    for entry in history.entries() {
+    let entries = history.entries();
+    for entry in entries {
         note(&entry.reply, clock, &mut rows)?;
         clock = clock_after(&entry.reply, clock);
     }
@@ -114,19 +115,4 @@ pub(crate) fn clock_after(reply: &Reply, now: Moment) -> Moment
         Reply::Now(to) => *to,
         _ => now,
     }
-}
-
-/// Returns the removed version that the path and the number in its tag mean now. None if the tag is
-/// another one, if the path leads to no file, or if no stored entry removed that version.
-///
-/// `NoMemory` if memory is refused.
-/// Cost: that of `removed`, and a copy of the rows of names.
-pub fn removed_version<C: Explain>(
-    alloc: Global,
-    tagged: &TaggedPath,
-    history: &History<C>,
-) -> Result<Option<Removed>, NoMemory>
-    ensures { IfOk result (λ row. IsRemovedVersion history.now tagged.now row) }
-{
-    Err(NoMemory)
 }

@@ -8,8 +8,10 @@ mod listing;
 mod path;
 mod row;
 mod text;
+mod version;
 
-pub use gone::{removed, removed_version};
+pub use gone::removed;
 pub use listing::open_handles;
 pub use row::{OpenHandle, Removed};
 pub use text::{put_answers, put_gone, put_handles, put_why_gone};
+pub use version::removed_version;

@@ -24,8 +24,10 @@ pub fn open_handles<C: Explain>(
 {
     let names = history.core().name_rows()?;
     let mut handles = Vec::new(alloc);
-    for row in history.core().handles() {
-        handles.push(open_handle(alloc, history, &names, row)?)?;
+    let rows = history.core().handles();
+    for row in rows {
+        let handle = open_handle(alloc, history, &names, row)?;
+        handles.push(handle)?;
     }
     Ok(handles)
 }
@@ -49,7 +51,7 @@ fn open_handle<C: Explain>(
 }
 
 // The file that is read.
-pub(crate) fn file_of(reads: &Reads) -> FileId
+fn file_of(reads: &Reads) -> FileId
     ensures { result ≡ file_of reads.now }
 {
     match reads {
@@ -73,7 +75,8 @@ fn opened_at<C: Step>(history: &History<C>, handle: Handle) -> Option<Moment>
     ensures { result ≡ opened_at handle history.now.base history.now.entries }
 {
     let mut clock = history.base().now;
-    for entry in history.entries() {
+    let entries = history.entries();
+    for entry in entries {
         if opens(&entry.reply, handle) {
             return Some(clock);
         }

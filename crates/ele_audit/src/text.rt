@@ -1,22 +1,21 @@
 //! Puts what an audit asks. A contract sees a printer as its outlet.
-ghost use Rattle.std.specs.Prelude.{◌≡◌, ◌∷◌, ◌++◌, List, ℕ};
+ghost use Rattle.std.specs.Prelude.{◌≡◌, ◌∷◌, ◌++◌, [], List, ℕ, codes, decimal};
 ghost use Rattle.std.specs.List.{flat_map};
 ghost use Rattle.ele_audit.specs.AuditText.{AreAnswers, IsAnswersText, gone_text, handle_line, handles_text, path_or_dash, read_word, removed_line, why_gone_text};
 ghost use Rattle.ele_audit.specs.LivePath.{names_in};
-ghost use Rattle.ele_commands.specs.Word.{word_text};
+ghost use Rattle.ele_audit.specs.Open.{file_of};
 ghost use Rattle.ele_output.specs.Prints.{Prints};
 ghost use Rattle.ele_path.specs.PathText.{path_word};
 ghost use Rattle.ele_printer.specs.HistoryText.{entry_line};
 ghost use Rattle.ele_printer.specs.Printed.{IsReplyText, end_word};
 
 use crate::fate::put_gone_words;
-use crate::listing::file_of;
 use crate::row::{OpenHandle, Removed};
-use ele_commands::Word::{self, Number, Plain};
+use ele_commands::Word::Number;
 use ele_commands::{put_event_line, put_line_of};
-use ele_model::{Entry, Reads};
+use ele_model::{Entry, HandleRow, Key, Reads};
 use ele_moment::{Moment, Name};
-use ele_output::{Printer, put_with_number, put_word};
+use ele_output::{Printer, put_with_number};
 use ele_printer::put_answer;
 use std::io::Write;
 
@@ -42,12 +41,42 @@ fn put_removed_lines<W: Write>(removed: &[Removed], printer: &mut Printer<'_, W>
 fn put_removed<W: Write>(row: &Removed, printer: &mut Printer<'_, W>)
     ensures { Prints W.contents printer.old printer.new (removed_line row.now) }
 {
-    printer.put(b"-");
-    put_with_number(b" ", row.at.seconds(), printer);
-    put_with_number(b" ", row.key.file.0, printer);
-    put_with_number(b" ", row.key.number.0, printer);
+    put_version(row.at, &row.key, printer);
     put_path(&row.path, printer);
     put_gone_words(row.key.ripe, &row.fate, printer);
+}
+
+// Puts a dash, a moment, and the file and the number of a version.
+fn put_version<W: Write>(at: Moment, key: &Key, printer: &mut Printer<'_, W>)
+    ensures { Prints W.contents printer.old printer.new
+        ((codes "-" ++ ((32 ∷ decimal at) ++ (32 ∷ decimal key.now.file))) ++ (32 ∷ decimal key.now.number)) }
+{
+    put_numbers(at.seconds(), file_number(key), printer);
+    put_with_number(b" ", version_number(key), printer);
+}
+
+// The number of the key's file.
+fn file_number(key: &Key) -> u64
+    ensures { result ≡ key.now.file }
+{
+    key.file.0
+}
+
+// The number of the key's version.
+fn version_number(key: &Key) -> u64
+    ensures { result ≡ key.now.number }
+{
+    key.number.0
+}
+
+// Puts a dash and two numbers.
+fn put_numbers<W: Write>(first: u64, second: u64, printer: &mut Printer<'_, W>)
+    ensures { Prints W.contents printer.old printer.new
+        (codes "-" ++ ((32 ∷ decimal first) ++ (32 ∷ decimal second))) }
+{
+    printer.put(b"-");
+    put_with_number(b" ", first, printer);
+    put_with_number(b" ", second, printer);
 }
 
 /// Puts when a version was removed, and why.
@@ -79,13 +108,41 @@ fn put_handle_lines<W: Write>(handles: &[OpenHandle], printer: &mut Printer<'_, 
 fn put_handle<W: Write>(handle: &OpenHandle, printer: &mut Printer<'_, W>)
     ensures { Prints W.contents printer.old printer.new (handle_line handle.now) }
 {
-    printer.put(b"-");
-    put_with_number(b" ", handle.row.number.0, printer);
-    put_with_number(b" ", file_of(&handle.row.reads).0, printer);
+    put_with_number(b"- ", handle_number(&handle.row), printer);
+    put_file(&handle.row.reads, printer);
     put_read(&handle.row.reads, printer);
-    put_since(&handle.since, printer);
-    put_path(&handle.path, printer);
+    put_opening(&handle.since, &handle.path, printer);
+}
+
+// The number of a handle.
+fn handle_number(row: &HandleRow) -> u64
+    ensures { result ≡ row.now.number }
+{
+    row.number.0
+}
+
+// Puts since when a handle has been open, the path of its file, and a line feed.
+fn put_opening<W: Write>(
+    since: &Option<Moment>,
+    path: &Option<Vec<Name>>,
+    printer: &mut Printer<'_, W>,
+)
+    ensures { Prints W.contents printer.old printer.new
+        ((32 ∷ end_word since.now) ++ ((32 ∷ path_or_dash (names_in path.now)) ++ 10 ∷ [])) }
+{
+    put_since(since, printer);
+    put_path(path, printer);
     printer.put(b"\n");
+}
+
+// Puts a space and the number of the file that is read.
+fn put_file<W: Write>(reads: &Reads, printer: &mut Printer<'_, W>)
+    ensures { Prints W.contents printer.old printer.new (32 ∷ decimal (file_of reads.now)) }
+{
+    match reads {
+        Reads::Draft(file) => put_with_number(b" ", file.0, printer),
+        Reads::Version(file, _) => put_with_number(b" ", file.0, printer),
+    }
 }
 
 // Puts a space and what is read.
