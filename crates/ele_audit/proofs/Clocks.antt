@@ -1,5 +1,5 @@
 -- The moment after an event, by its reply.
-use Rattle.ele_audit.proofs.Basics.{arith, nat_tests, rules, refl, ◌≡◌, ℕ, Bool, true, false, List, [], ◌∷◌, if◌then◌else◌}
+use Rattle.ele_audit.proofs.Basics.{arith, nat_tests, rules, refl, ◌≡◌, ℕ, Bool, true, false, List, if◌then◌else◌}
 use Rattle.ele_audit.specs.Clock.{clock_after}
 use Rattle.ele_model.proofs.PlanOutcomes.{InAll, outcome_of}
 use Rattle.ele_model.specs.declared.event.Event.{Event}

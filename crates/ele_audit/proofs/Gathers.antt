@@ -1,5 +1,5 @@
 -- Rows, entry after entry.
-use Rattle.ele_audit.proofs.Basics.{List, [], append_assoc, append-nil, arith, ap, length, drop, refl, sym, subst, ℕ, ◌++◌, ◌∷◌, ◌≡◌, ◌≤◌, ◌<◌, ◌+◌, ◌∙◌, get_or, Option, Some, None, false, true, drop_more, at_drop_all, suc, zero}
+use Rattle.ele_audit.proofs.Basics.{List, [], append_assoc, append-nil, arith, ap, length, drop, refl, sym, subst, ℕ, ◌++◌, ◌∷◌, ◌≡◌, ◌≤◌, ◌<◌, ◌+◌, ◌∙◌, get_or, Some, None, false, true, drop_more, at_drop_all, suc, zero}
 use Rattle.ele_audit.proofs.Clocks.{clocked}
 use Rattle.ele_audit.specs.Clock.{clock_after}
 use Rattle.ele_audit.specs.Each.{AreEach}

@@ -1,5 +1,5 @@
 -- A path, name by name from the last one up.
-use Rattle.ele_audit.proofs.Basics.{List, [], append_assoc, append-nil, arith, ap, length, refl, sym, ℕ, ◌++◌, ◌∷◌, ◌≡◌, ◌∙◌, Option, Some, None, Bool, true, false, reverse, reverse-append, suc, zero, find, nat_tests, option_and_then, option_map, if◌then◌else◌}
+use Rattle.ele_audit.proofs.Basics.{List, [], append_assoc, append-nil, arith, ap, length, refl, sym, ℕ, ◌++◌, ◌∷◌, ◌≡◌, ◌∙◌, Option, Some, None, Bool, true, false, reverse, reverse-append, suc, zero, find, nat_tests, option_map, if◌then◌else◌}
 use Rattle.ele_audit.specs.LivePath.{is_live_name_to, live_path, path_within}
 use Rattle.ele_model.specs.declared.rows.NameRow.{NameRow}
 use Rattle.ele_model.specs.declared.rows.Target.{Target}

@@ -1,5 +1,5 @@
 -- Answers, entry after entry.
-use Rattle.ele_audit.proofs.Basics.{List, [], append_assoc, append-nil, ap, length, drop, get_or, refl, sym, subst, ℕ, ◌++◌, ◌∷◌, ◌≡◌, ◌≤◌, ◌<◌, ◌+◌, ◌∙◌}
+use Rattle.ele_audit.proofs.Basics.{List, [], append_assoc, append-nil, ap, length, drop, get_or, refl, sym, subst, ℕ, ◌++◌, ◌≡◌, ◌≤◌, ◌<◌, ◌+◌, ◌∙◌}
 use Rattle.ele_audit.proofs.Gathers.{left_more, left_none}
 use Rattle.ele_audit.specs.AuditText.{AreAnswers}
 use Rattle.ele_model.specs.declared.entry.Entry.{Entry}

@@ -1,6 +1,6 @@
-use Rattle.ele_audit.proofs.Basics.{arith, refl, sym, ◌∙◌, ap}
+use Rattle.ele_audit.proofs.Basics.{arith, sym, ap}
 use Rattle.ele_audit.proofs.Gathers.{lists_done, lists_more, lists_none}
-use Rattle.ele_audit.specs.Removals.{IsBare, removals}
+use Rattle.ele_audit.specs.Removals.{removals}
 use Rattle.ele_model.specs.World.{World}
 use Rattle.ele_audit.proofs.gone.listed.Goals as goal
 

@@ -1,4 +1,4 @@
-use Rattle.ele_audit.proofs.Basics.{arith, refl, sym, ◌∙◌, ap}
+use Rattle.ele_audit.proofs.Basics.{arith, sym, ◌∙◌, ap}
 use Rattle.ele_audit.proofs.Gathers.{fresh_base, replays_done, replays_more, replays_none}
 use Rattle.ele_audit.specs.Removals.{IsExplained, removals}
 use Rattle.ele_model.specs.World.{World, fresh_world}

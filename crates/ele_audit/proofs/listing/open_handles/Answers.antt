@@ -1,4 +1,4 @@
-use Rattle.ele_audit.proofs.Basics.{arith, sym, ◌∙◌, ap, subst, List}
+use Rattle.ele_audit.proofs.Basics.{arith, ◌∙◌, ap, subst, List}
 use Rattle.ele_audit.proofs.Gathers.{each_done, each_more, gathers_new}
 use Rattle.ele_audit.specs.Each.{AreEach}
 use Rattle.ele_audit.specs.Open.{IsOpen}

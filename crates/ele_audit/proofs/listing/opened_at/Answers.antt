@@ -1,4 +1,4 @@
-use Rattle.ele_audit.proofs.Basics.{arith, refl, sym, ◌∙◌, ap}
+use Rattle.ele_audit.proofs.Basics.{arith, sym, ◌∙◌, ap}
 use Rattle.ele_audit.proofs.Gathers.{seeks_begin, seeks_found, seeks_more, seeks_none}
 use Rattle.ele_model.specs.World.{World}
 use Rattle.ele_audit.proofs.listing.opened_at.Goals as goal

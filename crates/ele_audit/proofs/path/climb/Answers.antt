@@ -1,5 +1,5 @@
 use Rattle.ele_audit.proofs.Basics.{arith, length, ◌∙◌, ◌-◌, ◌+◌, sym}
-use Rattle.ele_audit.proofs.Paths.{climbs_end, climbs_full, climbs_more}
+use Rattle.ele_audit.proofs.Paths.{climbs_end, climbs_more}
 use Rattle.ele_audit.proofs.path.climb.Goals as goal
 
 pub returns-in_default : goal.returns-in_default
