@@ -12,7 +12,7 @@ use Rattle.ele_usage.specs.declared.usage.Usage.{Usage}
 use Rattle.ele_model.specs.declared.rows.GroupRow.{GroupRow}
 use Rattle.ele_model.specs.declared.rows.MarkRow.{MarkRow}
 
--- the line of words behind a dash
+-- the line of a dash and words
 dash_line : (words : List (List ℕ)) → 0 < length words → line_text (codes "-" ∷ words) ≡ codes "- " ++ line_text words
 dash_line [] some = absurd (omega (arith, some))
 dash_line (word ∷ words) some = refl
@@ -42,7 +42,7 @@ pub last_word : (first last : List ℕ) (words : List (List ℕ)) → line_text 
 last_word first last [] = append_assoc first (32 ∷ last) (10 ∷ [])
 last_word first last (word ∷ words) = grind (arith, nat_tests, append_assoc, last_word word last words)
 
--- the line of what a mark keeps, in its parts
+-- the line of a version that a mark holds, in its parts
 pub marked_parts : (group : List ℕ) (mark : MarkRow) → line_text (codes "ok why" ∷ codes "marked" ∷ group ∷ mark_word mark ∷ []) ≡ join_with_byte 32 (codes "ok why" ∷ codes "marked" ∷ group ∷ []) ++ ((32 ∷ mark_word mark) ++ 10 ∷ [])
 marked_parts group mark = last_word (codes "ok why") (mark_word mark) (codes "marked" ∷ group ∷ [])
 

@@ -1,4 +1,4 @@
--- The text of why a version is held or may go, and of what will be due.
+-- The text of why a version is held or due, and of the keys that will be due.
 use Rattle.std.specs.Prelude.{ℕ, List, [], ◌∷◌, ◌++◌, codes, length, Option, Some, None, Result, Ok, Err}
 use Rattle.std.specs.Fmt.{decimal}
 use Rattle.std.specs.List.{flat_map}
@@ -36,12 +36,12 @@ fate_words (Marked group mark) = codes "marked" ∷ group ∷ mark_word mark ∷
 fate_words (Kept until level) = codes "kept" ∷ until_words until ++ level_words level
 fate_words (Due since cause) = codes "due" ∷ decimal since ∷ cause_words cause
 
--- the text of what becomes of a version, or of a refusal
+-- the text of a version's fate, or of a refusal
 abbrev pub why_text : Result Fate Refusal → List ℕ
 why_text (Ok fate) = line_text (codes "ok why" ∷ fate_words fate)
 why_text (Err refusal) = refusal_text refusal
 
--- the text of keys that will be due: how many, and a line for each; or of a refusal
+-- the text of keys that will be due: their number, and a line for each; or of a refusal
 abbrev pub ahead_text : Result (List Key) Refusal → List ℕ
 ahead_text (Ok keys) = line_text (codes "ok ahead" ∷ decimal (length keys) ∷ []) ++ flat_map due_line keys
 ahead_text (Err refusal) = refusal_text refusal
