@@ -3,7 +3,8 @@
 ghost use Rattle.std.specs.Prelude.{◌++◌, ◌∷◌, [], List, ℕ, map, decimal};
 ghost use Rattle.std.specs.List.{join_with_byte};
 ghost use Rattle.std.specs.Option.{option_map_or};
-ghost use Rattle.ele_commands.specs.Pieces.{mark_word, pieces_or_dash};
+ghost use Rattle.ele_commands.specs.Pieces.{pieces_or_dash};
+ghost use Rattle.ele_model.specs.FateText.{mark_word};
 ghost use Rattle.ele_output.specs.Prints.{Prints};
 ghost use Rattle.ele_policy.specs.PolicyText.{pair_word};
 

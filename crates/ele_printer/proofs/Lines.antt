@@ -2,7 +2,8 @@
 use Rattle.ele_printer.proofs.Basics.{nat_tests, arith, ◌≡◌, ℕ, List, [], ◌∷◌, ◌++◌, length, map, get_or, refl, ap, append_assoc, codes, length-append, ◌<◌, decimal, append-nil, join_with_byte}
 use Rattle.ele_printer.proofs.Prelude.{line_text, kind_words, usage_line, usage_lines, group_line}
 use Rattle.ele_commands.proofs.Words.{some_word}
-use Rattle.ele_commands.specs.Pieces.{mark_word, pieces_or_dash}
+use Rattle.ele_commands.specs.Pieces.{pieces_or_dash}
+use Rattle.ele_model.specs.FateText.{mark_word}
 use Rattle.ele_commands.specs.Command.{command_words}
 use Rattle.ele_commands.specs.EventText.{event_words, value_word}
 use Rattle.ele_printer.specs.HistoryText.{entry_line}

@@ -4,6 +4,7 @@ use Rattle.std.specs.Fmt.{decimal}
 use Rattle.std.specs.List.{flat_map}
 use Rattle.ele_moment.specs.Spelled.{SpellsTimestamp}
 use Rattle.ele_model.specs.AnswerText.{refusal_words, stop_words, pass_words}
+use Rattle.ele_model.specs.FateText.{mark_word}
 use Rattle.ele_due.specs.declared.key.Key.{Key}
 use Rattle.ele_model.specs.declared.refusal.Refusal.{Refusal}
 use Rattle.ele_model.specs.declared.refusal.Stop.{Stop}
@@ -21,7 +22,7 @@ use Rattle.ele_model.specs.declared.rows.Target.TheVariants as target
 use Rattle.ele_usage.specs.declared.usage.Usage.{Usage}
 use Rattle.ele_model.specs.declared.pass.PassEnd.{PassEnd}
 use Rattle.ele_commands.specs.EventText.{bytes_word}
-use Rattle.ele_commands.specs.Pieces.{mark_word, pieces_or_dash}
+use Rattle.ele_commands.specs.Pieces.{pieces_or_dash}
 use Rattle.ele_output.specs.Front.{WritesText}
 use Rattle.ele_printer.specs.LineFault.{fault_number, fault_name}
 use Rattle.ele_printer.specs.declared.fault.LineFault.{LineFault}

@@ -1,10 +1,11 @@
 //! Prints why versions are held, and which will be due. A contract sees a fate and a list of keys as
 //! themselves, and a printer as its outlet.
 ghost use Rattle.std.specs.Prelude.{◌∷◌, [], ◌++◌, Ok, codes, decimal};
-ghost use Rattle.ele_commands.specs.Pieces.{mark_word};
+ghost use Rattle.ele_model.specs.FateText.{level_words, mark_word, until_words};
 ghost use Rattle.ele_output.specs.Prints.{Prints};
 ghost use Rattle.ele_output.specs.Line.{line_text};
-ghost use Rattle.ele_printer.specs.Why.{ahead_text, cause_words, level_words, until_words, why_text};
+ghost use Rattle.ele_policy.specs.CauseText.{cause_words};
+ghost use Rattle.ele_printer.specs.Why.{ahead_text, why_text};
 
 use crate::refusal::put_refusal;
 use crate::row::put_rows;
