@@ -11,6 +11,7 @@ use std::io::Write;
 const PIECE: usize = 256;
 
 /// Prints a space and two digits for each byte, or a space and `-` for no bytes.
+#[inline(never)]
 pub(crate) fn put_byte_word<W: Write>(bytes: &[u8], printer: &mut Printer<'_, W>)
     ensures { Prints W.contents printer.old printer.new (32 ∷ bytes_word bytes.now) }
 {

@@ -9,6 +9,7 @@ use ele_policy::{Floor, Ladder, Policy};
 use std::io::Write;
 
 /// Prints a space and a policy.
+#[inline(never)]
 pub(crate) fn put_policy<W: Write>(policy: &Policy, printer: &mut Printer<'_, W>)
     ensures { Prints W.contents printer.old printer.new (32 ∷ policy_word policy.now) }
 {

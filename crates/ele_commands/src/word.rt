@@ -111,6 +111,7 @@ pub fn put_line_of<W: Write>(first: &[u8], words: &[Word<'_>], printer: &mut Pri
 }
 
 // Prints a space, a path and its tag.
+#[inline(never)]
 fn put_tagged<W: Write>(path: &Path, tag: Tag, printer: &mut Printer<'_, W>)
     ensures { Prints W.contents printer.old printer.new (32 ∷ tagged_word path.now tag) }
 {
@@ -119,6 +120,7 @@ fn put_tagged<W: Write>(path: &Path, tag: Tag, printer: &mut Printer<'_, W>)
 }
 
 // Prints a space, and a path with a tag or the number of a handle.
+#[inline(never)]
 fn put_source<W: Write>(source: &Source, printer: &mut Printer<'_, W>)
     ensures { Prints W.contents printer.old printer.new (32 ∷ source_word source.now) }
 {
