@@ -1,4 +1,4 @@
--- Events in text.
+-- The text of events.
 use Rattle.std.specs.Prelude.{ℕ, ◌<◌, ◌≤◌, ◌^◌, List, [], ◌∷◌, ◌++◌, map, codes, All}
 use Rattle.std.specs.Fmt.{decimal}
 use Rattle.std.specs.List.{join_with_byte}
@@ -19,12 +19,12 @@ use Rattle.ele_commands.specs.Command.{command_words}
 use Rattle.ele_commands.specs.Parts.{parts_of}
 use Rattle.ele_commands.specs.Value.{Value, Number, Handle, Version, Moment, End, Name, Path, Tagged, Timed, Source, Bytes, Policy}
 
--- the word of what is read
+-- the word of a path with a tag, or of a handle
 abbrev pub source_word : AnySource → List ℕ
 source_word (source.Tagged tagged) = tagged_word tagged.path tagged.tag
 source_word (source.Of handle) = decimal handle
 
--- bytes as a word: `-` for none, else two hexadecimal digits each, in lower case
+-- bytes as a word: `-` for none, otherwise two hexadecimal digits each, in lower case
 abbrev pub bytes_word : List ℕ → List ℕ
 bytes_word [] = codes "-"
 bytes_word (byte ∷ bytes) = encode_lower (byte ∷ bytes)
@@ -44,26 +44,26 @@ value_word (Source source) = source_word source
 value_word (Bytes bytes) = bytes_word bytes
 value_word (Policy policy) = policy_word policy
 
--- the words of an event: those that name its command, and one for each value
+-- the words of an event: those of its command, and one for each value
 abbrev pub event_words : Event → List (List ℕ)
 event_words event = command_words (parts_of event).0 ++ map value_word (parts_of event).1
 
--- these with a space between each two
+-- the text of an event: its words with a space (32) between each two
 abbrev pub event_text : Event → List ℕ
 event_text event = join_with_byte 32 (event_words event)
 
--- what its type says of a tag
+-- a tag is valid: its moment or number is in range
 abbrev pub IsTag : Tag → Type 0
 IsTag Now = Unit {0}
 IsTag (At moment) = moment ≤ last_moment
 IsTag (Numbered number) = number < 2 ^ 64
 
--- and of what is read
+-- a path with a tag is valid, or the number of a handle is in range
 abbrev pub IsSource : AnySource → Type 0
 IsSource (source.Tagged tagged) = IsPath tagged.path × IsTag tagged.tag
 IsSource (source.Of handle) = handle < 2 ^ 64
 
--- what their types say of values
+-- a value is valid: its numbers are in range, its names, path or policy are valid
 abbrev pub IsValue : Value → Type 0
 IsValue (Number n) = n < 2 ^ 64
 IsValue (Handle n) = n < 2 ^ 64

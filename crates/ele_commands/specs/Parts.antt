@@ -1,4 +1,4 @@
--- An event as its command and the values behind it.
+-- An event as its command and its values.
 use Rattle.std.specs.Prelude.{List, [], ◌∷◌}
 use Rattle.ele_model.specs.declared.event.Event.{Event}
 use Rattle.ele_model.specs.declared.event.Event.TheVariants as event
@@ -6,7 +6,7 @@ use Rattle.ele_commands.specs.declared.command.Command.{Command}
 use Rattle.ele_commands.specs.declared.command.Command.TheVariants as command
 use Rattle.ele_commands.specs.Value.{Value, end_values, Number, Handle, Version, Moment, Name, Path, Tagged, Timed, Source, Bytes, Policy}
 
--- the command of an event, and the values of the words behind it
+-- the command of an event, and the values of the words after it
 abbrev pub parts_of : Event → Command × List Value
 parts_of (event.Clock moment) = (command.Clock, Moment moment ∷ [])
 parts_of (event.Tick seconds) = (command.Tick, Number seconds ∷ [])

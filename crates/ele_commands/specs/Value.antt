@@ -1,4 +1,4 @@
--- What a word behind a command stands for.
+-- The values of the words after a command.
 use Rattle.std.specs.Prelude.{ℕ, List, [], ◌∷◌, Option, Some, None}
 use Rattle.ele_policy.specs.declared.policy.Policy.{Policy as AnyPolicy}
 use Rattle.ele_path.specs.declared.path_at.PathAt.{PathAt}
@@ -19,7 +19,7 @@ pub data Value : Type 0 where
   Bytes : List ℕ → Value
   Policy : AnyPolicy → Value
 
--- what a word for an end stands for, where there is one
+-- the values for the end of a mark: none if it has no end
 abbrev pub end_values : Option ℕ → List Value
 end_values None = []
 end_values (Some end) = End end ∷ []

@@ -1,4 +1,4 @@
--- A word of a line, as it is put.
+-- The words of a line, as they are printed.
 use Rattle.std.specs.Prelude.{ℕ, ◌<◌, ◌≤◌, ◌^◌, List, All}
 use Rattle.std.specs.Fmt.{decimal}
 use Rattle.ele_moment.specs.Last.{last_moment}
@@ -12,7 +12,7 @@ use Rattle.ele_commands.specs.EventText.{IsSource, IsTag, bytes_word, source_wor
 use Rattle.ele_commands.specs.declared.word.Word.{Word}
 use Rattle.ele_commands.specs.declared.word.Word.TheVariants.{Plain, Number, Moment, Name, Path, Tagged, Timed, Source, Bytes, Policy}
 
--- its bytes
+-- the bytes of a word
 abbrev pub word_text : Word → List ℕ
 word_text (Plain bytes) = bytes.now
 word_text (Number n) = decimal n
@@ -25,7 +25,7 @@ word_text (Source source) = source_word source.now
 word_text (Bytes bytes) = bytes_word bytes.now
 word_text (Policy policy) = policy_word policy.now
 
--- what its type says of it
+-- a word is valid: its numbers are in range, its name, path or policy is valid
 abbrev pub IsWord : Word → Type 0
 IsWord (Plain bytes) = Unit {0}
 IsWord (Number n) = n < 2 ^ 64

@@ -1,4 +1,4 @@
-//! Putting bytes in hexadecimal digits. A contract sees a printer as its outlet.
+//! Prints bytes in hexadecimal digits. A contract sees a printer as its outlet.
 ghost use Rattle.std.specs.Prelude.{◌≤◌, ◌∷◌, length};
 ghost use Rattle.ele_commands.specs.EventText.{bytes_word};
 ghost use Rattle.ele_output.specs.Prints.{Prints};
@@ -7,10 +7,11 @@ ghost use Rattle.hex.specs.Hex.{encode_lower};
 use ele_output::Printer;
 use std::io::Write;
 
-/// So many bytes are told as digits at a time.
+/// The number of bytes that are printed at a time.
 const PIECE: usize = 256;
 
-/// Puts a space and two digits for each byte, or `-` for none.
+/// Prints a space and two digits for each byte, or a space and `-` for no bytes.
+#[inline(never)]
 pub(crate) fn put_byte_word<W: Write>(bytes: &[u8], printer: &mut Printer<'_, W>)
     ensures { Prints W.contents printer.old printer.new (32 ∷ bytes_word bytes.now) }
 {
@@ -22,7 +23,7 @@ pub(crate) fn put_byte_word<W: Write>(bytes: &[u8], printer: &mut Printer<'_, W>
     }
 }
 
-// Puts two digits for each byte.
+// Prints two digits for each byte.
 fn put_hexadecimal<W: Write>(bytes: &[u8], printer: &mut Printer<'_, W>)
     ensures { Prints W.contents printer.old printer.new (encode_lower bytes.now) }
 {
@@ -34,7 +35,7 @@ fn put_hexadecimal<W: Write>(bytes: &[u8], printer: &mut Printer<'_, W>)
     }
 }
 
-// Puts two digits for each byte of a few hundred.
+// Prints two digits for each of at most `PIECE` bytes.
 fn put_piece<W: Write>(piece: &[u8], printer: &mut Printer<'_, W>)
     requires { length piece.now ≤ PIECE }
     ensures { Prints W.contents printer.old printer.new (encode_lower piece.now) }

@@ -1,5 +1,5 @@
-//! Putting events. A contract sees an event as its command and the values behind it, and a printer
-//! as its outlet.
+//! Prints events. A contract sees an event as its command and a list of values, and a printer as its
+//! outlet.
 ghost use Rattle.std.specs.Prelude.{◌++◌, map};
 ghost use Rattle.std.specs.List.{AllByRecursion, join_with_byte};
 ghost use Rattle.ele_commands.specs.Command.{command_words};
@@ -17,8 +17,8 @@ use ele_model::Event;
 use ele_output::{Printer, WriteFault, put_words};
 use std::io::Write;
 
-/// Writes the line of an event: the words that name its command, and one for each value behind it.
-/// At a fault of the writer it took a front of that line.
+/// Writes the line of an event: the words of its command, and a word for each value. Returns a fault
+/// if the writer fails: then it took a prefix of the line.
 pub fn write_event_text<W: Write>(event: &Event, writer: &mut W) -> Result<(), WriteFault>
     ensures text { WritesText (line_text (event_words event.now))
         (W.contents writer.old) (W.contents writer.new) result }
@@ -29,7 +29,7 @@ pub fn write_event_text<W: Write>(event: &Event, writer: &mut W) -> Result<(), W
     printer.hand_over()
 }
 
-/// Puts the line of an event.
+/// Prints the line of an event.
 pub fn put_event_line<W: Write>(event: &Event, printer: &mut Printer<'_, W>)
     ensures text { Prints W.contents printer.old printer.new (line_text (event_words event.now)) }
     ensures values { AllByRecursion IsValue (parts_of event.now).1 }
@@ -38,8 +38,8 @@ pub fn put_event_line<W: Write>(event: &Event, printer: &mut Printer<'_, W>)
     printer.put(b"\n");
 }
 
-/// Puts the words of an event, without the end of a line: those that name its command, and one for
-/// each value behind it.
+/// Prints the words of an event, without a line feed: those of its command, and a word for each
+/// value.
 pub fn put_event<W: Write>(event: &Event, printer: &mut Printer<'_, W>)
     ensures text { Prints W.contents printer.old printer.new (event_text event.now) }
     ensures values { AllByRecursion IsValue (parts_of event.now).1 }
@@ -129,7 +129,7 @@ pub fn put_event<W: Write>(event: &Event, printer: &mut Printer<'_, W>)
     }
 }
 
-// Puts a command and the words behind it.
+// Prints the words of a command, and the words after them.
 fn put_parts<W: Write>(command: Command, words: &[Word<'_>], printer: &mut Printer<'_, W>)
     ensures text { Prints W.contents printer.old printer.new
         (join_with_byte 32 (command_words command ++ map word_text words.now)) }
@@ -139,7 +139,7 @@ fn put_parts<W: Write>(command: Command, words: &[Word<'_>], printer: &mut Print
     put_each(words, printer);
 }
 
-// Puts the words of a command.
+// Prints the words of a command.
 fn put_command<W: Write>(command: Command, printer: &mut Printer<'_, W>)
     ensures { Prints W.contents printer.old printer.new
         (join_with_byte 32 (command_words command)) }

@@ -1,17 +1,17 @@
-//! The kinds of words behind a command. A contract sees a kind as itself.
+//! The kinds of words after a command. A contract sees a kind as itself.
 
-/// What a word behind a command stands for.
+/// What a word after a command means.
 #[derive(Clone, Copy, Debug, PartialEq, Eq)]
 pub enum WordKind {
     /// A number.
     Number,
-    /// A number, of a handle.
+    /// The number of a handle.
     Handle,
-    /// A number, of a version.
+    /// The number of a version.
     Version,
     /// A moment.
     Moment,
-    /// A moment, at which a mark ends; it may be left out.
+    /// The moment at which a mark ends. This word may be left out.
     End,
     /// The name of a group.
     Name,
@@ -21,7 +21,7 @@ pub enum WordKind {
     Tagged,
     /// A path at a moment.
     Timed,
-    /// A path with a tag, or a handle.
+    /// What a read reads: a path with a tag, or a handle.
     Source,
     /// Bytes.
     Bytes,

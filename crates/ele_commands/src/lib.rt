@@ -1,5 +1,5 @@
-//! The commands of the script: the words that name each and what it takes, and the text of each
-//! event. A contract sees a command and an event as themselves, and their words as bytes.
+//! The commands of the script language, with their names and arguments, and the text of each event.
+//! A contract sees a command and an event as themselves, and their words as bytes.
 #![tactic(auto)]
 
 mod byte_words;

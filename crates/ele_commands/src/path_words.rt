@@ -1,4 +1,4 @@
-//! Putting paths and their tags. A contract sees a path as the list of its names, and a printer as
+//! Prints paths and their tags. A contract sees a path as the list of its names, and a printer as
 //! its outlet.
 ghost use Rattle.std.specs.Prelude.{◌≡◌, ◌∷◌};
 ghost use Rattle.ele_commands.specs.EventText.{IsTag};
@@ -11,7 +11,7 @@ use ele_output::{Printer, put_with_number};
 use ele_path::{Path, Tag};
 use std::io::Write;
 
-/// Puts a space and a path: a slash for the root, or the names, each with a slash in front.
+/// Prints a space and a path: a slash for the root, otherwise a slash before each name.
 pub(crate) fn put_path<W: Write>(path: &Path, printer: &mut Printer<'_, W>)
     ensures { Prints W.contents printer.old printer.new (32 ∷ path_word path.now) }
 {
@@ -25,7 +25,7 @@ pub(crate) fn put_path<W: Write>(path: &Path, printer: &mut Printer<'_, W>)
     }
 }
 
-// Puts a slash and the bytes of a name.
+// Prints a slash and the bytes of a name.
 fn put_step<W: Write>(name: &[u8], printer: &mut Printer<'_, W>)
     ensures { Prints W.contents printer.old printer.new (47 ∷ name.now) }
 {
@@ -33,7 +33,7 @@ fn put_step<W: Write>(name: &[u8], printer: &mut Printer<'_, W>)
     printer.put(name);
 }
 
-/// Puts what stands behind a path for a tag.
+/// Prints the tag that follows a path: `@` and a moment, `#` and a version's number, or nothing.
 pub(crate) fn put_tag<W: Write>(tag: Tag, printer: &mut Printer<'_, W>)
     ensures { Prints W.contents printer.old printer.new (tag_text tag) }
 {
@@ -44,7 +44,7 @@ pub(crate) fn put_tag<W: Write>(tag: Tag, printer: &mut Printer<'_, W>)
     }
 }
 
-/// The tag that says the same.
+/// Returns the tag of a moment, or of now if there is none.
 pub(crate) fn tag_of(moment: Option<Moment>) -> Tag
     ensures { result ≡ tag_at moment }
 {
@@ -54,7 +54,7 @@ pub(crate) fn tag_of(moment: Option<Moment>) -> Tag
     }
 }
 
-/// Says what its type says of a tag.
+/// Its contract says that the moment or number of a tag is in range.
 pub(crate) fn lemma_tag(tag: Tag)
     ensures { IsTag tag }
 {

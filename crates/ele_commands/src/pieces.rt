@@ -1,9 +1,10 @@
-//! Pieces of a word with a comma between each two. A contract sees a piece as itself, and a printer
-//! as its outlet.
+//! Prints the pieces of a word, with a comma between each two. A contract sees a piece as itself, and
+//! a printer as its outlet.
 ghost use Rattle.std.specs.Prelude.{◌++◌, ◌∷◌, [], List, ℕ, map, decimal};
 ghost use Rattle.std.specs.List.{join_with_byte};
 ghost use Rattle.std.specs.Option.{option_map_or};
-ghost use Rattle.ele_commands.specs.Pieces.{mark_word, pieces_or_dash};
+ghost use Rattle.ele_commands.specs.Pieces.{pieces_or_dash};
+ghost use Rattle.ele_model.specs.FateText.{mark_word};
 ghost use Rattle.ele_output.specs.Prints.{Prints};
 ghost use Rattle.ele_policy.specs.PolicyText.{pair_word};
 
@@ -12,11 +13,11 @@ use ele_moment::{FileId, Moment};
 use ele_output::{Printer, put_number, put_with_number};
 use std::io::Write;
 
-/// What stands between commas.
+/// A piece of a word, which is printed between commas.
 pub trait Piece {
     ghost piece_text: { Self → List ℕ };
 
-    /// Puts what stands before it, and its text.
+    /// Prints `before` and then the piece.
     fn put_piece<W: Write>(&self, before: &[u8], printer: &mut Printer<'_, W>)
         ensures { Prints W.contents printer.old printer.new (before.now ++ piece_text self.now) };
 }
@@ -49,7 +50,7 @@ impl Piece for MarkRow {
     }
 }
 
-// Puts a slash and the end of a mark, if it has one.
+// Prints a slash and the end of a mark, if it has one.
 fn put_end<W: Write>(until: &Option<Moment>, printer: &mut Printer<'_, W>)
     ensures { Prints W.contents printer.old printer.new
         (option_map_or (λ end. 47 ∷ decimal end) until.now []) }
@@ -60,7 +61,7 @@ fn put_end<W: Write>(until: &Option<Moment>, printer: &mut Printer<'_, W>)
     }
 }
 
-/// Puts pieces with a comma between each two.
+/// Prints pieces with a comma between each two.
 pub(crate) fn put_pieces<T: Piece, W: Write>(pieces: &[T], printer: &mut Printer<'_, W>)
     ensures { Prints W.contents printer.old printer.new
         (join_with_byte 44 (map T.piece_text pieces.now)) }
@@ -74,7 +75,7 @@ pub(crate) fn put_pieces<T: Piece, W: Write>(pieces: &[T], printer: &mut Printer
     }
 }
 
-/// Puts a space and pieces, or `-` for none.
+/// Prints a space and the pieces with commas between them, or a space and `-` for none.
 pub fn put_pieces_or_dash<T: Piece, W: Write>(pieces: &[T], printer: &mut Printer<'_, W>)
     ensures { Prints W.contents printer.old printer.new
         (32 ∷ pieces_or_dash T.piece_text pieces.now) }

@@ -1,4 +1,4 @@
-//! Putting policies. A contract sees a policy as itself, and a printer as its outlet.
+//! Prints policies. A contract sees a policy as itself, and a printer as its outlet.
 ghost use Rattle.std.specs.Prelude.{◌∷◌, ◌++◌, codes};
 ghost use Rattle.ele_policy.specs.PolicyText.{floor_word, ladder_word, policy_word};
 ghost use Rattle.ele_output.specs.Prints.{Prints};
@@ -8,7 +8,8 @@ use ele_output::{Printer, put_with_number};
 use ele_policy::{Floor, Ladder, Policy};
 use std::io::Write;
 
-/// Puts a space and a policy.
+/// Prints a space and a policy.
+#[inline(never)]
 pub(crate) fn put_policy<W: Write>(policy: &Policy, printer: &mut Printer<'_, W>)
     ensures { Prints W.contents printer.old printer.new (32 ∷ policy_word policy.now) }
 {
@@ -23,7 +24,7 @@ pub(crate) fn put_policy<W: Write>(policy: &Policy, printer: &mut Printer<'_, W>
     }
 }
 
-// Puts a slash and a floor, or nothing for none.
+// Prints a slash and a floor, or nothing for no floor.
 fn put_floor<W: Write>(floor: Floor, printer: &mut Printer<'_, W>)
     ensures { Prints W.contents printer.old printer.new (floor_word floor) }
 {
@@ -33,7 +34,7 @@ fn put_floor<W: Write>(floor: Floor, printer: &mut Printer<'_, W>)
     }
 }
 
-// Puts a space, `landmarks:` and the pairs of a ladder.
+// Prints a space, `landmarks:` and the pairs of a ladder.
 fn put_ladder<W: Write>(ladder: &Ladder, printer: &mut Printer<'_, W>)
     ensures { Prints W.contents printer.old printer.new
         (codes " landmarks:" ++ ladder_word ladder.now) }

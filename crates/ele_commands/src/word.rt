@@ -36,7 +36,7 @@ pub enum Word<'w> {
     Tagged(&'w TaggedPath),
     /// A path at a moment.
     Timed(&'w PathAt),
-    /// A path with a tag, or a handle.
+    /// What a read reads: a path with a tag, or a handle.
     Source(&'w Source),
     /// Bytes in hexadecimal digits.
     Bytes(&'w [u8]),
@@ -45,7 +45,7 @@ pub enum Word<'w> {
 }
 
 impl Word<'_> {
-    // Says what its type says of it.
+    // Its contract says that the value of the word is in the range of its type.
     fn lemma_word(&self)
         ensures { IsWord self.now }
     {
@@ -69,7 +69,7 @@ impl Word<'_> {
         }
     }
 
-    // Puts a space and the word.
+    // Prints a space and the word.
     fn put<W: Write>(&self, printer: &mut Printer<'_, W>)
         ensures { Prints W.contents printer.old printer.new (32 ∷ word_text self.now) }
     {
@@ -88,7 +88,7 @@ impl Word<'_> {
     }
 }
 
-/// Puts words, each with a space in front.
+/// Prints a space and the word, for each word.
 pub(crate) fn put_each<W: Write>(words: &[Word<'_>], printer: &mut Printer<'_, W>)
     ensures text { Prints W.contents printer.old printer.new
         (flat_map (λ word. 32 ∷ word_text word) words.now) }
@@ -100,7 +100,7 @@ pub(crate) fn put_each<W: Write>(words: &[Word<'_>], printer: &mut Printer<'_, W
     }
 }
 
-/// Puts a line of a first word and words behind it.
+/// Prints a line: first the bytes, then a space and the word for each word, then a line feed.
 pub fn put_line_of<W: Write>(first: &[u8], words: &[Word<'_>], printer: &mut Printer<'_, W>)
     ensures { Prints W.contents printer.old printer.new
         (line_text (first.now ∷ map word_text words.now)) }
@@ -110,7 +110,8 @@ pub fn put_line_of<W: Write>(first: &[u8], words: &[Word<'_>], printer: &mut Pri
     printer.put_byte(b'\n');
 }
 
-// Puts a space, a path and its tag.
+// Prints a space, a path and its tag.
+#[inline(never)]
 fn put_tagged<W: Write>(path: &Path, tag: Tag, printer: &mut Printer<'_, W>)
     ensures { Prints W.contents printer.old printer.new (32 ∷ tagged_word path.now tag) }
 {
@@ -118,7 +119,8 @@ fn put_tagged<W: Write>(path: &Path, tag: Tag, printer: &mut Printer<'_, W>)
     put_tag(tag, printer);
 }
 
-// Puts a space and what is read.
+// Prints a space, and a path with a tag or the number of a handle.
+#[inline(never)]
 fn put_source<W: Write>(source: &Source, printer: &mut Printer<'_, W>)
     ensures { Prints W.contents printer.old printer.new (32 ∷ source_word source.now) }
 {
@@ -128,7 +130,7 @@ fn put_source<W: Write>(source: &Source, printer: &mut Printer<'_, W>)
     }
 }
 
-// Says what its type says of a path with a tag.
+// Its contract says that a path with a tag is valid.
 fn lemma_tagged(tagged: &TaggedPath)
     ensures { IsPath tagged.now.path × IsTag tagged.now.tag }
 {
@@ -136,7 +138,7 @@ fn lemma_tagged(tagged: &TaggedPath)
     lemma_tag(tagged.tag());
 }
 
-// And of a path at a moment.
+// Its contract says that a path at a moment is valid.
 fn lemma_timed(timed: &PathAt)
     ensures { IsPath timed.now.path × IsTag (tag_at timed.now.moment) }
 {
@@ -144,7 +146,7 @@ fn lemma_timed(timed: &PathAt)
     lemma_tag(tag_of(timed.moment));
 }
 
-// And of what is read.
+// Its contract says that a path with a tag is valid, or that a handle has 64 bits.
 fn lemma_source(source: &Source)
     ensures { IsSource source.now }
 {
@@ -154,12 +156,12 @@ fn lemma_source(source: &Source)
     }
 }
 
-// Says of a number that it has 64 bits at most.
+// Its contract says that a number is below 2 ^ 64.
 fn lemma_number(number: u64)
     ensures { number < 2 ^ 64 }
 {}
 
-// Says of bytes that each is one.
+// Its contract says that each byte is below 256.
 fn lemma_bytes(bytes: &[u8])
     ensures { All (λ byte. byte < 256) bytes.now }
 {}

@@ -1,4 +1,4 @@
--- What is said to a line without a history, by what it asks for.
+-- The answer to a line without a history, by its command.
 use Rattle.std.proofs.Common.{ℕ, List, Option, true, refl, inl, inr}
 use Rattle.ele_embed.specs.Hears.{Answers, ExplainsPlain, as_taken, as_told}
 use Rattle.ele_embed.specs.Takes.{Steps}

@@ -13,7 +13,7 @@ pub data State : Type 0 where
   Plain : World → Option Reply → State
   Recorded : Past → State
 
--- the world that it is
+-- the current world
 abbrev pub world_in : State → World
 world_in (Plain w last) = w
 world_in (Recorded past) = world_of past
@@ -28,7 +28,7 @@ abbrev pub last_in : State → Option Reply
 last_in (Plain w last) = last
 last_in (Recorded past) = last_reply past
 
--- a store, what its last call was answered, and the text that was made last
+-- a store, the answer to its last call, and its last text
 pub record Embedding : Type 0 where
   pub state : State
   pub said : Said
@@ -38,7 +38,7 @@ pub record Embedding : Type 0 where
 abbrev pub opened : State → Embedding
 opened state = record { state = state; said = Nothing; answer = [] }
 
--- without a history, and with one
+-- a fresh store without a history, and one with it
 abbrev pub fresh_plain : Bounds → Embedding
 fresh_plain limits = opened (Plain (fresh_world limits) None)
 

@@ -1,4 +1,4 @@
--- What a store says to a line of the script language, and what it leaves.
+-- What a store answers to a line of the script language, and the state after it.
 use Rattle.std.specs.Prelude.{◌≡◌, ◌⊎◌, ◌≤◌, ℕ, true, false, List, [], ◌∷◌, Option, Some, None}
 use Rattle.ele_core.specs.Stopped.{is_stopped}
 use Rattle.ele_embed.specs.Embedding.{State, Plain, Recorded}
@@ -27,17 +27,17 @@ use Rattle.ele_script.specs.declared.reading.Line.TheVariants as asks
 use Rattle.ele_script.specs.declared.reading.Question.{Question}
 use Rattle.ele_script.specs.declared.reading.Question.TheVariants as question
 
--- as a run hears lines that explains, and has no other option
+-- the options of a run that explains, and no others
 abbrev pub explaining : RunOptions
 explaining = record { strict = false; numbers = false; remarks = false; explain = true }
 
--- the line asks what only a history knows
+-- the line is a command that needs a history
 abbrev pub AsksPast : List ℕ → Type 0
 AsksPast line =
     Asks true line asks.History ⊎ Asks true line asks.Trim ⊎ Asks true line (asks.Question question.Gone)
     ⊎ Asks true line (asks.Question question.Handles) ⊎ Asks true line (asks.Question question.Answers)
 
--- the fault of a line without a history: its first one, or that it asks what only a history knows
+-- the fault of a line without a history: its first one; a command that needs a history is a fault too
 abbrev pub IsPlainFault : List ℕ → LineFault → Type 0
 IsPlainFault line fault = IsFirstFault true line fault ⊎ ((fault ≡ Syntax) × AsksPast line)
 
@@ -50,14 +50,14 @@ ExplainsPlain w question.Gone said = said ≡ Bad Syntax
 ExplainsPlain w question.Handles said = said ≡ Bad Syntax
 ExplainsPlain w question.Answers said = said ≡ Bad Syntax
 
--- without a history a line may want memory: to be read, for its event, or to tell what will be due at a moment that hasn't passed
+-- without a history a line may take memory: to be read, for its event, or for the keys that will be due at a moment that hasn't passed
 pub data LineTakesMemory (before : World) (line : List ℕ) : Type 0 where
   as_read : TakesMemory true (words_of line) → LineTakesMemory before line
   as_taken : (event : Event) → Asks true line (asks.Event event) → takes_no_memory event ≡ false → LineTakesMemory before line
   as_told : (moment : ℕ) → Asks true line (asks.Question (question.Ahead moment)) → before.now ≤ moment → LineTakesMemory before line
 
--- without a history a line is answered its fault, what the step answers to its event, how its pass ends, or its explanation,
--- which changes nothing; want of memory may stop it if it takes memory
+-- without a history the answer to a line is its fault, the step's answer to its event, the end of its pass, or its explanation,
+-- which changes nothing; memory may stop it if it takes memory
 abbrev pub Answers : World → List ℕ → Said → World → Option Reply → Type 0
 Answers before line (Bad fault) after last = IsPlainFault line fault × (after ≡ before)
 Answers before line Replied after last = (event : Event) × Asks true line (asks.Event event) × Steps before event Replied after last
@@ -68,13 +68,13 @@ Answers before line (Why told) after last = (tagged : TaggedPath) × Asks true l
 Answers before line (Ahead told) after last = (moment : ℕ) × Asks true line (asks.Question (question.Ahead moment)) × IsAhead before moment told × (after ≡ before)
 Answers before line said after last = ⊥
 
--- a line that is too long is only told so, and an empty one is told nothing
+-- a line that is too long has that fault, and an empty one has no answer
 abbrev pub HearsPlain : World → Option (List ℕ) → Said → World → Option Reply → Type 0
 HearsPlain before None said after last = (said ≡ Bad LineTooLong) × (after ≡ before)
 HearsPlain before (Some []) said after last = (said ≡ Nothing) × (after ≡ before)
 HearsPlain before (Some (byte ∷ bytes)) said after last = Answers before (byte ∷ bytes) said after last
 
--- a line was heard; with a history, as a run hears it
+-- a line was run; with a history, as a run runs it
 abbrev pub Hears : State → List ℕ → Said → State → Type 0
 Hears (Plain w last) line said after =
     (w' : World) × (last' : Option Reply) × (after ≡ Plain w' last') × HearsPlain w (line_unless_long line) said w' last'

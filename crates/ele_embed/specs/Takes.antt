@@ -1,4 +1,4 @@
--- What a store is asked to do, and what it says and leaves.
+-- What a store answers to each call, and the state after it.
 use Rattle.std.specs.Prelude.{◌≡◌, ℕ, Bool, true, false, List, Option, Some, None, Result, Ok, Err}
 use Rattle.ele_core.specs.Copies.{Copies}
 use Rattle.ele_core.specs.Stopped.{is_stopped}
@@ -23,18 +23,18 @@ use Rattle.ele_runs.specs.Said.{Records, SaysAhead, Trims}
 use Rattle.ele_runs.specs.declared.said.Said.{Said}
 use Rattle.ele_runs.specs.declared.said.Said.TheVariants.{Bad, Stopped, Replied, Why}
 
--- without a history an event is answered as the step answers it, or stopped for memory, which leaves the world
+-- without a history the step answers an event, or memory stops it, which leaves the world
 abbrev pub Steps : World → Event → Said → World → Option Reply → Type 0
 Steps before event Replied after last = (reply : Reply) × (last ≡ Some reply) × ((reply, after) ≡ step before event)
 Steps before event (Stopped stop) after last = (stop ≡ NoMemory) × (after ≡ before) × (takes_no_memory event ≡ false)
 Steps before event said after last = ⊥
 
--- an event was taken; with a history it also becomes the last entry
+-- an event was applied; with a history it also becomes the last entry
 abbrev pub Takes : State → Event → Said → State → Type 0
 Takes (Plain w last) event said after = (w' : World) × (last' : Option Reply) × (after ≡ Plain w' last') × Steps w event said w' last'
 Takes (Recorded past) event said after = (past' : Past) × (after ≡ Recorded past') × Records past event said past'
 
--- what was asked was an event, or has a fault, which leaves the store
+-- an event was applied, or there was a fault in its place, which leaves the store
 abbrev pub Runs : State → Result Event LineFault → Said → State → Type 0
 Runs before (Ok event) said after = Takes before event said after
 Runs before (Err fault) said after = (said ≡ Bad fault) × (after ≡ before)
@@ -45,17 +45,17 @@ Passes (Plain w last) budget end after =
     (w' : World) × (last' : Option Reply) × (after ≡ Plain w' last') × EndsPass w budget end w' × (is_stopped end ≡ false)
 Passes (Recorded past) budget end after = (past' : Past) × (after ≡ Recorded past') × MayPass past budget end past'
 
--- the bytes that a read of the source is replied were copied from the offset on, or it is refused, and nothing was written
+-- the bytes of a read were copied from the offset on, or it is refused, and nothing was written
 abbrev pub CopiesRead : State → Source → ℕ → List ℕ → List ℕ → Result Copied Refusal → Type 0
 CopiesRead state source offset old new told = Copies (world_in state) source offset old new told
 
--- why a version is held was asked, or the question has a fault
+-- the answer says why a version is held or due, or is the fault in place of its path
 abbrev pub TellsWhy : World → Result TaggedPath LineFault → Said → Type 0
 TellsWhy w (Ok tagged) (Why told) = IsWhy w tagged told
 TellsWhy w (Ok tagged) said = ⊥
 TellsWhy w (Err fault) said = said ≡ Bad fault
 
--- what will be due was asked, or the question has a fault
+-- the answer has the keys that will be due, or is the fault in place of the moment
 abbrev pub TellsAhead : World → Result ℕ LineFault → Said → Type 0
 TellsAhead w (Ok moment) said = SaysAhead w moment said
 TellsAhead w (Err fault) said = said ≡ Bad fault

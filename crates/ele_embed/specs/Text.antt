@@ -1,4 +1,4 @@
--- The text of what was said.
+-- The text of the last answer.
 use Rattle.std.specs.Prelude.{ℕ, true, List}
 use Rattle.ele_embed.specs.Embedding.{State, Recorded, past_in, last_in}
 use Rattle.ele_runs.specs.Block.{IsBlock, IsText}
@@ -6,7 +6,7 @@ use Rattle.ele_runs.specs.LineLength.{line_unless_long}
 use Rattle.ele_runs.specs.Said.{answer_by}
 use Rattle.ele_runs.specs.declared.said.Said.{Said}
 
--- it is that of the answer, by the last reply and the history, if there are these
+-- the text is that of the answer, with the last reply and the history if there are these
 abbrev pub IsTold : State → Said → List ℕ → Type 0
 IsTold state said text = IsText (answer_by (last_in state) (past_in state) said) text
 

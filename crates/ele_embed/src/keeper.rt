@@ -1,4 +1,4 @@
-//! What keeps the world of a store: the core alone, or a history. A contract sees it as the state that it keeps.
+//! The core of a store, alone or in a history. A contract sees it as the state of the store.
 ghost use Rattle.std.specs.Prelude.{◌≡◌, None, IfSome, IfNone};
 ghost use Rattle.std.specs.Option.{option_copied};
 ghost use Rattle.ele_embed.specs.Embedding.{Recorded, last_in, past_in, world_in};
@@ -23,7 +23,7 @@ pub(crate) enum Keeper {
 }
 
 impl Keeper {
-    /// Takes the event.
+    /// Applies the event, and records it if there is a history.
     pub(crate) fn record(&mut self, event: Event) -> Said
         ensures { Takes (state_of self.old) event result (state_of self.new) }
     {
@@ -33,7 +33,7 @@ impl Keeper {
         }
     }
 
-    /// Takes clean events.
+    /// Removes due versions, at most `budget` of them.
     pub(crate) fn pass(&mut self, budget: u64) -> PassEnd
         ensures { Passes (state_of self.old) budget result (state_of self.new) }
     {
@@ -43,7 +43,7 @@ impl Keeper {
         }
     }
 
-    /// Folds the history, if there is one.
+    /// Folds the history into its base. Returns `None` if there is no history.
     pub(crate) fn trim(&mut self) -> Option<Said>
         ensures some { IfSome result (λ said. (past past' : Past)
             × (state_of self.old ≡ Recorded past) × (state_of self.new ≡ Recorded past')
@@ -57,7 +57,7 @@ impl Keeper {
         }
     }
 
-    /// Hears a line.
+    /// Runs a line of the script language.
     pub(crate) fn hear(&mut self, alloc: Global, line: &[u8]) -> Said
         ensures { Hears (state_of self.old) line.now result (state_of self.new) }
     {
@@ -69,7 +69,7 @@ impl Keeper {
         }
     }
 
-    /// The core.
+    /// Returns the core.
     pub(crate) fn core(&self) -> &Core
         ensures { result.now.world ≡ world_in (state_of self.now) }
     {
@@ -79,7 +79,7 @@ impl Keeper {
         }
     }
 
-    /// The history, if there is one.
+    /// Returns the history, if there is one.
     pub(crate) fn history(&self) -> Option<&History<Core>>
         ensures { option_copied result ≡ past_in (state_of self.now) }
     {
@@ -89,7 +89,7 @@ impl Keeper {
         }
     }
 
-    /// The reply to the last event.
+    /// Returns the reply to the last event, if there is one.
     pub(crate) fn last(&self) -> Option<&Reply>
         ensures { option_copied result ≡ last_in (state_of self.now) }
     {
@@ -100,7 +100,7 @@ impl Keeper {
     }
 }
 
-// The manner of a run that answers `why` and `ahead` too.
+// Returns the options of a run that also answers `why` and `ahead`.
 fn explaining() -> RunOptions
     ensures { result ≡ explaining }
 {

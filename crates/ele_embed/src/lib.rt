@@ -1,5 +1,5 @@
-//! A store for programs in other languages: the core alone, or with its history, and beside it what the last call was answered.
-//! A contract sees the world or the history, what was said last, and the text that was made last.
+//! A store for programs in other languages: a core, alone or with its history, and the answer to the last call.
+//! A contract sees the world or the history, the last answer, and the last text.
 #![tactic(auto)]
 
 ghost use Rattle.std.specs.Prelude.{◌≡◌, [], Some, None, true, false, IfOk, OnOk, OnErr};
@@ -27,7 +27,7 @@ use ele_script::LineFault;
 use std::alloc::Global;
 use std::marker::Model;
 
-/// A store, what its last call was answered, and the text that was made last.
+/// A store, the answer to its last call, and the last text that it made.
 #[derive(Drop)]
 pub struct Store {
     keeper: Keeper,
@@ -46,7 +46,7 @@ impl Model for Store {
 }
 
 impl Store {
-    /// A fresh store without a history: it keeps what it holds and no more.
+    /// Makes an empty store without a history.
     ///
     /// `NoMemory` if memory is refused.
     pub fn plain(alloc: Global, limits: Limits) -> Result<Store, NoMemory>
@@ -61,7 +61,7 @@ impl Store {
         })
     }
 
-    /// A fresh store with a history.
+    /// Makes an empty store with a history.
     ///
     /// `NoMemory` if memory is refused.
     pub fn recorded(alloc: Global, limits: Limits) -> Result<Store, NoMemory>
@@ -76,7 +76,7 @@ impl Store {
         })
     }
 
-    /// Takes the event that is asked for, or says why there is none.
+    /// Applies the event, or answers with the fault in its place, which changes nothing. The text stays.
     pub fn run(&mut self, asked: Result<Event, LineFault>)
         ensures runs { Runs self.old.state asked self.new.said self.new.state }
         ensures answer { self.new.answer ≡ self.old.answer }
@@ -87,7 +87,8 @@ impl Store {
         }
     }
 
-    /// Takes clean events until nothing is due, or so many versions are removed.
+    /// Removes due versions until nothing is due or `budget` versions are removed. Returns how the pass
+    /// ended.
     pub fn pass(&mut self, budget: u64) -> PassEnd
         ensures passes { Passes self.old.state budget result self.new.state }
         ensures said { self.new.said ≡ said.Passed result }
@@ -98,7 +99,7 @@ impl Store {
         end
     }
 
-    /// Folds the history into its base, and answers whether there is one.
+    /// Folds the history into its base. Returns false, and changes nothing, if there is no history.
     pub fn trim(&mut self) -> bool
         ensures { FoldsOrNot self.old result self.new }
     {
@@ -111,7 +112,7 @@ impl Store {
         }
     }
 
-    /// Says why the version that is asked about is held, or may be removed.
+    /// Answers why a version is held or due, or with the fault in place of its path. The store stays.
     pub fn why(&mut self, asked: Result<TaggedPath, LineFault>)
         ensures why { TellsWhy (world_in self.old.state) asked self.new.said }
         ensures state { self.new.state ≡ self.old.state }
@@ -123,7 +124,7 @@ impl Store {
         }
     }
 
-    /// Says which versions will be due at the moment that is asked about.
+    /// Answers which versions will be due at a moment, or with the fault in its place. The store stays.
     pub fn ahead(&mut self, asked: Result<Moment, LineFault>)
         ensures ahead { TellsAhead (world_in self.old.state) asked self.new.said }
         ensures state { self.new.state ≡ self.old.state }
@@ -135,8 +136,9 @@ impl Store {
         }
     }
 
-    /// Copies the bytes that a read of the source is replied from the offset on, as many as there is room for, to the start of the
-    /// caller's. It is no event: a history gets no entry, and what was said last stays.
+    /// Copies the bytes of a read from the offset on into the start of the caller's, as many as fit. The
+    /// history gets no entry, and the last answer stays. Returns the refusal of the read, and then copies
+    /// nothing.
     pub fn copy(&self, source: &Source, offset: u64, into: &mut [u8]) -> Result<Copied, Refusal>
         ensures { CopiesRead self.now.state source.now offset into.old into.new result }
     {
@@ -145,7 +147,7 @@ impl Store {
 
     /// Runs a line of the script language, without its line feed, and makes the text of its answer.
     ///
-    /// `WriteFault` if there is no memory for the text, and then there is none; the line was run.
+    /// `WriteFault` if memory for the text is refused. Then the text is empty, but the line was run.
     pub fn line(&mut self, line: &[u8]) -> Result<(), WriteFault>
         ensures hears { Hears self.old.state line.now self.new.said self.new.state }
         ensures told { OnOk result (IsTold self.new.state self.new.said self.new.answer) }
@@ -164,9 +166,9 @@ impl Store {
         self.said = self.keeper.hear(self.alloc, line);
     }
 
-    /// Makes the text of what the last call was answered.
+    /// Makes the text of the last answer.
     ///
-    /// `WriteFault` if there is no memory for it, and then there is none.
+    /// `WriteFault` if memory for it is refused. Then the text is empty.
     pub fn tell(&mut self) -> Result<(), WriteFault>
         ensures told { OnOk result (IsTold self.old.state self.old.said self.new.answer) }
         ensures err { OnErr result (self.new.answer ≡ []) }
@@ -183,21 +185,21 @@ impl Store {
         }
     }
 
-    /// The text that was made last.
+    /// Returns the last text.
     pub fn answer(&self) -> &[u8]
         ensures { result.now ≡ self.now.answer }
     {
         &self.answer
     }
 
-    /// What the last call was answered.
+    /// Returns the answer to the last call.
     pub fn said(&self) -> &Said
         ensures { result.now ≡ self.now.said }
     {
         &self.said
     }
 
-    /// The reply to the last call, if it ran an event that was answered.
+    /// Returns the reply to the last call, if that ran an event and was not stopped.
     pub fn reply(&self) -> Option<&Reply>
         ensures { option_copied result ≡ reply_of self.now }
     {
@@ -207,14 +209,14 @@ impl Store {
         }
     }
 
-    /// The moment that it is.
+    /// Returns the current moment.
     pub fn now(&self) -> Moment
         ensures { result ≡ (world_in self.now.state).now }
     {
         self.keeper.core().now()
     }
 
-    /// The history, if there is one.
+    /// Returns the history, if there is one.
     pub fn history(&self) -> Option<&History<Core>>
         ensures { option_copied result ≡ past_in self.now.state }
     {
@@ -222,7 +224,7 @@ impl Store {
     }
 }
 
-// Writes the text of what was said to the end of an answer.
+// Writes the text of an answer into an empty list. A fault means that memory was refused.
 fn write_said(said: &Said, keeper: &Keeper, answer: &mut Vec<u8>) -> Result<(), WriteFault>
     requires { answer.old.items ≡ [] }
     ensures { OnOk result (IsTold (state_of keeper.now) said.now answer.new.items) }

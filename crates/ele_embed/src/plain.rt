@@ -22,7 +22,7 @@ pub(crate) struct Plain {
 }
 
 impl Plain {
-    /// The fresh world of these limits.
+    /// Makes a fresh world with these limits. `NoMemory` if memory is refused.
     pub(crate) fn new(alloc: Global, limits: Limits) -> Result<Plain, NoMemory>
         ensures { IfOk result (λ plain. (plain.core.world ≡ fresh_world limits) × (plain.last ≡ None)) }
     {
@@ -30,7 +30,7 @@ impl Plain {
         Ok(Plain { core, last: None })
     }
 
-    /// Takes the event.
+    /// Applies the event.
     pub(crate) fn record(&mut self, event: Event) -> Said
         ensures { Steps self.old.core.world event result self.new.core.world self.new.last }
     {
@@ -44,7 +44,7 @@ impl Plain {
         }
     }
 
-    /// Takes clean events.
+    /// Removes due versions, at most `budget` of them.
     pub(crate) fn pass(&mut self, budget: u64) -> PassEnd
         ensures end { EndsPass self.old.core.world budget result self.new.core.world }
         ensures unstopped { is_stopped result ≡ false }
@@ -53,7 +53,7 @@ impl Plain {
         self.core.clean_pass(budget)
     }
 
-    /// Hears a line.
+    /// Runs a line of the script language.
     pub(crate) fn hear(&mut self, alloc: Global, line: &[u8]) -> Said
         ensures { HearsPlain self.old.core.world (line_unless_long line.now) result
             self.new.core.world self.new.last }
@@ -67,7 +67,7 @@ impl Plain {
         self.hear_some(alloc, line)
     }
 
-    // Answers a line that is neither empty nor too long.
+    // Runs a line that is neither empty nor too long.
     fn hear_some(&mut self, alloc: Global, line: &[u8]) -> Said
         ensures { Answers self.old.core.world line.now result self.new.core.world self.new.last }
     {
@@ -84,14 +84,14 @@ impl Plain {
         }
     }
 
-    /// The core.
+    /// Returns the core.
     pub(crate) fn core(&self) -> &Core
         ensures { result.now ≡ self.now.core }
     {
         &self.core
     }
 
-    /// The reply to the last event.
+    /// Returns the reply to the last event, if there is one.
     pub(crate) fn last(&self) -> Option<&Reply>
         ensures { option_copied result ≡ self.now.last }
     {

@@ -1,4 +1,4 @@
--- What the words of a line come to.
+-- The bytes of the words of a line.
 use Rattle.std.proofs.Common.{◌≡◌, ℕ, List, [], ◌∷◌, ◌++◌, length, Option, refl, sym, ap, ◌∙◌, append_assoc}
 use Rattle.std.proofs.lemmas.List.{append-nil}
 use Rattle.std.specs.List.{IsFirstAndRest, flat_map, join_with_byte}
@@ -18,12 +18,12 @@ use Rattle.ele_forecast.specs.declared.forecast.Why.{Why}
 use Rattle.ele_forecast.specs.declared.forecast.Why.TheVariants.{Current, Never, Goes}
 use Rattle.ele_forecast_text.specs.declared.details.Details.{Details}
 
--- joined words are the first, and each other with a space in front
+-- joined words are the first, and then a space and the word for each other
 pub joined : (first : List ℕ) (words : List (List ℕ)) → join_with_byte 32 (first ∷ words) ≡ first ++ spaced words
 joined first [] = sym (append-nil first)
 joined first (word ∷ words) = ap (λ (rest : List ℕ). first ++ 32 ∷ rest) (joined word words)
 
--- a word with a space in front, joined with others
+-- a space and a word, joined with others
 pub fronted : (word : List ℕ) (words : List (List ℕ)) → join_with_byte 32 ((32 ∷ word) ∷ words) ≡ spaced (word ∷ words)
 fronted word words = joined (32 ∷ word) words
 
@@ -41,7 +41,7 @@ why_spaced policy ended (Goes (Age seconds)) = sym (ap (λ (rest : List ℕ). 32
 why_spaced policy ended (Goes (Displaced level by)) =
     sym (ap (λ (rest : List ℕ). 32 ∷ rest) (joined (codes "version") (decimal by ∷ codes "closed in the same" ∷ span_words (width_at policy level))))
 
--- words behind others
+-- words after others
 pub spaced_both : (words more : List (List ℕ)) → spaced (words ++ more) ≡ spaced words ++ spaced more
 spaced_both [] more = refl
 spaced_both (word ∷ words) more = ap (λ (rest : List ℕ). (32 ∷ word) ++ rest) (spaced_both words more) ∙ sym (append_assoc (32 ∷ word) (spaced words) (spaced more))
@@ -51,11 +51,11 @@ joined_both first words more =
     joined first (words ++ more) ∙ ap (λ (rest : List ℕ). first ++ rest) (spaced_both words more) ∙ sym (append_assoc first (spaced words) (spaced more))
     ∙ ap (λ (front : List ℕ). front ++ spaced more) (sym (joined first words))
 
--- a line is its first word, and each other with a space in front
+-- a line is its first word, and then a space and the word for each other
 line_parts : (first : List ℕ) (words : List (List ℕ)) → line_text (first ∷ words) ≡ first ++ (spaced words ++ 10 ∷ [])
 line_parts first words = ap (λ (line : List ℕ). line ++ 10 ∷ []) (joined first words) ∙ append_assoc first (spaced words) (10 ∷ [])
 
--- what is told of a version in its parts
+-- the moments and the reason of a version, in parts
 pub told_parts : (policy : Policy) (told : Forecast) → spaced (told_words policy told) ++ 10 ∷ []
     ≡ spaced (stamp_of told.closed ∷ stamp_or told.ended ∷ stamp_or told.ripe ∷ []) ++ (spaced (why_words policy told.ended told.why) ++ 10 ∷ [])
 told_parts policy told =

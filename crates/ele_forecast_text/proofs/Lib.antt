@@ -1,4 +1,4 @@
--- what the words of a line come to
+-- the bytes of the words of a line
 pub mod Known
 -- dates, one after another
 mod Dates

@@ -5,7 +5,7 @@ use Rattle.ele_policy.specs.declared.policy.Policy.{Policy}
 use Rattle.ele_forecast_text.specs.Plan.{ArePlans, IsPlanOf}
 use Rattle.ele_forecast_text.specs.declared.plan.Plan.{Plan}
 
--- one more
+-- the plan of one more policy
 plans_next : (closings moments : List ℕ) (policies : List Policy) (i : ℕ) (policy : Policy) (plans : List Plan) (plan : Plan) → i < length policies → policy ≡ get_or policies i policy
     → ArePlans (take i policies) closings moments plans → IsPlanOf policy closings moments plan → ArePlans (take (suc i) policies) closings moments (plans ++ plan ∷ [])
 plans_next closings moments [] i policy plans plan lt is far made = absurd (omega (arith, lt))

@@ -10,15 +10,15 @@ abbrev pub name_or : Option Label → ℕ → List ℕ
 name_or (Some label) number = label.text.items
 name_or None number = decimal number
 
--- the label of the version of that number, the first of which is 1, or the number if there is none
+-- the label of the version with the number, counted from 1, or the number if it has none
 abbrev pub name_of : List Label → ℕ → List ℕ
 name_of labels number = name_or (slice_get labels (number - 1)) number
 
--- the version of that number is among those that stay
+-- the version with the number stays
 abbrev pub stays_in : Staying → ℕ → Bool
 stays_in staying number = list_any (λ other. other == number) staying.numbers.items
 
--- the version has closed by the moment, and is kept then, or else due
+-- the version has closed by the moment, and is kept then, or is due if `kept` is false
 abbrev pub is_listed : Bool → Staying → Forecast → Bool
 is_listed kept staying told =
     nat_le told.closed staying.at && (if kept then stays_in staying told.number else not (stays_in staying told.number))

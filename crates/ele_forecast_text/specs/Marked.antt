@@ -3,6 +3,6 @@ use Rattle.std.specs.Prelude.{◌≡◌, ℕ, ◌<◌, ◌==◌, Bool, false, Li
 use Rattle.std.specs.List.{list_any}
 use Rattle.std.proofs.Common.{get_or}
 
--- the mark at each number says whether it is one of these
+-- the mark of each number says whether the number is in the list
 abbrev pub IsMarked : List ℕ → List Bool → Type 0
 IsMarked numbers marks = (number : ℕ) → number < length marks → get_or marks number false ≡ list_any (λ other. other == number) numbers

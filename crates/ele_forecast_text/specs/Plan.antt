@@ -1,4 +1,4 @@
--- What becomes of a file's versions under policies.
+-- The fates of a file's versions under policies.
 use Rattle.std.specs.Prelude.{◌≡◌, ℕ, List}
 use Rattle.std.specs.List.{AllZip}
 use Rattle.ele_policy.specs.declared.policy.Policy.{Policy}
@@ -6,12 +6,12 @@ use Rattle.ele_forecast.specs.ForecastOf.{AreForecasts}
 use Rattle.ele_forecast_text.specs.Table.{AreStayings}
 use Rattle.ele_forecast_text.specs.declared.plan.Plan.{Plan}
 
--- the plan of a file under the policy that closed at these moments, of the versions that stay at those
+-- the plan, under the policy, of versions that closed at these closings, and of those that stay at these moments
 pub record IsPlanOf (policy : Policy) (closings moments : List ℕ) (plan : Plan) : Type 0 where
   pub policy_is : plan.policy ≡ policy
   pub told : AreForecasts policy closings plan.forecasts.items
   pub stay : AreStayings policy closings moments plan.stayings.items
 
--- one for each of the policies, in their order
+-- a plan for each of the policies, in their order
 abbrev pub ArePlans : List Policy → List ℕ → List ℕ → List Plan → Type 0
 ArePlans policies closings moments plans = AllZip (λ policy plan. IsPlanOf policy closings moments plan) policies plans

@@ -12,7 +12,7 @@ abbrev pub day_after : Date → Date
 day_after date =
     if nat_lt date.2 (days_in_month (pos date.0) date.1) then (date.0, date.1, date.2 + 1) else (if nat_lt date.1 12 then (date.0, date.1 + 1, 1) else (date.0 + 1, 1, 1))
 
--- the date so many days after 1970-01-01
+-- the date that many days after 1970-01-01
 unfoldable pub date_of : ℕ → Date
 date_of zero = (1970, 1, 1)
 date_of (suc days) = day_after (date_of days)

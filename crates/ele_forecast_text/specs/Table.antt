@@ -1,4 +1,4 @@
--- A forecast as a table: a line for each version, and one for each moment that is asked about.
+-- A forecast as a table: a line for each version, and one for each given moment.
 use Rattle.std.specs.Prelude.{◌≡◌, ℕ, List, [], ◌∷◌, ◌++◌, codes, decimal, length, map}
 use Rattle.std.specs.List.{AllByRecursion, flat_map, join_with_byte}
 use Rattle.ele_policy.specs.declared.policy.Policy.{Policy}
@@ -15,20 +15,20 @@ use Rattle.ele_forecast_text.specs.declared.staying.Staying.{Staying}
 abbrev pub heading : Details → List ℕ
 heading details = line_text (codes "version" ∷ (detail_headings details ++ codes "closed ended due why" ∷ []))
 
--- what is told of a version: when it closed and ended, the moment from which it may be forgotten, and why
+-- the words of a version: when it closed, ended and becomes due, and why
 abbrev pub told_words : Policy → Forecast → List (List ℕ)
 told_words policy told =
     stamp_of told.closed ∷ stamp_or told.ended ∷ stamp_or told.ripe ∷ why_words policy told.ended told.why
 
--- the line of a version: its number, and what is told of it
+-- the line of a version: its number, its moments and the reason
 abbrev pub table_line : Policy → Forecast → List ℕ
 table_line policy told = line_text (decimal told.number ∷ told_words policy told)
 
--- the same, with the version's label and its size behind its number
+-- the same, with the version's label and its size after its number
 abbrev pub detailed_line : Policy → Details → Forecast → List ℕ
 detailed_line policy details told = line_text (decimal told.number ∷ (detail_words details told.number ++ told_words policy told))
 
--- the line of a moment: how many versions stay, their bytes if versions have sizes, and their numbers
+-- the line of a moment: the number of versions that stay, their bytes if versions have sizes, and their numbers
 abbrev pub numbered_line : Details → ℕ → List ℕ → List ℕ
 numbered_line details at numbers =
     join_with_byte 32 (codes "at" ∷ stamp_of at ∷ codes "stay" ∷ decimal (length numbers) ∷ total_words details numbers)
@@ -41,7 +41,7 @@ abbrev pub table_text : Policy → Details → List Forecast → List Staying �
 table_text policy details forecasts stayings =
     heading details ++ (flat_map (detailed_line policy details) forecasts ++ flat_map (staying_line details) stayings)
 
--- one for each of the moments, in their order: the versions that stay then
+-- the versions that stay, for each of the moments in their order
 pub record AreStayings (policy : Policy) (closings moments : List ℕ) (stayings : List Staying) : Type 0 where
   pub at : map (λ staying. staying.at) stayings ≡ moments
   pub kept : AllByRecursion (λ staying. AreKept policy closings staying.at staying.numbers.items) stayings

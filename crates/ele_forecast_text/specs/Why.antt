@@ -1,4 +1,4 @@
--- Why a version may be forgotten or stays, in words.
+-- Why a version becomes due or stays, in words.
 use Rattle.std.specs.Prelude.{ℕ, ◌+◌, ◌/◌, ◌%◌, ◌==◌, nat_le, Bool, false, List, [], ◌∷◌, codes, decimal, Option, if◌then◌else◌}
 use Rattle.std.specs.List.{flat_map}
 use Rattle.std.specs.Option.{option_map_or}
@@ -36,7 +36,7 @@ abbrev pub unit_of : ℕ → TimeUnit
 unit_of seconds =
     if seconds % 86400 == 0 then Day else (if seconds % 3600 == 0 then Hour else (if seconds % 60 == 0 then Minute else Second))
 
--- how many of these
+-- the seconds in that unit
 abbrev pub count_of : ℕ → ℕ
 count_of seconds = seconds / unit_seconds (unit_of seconds)
 
@@ -50,7 +50,7 @@ length_words seconds =
 abbrev pub span_words : ℕ → List (List ℕ)
 span_words seconds = if count_of seconds == 1 then one_word (unit_of seconds) ∷ [] else length_words seconds
 
--- the width of the spans at that level of a ladder
+-- the width of the spans at a level of a ladder
 abbrev pub width_of : List Rung → ℕ → ℕ
 width_of rungs level = option_map_or (λ rung. rung.1) (rung_at rungs level) 0
 
@@ -58,18 +58,18 @@ abbrev pub width_at : Policy → ℕ → ℕ
 width_at (policy.Landmarks rungs) level = width_of rungs level
 width_at other level = 0
 
--- so many seconds after the end, if there is one, are no later than the last moment
+-- there is an end, and the end plus the seconds is at most the last moment
 abbrev pub is_in_time : Option ℕ → ℕ → Bool
 is_in_time ended seconds = option_map_or (λ e. nat_le (e + seconds) last_moment) ended false
 
--- why a version that ended then is never let go
+-- why a version that ended then never becomes due
 abbrev pub never_word : Policy → Option ℕ → List ℕ
 never_word policy.All ended = codes "all are kept"
 never_word (policy.Landmarks rungs) ended = codes "kept as a landmark"
 never_word (policy.Safe seconds floor) ended = if is_in_time ended seconds then codes "kept by the floor" else codes "not before the year 10000"
 never_word policy.One ended = codes "not before the year 10000"
 
--- why a policy lets a version go
+-- why a version becomes due
 abbrev pub cause_words : Policy → Cause → List (List ℕ)
 cause_words policy AtOnce = codes "only the current one is kept" ∷ []
 cause_words policy (Age seconds) = codes "ended for" ∷ length_words seconds
@@ -81,6 +81,6 @@ why_words policy ended Current = codes "current" ∷ []
 why_words policy ended Never = never_word policy ended ∷ []
 why_words policy ended (Goes cause) = cause_words policy cause
 
--- each word with a space (32) in front
+-- a space (32) and the word, for each word
 abbrev pub spaced : List (List ℕ) → List ℕ
 spaced words = flat_map (λ word. 32 ∷ word) words

@@ -9,13 +9,13 @@ use ele_output::{Printer, put_line};
 use itoa::Buffer;
 use std::io::Write;
 
-/// What another tool calls a version.
+/// The name that another tool gives a version.
 #[derive(Debug, Drop)]
 pub struct Label {
     pub text: Vec<u8>,
 }
 
-/// The label of the version of that number, or the number if there is none.
+/// Returns the label of the version, or its number if it has none, whose digits go into `digits`.
 pub fn name_of<'n>(labels: &'n [Label], number: VersionNo, digits: &'n mut Buffer) -> &'n [u8]
     ensures { result.now ≡ name_of labels.now number }
 {
@@ -25,7 +25,7 @@ pub fn name_of<'n>(labels: &'n [Label], number: VersionNo, digits: &'n mut Buffe
     }
 }
 
-/// Puts the names of the versions of these numbers, one a line: the label, or the number if there is none.
+/// Prints the names of the versions, one a line: the label, or the number if there is none.
 pub fn put_names<W: Write>(labels: &[Label], numbers: &[VersionNo], printer: &mut Printer<'_, W>)
     ensures { Prints W.contents printer.old printer.new (names_text labels.now numbers.now) }
 {
@@ -34,7 +34,7 @@ pub fn put_names<W: Write>(labels: &[Label], numbers: &[VersionNo], printer: &mu
     }
 }
 
-// Puts a line with the name of the version of that number.
+// Prints a line with the name of the version.
 fn put_name<W: Write>(labels: &[Label], number: VersionNo, printer: &mut Printer<'_, W>)
     ensures { Prints W.contents printer.old printer.new (line_text (name_of labels.now number ∷ [])) }
 {

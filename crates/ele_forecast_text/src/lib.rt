@@ -1,5 +1,5 @@
-//! The words of a forecast: of a length, a reason, a version and a table. A contract sees a text as its
-//! bytes, and a printer as its outlet.
+//! Prints forecasts: lengths of time, reasons, versions and tables. A contract sees a text as its bytes,
+//! and a printer as its outlet.
 #![tactic(auto)]
 
 mod details;

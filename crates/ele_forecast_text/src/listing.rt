@@ -1,4 +1,4 @@
-//! Which versions are due or kept at a moment. A contract sees them as their numbers.
+//! Lists the versions that are due or kept at a moment. A contract sees them as their numbers.
 ghost use Rattle.std.specs.Prelude.{◌≡◌, ◌==◌, ◌+◌, ◌^◌, ◌<◌, IfOk, slice_set, true};
 ghost use Rattle.std.specs.List.{list_any};
 ghost use Rattle.ele_forecast_text.specs.Labels.{is_listed, listed_at};
@@ -9,7 +9,8 @@ use ele_forecast::Forecast;
 use ele_moment::{NoMemory, VersionNo};
 use std::alloc::Global;
 
-/// The numbers of the versions that are kept at the moment of a staying, or of those that are due then.
+/// Returns the numbers of the versions that are kept at the moment of the staying if `kept` holds,
+/// otherwise of those that are due then. `NoMemory` if memory is refused.
 pub fn listed_at(
     alloc: Global,
     kept: bool,
@@ -28,7 +29,7 @@ pub fn listed_at(
     Ok(numbers)
 }
 
-// Whether a version is listed, by marks of the versions that stay.
+// Whether a version is listed. The marks say which versions stay.
 fn is_listed(kept: bool, forecast: &Forecast, staying: &Staying, marks: &[bool]) -> bool
     requires { IsMarked staying.now.numbers.items marks.now }
     ensures { result ≡ is_listed kept staying.now forecast.now }
@@ -37,7 +38,7 @@ fn is_listed(kept: bool, forecast: &Forecast, staying: &Staying, marks: &[bool])
         && stays(staying.numbers.as_slice(), marks, forecast.number) == kept
 }
 
-// Whether the version of that number is among these, by marks of them.
+// Whether the number is in the list. The marks say so for small numbers.
 fn stays(numbers: &[VersionNo], marks: &[bool], number: VersionNo) -> bool
     requires { IsMarked numbers.now marks.now }
     ensures { result ≡ list_any (λ other. other == number) numbers.now }
@@ -48,7 +49,8 @@ fn stays(numbers: &[VersionNo], marks: &[bool], number: VersionNo) -> bool
     }
 }
 
-// A mark for each number up to the count, which says whether it is one of these.
+// Returns a mark for each number up to the count, which says whether the number is in the list.
+// `NoMemory` if memory is refused.
 fn marks_of(alloc: Global, numbers: &[VersionNo], count: usize) -> Result<Vec<bool>, NoMemory>
     requires { count + 1 < 2 ^ 64 }
     ensures { IfOk result (λ marks. IsMarked numbers.now marks.items) }
@@ -60,7 +62,7 @@ fn marks_of(alloc: Global, numbers: &[VersionNo], count: usize) -> Result<Vec<bo
     Ok(marks)
 }
 
-// Marks a number, if there is a mark for it.
+// Sets the mark of a number, if it has one.
 fn mark(marks: &mut Vec<bool>, number: VersionNo)
     ensures { marks.new.items ≡ slice_set marks.old.items number true }
 {

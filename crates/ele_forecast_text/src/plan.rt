@@ -1,4 +1,4 @@
-//! What becomes of a file's versions under a policy. A contract sees it as the definitions tell it.
+//! Plans: the fates of a file's versions under a policy. A contract sees a plan as itself.
 ghost use Rattle.std.specs.Prelude.{◌≢◌, ◌⊎◌, [], IfOk, OnErr};
 ghost use Rattle.ele_forecast_text.specs.Plan.{ArePlans, IsPlanOf};
 
@@ -8,18 +8,18 @@ use ele_moment::{Moment, NoMemory};
 use ele_policy::Policy;
 use std::alloc::Global;
 
-/// What becomes of a file's versions under a policy.
+/// The fates of a file's versions under a policy.
 #[derive(Debug, Drop)]
 pub struct Plan {
     pub policy: Policy,
     /// A forecast of each version.
     pub forecasts: Vec<Forecast>,
-    /// The versions that stay at each of some moments.
+    /// The versions that stay, for each of some moments.
     pub stayings: Vec<Staying>,
 }
 
-/// What becomes of the versions of these closings under a policy, and which stay at these moments.
-/// Without closings and moments this takes no memory.
+/// Returns the plan of the versions with these closings under a policy, and of the versions that stay
+/// at these moments. `NoMemory` if memory is refused; without closings and moments it takes none.
 pub fn plan_of(
     alloc: Global,
     policy: &Policy,
@@ -42,7 +42,8 @@ pub fn plan_of(
     })
 }
 
-/// What becomes of these versions under each of the policies, in their order. Without policies this takes no memory.
+/// Returns the plan of these versions under each of the policies, in their order. `NoMemory` if memory
+/// is refused; without policies it takes none.
 pub fn plans_of(
     alloc: Global,
     policies: &[Policy],

@@ -1,4 +1,4 @@
-//! The word of a policy. A contract sees it as its bytes, and a printer as its outlet.
+//! Prints policies. A contract sees the word of a policy as its bytes, and a printer as its outlet.
 ghost use Rattle.std.specs.Prelude.{◌++◌};
 ghost use Rattle.ele_output.specs.Prints.{Prints};
 ghost use Rattle.ele_policy.specs.PolicyText.{floor_word, ladder_word, pair_word, policy_word};
@@ -7,7 +7,7 @@ use ele_output::{Printer, put_number, put_with_number};
 use ele_policy::{Floor, Policy};
 use std::io::Write;
 
-/// Puts the word of a policy.
+/// Prints a policy as scripts have it, for example `safe:86400/3`.
 pub fn put_policy<W: Write>(policy: &Policy, printer: &mut Printer<'_, W>)
     ensures { Prints W.contents printer.old printer.new (policy_word policy.now) }
 {
@@ -25,7 +25,7 @@ pub fn put_policy<W: Write>(policy: &Policy, printer: &mut Printer<'_, W>)
     }
 }
 
-// Puts a slash and a floor, or nothing for none.
+// Prints a slash and a floor, or nothing for no floor.
 fn put_floor<W: Write>(floor: Floor, printer: &mut Printer<'_, W>)
     ensures { Prints W.contents printer.old printer.new (floor_word floor) }
 {
@@ -35,7 +35,7 @@ fn put_floor<W: Write>(floor: Floor, printer: &mut Printer<'_, W>)
     }
 }
 
-// Puts pairs with a comma between each two.
+// Prints pairs with a comma between each two.
 fn put_pairs<W: Write>(pairs: &[(u64, u64)], printer: &mut Printer<'_, W>)
     ensures { Prints W.contents printer.old printer.new (ladder_word pairs.now) }
 {
@@ -48,7 +48,7 @@ fn put_pairs<W: Write>(pairs: &[(u64, u64)], printer: &mut Printer<'_, W>)
     }
 }
 
-// Puts what stands before a pair, and the pair.
+// Prints `before` and then the pair.
 fn put_pair<W: Write>(before: &[u8], pair: &(u64, u64), printer: &mut Printer<'_, W>)
     ensures { Prints W.contents printer.old printer.new (before.now ++ pair_word pair.now) }
 {

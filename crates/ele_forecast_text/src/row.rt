@@ -1,4 +1,4 @@
-//! The line of a version. A contract sees it as the words of its forecast, and a printer as its
+//! Prints the line of a version. A contract sees it as the words of its forecast, and a printer as its
 //! outlet.
 ghost use Rattle.std.specs.Prelude.{◌≡◌, ◌∷◌, ◌++◌, [], decimal};
 ghost use Rattle.ele_output.specs.Prints.{Prints};
@@ -14,7 +14,7 @@ use ele_output::{Printer, put_number, put_words};
 use ele_policy::Policy;
 use std::io::Write;
 
-/// The date and time of day of a moment.
+/// Returns the date and time of day of a moment, for example `1970-01-01T00:00:00Z`.
 pub fn stamp_of(moment: Moment) -> [u8; 20]
     ensures { result ≡ stamp_of moment }
 {
@@ -22,7 +22,7 @@ pub fn stamp_of(moment: Moment) -> [u8; 20]
     moment.text()
 }
 
-/// That of a moment, or `-` for none.
+/// Returns the date and time of day of a moment, which go into `stamp`, or `-` for none.
 pub(crate) fn stamp_or<'s>(moment: Option<Moment>, stamp: &'s mut [u8; 20]) -> &'s [u8]
     ensures { result.now ≡ stamp_or moment }
 {
@@ -35,7 +35,7 @@ pub(crate) fn stamp_or<'s>(moment: Option<Moment>, stamp: &'s mut [u8; 20]) -> &
     }
 }
 
-/// Puts the line of a version.
+/// Prints the line of a version.
 pub fn put_version<W: Write>(policy: &Policy, forecast: &Forecast, printer: &mut Printer<'_, W>)
     ensures { Prints W.contents printer.old printer.new (table_line policy.now forecast.now) }
 {
@@ -43,7 +43,7 @@ pub fn put_version<W: Write>(policy: &Policy, forecast: &Forecast, printer: &mut
     put_told(policy, forecast, printer);
 }
 
-/// Puts the line of a version, with its details.
+/// Prints the line of a version, with its label and its size.
 pub(crate) fn put_detailed<W: Write>(
     policy: &Policy,
     details: &Details,
@@ -58,14 +58,14 @@ pub(crate) fn put_detailed<W: Write>(
     put_told(policy, forecast, printer);
 }
 
-// Puts the number of a version.
+// Prints the number of a version.
 fn put_version_number<W: Write>(number: VersionNo, printer: &mut Printer<'_, W>)
     ensures { Prints W.contents printer.old printer.new (decimal number) }
 {
     put_number(number.0, printer);
 }
 
-// Puts a space and each word of what is told of a version, and a line feed.
+// Prints a space and a word for each moment of a version, the reason, and a line feed.
 fn put_told<W: Write>(policy: &Policy, forecast: &Forecast, printer: &mut Printer<'_, W>)
     ensures { Prints W.contents printer.old printer.new
         (spaced (told_words policy.now forecast.now) ++ 10 ∷ []) }
@@ -75,8 +75,7 @@ fn put_told<W: Write>(policy: &Policy, forecast: &Forecast, printer: &mut Printe
     printer.put(b"\n");
 }
 
-// Puts a space and each moment of a version: when it closed and ended, and from when on it may be
-// forgotten.
+// Prints a space and a word for each moment of a version: when it closed, ended and becomes due.
 fn put_moments<W: Write>(forecast: &Forecast, printer: &mut Printer<'_, W>)
     ensures { Prints W.contents printer.old printer.new
         (spaced (stamp_of forecast.now.closed ∷ stamp_or forecast.now.ended

@@ -1,5 +1,4 @@
-//! Which versions stay at the moments that are asked about. A contract sees them as the definitions
-//! tell them.
+//! Finds the versions that stay at some moments. A contract sees them as their numbers.
 ghost use Rattle.std.specs.Prelude.{◌≢◌, [], IfOk, OnErr};
 ghost use Rattle.ele_forecast_text.specs.Table.{AreStayings};
 
@@ -15,7 +14,8 @@ pub struct Staying {
     pub numbers: Vec<VersionNo>,
 }
 
-/// Those that stay at each of the moments. Without moments this takes no memory.
+/// Returns the versions that stay, for each of the moments. `NoMemory` if memory is refused; without
+/// moments it takes none.
 pub fn staying_at(
     alloc: Global,
     policy: &Policy,

@@ -1,4 +1,4 @@
-//! A forecast as a table. A contract sees its text, and a printer as its outlet.
+//! Prints a forecast as a table. A contract sees the table as its bytes, and a printer as its outlet.
 ghost use Rattle.std.specs.Prelude.{◌∷◌, [], codes, decimal, length};
 ghost use Rattle.std.specs.List.{flat_map, join_with_byte};
 ghost use Rattle.ele_output.specs.Prints.{Prints};
@@ -15,7 +15,7 @@ use ele_policy::Policy;
 use itoa::Buffer;
 use std::io::Write;
 
-/// Puts a table, with a column for each detail that versions have.
+/// Prints a table, with a column for labels and for sizes if versions have them.
 pub fn put_table<W: Write>(
     policy: &Policy,
     details: &Details,
@@ -31,7 +31,7 @@ pub fn put_table<W: Write>(
     put_stayings(details, stayings, printer);
 }
 
-// Puts the headings of the columns.
+// Prints the headings of the columns.
 fn put_heading<W: Write>(details: &Details, printer: &mut Printer<'_, W>)
     ensures { Prints W.contents printer.old printer.new (heading details.now) }
 {
@@ -40,7 +40,7 @@ fn put_heading<W: Write>(details: &Details, printer: &mut Printer<'_, W>)
     printer.put(b" closed ended due why\n");
 }
 
-// Puts the line of each version.
+// Prints the line of each version.
 fn put_versions<W: Write>(
     policy: &Policy,
     details: &Details,
@@ -55,7 +55,7 @@ fn put_versions<W: Write>(
     }
 }
 
-// Puts the line of each moment.
+// Prints the line of each moment.
 fn put_stayings<W: Write>(details: &Details, stayings: &[Staying], printer: &mut Printer<'_, W>)
     ensures { Prints W.contents printer.old printer.new
         (flat_map (staying_line details.now) stayings.now) }
@@ -65,14 +65,14 @@ fn put_stayings<W: Write>(details: &Details, stayings: &[Staying], printer: &mut
     }
 }
 
-// Puts the line of a moment.
+// Prints the line of a moment, with the versions that stay then.
 fn put_staying<W: Write>(details: &Details, staying: &Staying, printer: &mut Printer<'_, W>)
     ensures { Prints W.contents printer.old printer.new (staying_line details.now staying.now) }
 {
     put_numbered(details, staying.at, staying.numbers.as_slice(), printer);
 }
 
-// Puts the line of a moment at which these versions stay.
+// Prints the line of a moment at which the versions of these numbers stay.
 fn put_numbered<W: Write>(
     details: &Details,
     at: Moment,
@@ -88,7 +88,7 @@ fn put_numbered<W: Write>(
     printer.put(b"\n");
 }
 
-// Puts a moment, and how many versions stay then.
+// Prints a moment, and the number of versions that stay then.
 fn put_count<W: Write>(at: Moment, numbers: &[VersionNo], printer: &mut Printer<'_, W>)
     ensures { Prints W.contents printer.old printer.new (join_with_byte 32
         (codes "at" ∷ stamp_of at ∷ codes "stay" ∷ decimal (length numbers.now) ∷ [])) }
@@ -99,7 +99,7 @@ fn put_count<W: Write>(at: Moment, numbers: &[VersionNo], printer: &mut Printer<
     put_words(b"at", &[&stamp, b"stay", count], printer);
 }
 
-// Puts a space and each number.
+// Prints a space and the number, for each number.
 fn put_numbers<W: Write>(numbers: &[VersionNo], printer: &mut Printer<'_, W>)
     ensures { Prints W.contents printer.old printer.new
         (flat_map (λ number. 32 ∷ decimal number) numbers.now) }
@@ -109,7 +109,7 @@ fn put_numbers<W: Write>(numbers: &[VersionNo], printer: &mut Printer<'_, W>)
     }
 }
 
-// Puts a space and a number.
+// Prints a space and a number.
 fn put_number<W: Write>(number: u64, printer: &mut Printer<'_, W>)
     ensures { Prints W.contents printer.old printer.new (32 ∷ decimal number) }
 {

@@ -1,8 +1,8 @@
-//! Units of time, in which lengths and spans are told. A contract sees a unit as itself.
+//! Units of time, in which lengths and spans are printed. A contract sees a unit as itself.
 ghost use Rattle.std.specs.Prelude.{◌≡◌, ◌<◌};
 ghost use Rattle.ele_forecast_text.specs.Why.{count_of, many_word, one_word, unit_of, unit_seconds};
 
-/// A unit of time. A span of a week or a year is told in days.
+/// A unit of time. A span of a week or a year is printed in days.
 #[derive(Clone, Copy, Debug, PartialEq, Eq)]
 pub(crate) enum TimeUnit {
     Day,
@@ -12,7 +12,7 @@ pub(crate) enum TimeUnit {
 }
 
 impl TimeUnit {
-    // Its seconds.
+    // Returns the number of seconds in the unit.
     fn seconds(self) -> u64
         ensures value { result ≡ unit_seconds self }
         ensures some { 0 < result }
@@ -25,7 +25,7 @@ impl TimeUnit {
         }
     }
 
-    /// The word for one.
+    /// Returns the word in the singular.
     pub(crate) fn one(self) -> &'static str
         ensures { result.now ≡ one_word self }
     {
@@ -37,7 +37,7 @@ impl TimeUnit {
         }
     }
 
-    /// The word for several.
+    /// Returns the word in the plural.
     pub(crate) fn many(self) -> &'static str
         ensures { result.now ≡ many_word self }
     {
@@ -50,7 +50,7 @@ impl TimeUnit {
     }
 }
 
-/// The largest unit of which the seconds are a multiple.
+/// Returns the largest unit of which the seconds are a multiple.
 pub(crate) fn unit_of(seconds: u64) -> TimeUnit
     ensures { result ≡ unit_of seconds }
 {
@@ -65,7 +65,7 @@ pub(crate) fn unit_of(seconds: u64) -> TimeUnit
     }
 }
 
-/// How many of that unit the seconds are.
+/// Returns the seconds in that unit.
 pub(crate) fn count_of(seconds: u64) -> u64
     ensures { result ≡ count_of seconds }
 {

@@ -1,5 +1,5 @@
-//! Why a version may be forgotten or stays, in words. A contract sees these, and a printer as its
-//! outlet.
+//! Prints why a version becomes due or stays. A contract sees the reason as its words, and a printer as
+//! its outlet.
 ghost use Rattle.std.specs.Prelude.{◌≡◌, ◌∷◌, ◌++◌, codes, decimal};
 ghost use Rattle.std.specs.List.{join_with_byte};
 ghost use Rattle.ele_output.specs.Prints.{Prints};
@@ -13,7 +13,7 @@ use ele_policy::{Cause, Policy};
 use itoa::Buffer;
 use std::io::Write;
 
-/// Puts a space and each of the words.
+/// Prints a space and the reason.
 pub(crate) fn put_why<W: Write>(
     policy: &Policy,
     ended: Option<Moment>,
@@ -26,7 +26,7 @@ pub(crate) fn put_why<W: Write>(
     put_reason(policy, ended, why, printer);
 }
 
-/// Puts why a version may be forgotten or stays, in words with a space between each two.
+/// Prints why a version becomes due or stays, in words with a space between each two.
 pub fn put_reason<W: Write>(
     policy: &Policy,
     ended: Option<Moment>,
@@ -43,7 +43,7 @@ pub fn put_reason<W: Write>(
     }
 }
 
-// Puts why a policy lets a version go.
+// Prints why a version becomes due.
 fn put_cause<W: Write>(policy: &Policy, cause: Cause, printer: &mut Printer<'_, W>)
     ensures { Prints W.contents printer.old printer.new
         (join_with_byte 32 (cause_words policy.now cause)) }
@@ -55,7 +55,7 @@ fn put_cause<W: Write>(policy: &Policy, cause: Cause, printer: &mut Printer<'_, 
     }
 }
 
-// Why a policy never lets a version go that ended then.
+// Returns why a version that ended then never becomes due.
 fn never_word(policy: &Policy, ended: Option<Moment>) -> &'static [u8]
     ensures { result.now ≡ never_word policy.now ended }
 {
@@ -67,7 +67,7 @@ fn never_word(policy: &Policy, ended: Option<Moment>) -> &'static [u8]
     }
 }
 
-// Whether so many seconds after an end are no later than the last moment.
+// Whether the end plus the seconds is at most the last moment. False if there is no end.
 fn is_in_time(ended: Option<Moment>, seconds: u64) -> bool
     ensures { result ≡ is_in_time ended seconds }
 {
@@ -77,7 +77,7 @@ fn is_in_time(ended: Option<Moment>, seconds: u64) -> bool
     }
 }
 
-/// Puts what stands in front, and a length of time.
+/// Prints `front`, a space and a length of time, for example `90 minutes`.
 pub fn put_length<W: Write>(front: &[u8], seconds: u64, printer: &mut Printer<'_, W>)
     ensures { Prints W.contents printer.old printer.new
         (join_with_byte 32 (front.now ∷ length_words seconds)) }
@@ -93,7 +93,7 @@ pub fn put_length<W: Write>(front: &[u8], seconds: u64, printer: &mut Printer<'_
     );
 }
 
-// Puts that the version of that number closed in the same span of that width.
+// Prints that version `by` closed in the same span of that width, which is in seconds.
 fn put_displaced<W: Write>(by: u64, width: u64, printer: &mut Printer<'_, W>)
     ensures { Prints W.contents printer.old printer.new
         (codes "version" ++ spaced (decimal by ∷ codes "closed in the same" ∷ span_words width)) }
@@ -116,7 +116,7 @@ fn put_displaced<W: Write>(by: u64, width: u64, printer: &mut Printer<'_, W>)
     );
 }
 
-// The width of the spans at that level of the pairs of a ladder.
+// Returns the width of the spans at a level of a ladder's pairs, in seconds.
 fn width_of(pairs: &[(u64, u64)], level: usize) -> u64
     ensures { result ≡ width_of pairs.now level }
 {
@@ -129,7 +129,7 @@ fn width_of(pairs: &[(u64, u64)], level: usize) -> u64
     }
 }
 
-// The width of the spans at that level of a policy.
+// Returns the width of the spans at a level of a policy, in seconds.
 fn width_at(policy: &Policy, level: usize) -> u64
     ensures { result ≡ width_at policy.now level }
 {

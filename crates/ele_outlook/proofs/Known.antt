@@ -1,4 +1,4 @@
--- What is written and flushed.
+-- Output that is written and flushed.
 use Rattle.std.proofs.Common.{ℕ, List, [], Option, Result, Ok, Err, sym}
 use Rattle.std.proofs.KnownBytes.{Appends-kept}
 use Rattle.std.proofs.lemmas.List.{append-nil}

@@ -1,4 +1,4 @@
--- what is written and flushed
+-- output that is written and flushed
 mod Known
 -- the lines of an input
 mod Lines
@@ -8,7 +8,7 @@ mod Tabs
 mod Labelled
 -- the sizes of lines
 mod Sized
--- what is told of lines
+-- forecasts of lines
 mod ToldOf
--- the tables of plans, and the moments that they are asked about
+-- the tables of plans, and their moments
 mod Tables

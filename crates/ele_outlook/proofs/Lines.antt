@@ -1,4 +1,4 @@
--- The lines of an input, and the closings that they spell.
+-- The lines of an input, and their closings.
 use Rattle.std.proofs.Common.{◌≡◌, ◌≢◌, ℕ, zero, suc, ◌+◌, ◌<◌, ◌≤◌, ◌==◌, Bool, true, false, List, [], ◌∷◌, ◌++◌, length, take, drop, get_or, Option, Some, None, Err, refl, sym, ap, subst, ◌∙◌, arith, append_assoc}
 use Rattle.std.proofs.lemmas.Bool.{ne_eqb, eq-eqb, eqb-true}
 use Rattle.std.proofs.lemmas.List.{append-nil, length-append, length-take-le}
@@ -22,14 +22,14 @@ is_feed byte = byte == 10
 abbrev IsPlain : List ℕ → Type 0
 IsPlain line = All (λ byte. is_feed byte ≡ false) line
 
--- no line feed stands in what is searched in vain
+-- bytes without a first line feed have none
 plain_all : (xs : List ℕ) → IsFirstByte (is_byte 10) xs None → IsPlain xs
 plain_all [] h = All-nil (λ byte. is_feed byte ≡ false)
 plain_all (x ∷ xs) h =
     All-cons (λ byte. is_feed byte ≡ false) x xs (ne_eqb x 10 (λ e. h 0 (omega arith) (omega arith) (eq-eqb x 10 e)))
     (plain_all xs (λ k low high is. h (suc k) (omega arith) (omega (arith, high)) is))
 
--- nor before the first that is found
+-- the bytes before the first line feed have none
 plain_before : (xs : List ℕ) (n : ℕ) → ((k : ℕ) → k < n → (get_or xs k 0 == 10) ≡ true → ⊥) → IsPlain (take n xs)
 plain_before xs zero h = All-nil (λ byte. is_feed byte ≡ false)
 plain_before [] (suc n) h = All-nil (λ byte. is_feed byte ≡ false)
@@ -41,7 +41,7 @@ parts_more line [] some = absurd (omega (arith, some))
 parts_more [] (next ∷ parts) some = refl
 parts_more (byte ∷ line) (next ∷ parts) some = refl
 
--- the line before the first line feed, and those behind it
+-- the line before the first line feed, and those after it
 pub first_line : (rest : List ℕ) (at : ℕ) → IsFirstByte (is_byte 10) rest (Some at) → lines_of rest ≡ take at rest ∷ lines_of (drop (at + 1) rest)
 first_line rest at h =
     let line = take at rest in
@@ -50,7 +50,7 @@ first_line rest at h =
     ∙ ap without_empty_last (slice_split_at is_feed line 10 more (plain_before rest at (λ k lt is. h.0.before k (omega arith) lt is)) refl)
     ∙ parts_more line (slice_split is_feed more) (omega (arith, length-slice_split is_feed more))
 
--- without a line feed it is one line, or none
+-- bytes without a line feed are one line
 pub only_line : (rest : List ℕ) → IsFirstByte (is_byte 10) rest None → 0 < length rest → lines_of rest ≡ rest ∷ []
 only_line [] h some = absurd (omega (arith, some))
 only_line (byte ∷ bytes) h some = ap without_empty_last (slice_split_none is_feed (byte ∷ bytes) (plain_all (byte ∷ bytes) h))

@@ -1,4 +1,4 @@
--- The tables of plans, and the moments that they are asked about.
+-- The tables of plans, and their moments.
 use Rattle.std.proofs.Common.{◌≡◌, ◌≢◌, ℕ, ◌<◌, Bool, false, List, [], ◌∷◌, length, map, refl, ap, ◌∙◌, arith}
 use Rattle.ele_policy.specs.declared.policy.Policy.{Policy}
 use Rattle.ele_forecast_plans.specs.Compared.{compared_text, forecasts_of}
@@ -14,7 +14,7 @@ use Rattle.ele_forecast_plans.specs.declared.counts.Counts.{Counts}
 use Rattle.ele_outlook.specs.declared.options.ForecastOptions.{ForecastOptions}
 use Rattle.ele_outlook.specs.Told.{AreRows, IsForecastText, is_over, line_form, listed_numbers, stayings_of, texts_of, told_of, told_table}
 
--- the table of plans that aren't one
+-- the table of several plans, or none
 pub compared_for : (named : Bool) (details : Details) (plans : List Plan) (moments : ℕ) → length plans ≢ 1 → compared_text details plans moments ≡ told_table named details plans moments
 compared_for named details [] moments several = refl
 compared_for named details (plan ∷ []) moments several = absurd (several refl)
@@ -24,7 +24,7 @@ no_stayings : (stayings : List Staying) (moments : List ℕ) → map (λ (stayin
 no_stayings [] moments at none = refl
 no_stayings (staying ∷ stayings) moments at none = absurd (let e : map (λ (staying : Staying). staying.at) (staying ∷ stayings) ≡ [] = at ∙ none in cc)
 
--- if some version list is told of a moment, a moment is asked about
+-- if there is a staying, a moment is given
 pub asked : (policies : List Policy) (closings moments : List ℕ) (plans : List Plan) → ArePlans policies closings moments plans → stayings_of plans ≢ [] → moments ≢ []
 asked policies closings moments [] are some none = some refl
 asked [] closings moments (plan ∷ plans) are some none = are
@@ -34,19 +34,19 @@ no_forecasts : (forecasts : List Forecast) (closings : List ℕ) → map told_li
 no_forecasts [] closings lives none = refl
 no_forecasts (told ∷ forecasts) closings lives none = absurd (let e : map told_life (told ∷ forecasts) ≡ [] = lives ∙ ap (lives_from 1) none in cc)
 
--- if some version is told of, the file has closed
+-- if there is a forecast, there is a closing
 pub closed_some : (policies : List Policy) (closings moments : List ℕ) (plans : List Plan) → ArePlans policies closings moments plans → forecasts_of plans ≢ [] → closings ≢ []
 closed_some policies closings moments [] are some none = some refl
 closed_some [] closings moments (plan ∷ plans) are some none = are
 closed_some (policy ∷ policies) closings moments (plan ∷ plans) are some none = some (no_forecasts plan.forecasts.items closings are.0.told.lives none)
 
--- policies that are some and not one are several
+-- policies, if there are some and not one, are several
 pub several : (policies : List Policy) → length policies ≢ 1 → policies ≢ [] → 1 < length policies
 several [] one some = absurd (some refl)
 several (policy ∷ []) one some = absurd (one refl)
 several (policy ∷ next ∷ policies) one some = omega arith
 
--- what is told of plans is a text of their closings
+-- the output for plans is a forecast of their closings
 pub is_text : (options : ForecastOptions) (closings : List ℕ) (plans : List Plan) (details : Details) (listed : List ℕ) (rows : List Counts) → details.columns ≡ (line_form options).columns
     → ArePlans options.policies.items closings options.moments.items plans → is_over options.form plans ≡ false → listed ≡ listed_numbers options.form plans → AreRows options.form closings plans rows
     → IsForecastText options closings (texts_of details.labels.items) (map decimal details.sizes.items) (told_of options details plans listed rows)

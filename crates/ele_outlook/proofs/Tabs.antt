@@ -16,7 +16,7 @@ pub tab_none : (xs : List ℕ) → IsFirstByte (is_byte 9) xs None → position_
 tab_none xs h =
     position_or_len_is is_tab xs (length xs) 0 (omega arith) (λ k lt. ne_eqb (get_or xs k 0) 9 (λ e. h k (omega arith) lt (eq-eqb (get_or xs k 0) 9 e))) (λ lt. absurd (omega (arith, lt)))
 
--- without one the whole line stands before it, and nothing behind
+-- without a tab the whole line is the part before it, and nothing is after it
 pub before_none : (xs : List ℕ) → IsFirstByte (is_byte 9) xs None → xs ≡ before_first is_tab xs
 before_none xs h = sym (take_all (length xs) xs (omega arith)) ∙ ap (λ (n : ℕ). take n xs) (sym (tab_none xs h))
 

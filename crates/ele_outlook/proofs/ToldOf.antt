@@ -1,4 +1,4 @@
--- What is told of lines, from what is told of their closings.
+-- Forecasts of lines, from forecasts of their closings.
 use Rattle.std.proofs.Common.{◌≡◌, ◌≢◌, ℕ, Bool, true, false, List, [], ◌∷◌, map, Option, Result, Ok, Err, inl, inr, refl, sym, ap, ◌∙◌, subst, arith}
 use Rattle.std.specs.Prelude.{decimal}
 use Rattle.std.specs.List.{AllZip}
@@ -12,11 +12,11 @@ use Rattle.ele_outlook.specs.declared.options.LineForm.{LineForm}
 use Rattle.ele_outlook.specs.declared.fault.ForecastFault.{ForecastFault}
 use Rattle.ele_outlook.specs.declared.fault.ForecastFault.TheVariants.{ReadFault, BadInput, TooLong, WriteFault, NoMemory}
 
--- a size is what its word spells
+-- a size is the number that its word spells
 size_is : (form : LineForm) (line : List ℕ) (size : ℕ) → (n : ℕ) × SpellsNumber (size_word form line) n → IsSizeOf form line size → decimal size ≡ size_word form line
 size_is form line size has is = ap decimal (is has.0 has.1) ∙ sym has.1.digits
 
--- and so are those of all lines
+-- the sizes of all lines are the numbers that their words spell
 sizes_are : (form : LineForm) (lines : List (List ℕ)) (closings sizes : List ℕ) → form.columns.sizes ≡ true → AllZip (SpellsLine form) lines closings → AllZip (IsSizeOf form) lines sizes → map decimal sizes ≡ map (size_word form) lines
 sizes_are form [] [] [] has all spelled = refl
 sizes_are form (line ∷ lines) (c ∷ closings) (s ∷ sizes) has all spelled =
@@ -39,7 +39,7 @@ some_given form [] [] spell some = λ e. some refl
 some_given form [] (c ∷ closings) spell some = λ e. absurd spell.spelled
 some_given form (byte ∷ given) closings spell some = λ e. absurd cc
 
--- what is told of the closings of lines is told of the lines
+-- a forecast of the closings of lines is one of the lines
 pub tells : {A : Type 0} (options : ForecastOptions) (given closings : List ℕ) (old new : Option (List ℕ)) (r : Result A ForecastFault) → SpellClosings (line_form options) (lines_of given) closings
     → TellsClosings options closings (labels_of (line_form options) (lines_of given)) (size_words_of (line_form options) (lines_of given)) old new r → TellsForecast options given old new r
 tells options given closings old new (Ok x) spell told = (told.0, record { closings = closings; spell = spell; told = told.1 }, told.2)

@@ -1,4 +1,4 @@
--- A forecast from the bytes that are read to those that are written, by how it ends.
+-- What a forecast reads and writes, for each of its ends.
 use Rattle.std.specs.Prelude.{◌≡◌, ◌≢◌, ◌<◌, ℕ, length, List, [], Option, Result, Ok, Err, ◌⊎◌}
 use Rattle.std.specs.Io.KnownBytes.{Appends, Consumes, IsAtEnd, Keeps}
 use Rattle.ele_output.specs.Front.{AppendsFront}
@@ -8,14 +8,14 @@ use Rattle.ele_outlook.specs.declared.options.ForecastOptions.{ForecastOptions}
 use Rattle.ele_outlook.specs.declared.fault.ForecastFault.{ForecastFault}
 use Rattle.ele_outlook.specs.declared.fault.ForecastFault.TheVariants.{ReadFault, BadInput, TooLong, WriteFault, NoMemory}
 
--- the text tells of the closings that the input spells
+-- the text is a forecast of the closings in the input
 pub record IsToldOf (options : ForecastOptions) (input text : List ℕ) : Type 0 where
   pub closings : List ℕ
   pub spell : SpellClosings (line_form options) (lines_of input) closings
   pub told : IsForecastText options closings (labels_of (line_form options) (lines_of input)) (size_words_of (line_form options) (lines_of input)) text
 
--- what is told was written, all or a front of it, or nothing was; memory is asked for only where bytes were given, a
--- moment is asked about or there are several policies
+-- the forecast was written, all of it or a prefix, or nothing was; memory can be refused only if the input has bytes,
+-- a moment is given or there are several policies
 abbrev pub TellsForecast : {A : Type 0} → ForecastOptions → List ℕ → Option (List ℕ) → Option (List ℕ) → Result A ForecastFault → Type 0
 TellsForecast options given old new (Ok _) = (text : List ℕ) × IsToldOf options given text × Appends old new text
 TellsForecast options given old new (Err (BadInput number why)) = IsFirstBad (line_form options) given number why × Keeps old new
@@ -25,7 +25,7 @@ TellsForecast options given old new (Err WriteFault) = (text : List ℕ) × IsTo
 TellsForecast options given old new (Err ReadFault) = Keeps old new
 TellsForecast options given old new (Err NoMemory) = ((given ≢ []) ⊎ (options.moments.items ≢ []) ⊎ (1 < length options.policies.items)) × Keeps old new
 
--- bytes were read, all that there were unless the reader failed or memory was wanting, and what they spell was told
+-- bytes were read, all of them unless the reader failed or memory was refused, and their forecast was written
 pub record Foretells {A : Type 0} (options : ForecastOptions) (input rest old new : Option (List ℕ)) (result : Result A ForecastFault) : Type 0 where
   pub given : List ℕ
   pub taken : Consumes input rest given

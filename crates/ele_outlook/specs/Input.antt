@@ -1,4 +1,4 @@
--- The closings that an input spells, a moment a line, and its first line that is none.
+-- The closings in an input, a moment a line, and its first bad line.
 use Rattle.std.specs.Prelude.{◌≡◌, ◌≢◌, ℕ, Bool, true, false, map, ◌+◌, ◌-◌, ◌<◌, ◌≤◌, ◌==◌, ◌||◌, ◌&&◌, List, [], ◌∷◌, ◌++◌, length, slice_get, IfSome, codes, decimal}
 use Rattle.std.specs.List.{AllZip, after_first, before_first, slice_split}
 use Rattle.std.specs.Str.{IsUtf8}
@@ -10,43 +10,43 @@ use Rattle.ele_outlook.specs.declared.fault.BadLine.{BadLine}
 use Rattle.ele_outlook.specs.declared.fault.BadLine.TheVariants.{NotMoment, NoSize, NoLabel, NotUtf8, OutOfOrder}
 use Rattle.ele_outlook.specs.declared.options.LineForm.{LineForm}
 
--- these without the last, if it is empty
+-- the parts without the last, if that is empty
 abbrev pub without_empty_last : List (List ℕ) → List (List ℕ)
 without_empty_last [] = []
 without_empty_last ([] ∷ []) = []
 without_empty_last ((byte ∷ bytes) ∷ []) = (byte ∷ bytes) ∷ []
 without_empty_last (part ∷ next ∷ parts) = part ∷ without_empty_last (next ∷ parts)
 
--- the lines of an input: what its line feeds (10) end, and what stands behind the last of them unless nothing does
+-- the lines of an input, each ended by a line feed (10); the last may lack it unless it is empty
 abbrev pub lines_of : List ℕ → List (List ℕ)
 lines_of input = without_empty_last (slice_split (λ byte. byte == 10) input)
 
 abbrev pub is_tab : ℕ → Bool
 is_tab byte = byte == 9
 
--- a text, or what stands before its first tab (9)
+-- a text, or the part before its first tab (9)
 abbrev pub before_tab_if : Bool → List ℕ → List ℕ
 before_tab_if false text = text
 before_tab_if true text = before_first is_tab text
 
--- a text, or what stands behind its first tab
+-- a text, or the part after its first tab
 abbrev pub after_tab_if : Bool → List ℕ → List ℕ
 after_tab_if false text = text
 after_tab_if true text = after_first is_tab text
 
--- the time of a line: all of it, or what stands before its first tab if lines have more
+-- the time of a line: all of it, or the part before its first tab if lines have other fields
 abbrev pub time_of : LineForm → List ℕ → List ℕ
 time_of form line = before_tab_if (form.columns.labels || form.columns.sizes) line
 
--- the word of a line's size: what stands behind its first tab, up to the next one if lines have labels
+-- the size of a line, as a word: the part after its first tab, until the next one if lines have labels
 abbrev pub size_word : LineForm → List ℕ → List ℕ
 size_word form line = before_tab_if form.columns.labels (after_first is_tab line)
 
--- the label of a line: what stands behind its first tab, or behind its second if lines have sizes
+-- the label of a line: the part after its first tab, or after its second if lines have sizes
 abbrev pub label_of : LineForm → List ℕ → List ℕ
 label_of form line = after_tab_if form.columns.sizes (after_first is_tab line)
 
--- of each line, if lines have it
+-- the word of each line, if lines have it
 abbrev pub words_of : Bool → (List ℕ → List ℕ) → List (List ℕ) → List (List ℕ)
 words_of false word lines = []
 words_of true word lines = map word lines
@@ -58,7 +58,7 @@ labels_of form lines = words_of form.columns.labels (label_of form) lines
 abbrev pub size_words_of : LineForm → List (List ℕ) → List (List ℕ)
 size_words_of form lines = words_of form.columns.sizes (size_word form) lines
 
--- what is to be so, if it is asked for
+-- a property, if it is wanted
 abbrev pub Asked : Bool → Type 0 → Type 0
 Asked false A = Unit {0}
 Asked true A = A
@@ -71,11 +71,11 @@ HasSize form line = Asked form.columns.sizes ((size : ℕ) × SpellsNumber (size
 abbrev pub HasLabel : LineForm → List ℕ → Type 0
 HasLabel form line = Asked form.columns.labels (label_of form line ≢ [])
 
--- its label is UTF-8, if it is to be
+-- its label is UTF-8, if labels must be
 abbrev pub HasText : LineForm → List ℕ → Type 0
 HasText form line = Asked (form.columns.labels && form.texts) (IsUtf8 (label_of form line))
 
--- a line has what it is to have besides its time
+-- a line has the fields that it must have besides its time
 pub record HasFields (form : LineForm) (line : List ℕ) : Type 0 where
   pub size : HasSize form line
   pub label : HasLabel form line
@@ -86,12 +86,12 @@ pub record SpellsLine (form : LineForm) (line : List ℕ) (moment : ℕ) : Type 
   pub fields : HasFields form line
   pub time : SpellsTime (time_of form line) moment
 
--- each line spells its closing, and none comes before the one ahead of it
+-- each line spells its closing, and none is before the previous one
 pub record SpellClosings (form : LineForm) (lines : List (List ℕ)) (closings : List ℕ) : Type 0 where
   pub spelled : AllZip (SpellsLine form) lines closings
   pub rise : AllLater ◌≤◌ closings
 
--- what a line lacks besides its time
+-- the first field besides the time that a line lacks
 abbrev pub LacksField : LineForm → List ℕ → BadLine → Type 0
 LacksField form line NoSize = ¬ HasSize form line
 LacksField form line NoLabel = HasSize form line × (¬ HasLabel form line)
@@ -99,7 +99,7 @@ LacksField form line NotUtf8 = HasSize form line × HasLabel form line × (¬ Ha
 LacksField form line NotMoment = ⊥
 LacksField form line OutOfOrder = ⊥
 
--- what is wrong with a line behind those that spell these closings
+-- what is wrong with the line after those that spell these closings
 abbrev pub IsBad : LineForm → List ℕ → List ℕ → BadLine → Type 0
 IsBad form closings line NoSize = LacksField form line NoSize
 IsBad form closings line NoLabel = LacksField form line NoLabel
@@ -108,7 +108,7 @@ IsBad form closings line NotMoment = HasFields form line × ((moment : ℕ) → 
 IsBad form closings line OutOfOrder =
     (moment : ℕ) × SpellsLine form line moment × IfSome (slice_get closings (length closings - 1)) (λ last. moment < last)
 
--- the lines up to that one spell closings, and it is bad; the first line is 1
+-- the lines before this one spell closings, and it is bad; lines are counted from 1
 pub record IsFirstBad (form : LineForm) (input : List ℕ) (number : ℕ) (why : BadLine) : Type 0 where
   pub before : List (List ℕ)
   pub line : List ℕ
@@ -119,7 +119,7 @@ pub record IsFirstBad (form : LineForm) (input : List ℕ) (number : ℕ) (why :
   pub spell : SpellClosings form before closings
   pub bad : IsBad form closings line why
 
--- what is told of a bad line
+-- the end of the message for a bad line
 abbrev pub bad_word : BadLine → List ℕ
 bad_word NotMoment = codes "is not a moment"
 bad_word NoSize = codes "has no size"

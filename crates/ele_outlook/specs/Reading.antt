@@ -1,4 +1,4 @@
--- What reading and telling come to, part by part. No public clause cites this module.
+-- The parts of reading and writing. No public clause cites this module.
 use Rattle.std.specs.Prelude.{◌≡◌, ◌≢◌, ◌<◌, ◌≤◌, ℕ, Bool, true, false, map, ◌+◌, List, [], ◌∷◌, ◌++◌, length, Option, Result, Ok, Err, ◌⊎◌}
 use Rattle.std.specs.List.{AllZip}
 use Rattle.std.specs.Io.KnownBytes.{Appends, Consumes, Keeps}
@@ -13,7 +13,7 @@ use Rattle.ele_outlook.specs.declared.options.LineForm.{LineForm}
 use Rattle.ele_outlook.specs.declared.fault.ForecastFault.{ForecastFault}
 use Rattle.ele_outlook.specs.declared.fault.ForecastFault.TheVariants.{ReadFault, BadInput, TooLong, WriteFault, NoMemory}
 
--- bytes were read, some if memory was wanting for them
+-- bytes were read, at least one if memory for them was refused
 abbrev pub GivesUp : Option (List ℕ) → Option (List ℕ) → ForecastFault → Type 0
 GivesUp input rest ReadFault = (given : List ℕ) × Consumes input rest given
 GivesUp input rest NoMemory = (given : List ℕ) × (given ≢ []) × Consumes input rest given
@@ -27,7 +27,7 @@ pub record ReadSoFar (form : LineForm) (input rest closings : List ℕ) : Type 0
   pub lines : lines_of input ≡ done ++ lines_of rest
   pub spelled : AllZip (SpellsLine form) done closings
 
--- a line behind those of these closings is bad, or there was no memory for its closing
+-- the line after those of these closings is bad, or memory for its closing was refused
 abbrev pub FailsToAdd : LineForm → List ℕ → List ℕ → ForecastFault → Type 0
 FailsToAdd form line closings (BadInput number why) = (number ≡ length closings + 1) × AllLater ◌≤◌ closings × IsBad form closings line why
 FailsToAdd form line closings NoMemory = Unit {0}
@@ -40,7 +40,7 @@ abbrev pub AddsClosing : {A : Type 0} → LineForm → List ℕ → List ℕ →
 AddsClosing form line old new (Ok _) = (closing : ℕ) × SpellsLine form line closing × (new ≡ old ++ closing ∷ [])
 AddsClosing form line old new (Err fault) = FailsToAdd form line old fault
 
--- the closings of all lines, or the first bad one; memory is asked for only where there is one
+-- the closings of all lines, or the first bad line; memory can be refused only if there is a line
 abbrev pub ReadsClosings : LineForm → List ℕ → Result (List ℕ) ForecastFault → Type 0
 ReadsClosings form input (Ok closings) = SpellClosings form (lines_of input) closings
 ReadsClosings form input (Err (BadInput number why)) = IsFirstBad form input number why
@@ -55,7 +55,7 @@ pub record LabelsSoFar (form : LineForm) (input rest : List ℕ) (labels : List 
   pub lines : lines_of input ≡ done ++ lines_of rest
   pub texts : texts_of labels ≡ map (label_of form) done
 
--- the size is the number that the line's word of it spells, if it spells one
+-- the size is the number that the word of the line's size spells, if it spells one
 abbrev pub IsSizeOf : LineForm → List ℕ → ℕ → Type 0
 IsSizeOf form line size = (n : ℕ) → SpellsNumber (size_word form line) n → size ≡ n
 
@@ -70,7 +70,7 @@ abbrev pub AreSizesIf : Bool → LineForm → List (List ℕ) → List ℕ → T
 AreSizesIf false form lines sizes = sizes ≡ []
 AreSizesIf true form lines sizes = AllZip (IsSizeOf form) lines sizes
 
--- there was no memory
+-- memory was refused
 abbrev pub IsMemory : ForecastFault → Type 0
 IsMemory NoMemory = Unit {0}
 IsMemory (BadInput number why) = ⊥
@@ -88,7 +88,7 @@ abbrev pub AddsSize : {A : Type 0} → LineForm → List ℕ → List ℕ → Li
 AddsSize form line old new (Ok _) = (size : ℕ) × IsSizeOf form line size × (new ≡ old ++ size ∷ [])
 AddsSize form line old new (Err fault) = IsMemory fault
 
--- memory is asked for only where there is a line
+-- memory can be refused only if there is a line
 abbrev pub FailsToRead : List ℕ → ForecastFault → Type 0
 FailsToRead input NoMemory = input ≢ []
 FailsToRead input (BadInput number why) = ⊥
@@ -96,7 +96,7 @@ FailsToRead input ReadFault = ⊥
 FailsToRead input TooLong = ⊥
 FailsToRead input WriteFault = ⊥
 
--- what becomes of the versions of these closings was told
+-- the forecast of these closings was written
 abbrev pub TellsClosings : {A : Type 0} → ForecastOptions → List ℕ → List (List ℕ) → List (List ℕ) → Option (List ℕ) → Option (List ℕ) → Result A ForecastFault → Type 0
 TellsClosings options closings labels words old new (Ok _) =
     (text : List ℕ) × IsForecastText options closings labels words text × Appends old new text

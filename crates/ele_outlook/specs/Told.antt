@@ -1,4 +1,4 @@
--- What is written of a forecast, in either form.
+-- The text of a forecast, in each form.
 use Rattle.std.specs.Prelude.{◌≡◌, ℕ, Bool, true, false, List, [], ◌∷◌, ◌++◌, codes, decimal, length, map}
 use Rattle.ele_forecast.specs.declared.forecast.Forecast.{Forecast}
 use Rattle.ele_svg.specs.Drawing.{drawing_text}
@@ -21,7 +21,7 @@ use Rattle.ele_outlook.specs.declared.options.Form.{Form}
 use Rattle.ele_outlook.specs.declared.options.Form.TheVariants.{Table, Drawing, Due, Kept, Json, Csv, Every}
 use Rattle.ele_outlook.specs.declared.options.LineForm.{LineForm}
 
--- the numbers of the versions that are listed: those that are due at the first of the moments, or kept then
+-- the numbers of the listed versions: those that are due at the first of the moments, or kept then
 abbrev pub numbers_at : Form → List Forecast → List Staying → List ℕ
 numbers_at form forecasts [] = []
 numbers_at Due forecasts (staying ∷ others) = listed_at false forecasts staying
@@ -44,12 +44,12 @@ stayings_of (plan ∷ plans) = plan.stayings.items
 abbrev pub plan_table : Details → Plan → List ℕ
 plan_table details plan = table_text plan.policy details plan.forecasts.items plan.stayings.items
 
--- the line that names a policy, if it is named
+-- a line with the policy, if it is wanted
 abbrev pub policy_line : Bool → Plan → List ℕ
 policy_line false plan = []
 policy_line true plan = codes "policy " ++ (policy_word plan.policy ++ codes "\n")
 
--- the table of one policy, or of several side by side, with so many moments
+-- the table of one policy, or of several side by side, with this number of moments
 abbrev pub told_table : Bool → Details → List Plan → ℕ → List ℕ
 told_table named details [] moments = compared_text details [] moments
 told_table named details (plan ∷ []) moments = policy_line named plan ++ plan_table details plan
@@ -100,18 +100,18 @@ is_json Kept = false
 is_json Csv = false
 is_json (Every step) = false
 
--- what each line of an input has
+-- the fields that the lines of an input must have
 abbrev pub line_form : ForecastOptions → LineForm
 line_form options = record { columns = record { labels = options.labels; sizes = options.sizes }; texts = is_json options.form }
 
--- what versions have besides their moments: these columns, with these labels and the sizes that these words spell
+-- the details of versions: these columns, with these labels and the sizes that these words spell
 pub record AreDetails (columns : Columns) (texts words : List (List ℕ)) (details : Details) : Type 0 where
   pub columns_are : details.columns ≡ columns
   pub labels_are : texts_of details.labels.items ≡ texts
   pub sizes_are : map decimal details.sizes.items ≡ words
 
--- the text tells, in the form that is asked for, what becomes of the versions of a file under each of the policies that closed at
--- these moments and have these labels and sizes, and which stay at the moments that are asked about
+-- the text is a forecast in the form of the options: what becomes of the versions with these closings, labels and sizes under
+-- each policy, and which stay at each moment
 pub record IsForecastText (options : ForecastOptions) (closings : List ℕ) (texts words : List (List ℕ)) (text : List ℕ) : Type 0 where
   pub plans : List Plan
   pub are : ArePlans options.policies.items closings options.moments.items plans
@@ -122,7 +122,7 @@ pub record IsForecastText (options : ForecastOptions) (closings : List ℕ) (tex
   pub rows_are : AreRows options.form closings plans rows
   pub text_is : text ≡ told_of options details plans (listed_numbers options.form plans) rows
 
--- under the policies these closings have too many moments for a table over time
+-- these closings have too many moments for a table over time
 pub record IsOver (options : ForecastOptions) (closings : List ℕ) : Type 0 where
   pub plans : List Plan
   pub are : ArePlans options.policies.items closings options.moments.items plans

@@ -1,4 +1,4 @@
-//! Why a forecast ends early. A contract sees each fault as itself.
+//! The errors of a forecast. A contract sees each error as itself.
 ghost use Rattle.std.specs.Prelude.{◌≡◌};
 ghost use Rattle.ele_output.specs.Front.{WritesText};
 ghost use Rattle.ele_output.specs.Prints.{Prints};
@@ -12,39 +12,39 @@ use thiserror::Error;
 /// What is wrong with a line.
 #[derive(Clone, Copy, Debug, PartialEq, Eq, Error)]
 pub enum BadLine {
-    /// It spells no time.
+    /// Its time is not a valid moment.
     #[error("not a moment")]
     NotMoment,
-    /// It is to have a tab and a size, and has none.
+    /// It lacks a tab and a size, which lines must have.
     #[error("no size")]
     NoSize,
-    /// It is to have a tab and a label, and has none.
+    /// It lacks a tab and a label, which lines must have.
     #[error("no label")]
     NoLabel,
-    /// Its label is to be UTF-8, and isn't.
+    /// Its label must be UTF-8, and isn't.
     #[error("label is not UTF-8")]
     NotUtf8,
-    /// Its moment comes before that of the line ahead.
+    /// Its moment is before that of the previous line.
     #[error("before the closing ahead of it")]
     OutOfOrder,
 }
 
-/// Why a forecast ended early.
+/// An error that ends a forecast.
 #[derive(Clone, Copy, Debug, PartialEq, Eq, Error)]
 pub enum ForecastFault {
     /// The reader failed.
     #[error("the input can't be read")]
     ReadFault,
-    /// The line of that number is the first that is no closing; the first line is 1.
+    /// The first bad line, with its number, counted from 1.
     #[error("line {0}: {1}")]
     BadInput(u64, BadLine),
-    /// There are too many moments for a table over time.
+    /// A table over time would have more than 400 moments.
     #[error("too many moments")]
     TooLong,
-    /// The writer failed, or took no byte of some.
+    /// The writer failed, or took no byte.
     #[error("the output can't be written")]
     WriteFault,
-    /// There was no memory for the closings, or for what is told of them.
+    /// Memory for the closings or the forecasts was refused.
     #[error("out of memory")]
     NoMemory,
 }
@@ -61,7 +61,7 @@ impl From<WriteFault> for ForecastFault {
 }
 
 impl BadLine {
-    // What is told of it.
+    // Returns the words that the message for a bad line ends with.
     fn word(self) -> &'static str
         ensures { result.now ≡ bad_word self }
     {
@@ -75,7 +75,8 @@ impl BadLine {
     }
 }
 
-/// Writes the line that tells of a bad line. At a fault of the writer it took a front of that line.
+/// Writes the message for a bad line. Returns a fault if the writer fails: then it took a prefix of
+/// the message.
 pub fn write_bad_line<W: Write>(number: u64, why: BadLine, writer: &mut W) -> Result<(), WriteFault>
     ensures { WritesText (bad_line_text number why) (W.contents writer.old) (W.contents writer.new)
         result }
@@ -85,7 +86,7 @@ pub fn write_bad_line<W: Write>(number: u64, why: BadLine, writer: &mut W) -> Re
     printer.hand_over()
 }
 
-// Puts the line that tells of a bad line.
+// Prints the message for a bad line.
 fn put_bad_line<W: Write>(number: u64, why: BadLine, printer: &mut Printer<'_, W>)
     ensures { Prints W.contents printer.old printer.new (bad_line_text number why) }
 {

@@ -1,4 +1,4 @@
-//! The fields of a line, with a tab between each two. A contract sees a line as its bytes.
+//! The fields of a line, which tabs separate. A contract sees a line as its bytes.
 ghost use Rattle.std.specs.Prelude.{◌≡◌, ◌↔◌, IfNone, IfSome, IsTrue};
 ghost use Rattle.std.specs.List.{after_first, before_first};
 ghost use Rattle.ele_outlook.specs.Input.{HasFields, HasLabel, HasSize, HasText, LacksField, after_tab_if, before_tab_if, is_tab, label_of, size_word, time_of};
@@ -9,7 +9,7 @@ use crate::options::LineForm;
 use ele_moment::read_number;
 use memchr::memchr;
 
-/// What a line lacks besides its time, if it lacks something.
+/// Returns the first field besides the time that a line lacks, or `None` if it lacks none.
 pub(crate) fn lacking(form: LineForm, line: &[u8]) -> Option<BadLine>
     ensures some { IfSome result (LacksField form line.now) }
     ensures none { IfNone result (HasFields form line.now) }
@@ -40,49 +40,50 @@ fn has_label(form: LineForm, line: &[u8]) -> bool
     !form.columns.labels || !label_of(form, line).is_empty()
 }
 
-// Whether the label of a line is UTF-8, if it is to be.
+// Whether the label of a line is UTF-8, if labels must be.
 fn has_text(form: LineForm, line: &[u8]) -> bool
     ensures { IsTrue result ↔ HasText form line.now }
 {
     !(form.columns.labels && form.texts) || std::str::from_utf8(label_of(form, line)).is_ok()
 }
 
-/// The time of a line: all of it, or what stands before its first tab if lines have more.
+/// Returns the time of a line: the whole line, or the part before its first tab if lines have other
+/// fields.
 pub(crate) fn time_of(form: LineForm, line: &[u8]) -> &[u8]
     ensures { result.now ≡ time_of form line.now }
 {
     before_tab_if(form.columns.labels || form.columns.sizes, line)
 }
 
-/// The word of a line's size: what stands behind its first tab, up to the next one if lines have labels.
+/// Returns the size of a line: the part after its first tab, until the next one if lines have labels.
 pub(crate) fn size_word(form: LineForm, line: &[u8]) -> &[u8]
     ensures { result.now ≡ size_word form line.now }
 {
     before_tab_if(form.columns.labels, cut_at_tab(line).1)
 }
 
-/// The label of a line: what stands behind its first tab, or behind its second if lines have sizes.
+/// Returns the label of a line: the part after its first tab, or after its second if lines have sizes.
 pub(crate) fn label_of(form: LineForm, line: &[u8]) -> &[u8]
     ensures { result.now ≡ label_of form line.now }
 {
     after_tab_if(form.columns.sizes, cut_at_tab(line).1)
 }
 
-// A text, or what stands before its first tab.
+// Returns the part of a text before its first tab if `has_tab` holds, otherwise the text.
 fn before_tab_if(has_tab: bool, text: &[u8]) -> &[u8]
     ensures { result.now ≡ before_tab_if has_tab text.now }
 {
     if has_tab { cut_at_tab(text).0 } else { text }
 }
 
-// A text, or what stands behind its first tab.
+// Returns the part of a text after its first tab if `has_tab` holds, otherwise the text.
 fn after_tab_if(has_tab: bool, text: &[u8]) -> &[u8]
     ensures { result.now ≡ after_tab_if has_tab text.now }
 {
     if has_tab { cut_at_tab(text).1 } else { text }
 }
 
-// What stands before the first tab of a text, and what stands behind it.
+// Returns the parts of a text before and after its first tab. Without a tab the second is empty.
 fn cut_at_tab(text: &[u8]) -> (&[u8], &[u8])
     ensures before { result.0.now ≡ before_first is_tab text.now }
     ensures behind { result.1.now ≡ after_first is_tab text.now }

@@ -1,5 +1,4 @@
-//! The closings that an input spells, a moment a line. A contract sees the input as its bytes, and
-//! these as their lines.
+//! Reads the closings from an input with a moment a line. A contract sees the input as its bytes.
 ghost use Rattle.std.specs.Prelude.{◌≡◌, ◌≤◌, ◌<◌, ◌+◌, ℕ, List, None, OnOk, IfErr, IfOk, drop, length, take};
 ghost use Rattle.std.specs.Io.KnownBytes.{Consumes, IsAtEnd};
 ghost use Rattle.memchr.specs.Find.{IsFirstByte, is_byte};
@@ -15,10 +14,11 @@ use memchr::memchr;
 use std::alloc::Global;
 use std::io::{ErrorKind, Read};
 
-/// So many bytes are read at a time, at most.
+/// The most bytes that are read at a time.
 const PIECE: usize = 8192;
 
-/// All bytes of the reader. What is only interrupted is read again.
+/// Reads all bytes of the reader. An interrupted read is repeated. `ReadFault` if the reader fails,
+/// `NoMemory` if memory is refused; then some of the bytes were read.
 pub(crate) fn read_input<R: Read>(alloc: Global, reader: &mut R) -> Result<Vec<u8>, ForecastFault>
     ensures ok { IfOk result (λ input. Consumes (R.remaining reader.old) (R.remaining reader.new)
         input.items) }
@@ -45,7 +45,8 @@ pub(crate) fn read_input<R: Read>(alloc: Global, reader: &mut R) -> Result<Vec<u
     Err(ForecastFault::ReadFault)
 }
 
-/// The closings that the lines of an input spell, or the first line that is none.
+/// Reads the closings from the lines of an input. `BadInput` with the first bad line, `NoMemory` if
+/// memory is refused.
 pub(crate) fn read_closings(
     alloc: Global,
     form: LineForm,
@@ -63,7 +64,7 @@ pub(crate) fn read_closings(
     add_last(form, rest, closings)
 }
 
-// Adds the closing that the last line spells, which has no line feed; none stands there if no bytes do.
+// Adds the closing of the last line, which has no line feed. Without bytes there is no such line.
 fn add_last(form: LineForm, rest: &[u8], mut closings: Closings) -> Result<Closings, ForecastFault>
     requires { IsFirstByte (is_byte 10) rest.now None }
     ensures { (input : List ℕ) → ReadSoFar form input rest.now closings
@@ -78,14 +79,14 @@ fn add_last(form: LineForm, rest: &[u8], mut closings: Closings) -> Result<Closi
     Ok(closings)
 }
 
-/// Where the first line feed stands.
+/// Returns the place of the first line feed.
 pub(crate) fn line_end(bytes: &[u8]) -> Option<usize>
     ensures { IsFirstByte (is_byte 10) bytes.now result }
 {
     memchr(b'\n', bytes)
 }
 
-/// The line that ends at that place, and what stands behind its line feed.
+/// Returns the line that ends at the place, and the bytes after its line feed.
 pub(crate) fn cut_line(rest: &[u8], at: usize) -> (&[u8], &[u8])
     requires { at < length rest.now }
     ensures line { result.0.now ≡ take at rest.now }
@@ -95,7 +96,7 @@ pub(crate) fn cut_line(rest: &[u8], at: usize) -> (&[u8], &[u8])
     (line, behind.split_at(1).1)
 }
 
-// Adds the closing that the next line spells.
+// Adds the closing of the next line. `BadInput` if the line is bad, `NoMemory` if memory is refused.
 fn add_line(form: LineForm, line: &[u8], closings: &mut Closings) -> Result<(), ForecastFault>
     ensures { AddsClosing form line.now closings.old closings.new result }
 {
@@ -113,7 +114,7 @@ fn add_line(form: LineForm, line: &[u8], closings: &mut Closings) -> Result<(), 
     }
 }
 
-// The number of the line behind those of these closings.
+// Returns the number of the line after those of these closings.
 fn number_of_next(closings: &Closings) -> u64
     ensures number { result ≡ length closings.now + 1 }
     ensures rises { AllLater ◌≤◌ closings.now }

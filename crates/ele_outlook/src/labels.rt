@@ -1,4 +1,4 @@
-//! The labels of lines. A contract sees a line as its bytes.
+//! Reads the labels of lines. A contract sees a line as its bytes.
 ghost use Rattle.std.specs.Prelude.{◌≡◌, ℕ, List, None, IfErr, IfOk, map};
 ghost use Rattle.memchr.specs.Find.{IsFirstByte, is_byte};
 ghost use Rattle.ele_outlook.specs.Input.{label_of, labels_of, lines_of};
@@ -12,7 +12,7 @@ use crate::options::LineForm;
 use ele_forecast_text::Label;
 use std::alloc::Global;
 
-/// The labels of all lines; none if lines have no labels.
+/// Returns the labels of all lines, or none if lines have no labels. `NoMemory` if memory is refused.
 pub(crate) fn read_labels(
     alloc: Global,
     form: LineForm,
@@ -35,7 +35,7 @@ pub(crate) fn read_labels(
     add_last_label(alloc, form, rest, labels)
 }
 
-// Adds the label of the last line, which has no line feed; none stands there if no bytes do.
+// Adds the label of the last line, which has no line feed. Without bytes there is no such line.
 fn add_last_label(
     alloc: Global,
     form: LineForm,

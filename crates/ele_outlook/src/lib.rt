@@ -1,7 +1,6 @@
-//! The forecast as a program tells it: the closings of a file are read, a line each, and what
-//! becomes of its versions is told as a table or drawn. A contract sees an input as its lines, what
-//! is told as the forecasts of the definitions, and a reader and a writer as the bytes that they are
-//! known to hold.
+//! Reads the closings of a file, a line each, and writes forecasts of its versions: a table, a list, a
+//! drawing, JSON or CSV. A contract sees an input as its lines, the output as the text of the
+//! forecasts, and a reader and a writer as the bytes that they are known to hold.
 #![tactic(auto)]
 
 mod fault;

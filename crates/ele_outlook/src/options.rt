@@ -1,4 +1,4 @@
-//! What is asked of a forecast. A contract sees it as plain data.
+//! The options of a forecast. A contract sees them as plain data.
 ghost use Rattle.std.specs.Prelude.{◌≡◌};
 ghost use Rattle.ele_outlook.specs.Told.{line_form};
 
@@ -6,49 +6,49 @@ use ele_forecast_text::Columns;
 use ele_moment::Moment;
 use ele_policy::Policy;
 
-/// How a forecast is told.
+/// The form of a forecast.
 #[derive(Clone, Copy, Debug, PartialEq, Eq)]
 pub enum Form {
-    /// A line for each version, and one for each moment that is asked about.
+    /// A line for each version, and one for each given moment.
     Table,
     /// An SVG drawing.
     Drawing,
-    /// The names of the versions that are due at the first of the moments, one a line: their labels, or
-    /// their numbers if they have none.
+    /// The names of the versions that are due at the first of the moments, one a line. A name is a
+    /// label, or a number if there is none.
     Due,
-    /// The names of those that are kept then.
+    /// The names of the versions that are kept at the first of the moments.
     Kept,
     /// One JSON object.
     Json,
     /// A heading, and a row for each version.
     Csv,
-    /// How many versions each policy keeps at moments from the first closing on, so many seconds apart: 400 moments at
-    /// most.
+    /// The number of versions that each policy keeps at moments from the first closing on. The moments
+    /// are this many seconds apart, at most 400 of them.
     Every(u64),
 }
 
-/// So many policies are compared at most.
+/// The most policies that a forecast compares.
 pub const MOST_POLICIES: usize = 16;
 
-/// What is asked about the versions of a file: what becomes of them under each of some policies, and which stay at
-/// each of some moments, told in a form.
+/// The options of a forecast: the policies that it compares, the moments at which it lists the
+/// versions that stay, the fields of its input and the form of its output.
 #[derive(Debug, Drop)]
 pub struct ForecastOptions {
     pub policies: Vec<Policy>,
-    /// Whether the table of one policy begins with a line that names it.
+    /// Whether the table of one policy begins with a line with its name.
     pub named: bool,
     pub moments: Vec<Moment>,
-    /// Whether each line has a label behind its time.
+    /// Whether each line has a label after its time.
     pub labels: bool,
-    /// Whether each line has a size behind its time, before its label.
+    /// Whether each line has a size after its time and before its label.
     pub sizes: bool,
-    /// The title of a drawing, in UTF-8; none if it is empty.
+    /// The title of a drawing, in UTF-8. An empty one means no title.
     pub title: Vec<u8>,
-    /// A list is that of the first policy.
+    /// The form of the output. The lists `Due` and `Kept` are those of the first policy.
     pub form: Form,
 }
 
-/// What a line has besides its time.
+/// The fields that a line has besides its time.
 #[derive(Clone, Copy, Debug, PartialEq, Eq)]
 pub struct LineForm {
     pub columns: Columns,
@@ -56,7 +56,7 @@ pub struct LineForm {
     pub texts: bool,
 }
 
-/// What each line of an input has that is asked about so. Only in JSON must a label be UTF-8.
+/// Returns the fields that the lines of the input must have. Only JSON needs labels in UTF-8.
 pub(crate) fn line_form(options: &ForecastOptions) -> LineForm
     ensures { result ≡ line_form options.now }
 {

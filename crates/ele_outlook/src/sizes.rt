@@ -1,4 +1,4 @@
-//! The sizes of lines. A contract sees a line as its bytes.
+//! Reads the sizes of lines. A contract sees a line as its bytes.
 ghost use Rattle.std.specs.Prelude.{◌≡◌, ℕ, List, None, IfErr, IfOk};
 ghost use Rattle.std.specs.List.{AllZip};
 ghost use Rattle.memchr.specs.Find.{IsFirstByte, is_byte};
@@ -12,7 +12,8 @@ use crate::options::LineForm;
 use ele_moment::read_number;
 use std::alloc::Global;
 
-/// The sizes of all lines, each of which has one; none if lines have no sizes.
+/// Returns the sizes of all lines, or none if lines have no sizes. `NoMemory` if memory is refused. A
+/// bad size becomes 0.
 pub(crate) fn read_sizes(
     alloc: Global,
     form: LineForm,
@@ -35,7 +36,7 @@ pub(crate) fn read_sizes(
     add_last_size(form, rest, sizes)
 }
 
-// Adds the size of the last line, which has no line feed; none stands there if no bytes do.
+// Adds the size of the last line, which has no line feed. Without bytes there is no such line.
 fn add_last_size(
     form: LineForm,
     rest: &[u8],
@@ -64,7 +65,7 @@ fn add_size(form: LineForm, line: &[u8], sizes: &mut Vec<u64>) -> Result<(), For
     }
 }
 
-// The size of a line that has one.
+// Returns the size of a line, or 0 if it has none.
 fn size_of(form: LineForm, line: &[u8]) -> u64
     ensures { IsSizeOf form line.now result }
 {

@@ -1,4 +1,4 @@
-//! A forecast from the first byte to the last. A contract sees what was read and what was written.
+//! Reads closings and writes forecasts. A contract sees the bytes that are read and written.
 ghost use Rattle.std.specs.Prelude.{◌≡◌, ◌≢◌, ◌∷◌, ◌++◌, ℕ, List, [], IfErr, IfOk, MatchOption, OnErr, codes, decimal, length, map};
 ghost use Rattle.std.specs.Io.KnownBytes.{Keeps};
 ghost use Rattle.ele_policy.specs.PolicyText.{policy_word};
@@ -29,17 +29,18 @@ use ele_svg::put_drawing;
 use std::alloc::Global;
 use std::io::{Read, Write};
 
-/// Reads the closings of a file to the end of the input, a time a line, and behind it a tab and a size and
-/// a tab and a label, if these are asked for. Writes what becomes of its versions under each of the policies, and which
-/// stay at the moments that are asked about, in the form that is asked for.
-/// The writer is flushed. The last line may lack its line feed. At an error nothing is written, but at a
-/// WriteFault:
-/// - ReadFault: the reader failed. What is only interrupted is read again.
-/// - BadInput: a line lacks its size or label, spells no time, or one before that of the line ahead; the first such
-///   line.
+/// Reads the closings of a file to the end of the input: a time a line, then a tab and a size and a tab
+/// and a label if the options want these. Writes what becomes of the versions under each policy, and
+/// which stay at each moment, in the form of the options. Flushes the writer. The last line may lack
+/// its line feed.
+///
+/// Only `WriteFault` leaves output behind:
+/// - ReadFault: the reader failed. An interrupted read is repeated.
+/// - BadInput: the first bad line. It lacks its size or label, or its time is not a moment or is before
+///   that of the previous line.
 /// - TooLong: a table over time would have more than 400 moments.
-/// - WriteFault: the writer failed, took no byte of some, or wasn't flushed; it took a front.
-/// - NoMemory: there was none for the closings, or for what is told of them.
+/// - WriteFault: the writer failed, took no byte or wasn't flushed. It took a prefix of the output.
+/// - NoMemory: memory for the closings or the forecasts was refused.
 pub fn write_forecast<R: Read, W: Write>(
     alloc: Global,
     options: &ForecastOptions,
@@ -53,7 +54,7 @@ pub fn write_forecast<R: Read, W: Write>(
     tell(alloc, options, input.as_slice(), writer)
 }
 
-// Writes what becomes of the versions of the closings that the input spells.
+// Writes the forecast of the closings in the input.
 fn tell<W: Write>(
     alloc: Global,
     options: &ForecastOptions,
@@ -68,7 +69,7 @@ fn tell<W: Write>(
     tell_closings(alloc, options, &closings, &details, writer)
 }
 
-// What the lines say of versions besides their moments.
+// Returns the labels and sizes of the lines.
 fn read_details(alloc: Global, form: LineForm, input: &[u8]) -> Result<Details, ForecastFault>
     ensures ok { (closings : List ℕ) → SpellClosings form (lines_of input.now) closings
         → IfOk result (AreDetails form.columns (labels_of form (lines_of input.now))
@@ -84,7 +85,7 @@ fn read_details(alloc: Global, form: LineForm, input: &[u8]) -> Result<Details, 
     })
 }
 
-// Writes what becomes of the versions of these closings.
+// Writes the forecast of these closings.
 fn tell_closings<W: Write>(
     alloc: Global,
     options: &ForecastOptions,
@@ -107,7 +108,7 @@ fn tell_closings<W: Write>(
     tell_plans(alloc, options, closings, details, &plans, writer)
 }
 
-// Writes what becomes of the versions of these closings under several policies, or none.
+// Writes the forecast of these closings under several policies, or none.
 fn tell_several<W: Write>(
     alloc: Global,
     options: &ForecastOptions,
@@ -127,7 +128,7 @@ fn tell_several<W: Write>(
     tell_plans(alloc, options, closings, details, plans.as_slice(), writer)
 }
 
-// Writes what becomes of the versions of these closings, of which these are the plans.
+// Writes the forecast of these closings, from their plans.
 fn tell_plans<W: Write>(
     alloc: Global,
     options: &ForecastOptions,
@@ -171,7 +172,7 @@ fn is_over(form: Form, plans: &[Plan]) -> bool
     }
 }
 
-// The rows of a table over time, if the form is one.
+// Returns the rows of a table over time, or none if the form is another.
 fn counted(
     alloc: Global,
     form: Form,
@@ -189,7 +190,7 @@ fn counted(
     }
 }
 
-// The policy, if it is the only one.
+// Returns the policy if there is only one.
 fn only_policy(policies: &[Policy]) -> Option<&Policy>
     ensures { MatchOption result (length policies.now ≢ 1)
         (λ policy. policies.now ≡ policy.now ∷ []) }
@@ -201,7 +202,7 @@ fn only_policy(policies: &[Policy]) -> Option<&Policy>
     }
 }
 
-// The plan, if it is the only one.
+// Returns the plan if there is only one.
 fn only_plan(plans: &[Plan]) -> Option<&Plan>
     ensures { MatchOption result (length plans.now ≢ 1) (λ plan. plans.now ≡ plan.now ∷ []) }
 {
@@ -212,7 +213,7 @@ fn only_plan(plans: &[Plan]) -> Option<&Plan>
     }
 }
 
-// The numbers of the versions that the form lists.
+// Returns the numbers of the versions that the form lists.
 fn listed(alloc: Global, form: Form, plans: &[Plan]) -> Result<Vec<VersionNo>, NoMemory>
     ensures ok { IfOk result (λ numbers. numbers.items ≡ listed_numbers form plans.now) }
     ensures err { OnErr result (stayings_of plans.now ≢ []) }
@@ -228,7 +229,7 @@ fn listed(alloc: Global, form: Form, plans: &[Plan]) -> Result<Vec<VersionNo>, N
     }
 }
 
-// Those that are listed of these forecasts.
+// Returns the numbers of the versions among these that the form lists.
 fn listed_of(
     alloc: Global,
     form: Form,
@@ -251,7 +252,7 @@ fn listed_of(
     }
 }
 
-// Writes what is told, and flushes it.
+// Writes the output, and flushes it.
 fn write_told<W: Write>(
     options: &ForecastOptions,
     details: &Details,
@@ -267,7 +268,7 @@ fn write_told<W: Write>(
     flush(writer)
 }
 
-// Writes what is told.
+// Writes the output.
 fn put_whole<W: Write>(
     options: &ForecastOptions,
     details: &Details,
@@ -284,7 +285,7 @@ fn put_whole<W: Write>(
     printer.hand_over()
 }
 
-// Puts what is told.
+// Prints the output.
 fn put_told<W: Write>(
     options: &ForecastOptions,
     details: &Details,
@@ -306,7 +307,7 @@ fn put_told<W: Write>(
     }
 }
 
-// Puts the table of one policy, or of several side by side.
+// Prints the table of one policy, or of several side by side.
 fn put_told_table<W: Write>(
     options: &ForecastOptions,
     details: &Details,
@@ -322,7 +323,7 @@ fn put_told_table<W: Write>(
     }
 }
 
-// Puts the table of several policies side by side, with these moments.
+// Prints the table of several policies side by side, with these moments.
 fn put_side_by_side<W: Write>(
     details: &Details,
     plans: &[Plan],
@@ -335,7 +336,7 @@ fn put_side_by_side<W: Write>(
     put_compared(details, plans, moments.len(), printer);
 }
 
-// Puts the line that names a policy, if it is named, and the policy's table.
+// Prints a line with the policy if `named` holds, and then the policy's table.
 fn put_named_table<W: Write>(
     named: bool,
     details: &Details,
@@ -349,7 +350,7 @@ fn put_named_table<W: Write>(
     put_plan_table(details, plan, printer);
 }
 
-// Puts the line that names a policy, if it is named.
+// Prints a line with the policy if `named` holds.
 fn put_policy_line<W: Write>(named: bool, plan: &Plan, printer: &mut Printer<'_, W>)
     ensures { Prints W.contents printer.old printer.new (policy_line named plan.now) }
 {
@@ -358,7 +359,7 @@ fn put_policy_line<W: Write>(named: bool, plan: &Plan, printer: &mut Printer<'_,
     }
 }
 
-// Puts the line that names a policy.
+// Prints a line with the policy.
 fn put_policy_name<W: Write>(policy: &Policy, printer: &mut Printer<'_, W>)
     ensures { Prints W.contents printer.old printer.new
         (codes "policy " ++ (policy_word policy.now ++ codes "\n")) }
@@ -368,7 +369,7 @@ fn put_policy_name<W: Write>(policy: &Policy, printer: &mut Printer<'_, W>)
     printer.put(b"\n");
 }
 
-// Puts the table of one policy.
+// Prints the table of one policy.
 fn put_plan_table<W: Write>(details: &Details, plan: &Plan, printer: &mut Printer<'_, W>)
     ensures { Prints W.contents printer.old printer.new (plan_table details.now plan.now) }
 {

@@ -2,7 +2,8 @@
 use Rattle.ele_printer.proofs.Basics.{nat_tests, arith, ◌≡◌, ℕ, List, [], ◌∷◌, ◌++◌, length, map, get_or, refl, ap, append_assoc, codes, length-append, ◌<◌, decimal, append-nil, join_with_byte}
 use Rattle.ele_printer.proofs.Prelude.{line_text, kind_words, usage_line, usage_lines, group_line}
 use Rattle.ele_commands.proofs.Words.{some_word}
-use Rattle.ele_commands.specs.Pieces.{mark_word, pieces_or_dash}
+use Rattle.ele_commands.specs.Pieces.{pieces_or_dash}
+use Rattle.ele_model.specs.FateText.{mark_word}
 use Rattle.ele_commands.specs.Command.{command_words}
 use Rattle.ele_commands.specs.EventText.{event_words, value_word}
 use Rattle.ele_printer.specs.HistoryText.{entry_line}
@@ -12,7 +13,7 @@ use Rattle.ele_usage.specs.declared.usage.Usage.{Usage}
 use Rattle.ele_model.specs.declared.rows.GroupRow.{GroupRow}
 use Rattle.ele_model.specs.declared.rows.MarkRow.{MarkRow}
 
--- the line of words behind a dash
+-- the line of a dash and words
 dash_line : (words : List (List ℕ)) → 0 < length words → line_text (codes "-" ∷ words) ≡ codes "- " ++ line_text words
 dash_line [] some = absurd (omega (arith, some))
 dash_line (word ∷ words) some = refl
@@ -42,7 +43,7 @@ pub last_word : (first last : List ℕ) (words : List (List ℕ)) → line_text 
 last_word first last [] = append_assoc first (32 ∷ last) (10 ∷ [])
 last_word first last (word ∷ words) = grind (arith, nat_tests, append_assoc, last_word word last words)
 
--- the line of what a mark keeps, in its parts
+-- the line of a version that a mark holds, in its parts
 pub marked_parts : (group : List ℕ) (mark : MarkRow) → line_text (codes "ok why" ∷ codes "marked" ∷ group ∷ mark_word mark ∷ []) ≡ join_with_byte 32 (codes "ok why" ∷ codes "marked" ∷ group ∷ []) ++ ((32 ∷ mark_word mark) ++ 10 ∷ [])
 marked_parts group mark = last_word (codes "ok why") (mark_word mark) (codes "marked" ∷ group ∷ [])
 

@@ -1,4 +1,4 @@
--- Histories in text.
+-- The text of histories.
 use Rattle.std.specs.Prelude.{ℕ, List, [], ◌∷◌, ◌++◌, length, codes}
 use Rattle.std.specs.Fmt.{decimal}
 use Rattle.std.specs.List.{flat_map}
@@ -10,11 +10,11 @@ use Rattle.ele_output.specs.Line.{line_text}
 abbrev pub entry_line : Entry → List ℕ
 entry_line entry = line_text (codes "-" ∷ event_words entry.event)
 
--- the text of a history: how many entries were folded, how many are stored, and a line for each of these
+-- the text of a history: the number of entries that were folded and of those that are stored, and a line for each stored entry
 abbrev pub history_text : ℕ → List Entry → List ℕ
 history_text folded entries =
     line_text (codes "ok history" ∷ decimal folded ∷ decimal (length entries) ∷ []) ++ flat_map entry_line entries
 
--- the text of a trim: how many entries it folded
+-- the text of a trim: the number of entries that it folded
 abbrev pub trimmed_text : ℕ → List ℕ
 trimmed_text count = line_text (codes "ok trimmed" ∷ decimal count ∷ [])

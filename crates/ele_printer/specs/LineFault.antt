@@ -1,4 +1,4 @@
--- The faults of lines: their numbers, their names, and those of paths among them.
+-- The faults of lines, with their numbers and names, and the faults of paths among them.
 use Rattle.std.specs.Prelude.{ℕ, List, codes}
 use Rattle.ele_path.specs.declared.fault.PathFault.{PathFault}
 use Rattle.ele_path.specs.declared.fault.PathFault.TheVariants as path
@@ -24,14 +24,14 @@ fault_number fault = (fault_answer fault).0
 abbrev pub fault_name : LineFault → List ℕ
 fault_name fault = (fault_answer fault).1
 
--- the fault of a line whose path has that fault
+-- the fault of a line, if its path has the fault
 abbrev pub fault_of_path : PathFault → LineFault
 fault_of_path path.BadName = BadName
 fault_of_path path.BadPath = BadPath
 fault_of_path path.BadMoment = BadMoment
 fault_of_path path.NoMemory = NoMemory
 
--- and of one whose path at a moment has it
+-- the fault of a line, if its path at a moment has the fault
 abbrev pub fault_of_path_at : PathAtFault → LineFault
 fault_of_path_at (timed.Path fault) = fault_of_path fault
 fault_of_path_at timed.Numbered = Syntax

@@ -7,34 +7,35 @@ use ele_path::{PathAtFault, PathFault};
 use std::alloc::AllocError;
 use thiserror::Error;
 
-/// Why a line is no event: the first fault of the line, or want of memory.
+/// Why a line is not a command: the first fault of the line, or no memory to read it.
 #[derive(Clone, Copy, Debug, PartialEq, Eq, Error)]
 pub enum LineFault {
-    /// A name is wanted and the bytes are none.
+    /// A word is not a valid name.
     #[error("not a name")]
     BadName,
-    /// A path is wanted: the word has no slash in front, an empty piece, or more than 32 pieces.
+    /// A word is not a valid path: it has no slash at its start, an empty name, or more than 32
+    /// names.
     #[error("not a path")]
     BadPath,
-    /// A moment is wanted and the word spells none.
+    /// A word is not a valid moment.
     #[error("not a moment")]
     BadMoment,
-    /// A ladder or an interval is wanted, and the numbers are not those of one.
+    /// The numbers of a policy are not those of a valid ladder or interval.
     #[error("not a ladder")]
     BadLadder,
-    /// The bytes, the spaces, the command, the number of words, or a bad word with no other fault.
+    /// A bad byte, space, command or number of words, or a bad word with no other fault.
     #[error("not a command")]
     Syntax,
     /// The line has more than 8,192 bytes.
     #[error("line too long")]
     LineTooLong,
-    /// There was no memory to read the line. The line itself may be good or bad.
+    /// There was no memory to read the line, which may be good or bad.
     #[error("no memory")]
     NoMemory,
 }
 
 impl LineFault {
-    /// Its number.
+    /// Returns the number that is printed for the fault.
     pub fn number(self) -> u8
         ensures { result ≡ fault_number self }
     {
@@ -49,7 +50,7 @@ impl LineFault {
         }
     }
 
-    /// Its name.
+    /// Returns the name that is printed for the fault.
     pub fn name(self) -> &'static str
         ensures { result.now ≡ fault_name self }
     {

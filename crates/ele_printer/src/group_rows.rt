@@ -1,5 +1,4 @@
-//! Putting what is told of groups. A contract sees a group as itself, and a printer as its
-//! outlet.
+//! Prints groups. A contract sees a group as itself, and a printer as its outlet.
 ghost use Rattle.ele_printer.specs.Printed.{group_line};
 
 use crate::row::Row;

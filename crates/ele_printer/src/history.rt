@@ -1,5 +1,5 @@
-//! Putting histories. A contract sees a history as how many entries were folded and those that are
-//! stored, and a printer as its outlet.
+//! Prints histories. A contract sees a history as the number of folded entries and the list of stored
+//! ones, and a printer as its outlet.
 ghost use Rattle.ele_printer.specs.HistoryText.{entry_line, history_text, trimmed_text};
 ghost use Rattle.ele_output.specs.Prints.{Prints};
 
@@ -10,8 +10,8 @@ use ele_model::Entry;
 use ele_output::Printer;
 use std::io::Write;
 
-/// Puts the text of a history: how many entries were folded, how many are stored, and the line of
-/// the event of each of these.
+/// Prints a history: the number of entries that were folded and of those that are stored, and the
+/// event of each stored entry.
 pub fn put_history<W: Write>(folded: u64, entries: &[Entry], printer: &mut Printer<'_, W>)
     ensures { Prints W.contents printer.old printer.new (history_text folded entries.now) }
 {
@@ -20,7 +20,7 @@ pub fn put_history<W: Write>(folded: u64, entries: &[Entry], printer: &mut Print
     put_lines(entries, printer);
 }
 
-/// Puts the line of a trim: how many entries it folded.
+/// Prints the reply to a trim: the number of entries that it folded.
 pub fn put_trimmed<W: Write>(count: u64, printer: &mut Printer<'_, W>)
     ensures { Prints W.contents printer.old printer.new (trimmed_text count) }
 {

@@ -1,5 +1,6 @@
-//! The texts of answers: replies, stops, ends of passes, faults of lines, histories, trims and
-//! explanations. A contract sees them as bytes, and a writer as those that it is known to hold.
+//! Prints the answers of the script language: replies, stops, ends of passes, faults of lines,
+//! histories, trims and explanations. A contract sees them as bytes, and a writer as the bytes that
+//! it is known to hold.
 #![tactic(auto)]
 
 mod fault;

@@ -1,5 +1,4 @@
-//! Putting refusals into an output. A contract sees a refusal as itself, and a printer as its
-//! outlet.
+//! Prints refusals. A contract sees a refusal as itself, and a printer as its outlet.
 ghost use Rattle.std.specs.Prelude.{◌∷◌, [], decimal, codes};
 ghost use Rattle.ele_model.specs.Answers.{refusal_number, refusal_name};
 ghost use Rattle.ele_output.specs.Prints.{Prints};
@@ -13,7 +12,7 @@ use ele_model::Refusal;
 use ele_output::Printer;
 use std::io::Write;
 
-/// Puts the line of a refusal.
+/// Prints the line of a refusal.
 pub(crate) fn put_refusal<W: Write>(why: &Refusal, printer: &mut Printer<'_, W>)
     ensures { Prints W.contents printer.old printer.new (refusal_text why.now) }
 {
@@ -25,7 +24,7 @@ pub(crate) fn put_refusal<W: Write>(why: &Refusal, printer: &mut Printer<'_, W>)
     }
 }
 
-// Puts the line of a refusal that tells one thing more.
+// Prints the line of a refusal with a detail.
 fn put_detail<W: Write>(why: &Refusal, detail: &[u8], printer: &mut Printer<'_, W>)
     ensures { Prints W.contents printer.old printer.new
         (line_text (codes "no" ∷ decimal (refusal_number why.now) ∷ refusal_name why.now ∷
@@ -39,7 +38,7 @@ fn put_detail<W: Write>(why: &Refusal, detail: &[u8], printer: &mut Printer<'_, 
     put_line_of(b"no", &words, printer);
 }
 
-// And of one that tells the number of a version.
+// Prints the line of a refusal with the number of a version.
 fn put_before<W: Write>(why: &Refusal, before: u64, printer: &mut Printer<'_, W>)
     ensures { Prints W.contents printer.old printer.new
         (line_text (codes "no" ∷ decimal (refusal_number why.now) ∷ refusal_name why.now ∷
@@ -53,7 +52,7 @@ fn put_before<W: Write>(why: &Refusal, before: u64, printer: &mut Printer<'_, W>
     put_line_of(b"no", &words, printer);
 }
 
-// Puts the line of a refusal that tells no more.
+// Prints the line of a refusal without a detail.
 fn put_undetailed<W: Write>(why: &Refusal, printer: &mut Printer<'_, W>)
     ensures { Prints W.contents printer.old printer.new
         (line_text (codes "no" ∷ decimal (refusal_number why.now) ∷ refusal_name why.now ∷ [])) }

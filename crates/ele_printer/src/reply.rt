@@ -1,5 +1,4 @@
-//! Putting replies into an output. A contract sees a reply as itself, and a printer as its
-//! outlet.
+//! Prints replies. A contract sees a reply as itself, and a printer as its outlet.
 ghost use Rattle.std.specs.Prelude.{◌++◌, ◌∷◌, [], List, ℕ, decimal};
 ghost use Rattle.ele_output.specs.Prints.{Prints};
 ghost use Rattle.ele_output.specs.Line.{line_text};
@@ -15,7 +14,7 @@ use ele_model::{DeadName, Key, PassEnd, Reply, Stop, Usage, VersionNo};
 use ele_output::{Printer, put_number};
 use std::io::Write;
 
-/// Puts the lines of a reply, or of the stop that came in its place.
+/// Prints the lines of a reply, or of the stop in its place.
 pub fn put_reply<W: Write>(reply: &Result<Reply, Stop>, printer: &mut Printer<'_, W>)
     ensures { (text : List ℕ) × IsAnswerText reply.now text × Prints W.contents printer.old
         printer.new text }
@@ -26,14 +25,14 @@ pub fn put_reply<W: Write>(reply: &Result<Reply, Stop>, printer: &mut Printer<'_
     }
 }
 
-/// Puts the line that tells a bad line's fault.
+/// Prints the line for a bad line: `bad`, and the number and the name of the fault.
 pub fn put_fault<W: Write>(fault: LineFault, printer: &mut Printer<'_, W>)
     ensures { Prints W.contents printer.old printer.new (bad_text fault) }
 {
     put_named(b"bad", fault.number(), fault.name(), printer);
 }
 
-/// Puts the line that tells how a pass ended, and how many versions it removed.
+/// Prints the line of a pass: how it ended, and the number of versions that it removed.
 pub fn put_pass<W: Write>(end: &PassEnd, printer: &mut Printer<'_, W>)
     ensures { Prints W.contents printer.old printer.new (pass_text end.now) }
 {
@@ -49,7 +48,7 @@ pub fn put_pass<W: Write>(end: &PassEnd, printer: &mut Printer<'_, W>)
     }
 }
 
-/// Puts the lines of a reply.
+/// Prints the lines of a reply.
 pub fn put_answer<W: Write>(reply: &Reply, printer: &mut Printer<'_, W>)
     ensures { (text : List ℕ) × IsReplyText reply.now text × Prints W.contents printer.old
         printer.new text }
@@ -83,7 +82,7 @@ pub fn put_answer<W: Write>(reply: &Reply, printer: &mut Printer<'_, W>)
     }
 }
 
-// Puts the line of a closing, with the version that it made, if it made one.
+// Prints the line of a close, with the number of the version if it made one.
 fn put_closed<W: Write>(made: Option<VersionNo>, printer: &mut Printer<'_, W>)
     ensures { Prints W.contents printer.old printer.new (closed_text made) }
 {
@@ -93,7 +92,7 @@ fn put_closed<W: Write>(made: Option<VersionNo>, printer: &mut Printer<'_, W>)
     }
 }
 
-/// Puts a number and a space, which stand in front of a line.
+/// Prints a number and a space, which precede a line.
 pub fn put_in_front<W: Write>(number: u64, printer: &mut Printer<'_, W>)
     ensures { Prints W.contents printer.old printer.new (decimal number ++ 32 ∷ []) }
 {
@@ -101,7 +100,7 @@ pub fn put_in_front<W: Write>(number: u64, printer: &mut Printer<'_, W>)
     printer.put(b" ");
 }
 
-// Puts the line of bytes, however many they are.
+// Prints the line of bytes: their number, and their digits.
 fn put_bytes<W: Write>(bytes: &[u8], printer: &mut Printer<'_, W>)
     ensures { Prints W.contents printer.old printer.new (bytes_text bytes.now) }
 {
@@ -112,7 +111,7 @@ fn put_bytes<W: Write>(bytes: &[u8], printer: &mut Printer<'_, W>)
     );
 }
 
-// Puts a line of a first word and a key.
+// Prints a line of a first word and a key.
 fn put_key<W: Write>(first: &[u8], key: Key, printer: &mut Printer<'_, W>)
     ensures { Prints W.contents printer.old printer.new
         (line_text (first.now ∷ key_words key)) }
@@ -144,7 +143,7 @@ impl Row for DeadName {
     }
 }
 
-// Puts what the files of each kind of policy use.
+// Prints the usage of each kind of policy.
 fn put_usages<W: Write>(usages: &[Usage; 4], printer: &mut Printer<'_, W>)
     ensures { Prints W.contents printer.old printer.new (usage_text usages.now) }
 {
@@ -156,7 +155,7 @@ fn put_usages<W: Write>(usages: &[Usage; 4], printer: &mut Printer<'_, W>)
     put_usage(b"landmarks", landmarks, printer);
 }
 
-// Puts the line of what the files of a kind of policy use.
+// Prints the line of the usage of a kind of policy.
 fn put_usage<W: Write>(kind: &[u8], usage: Usage, printer: &mut Printer<'_, W>)
     ensures { Prints W.contents printer.old printer.new (usage_line kind.now usage) }
 {
@@ -169,7 +168,7 @@ fn put_usage<W: Write>(kind: &[u8], usage: Usage, printer: &mut Printer<'_, W>)
     );
 }
 
-/// Puts a line of a first word, a number and a name.
+/// Prints a line of a first word, a number and a name.
 pub(crate) fn put_named<W: Write>(
     first: &[u8],
     number: u8,
@@ -186,7 +185,7 @@ pub(crate) fn put_named<W: Write>(
     );
 }
 
-/// Puts the line of a stop that came in a reply's place.
+/// Prints the line of a stop: `stop`, its number and its name.
 pub fn put_stop<W: Write>(stop: Stop, printer: &mut Printer<'_, W>)
     ensures { Prints W.contents printer.old printer.new (stop_text stop) }
 {

@@ -1,4 +1,4 @@
-//! Rows that are told in a line each, under a line with their number. A contract sees a row as
+//! Lists of rows: a line with the number of rows, and a line for each row. A contract sees a row as
 //! itself, and a printer as its outlet.
 ghost use Rattle.std.specs.Prelude.{◌∷◌, [], ◌++◌, List, ℕ, length, decimal};
 ghost use Rattle.std.specs.List.{flat_map};
@@ -10,16 +10,16 @@ use ele_commands::put_line_of;
 use ele_output::Printer;
 use std::io::Write;
 
-/// What is told in a line of its own.
+/// A row, which is printed as one line.
 pub(crate) trait Row {
     ghost row_line: { Self → List ℕ };
 
-    /// Puts its line.
+    /// Prints the line of the row.
     fn put_row<W: Write>(&self, printer: &mut Printer<'_, W>)
         ensures { Prints W.contents printer.old printer.new (row_line self.now) };
 }
 
-/// Puts how many rows there are, and the line of each.
+/// Prints a line of a first word and the number of rows, and then the line of each row.
 pub(crate) fn put_rows<T: Row, W: Write>(first: &[u8], rows: &[T], printer: &mut Printer<'_, W>)
     ensures { Prints W.contents printer.old printer.new
         (line_text (first.now ∷ decimal (length rows.now) ∷ []) ++ flat_map T.row_line rows.now) }
@@ -28,7 +28,7 @@ pub(crate) fn put_rows<T: Row, W: Write>(first: &[u8], rows: &[T], printer: &mut
     put_lines(rows, printer);
 }
 
-/// Puts the line of each row.
+/// Prints the line of each row.
 pub(crate) fn put_lines<T: Row, W: Write>(rows: &[T], printer: &mut Printer<'_, W>)
     ensures { Prints W.contents printer.old printer.new (flat_map T.row_line rows.now) }
 {

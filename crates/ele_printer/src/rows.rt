@@ -1,5 +1,5 @@
-//! Putting what is told of versions, directories and names. A contract sees each as itself, and a
-//! printer as its outlet.
+//! Prints versions, directories and names. A contract sees each as itself, and a printer as its
+//! outlet.
 ghost use Rattle.std.specs.Prelude.{◌≡◌, ◌∷◌, [], decimal};
 ghost use Rattle.ele_commands.specs.Word.{word_text};
 ghost use Rattle.ele_output.specs.Prints.{Prints};
@@ -13,7 +13,7 @@ use ele_moment::{Moment, Name};
 use ele_output::Printer;
 use std::io::Write;
 
-/// Puts the line of a file's version.
+/// Prints the line of a file's version, with the policy of the file.
 pub(crate) fn put_file<W: Write>(stat: &FileStat, printer: &mut Printer<'_, W>)
     ensures { Prints W.contents printer.old printer.new (file_text stat.now) }
 {
@@ -36,7 +36,7 @@ pub(crate) fn put_file<W: Write>(stat: &FileStat, printer: &mut Printer<'_, W>)
     put_line_of(b"ok file", &words, printer);
 }
 
-/// Puts the line of a directory.
+/// Prints the line of a directory, with its default policy.
 pub(crate) fn put_directory<W: Write>(row: &DirectoryRow, printer: &mut Printer<'_, W>)
     ensures { Prints W.contents printer.old printer.new (directory_text row.now) }
 {
@@ -44,7 +44,7 @@ pub(crate) fn put_directory<W: Write>(row: &DirectoryRow, printer: &mut Printer<
     put_line_of(b"ok directory", &words, printer);
 }
 
-// The word of an end.
+// Returns the word of the moment at which a version ended: `-` for none.
 fn end_of(ended: Option<Moment>) -> Word<'static>
     ensures { word_text result ≡ end_word ended }
 {
@@ -65,7 +65,7 @@ impl Row for VersionInfo {
     }
 }
 
-/// The word of a target's kind, and its number.
+/// Returns `file` or `directory`, and the number of the file or directory.
 pub(crate) fn target_parts(target: Target) -> (&'static [u8], u64)
     ensures { target_words target ≡ result.0.now ∷ decimal result.1 ∷ [] }
 {

@@ -1,4 +1,4 @@
-//! Writing answers whole. A contract sees an answer as itself, and a writer as the bytes that it is
+//! Writes whole answers. A contract sees an answer as itself, and a writer as the bytes that it is
 //! known to hold.
 ghost use Rattle.std.specs.Prelude.{◌∷◌, [], decimal};
 ghost use Rattle.ele_output.specs.Front.{WritesText};
@@ -12,8 +12,8 @@ use ele_model::{Reply, Stop};
 use ele_output::{Printer, WriteFault};
 use std::io::Write;
 
-/// Writes the lines of a reply, or of the stop that came in its place. At a fault the writer took a
-/// front of them.
+/// Writes the lines of a reply, or of the stop in its place. Returns a fault if the writer fails: then
+/// it took a prefix of them.
 pub fn write_reply<W: Write>(reply: &Result<Reply, Stop>, writer: &mut W) -> Result<(), WriteFault>
     ensures { WritesAnswer reply.now (W.contents writer.old) (W.contents writer.new) result }
 {
@@ -22,8 +22,8 @@ pub fn write_reply<W: Write>(reply: &Result<Reply, Stop>, writer: &mut W) -> Res
     printer.hand_over()
 }
 
-/// Writes a line of a first word, a number and a name. At a fault of the writer it took a front of
-/// that line.
+/// Writes a line of a first word, a number and a name. Returns a fault if the writer fails: then it
+/// took a prefix of the line.
 pub fn write_named<W: Write>(
     first: &[u8],
     number: u8,
@@ -38,8 +38,8 @@ pub fn write_named<W: Write>(
     printer.hand_over()
 }
 
-/// Writes a line of a first word, a number and two words more. At a fault of the writer it took a
-/// front of that line.
+/// Writes a line of a first word, a number and two other words. Returns a fault if the writer fails:
+/// then it took a prefix of the line.
 pub fn write_placed<'w, W: Write>(
     first: &[u8],
     number: u64,

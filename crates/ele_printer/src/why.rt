@@ -1,10 +1,11 @@
-//! Putting why versions are held, and which will be due. A contract sees what is told as itself, and
-//! a printer as its outlet.
+//! Prints why versions are held, and which will be due. A contract sees a fate and a list of keys as
+//! themselves, and a printer as its outlet.
 ghost use Rattle.std.specs.Prelude.{◌∷◌, [], ◌++◌, Ok, codes, decimal};
-ghost use Rattle.ele_commands.specs.Pieces.{mark_word};
+ghost use Rattle.ele_model.specs.FateText.{level_words, mark_word, until_words};
 ghost use Rattle.ele_output.specs.Prints.{Prints};
 ghost use Rattle.ele_output.specs.Line.{line_text};
-ghost use Rattle.ele_printer.specs.Why.{ahead_text, cause_words, level_words, until_words, why_text};
+ghost use Rattle.ele_policy.specs.CauseText.{cause_words};
+ghost use Rattle.ele_printer.specs.Why.{ahead_text, why_text};
 
 use crate::refusal::put_refusal;
 use crate::row::put_rows;
@@ -15,7 +16,7 @@ use ele_moment::Moment;
 use ele_output::{Printer, put_words};
 use std::io::Write;
 
-/// Puts the line of what becomes of a version, or of why none is meant.
+/// Prints the line of a version's fate, or of the refusal in its place.
 pub fn put_why<W: Write>(told: &Result<Fate, Refusal>, printer: &mut Printer<'_, W>)
     ensures { Prints W.contents printer.old printer.new (why_text told.now) }
 {
@@ -25,7 +26,7 @@ pub fn put_why<W: Write>(told: &Result<Fate, Refusal>, printer: &mut Printer<'_,
     }
 }
 
-// Puts the line of what becomes of a version.
+// Prints the line of a version's fate.
 fn put_fate<W: Write>(fate: &Fate, printer: &mut Printer<'_, W>)
     ensures { Prints W.contents printer.old printer.new (why_text (Ok fate.now)) }
 {
@@ -38,7 +39,7 @@ fn put_fate<W: Write>(fate: &Fate, printer: &mut Printer<'_, W>)
     }
 }
 
-// Puts the line of what a group's mark keeps.
+// Prints the line of a version that a mark of a group holds.
 fn put_marked<W: Write>(group: &[u8], mark: &MarkRow, printer: &mut Printer<'_, W>)
     ensures { Prints W.contents printer.old printer.new
         (line_text (codes "ok why" ∷ codes "marked" ∷ group.now ∷ mark_word mark.now ∷ [])) }
@@ -48,7 +49,7 @@ fn put_marked<W: Write>(group: &[u8], mark: &MarkRow, printer: &mut Printer<'_, 
     printer.put(b"\n");
 }
 
-// Puts the line of what its policy keeps.
+// Prints the line of a version that its policy retains, until a moment and at a level if it has them.
 fn put_kept<W: Write>(until: Option<Moment>, level: Option<usize>, printer: &mut Printer<'_, W>)
     ensures { Prints W.contents printer.old printer.new
         (line_text (codes "ok why" ∷ codes "kept" ∷ until_words until ++ level_words level)) }
@@ -77,7 +78,7 @@ fn put_kept<W: Write>(until: Option<Moment>, level: Option<usize>, printer: &mut
     }
 }
 
-// Puts the line of what is due.
+// Prints the line of a version that is due, since a moment and for a cause.
 fn put_cause<W: Write>(since: Moment, cause: &Cause, printer: &mut Printer<'_, W>)
     ensures { Prints W.contents printer.old printer.new
         (line_text (codes "ok why" ∷ codes "due" ∷ decimal since ∷ cause_words cause.now)) }
@@ -104,7 +105,7 @@ fn put_cause<W: Write>(since: Moment, cause: &Cause, printer: &mut Printer<'_, W
     }
 }
 
-/// Puts how many keys will be due, and the line of each, or that the moment has passed.
+/// Prints the number of keys that will be due and the line of each, or the line of the refusal.
 pub fn put_ahead<W: Write>(told: &Result<KeyList, Refusal>, printer: &mut Printer<'_, W>)
     ensures { Prints W.contents printer.old printer.new (ahead_text told.now) }
 {

@@ -1,4 +1,4 @@
--- How long a script may be.
+-- The limits of a script.
 use Rattle.std.specs.Prelude.{ℕ}
 
 abbrev pub most_lines : ℕ

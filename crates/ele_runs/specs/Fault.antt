@@ -1,4 +1,4 @@
--- The numbers and the names of what ends a run early.
+-- The numbers and names of the faults that end a run early.
 use Rattle.std.specs.Prelude.{ℕ, List, codes}
 use Rattle.ele_model.specs.Answers.{stop_answer}
 use Rattle.ele_model.specs.declared.refusal.Stop.TheVariants as stop

@@ -1,4 +1,4 @@
--- What a run without options has written that its writer ended is a front of an output of its input.
+-- A run without options that its writer ended has written a prefix of an output of its input.
 use Rattle.std.specs.Prelude.{ℕ, List, Option, Some}
 use Rattle.std.specs.Io.KnownBytes.{Keeps}
 use Rattle.ele_runs.specs.Lines.{AreLines}

@@ -1,4 +1,4 @@
--- What is kept of a line.
+-- The line, unless it is too long.
 use Rattle.std.specs.Prelude.{ℕ, List, Option, Some, None, nat_le, length, if◌then◌else◌}
 use Rattle.ele_script.specs.Words.{longest_line}
 

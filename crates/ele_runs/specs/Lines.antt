@@ -2,7 +2,7 @@
 use Rattle.std.specs.Prelude.{◌≡◌, ◌≢◌, ℕ, ◌+◌, List, [], ◌∷◌, ◌++◌, length}
 use Rattle.std.specs.List.{flat_map, AllByRecursion}
 
--- no line feed stands in it
+-- it has no line feed
 abbrev pub IsUnbroken : List ℕ → Type 0
 IsUnbroken line = AllByRecursion (λ b. b ≢ 10) line
 
@@ -20,7 +20,7 @@ pub record AreLines (input : List ℕ) (lines : List (List ℕ)) (last : List �
   pub whole : AllByRecursion IsUnbroken lines
   pub cut : IsUnbroken last
 
--- how many lines these are: a last one counts unless it is empty
+-- the number of lines: a last one counts unless it is empty
 abbrev pub line_count : List (List ℕ) → List ℕ → ℕ
 line_count lines [] = length lines
 line_count lines (b ∷ bs) = length lines + 1

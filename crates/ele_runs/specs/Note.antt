@@ -1,4 +1,4 @@
--- What a run tells of a line beside its block.
+-- The reason that a run writes beside the block of a bad line.
 use Rattle.std.specs.Prelude.{◌≡◌, ℕ, ◌+◌, List, [], Option, Some, true, if◌then◌else◌}
 use Rattle.std.specs.Io.KnownBytes.{Keeps}
 use Rattle.ele_output.specs.Front.{AppendsFront}
@@ -10,13 +10,13 @@ use Rattle.ele_runs.specs.WhyBad.{IsToldReason, cut_reason, why_line}
 use Rattle.ele_runs.specs.declared.options.RunOptions.{RunOptions}
 use Rattle.ele_reasons.specs.declared.reasons.Reason.{Reason}
 
--- nothing, or, where reasons are told and the block of the line with this number is that of a bad one, why it is; a writer that
--- fails has a front of that, and the run goes on
+-- nothing, or the reason for the line with this number, if reasons are written and its block is that of a bad line; a writer
+-- that fails has a prefix of that, and the run goes on
 pub data IsNoted (options : RunOptions) (number : ℕ) (line : Option (List ℕ)) (block : List ℕ) (old new : Option (List ℕ)) : Type 0 where
   nothing : Keeps old new → IsNoted options number line block old new
   reason : tells_reasons options ≡ true → (fault : LineFault) → block ≡ bad_text fault → (why : Reason) → IsToldReason options line why → AppendsFront old new (why_line number (Some why))
       → IsNoted options number line block old new
 
--- why a last line without its line feed is never run, where reasons are told
+-- why a last line without its line feed is never run, if reasons are written
 abbrev pub cut_note : RunState → Option (List ℕ) → List ℕ
 cut_note run_state last = if tells_reasons run_state.options then why_line (run_state.number + 1) (cut_reason last) else []

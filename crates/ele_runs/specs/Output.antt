@@ -1,10 +1,10 @@
--- What is written for a script.
+-- The output of a script.
 use Rattle.std.specs.Prelude.{◌≡◌, ℕ, false, List, [], ◌∷◌, ◌++◌}
 use Rattle.ele_runs.specs.Block.{IsBlock, cut_block}
 use Rattle.ele_runs.specs.LineLength.{line_unless_long}
 use Rattle.ele_history.specs.Past.{Past}
 
--- the blocks of whole lines, one after another, each from the state that the line before leaves
+-- the blocks of whole lines, one after another, each from the state after the previous line
 abbrev pub AreBlocks : Past → List (List ℕ) → List ℕ → Past → Type 0
 AreBlocks before [] text after = (text ≡ []) × (after ≡ before)
 AreBlocks before (line ∷ lines) text after =

@@ -8,7 +8,7 @@ use Rattle.ele_runs.specs.LineLength.{line_unless_long}
 use Rattle.ele_runs.specs.Lines.{IsUnbroken, AreLines, whole_lines}
 use Rattle.ele_runs.specs.Told.{AreTold}
 
--- the lines that end in the piece were answered, the first of which may have begun before it, and what is behind them is kept
+-- the lines that end in the piece were answered, and the bytes after them are kept; the first line may begin before the piece
 pub record AnswersAll (before after : RunState) (part piece : List ℕ) (buffer : Option (List ℕ)) (old new : Outlet) : Type 0 where
   pub lines : List (List ℕ)
   pub last : List ℕ
@@ -35,7 +35,7 @@ pub record AnswersLast (before after : RunState) (part piece : List ℕ) (buffer
   pub told : AreTold before (lines ++ line ∷ []) text after
   pub put : Puts old new text
 
--- the writer failed in a block of these lines, or in what stood before them
+-- the writer failed in a block of these lines, or in earlier output
 pub record AnswersSome (before after : RunState) (part piece : List ℕ) (old new : Outlet) : Type 0 where
   pub lines : List (List ℕ)
   pub rest : List ℕ

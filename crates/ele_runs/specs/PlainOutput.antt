@@ -1,4 +1,4 @@
--- What is told without any option is an output.
+-- The text of a run without options is an output.
 use Rattle.std.specs.Prelude.{◌≡◌, ℕ, false, List, Option}
 use Rattle.std.specs.Io.KnownBytes.{Keeps}
 use Rattle.ele_history.specs.Past.{Past}

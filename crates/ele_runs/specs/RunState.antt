@@ -1,4 +1,4 @@
--- How far a run has got.
+-- The state of a run.
 use Rattle.std.specs.Prelude.{ℕ, ◌+◌, Bool, false, not, ◌&&◌, List, Option}
 use Rattle.ele_history.specs.Past.{Past}
 use Rattle.ele_runs.specs.RunOptions.{is_well}
@@ -6,8 +6,8 @@ use Rattle.ele_runs.specs.Tally.{fresh_tally, outcome_of, tallied}
 use Rattle.ele_runs.specs.declared.options.RunOptions.{RunOptions}
 use Rattle.ele_runs.specs.declared.tally.Tally.{Tally}
 
--- its manner, its history, how many lines it has heard, whether one of these has ended it, how many were not answered by `ok`,
--- and what is known to stand at the writer of reasons
+-- its options, its history, the number of lines that were run, whether one of them has ended it, the tally, and the bytes
+-- that the writer of reasons is known to hold
 pub record RunState : Type 0 where
   pub options : RunOptions
   pub past : Past
@@ -20,7 +20,7 @@ pub record RunState : Type 0 where
 abbrev pub begun : RunOptions → Past → Option (List ℕ) → RunState
 begun options past notes = record { options = options; past = past; number = 0; ended = false; tally = fresh_tally; notes = notes }
 
--- where this stands at the writer of reasons
+-- the state, if the writer of reasons holds this
 abbrev pub noting : RunState → Option (List ℕ) → RunState
 noting run_state notes = record run_state { notes = notes }
 

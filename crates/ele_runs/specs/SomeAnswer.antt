@@ -4,11 +4,11 @@ use Rattle.ele_runs.specs.Answer.{Answer, IsForMemory}
 use Rattle.ele_runs.specs.Block.{MayAnswer, IsText}
 use Rattle.ele_history.specs.Past.{Past, count_of}
 
--- no more entries were made than may ever be
+-- the history is within its limit of entries
 abbrev pub IsWithin : Past → Type 0
 IsWithin past = count_of past ≤ past.base.limits.events
 
--- the line has an answer that is no stop for memory; the answer has a text, and leaves no more entries than may be
+-- the line has an answer that is no stop for memory; the answer has a text, and leaves the history within its limit
 pub record HasAnswer (before : Past) (line : Option (List ℕ)) : Type 0 where
   pub said : Answer
   pub after : Past

@@ -5,7 +5,7 @@ use Rattle.ele_history.specs.Past.{Past}
 use Rattle.ele_runs.specs.SomeAnswer.{IsWithin}
 use Rattle.ele_runs.specs.Unstopped.{IsUnstopped}
 
--- from a history of no more entries than may be, any lines and a last one have one in which want of memory
+-- from a history within its limit of entries, any lines and a last one have an output in which memory
 -- stopped none of them
 abbrev pub SomeOutput : Type 0
 SomeOutput =

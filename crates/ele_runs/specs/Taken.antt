@@ -4,7 +4,7 @@ use Rattle.std.specs.Io.KnownBytes.{Consumes, Keeps, IsAtEnd}
 use Rattle.ele_runs.specs.declared.fault.ShellFault.{ShellFault}
 use Rattle.ele_runs.specs.declared.fault.ShellFault.TheVariants.{ReadFault, WriteFault, TooManyLines, NoMemory}
 
--- as many bytes as the piece begins with, and none only at the end of the input; a fault takes nothing
+-- the bytes at the start of the piece were read, and none only at the end of the input; a fault reads nothing
 abbrev pub TakesPiece : Option (List ℕ) → Option (List ℕ) → ℕ → List ℕ → Result ℕ ShellFault → Type 0
 TakesPiece old new most piece (Ok count) =
     (count ≤ most) × Consumes old new (take count piece) × (count ≡ 0 → IsAtEnd new)

@@ -1,4 +1,4 @@
--- How many lines of a run were not answered by `ok`, and which of them came first.
+-- The numbers of lines that were not answered by `ok`, and the first of them.
 use Rattle.std.specs.Prelude.{ℕ, ◌+◌, ◌==◌, false, true, List, [], ◌∷◌, Option, Some, None, if◌then◌else◌}
 use Rattle.std.specs.Option.{option_and_then, option_or}
 use Rattle.ele_runs.specs.LineLength.{line_unless_long}
@@ -7,7 +7,7 @@ use Rattle.ele_runs.specs.declared.tally.Outcome.{Outcome}
 use Rattle.ele_runs.specs.declared.tally.Outcome.TheVariants.{Well, Bad, Refused, Stopped}
 use Rattle.ele_runs.specs.declared.tally.Tally.{Tally}
 
--- how a line was answered, by the first letter of its block: that of `bad` (98), of `no` (110), of `stop` (115), or another
+-- the outcome of a line, by the first letter of its block: that of `bad` (98), of `no` (110), of `stop` (115), or another
 abbrev pub outcome_of : List ℕ → Outcome
 outcome_of [] = Well
 outcome_of (first ∷ rest) =
@@ -17,26 +17,26 @@ outcome_of (first ∷ rest) =
 abbrev pub fresh_tally : Tally
 fresh_tally = record { bad = 0; refused = 0; stopped = 0; first = None; first_bad = None }
 
--- one bad line more
+-- the tally with one more bad line
 abbrev pub with_bad : Tally → BadLine → Tally
 with_bad tally line = record tally { bad = tally.bad + 1; first_bad = option_or tally.first_bad (Some line) }
 
--- the line with this number came first, unless another did
+-- the line with this number is the first, unless there was one before
 abbrev pub with_first : Tally → ℕ → Tally
 with_first tally number = record tally { first = option_or tally.first (Some number) }
 
--- a bad line as it is kept
+-- a bad line, unless it is too long
 abbrev pub whole_bad : ℕ → Option (List ℕ) → BadLine
 whole_bad number line = record { number = number; line = option_and_then line_unless_long line; is_cut = false }
 
--- the line with this number was answered so
+-- the tally with the line of this number and this outcome
 abbrev pub tallied : Tally → ℕ → Option (List ℕ) → Outcome → Tally
 tallied tally number line Well = tally
 tallied tally number line Bad = with_first (with_bad tally (whole_bad number line)) number
 tallied tally number line Refused = with_first (record tally { refused = tally.refused + 1 }) number
 tallied tally number line Stopped = with_first (record tally { stopped = tally.stopped + 1 }) number
 
--- and a last line without its line feed, which is bad unless it is empty
+-- the tally with a last line without its line feed, which is bad unless it is empty
 abbrev pub cut_tallied : Tally → ℕ → Option (List ℕ) → Tally
 cut_tallied tally number (Some []) = tally
 cut_tallied tally number last =

@@ -16,7 +16,7 @@ use Rattle.ele_runs.specs.declared.tally.Outcome.{Outcome}
 use Rattle.ele_runs.specs.declared.tally.Outcome.TheVariants.{Well, Bad, Refused, Stopped}
 use Rattle.ele_runs.specs.declared.tally.Tally.{Tally}
 
--- a line that means no command is bad; one may be refused what it asks for, or stopped
+-- a line that is not a command is bad; a command may be refused or stopped
 abbrev pub outcome_for : Answer → Outcome
 outcome_for (answer.Bad fault) = Bad
 outcome_for (answer.Reply (Ok (reply.Refused why))) = Refused
@@ -26,7 +26,7 @@ outcome_for (answer.Why (Err why)) = Refused
 outcome_for (answer.Ahead (Err why)) = Refused
 outcome_for said = Well
 
--- how the lines were answered, one after another
+-- the outcomes of the lines, one after another
 abbrev pub outcomes_of : (before : RunState) (lines : List (List ℕ)) (text : List ℕ) (after : RunState) → AreTold before lines text after → List Outcome
 outcomes_of before [] text after are = []
 outcomes_of before (line ∷ lines) text after (told, rest, between, is, more, parts) =
@@ -48,13 +48,13 @@ abbrev pub is_stopped : Outcome → Bool
 is_stopped Stopped = true
 is_stopped outcome = false
 
--- the first bad line, where the first of them has this number
+-- the first bad line, if the first of the lines has this number
 abbrev pub first_bad_of : ℕ → List (List ℕ) → List Outcome → Option BadLine
 first_bad_of number (line ∷ lines) (Bad ∷ outcomes) = Some (whole_bad number (line_unless_long line))
 first_bad_of number (line ∷ lines) (outcome ∷ outcomes) = first_bad_of (number + 1) lines outcomes
 first_bad_of number lines outcomes = None
 
--- how many were answered so, and which was the first
+-- the number of lines with each outcome, and the first of them
 pub record Counts (lines : List (List ℕ)) (outcomes : List Outcome) (tally : Tally) : Type 0 where
   pub bad : tally.bad ≡ length (filter is_bad outcomes)
   pub refused : tally.refused ≡ length (filter is_refused outcomes)
@@ -62,7 +62,7 @@ pub record Counts (lines : List (List ℕ)) (outcomes : List Outcome) (tally : T
   pub first : tally.first ≡ position_from (λ outcome. not (is_well_done outcome)) 1 outcomes
   pub first_bad : tally.first_bad ≡ first_bad_of 1 lines outcomes
 
--- of whole lines from the first on
+-- the tally of whole lines from the first on
 abbrev pub TallyCounts : Type 0
 TallyCounts =
     (options : RunOptions) (start : Past) (notes : Option (List ℕ)) (lines : List (List ℕ)) (text : List ℕ) (state : RunState)

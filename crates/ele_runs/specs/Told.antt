@@ -1,4 +1,4 @@
--- What is written for a script, in the manner of the run.
+-- The text that a run writes for a script, under its options.
 use Rattle.std.specs.Prelude.{◌≡◌, ℕ, ◌+◌, false, List, [], ◌∷◌, ◌++◌, Option}
 use Rattle.ele_history.specs.Past.{Past}
 use Rattle.ele_runs.specs.Block.{IsBlock, cut_block}
@@ -19,7 +19,7 @@ pub record IsTold (before : RunState) (line : Option (List ℕ)) (told : List �
   pub noted : IsNoted before.options (before.number + 1) line block before.notes notes
   pub after_is : after ≡ advance before past line block notes
 
--- what is told for whole lines, one after another
+-- the text for whole lines, one after another
 abbrev pub AreTold : RunState → List (List ℕ) → List ℕ → RunState → Type 0
 AreTold before [] text after = (text ≡ []) × (after ≡ before)
 AreTold before (line ∷ lines) text after =

@@ -1,4 +1,4 @@
--- Why a line is no command, in the manner of the run, and how that is told.
+-- Why a line is not a command under the options of the run, and the text of that.
 use Rattle.std.specs.Prelude.{◌≡◌, ℕ, List, [], ◌∷◌, ◌++◌, codes, decimal, Option, Some, None, ◌⊎◌}
 use Rattle.ele_printer.specs.declared.fault.LineFault.{LineFault}
 use Rattle.ele_runs.specs.declared.options.RunOptions.{RunOptions}
@@ -10,17 +10,17 @@ use Rattle.ele_script.specs.Words.{words_of}
 use Rattle.ele_reasons.specs.declared.reasons.Reason.{Reason}
 use Rattle.ele_reasons.specs.declared.reasons.Reason.TheVariants.{Cut, TooLong}
 
--- the reason of a line as it is kept, in the manner of the run
+-- the reason for a bad line, under the options of the run
 abbrev pub IsToldReason : RunOptions → Option (List ℕ) → Reason → Type 0
 IsToldReason options None why = why ≡ TooLong
 IsToldReason options (Some line) why = IsReason options.explain line why
 
--- no reason is told where the line is a command, and where there may have been no memory to read it
+-- there is no reason if the line is a command, or if memory to read it may have been refused
 abbrev pub IsUntold : RunOptions → Option (List ℕ) → Type 0
 IsUntold options None = ⊥
 IsUntold options (Some line) = ((fault : LineFault) → ¬ IsFirstFault options.explain line fault) ⊎ WordTakesMemory options.explain (words_of line)
 
--- so is what is told of why
+-- the reason, or none
 abbrev pub IsBadReason : RunOptions → Option (List ℕ) → Option Reason → Type 0
 IsBadReason options line None = IsUntold options line
 IsBadReason options line (Some why) = IsToldReason options line why
@@ -31,7 +31,7 @@ cut_reason None = Some TooLong
 cut_reason (Some []) = None
 cut_reason (Some (byte ∷ bytes)) = Some Cut
 
--- the line that tells why: the number of the line, and which word of it is at fault and why
+-- the message: the number of the line, and the bad word and why it is bad
 abbrev pub why_line : ℕ → Option Reason → List ℕ
 why_line number None = []
 why_line number (Some why) = codes "elephant: line " ++ (decimal number ++ (codes ", " ++ (reason_text why ++ codes "\n")))

@@ -1,4 +1,4 @@
--- What was put for a line, and for a script. No public clause cites this module.
+-- The text that was printed for a line, and for a script. No public clause cites this module.
 use Rattle.std.specs.Prelude.{◌≡◌, ℕ, ◌+◌, List, [], true, Option, Some, None, Result, Ok, Err, if◌then◌else◌}
 use Rattle.ele_output.specs.Outlet.{HandsOver, Outlet, Puts}
 use Rattle.ele_runs.specs.Block.{cut_count}
@@ -10,7 +10,7 @@ use Rattle.ele_runs.specs.declared.end.RunEnd.{RunEnd}
 use Rattle.ele_runs.specs.declared.fault.ShellFault.{ShellFault}
 use Rattle.ele_runs.specs.declared.fault.ShellFault.TheVariants.{NoMemory}
 
--- what is told for the line was put
+-- the text of the line was printed
 pub record PutsBlock (before : RunState) (line : Option (List ℕ)) (after : RunState) (old new : Outlet) : Type 0 where
   pub block : List ℕ
   pub is : IsTold before line block after
@@ -27,15 +27,15 @@ CountsLast run_state buffer (Ok ran) =
     (ran.lines ≡ run_state.number + cut_count buffer) × (ran.ended_by ≡ end_by run_state buffer) × IsTallyOf run_state buffer ran.tally
 CountsLast run_state buffer (Err fault) = Unit {0}
 
--- and what is told for it was put, and all was handed over, or the writer failed
+-- its text was printed and all was handed over, or the writer failed
 abbrev pub WritesLast : {E : Type 0} → RunState → Option (List ℕ) → Outlet → Outlet → Result RunEnd E → Type 0
 WritesLast run_state buffer old new result = CountsLast run_state buffer result × HandsOver old new (cut_told run_state buffer) result
 
--- there was memory
+-- memory was not refused
 abbrev pub HadMemory : {A : Type 0} → Result A ShellFault → Type 0
 HadMemory (Err NoMemory) = ⊥
 HadMemory result = Unit {0}
 
--- what a run has done at its writers, by how it ends
+-- what a run has written, by how it ends
 abbrev pub RunsAt : RunState → Option (List ℕ) → Option (List ℕ) → Outlet → Outlet → Option (List ℕ) → Result RunEnd ShellFault → Type 0
 RunsAt start input rest old new notes result = (new.writer ≡ old.writer) × Tells start input rest old.known new.known notes result × HadMemory result

@@ -1,24 +1,24 @@
-//! How a run ended that no fault ended.
-//! A contract sees how many lines were heard, the line that ended a strict run, if one did, and the tally.
+//! The end of a run without a fault.
+//! A contract sees the number of lines, the line that ended a strict run, if one did, and the tally.
 use crate::line_buffer::LineBuffer;
 use crate::tally::Tally;
 
-/// How a run ended that no fault ended.
+/// The end of a run without a fault.
 #[derive(Drop)]
 pub struct RunEnd {
-    /// How many lines there were, up to the one that ended the run; a last one without its line
-    /// feed counts too.
+    /// The number of lines, until the one that ended the run. A last line without its line feed
+    /// counts too.
     pub lines: u64,
     /// The line that ended a strict run, if one did.
     pub ended_by: Option<EndLine>,
-    /// How many of the lines were not answered by `ok`, and which of them came first.
+    /// The number of lines that were not answered by `ok`, and the first of them.
     pub tally: Tally,
 }
 
 /// The line that ended a strict run: it was answered `no`, `bad` or `stop`.
 #[derive(Drop)]
 pub struct EndLine {
-    /// The line as it is kept.
+    /// The line, unless it is too long.
     pub line: LineBuffer,
     /// Whether it is a last line without its line feed, which is never run.
     pub is_cut: bool,

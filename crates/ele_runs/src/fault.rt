@@ -1,4 +1,4 @@
-//! Why a run ends before the end of its input.
+//! The faults that end a run before the end of its input.
 //! A contract sees the variant, its number and its name.
 ghost use Rattle.std.specs.Prelude.{◌≡◌};
 ghost use Rattle.ele_runs.specs.Fault.{number_of, name_of};
@@ -8,22 +8,22 @@ use ele_moment::NoMemory;
 use ele_output::WriteFault;
 use thiserror::Error;
 
-/// Why a run ended early. Its text is its number and its name, as `34 ReadFault`.
+/// A fault that ended a run early. Its text is its number and its name, for example `34 ReadFault`.
 #[derive(Clone, Copy, Debug, PartialEq, Eq, Error)]
 #[error("{} {}", self.number(), self.name())]
 pub enum ShellFault {
     /// The reader failed.
     ReadFault,
-    /// The writer failed, or took no byte of some.
+    /// The writer failed, or took no byte.
     WriteFault,
     /// The script has more than 1,000,000 lines or 8,589,934,592 bytes.
     TooManyLines,
-    /// There was no memory to begin with.
+    /// Memory for the start of the run was refused.
     NoMemory,
 }
 
 impl ShellFault {
-    /// The fault's number.
+    /// Returns the fault's number.
     pub fn number(self) -> u8
         ensures { result ≡ number_of self }
     {
@@ -35,7 +35,7 @@ impl ShellFault {
         }
     }
 
-    /// The fault's name.
+    /// Returns the fault's name.
     pub fn name(self) -> &'static str
         ensures { result.now ≡ name_of self }
     {

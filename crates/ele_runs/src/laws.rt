@@ -1,4 +1,4 @@
-//! What is true of runs: each law is the contract of a function that does nothing.
+//! Laws of runs: each is the contract of a function that does nothing.
 ghost use Rattle.ele_runs.specs.FrontOfOutput.{FrontOfOutput};
 ghost use Rattle.ele_runs.specs.OneAnswer.{OneAnswer};
 ghost use Rattle.ele_runs.specs.OneOutput.{OneOutput};
@@ -9,50 +9,49 @@ ghost use Rattle.ele_runs.specs.TallyCounts.{TallyCounts};
 
 use ele_script::line_laws::{every_line_meaning, one_line_meaning};
 
-/// From one history a line has one answer, unless want of memory stops it.
+/// From one history a line has one answer, unless memory stops it.
 pub fn one_answer()
     ensures { OneAnswer }
 {
-    // Told for the proof: no line has two meanings, and what a pass is of its world.
+    // Facts for the proof: no line has two meanings, and a pass depends only on its world.
     one_line_meaning();
     ele_history::laws::pass_is_of_world();
 }
 
-/// Lines have one output from one history, unless want of memory stops one of them.
+/// From one history lines have one output, unless memory stops one of them.
 pub fn one_output()
     ensures { OneOutput }
 {
-    // Told for the proof: each line has one answer.
+    // A fact for the proof: each line has one answer.
     one_answer();
 }
 
-/// From a history of no more entries than may ever be, each line has an answer that is no stop for
-/// memory.
+/// From a history within its limit of entries, each line has an answer that is no stop for memory.
 pub fn some_answer()
     ensures { SomeAnswer }
 {
-    // Told for the proof: each line has a meaning.
+    // A fact for the proof: each line has a meaning.
     every_line_meaning();
 }
 
-/// From such a history lines have an output in which want of memory stopped none of them.
+/// From a history within its limit of entries, lines have an output in which memory stopped none.
 pub fn some_output()
     ensures { SomeOutput }
 {
-    // Told for the proof: each line has a meaning.
+    // A fact for the proof: each line has a meaning.
     every_line_meaning();
 }
 
-/// What is told without any option is an output, and outputs are told so.
+/// The text of a run without options is an output, and each output is the text of such a run.
 pub fn plain_output()
     ensures { PlainOutput }
 {}
 
-/// What a run without options has written that its writer ended is a front of an output of its input.
+/// A run without options that its writer ended has written a prefix of an output of its input.
 pub fn front_of_output()
     ensures { FrontOfOutput }
 {
-    // Told for the proof: each line has a meaning.
+    // A fact for the proof: each line has a meaning.
     every_line_meaning();
 }
 

@@ -1,6 +1,5 @@
-//! Running of scripts over whatever steps: bytes in, text out.
-//! A contract sees the bytes that the reader gives and those that the writer takes, where these are
-//! known.
+//! Runs scripts over any world that steps: bytes in, text out.
+//! A contract sees the bytes that the reader gives and that the writer takes, if these are known.
 #![tactic(auto)]
 
 mod end;

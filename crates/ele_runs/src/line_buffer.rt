@@ -1,5 +1,5 @@
-//! The line that began in an earlier piece.
-//! A contract sees it as `Some` of its bytes, or as `None` where it is too long to be kept.
+//! A line that began in an earlier piece.
+//! A contract sees it as `Some` of its bytes, or as `None` if it is too long.
 ghost use Rattle.std.specs.Prelude.{◌≡◌, ◌↔◌, ◌++◌, [], IsTrue, Some};
 ghost use Rattle.std.specs.Option.{option_map, option_and_then};
 ghost use Rattle.ele_runs.specs.LineLength.{line_unless_long};
@@ -8,7 +8,7 @@ use arrayvec::ArrayVec;
 use ele_script::LONGEST_LINE;
 use std::marker::Model;
 
-/// A line without its line feed. Of one that is too long only that is kept.
+/// A line without its line feed, or the fact that it is too long.
 #[derive(Drop)]
 pub struct LineBuffer {
     bytes: ArrayVec<u8, LONGEST_LINE>,
@@ -24,7 +24,7 @@ impl Model for LineBuffer {
 }
 
 impl LineBuffer {
-    /// An empty line.
+    /// Makes an empty line.
     pub(crate) fn new() -> LineBuffer
         ensures { result ≡ Some [] }
     {
@@ -34,7 +34,7 @@ impl LineBuffer {
         }
     }
 
-    /// The line, unless it is too long.
+    /// Copies a line, or notes that it is too long.
     pub(crate) fn kept(line: Option<&[u8]>) -> LineBuffer
         ensures { result ≡ option_and_then line_unless_long
             (option_map (λ line. line.now) line.entry) }
@@ -47,7 +47,7 @@ impl LineBuffer {
         kept
     }
 
-    /// A copy of it.
+    /// Returns a copy.
     pub(crate) fn copy(&self) -> LineBuffer
         ensures { result ≡ self.now }
     {
@@ -60,7 +60,7 @@ impl LineBuffer {
         copy
     }
 
-    /// Begins a new line.
+    /// Empties the line.
     pub(crate) fn clear(&mut self)
         ensures { self.new ≡ Some [] }
     {
@@ -68,7 +68,7 @@ impl LineBuffer {
         self.is_too_long = false;
     }
 
-    /// Puts bytes at the end.
+    /// Appends bytes.
     pub(crate) fn extend(&mut self, bytes: &[u8])
         ensures { self.new
             ≡ option_and_then (λ line. line_unless_long (line ++ bytes.now)) self.old }
@@ -78,14 +78,14 @@ impl LineBuffer {
         }
     }
 
-    /// Whether nothing was put at the end so far.
+    /// Whether the line has no bytes.
     pub(crate) fn is_empty(&self) -> bool
         ensures { IsTrue result ↔ (self.now ≡ Some []) }
     {
         self.bytes.is_empty() && !self.is_too_long
     }
 
-    /// The line, unless it is too long.
+    /// Returns the line, or `None` if it is too long.
     pub fn line(&self) -> Option<&[u8]>
         ensures { option_map (λ line. line.now) result ≡ self.now }
     {
@@ -96,7 +96,7 @@ impl LineBuffer {
     }
 }
 
-/// The line, unless it is too long.
+/// Returns the line, or `None` if it is too long.
 pub fn kept_line(line: &[u8]) -> Option<&[u8]>
     ensures { option_map (λ line. line.now) result ≡ line_unless_long line.now }
 {

@@ -1,5 +1,5 @@
-//! The lines of a piece, and their blocks.
-//! A contract sees the lines that end in the piece, and what was put for them.
+//! Answers the lines of a piece.
+//! A contract sees the lines that end in the piece, and the text that was printed for them.
 ghost use Rattle.std.specs.Prelude.{◌≡◌, ◌+◌, ◌^◌, ◌<◌, ◌≤◌, ◌++◌, [], true, false, Some, length};
 ghost use Rattle.std.specs.Option.{option_map, option_and_then};
 ghost use Rattle.memchr.specs.Find.{IsFirstByte, is_byte};
@@ -27,7 +27,7 @@ use ele_script::{LineFault, put_fault};
 use memchr::memchr;
 use std::io::Write;
 
-// Answers the line that ends with these bytes, and begins a new one, unless that line ended the run.
+// Answers the line that ends with these bytes. Then begins a new line, unless this one ended the run.
 fn put_whole<C: Explain, W: Write, E: Write>(
     end: &[u8],
     buffer: &mut LineBuffer,
@@ -59,15 +59,15 @@ fn put_whole<C: Explain, W: Write, E: Write>(
     }
 }
 
-// Where the first line feed stands.
+// Returns the place of the first line feed.
 fn line_end(bytes: &[u8]) -> Option<usize>
     ensures { IsFirstByte (is_byte 10) bytes.now result }
 {
     memchr(b'\n', bytes)
 }
 
-/// Answers the lines that end in the piece, and keeps what is behind them, or the line that ended
-/// the run. At a fault of the writer no line is answered behind the one in whose block it failed.
+/// Answers the lines that end in the piece, and keeps the bytes after them, or the line that ended the
+/// run. Returns a fault if the writer fails: then no later line is answered.
 pub(crate) fn answer_piece<C: Explain, W: Write, E: Write>(
     piece: &[u8],
     buffer: &mut LineBuffer,
@@ -94,8 +94,7 @@ pub(crate) fn answer_piece<C: Explain, W: Write, E: Write>(
     Ok(())
 }
 
-// Puts the fault of a last line without its line feed, with its number in front where lines are
-// numbered.
+// Prints the fault of a last line without its line feed, after its number if lines are numbered.
 fn put_cut_fault<C: Explain, W: Write>(
     fault: LineFault,
     runner: &Runner<C>,
@@ -109,8 +108,8 @@ fn put_cut_fault<C: Explain, W: Write>(
     put_fault(fault, printer);
 }
 
-// Puts what is told for a last line without its line feed, which is never run, and tells by how much
-// that line counts.
+// Prints the block of a last line without its line feed, which is never run. Returns 1 if the line
+// counts, or 0 if it is empty.
 fn put_cut<C: Explain, W: Write>(
     line: Option<&[u8]>,
     runner: &Runner<C>,
@@ -131,7 +130,7 @@ fn put_cut<C: Explain, W: Write>(
     1
 }
 
-// How many lines were not answered by `ok`, with a last line without its line feed.
+// Returns the tally, with a last line without its line feed.
 fn tally_of<C: Explain>(buffer: &LineBuffer, runner: &Runner<C>) -> Tally
     requires { runner.now.number + 1 < 2 ^ 64 }
     ensures { result ≡ cut_tallied runner.now.tally (runner.now.number + 1) buffer.now }
@@ -141,9 +140,9 @@ fn tally_of<C: Explain>(buffer: &LineBuffer, runner: &Runner<C>) -> Tally
     tally
 }
 
-/// Writes all that is held and what is told for a last line without its line feed, tells why that is
-/// never run, where reasons are told, and tells how the run ended: that line counts unless it is
-/// empty, and ends a strict run then.
+/// Writes the buffered output, and the block and the reason of a last line without its line feed.
+/// Returns the end of the run: the last line counts unless it is empty, and then ends a strict run.
+/// Returns a fault if the writer fails: then it took a prefix.
 pub(crate) fn finish<C: Explain, W: Write, E: Write>(
     buffer: LineBuffer,
     runner: &Runner<C>,

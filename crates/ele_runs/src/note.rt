@@ -1,5 +1,5 @@
-//! Why a line is no command, as a run tells it beside the line's block.
-//! A contract sees a reason as itself, and what the writer of reasons holds then.
+//! The reasons for bad lines, which a run writes beside their blocks.
+//! A contract sees a reason as itself, and the bytes that the writer of reasons holds.
 ghost use Rattle.std.specs.Prelude.{◌≡◌, IfNone, IfSome};
 ghost use Rattle.std.specs.Option.{option_map};
 ghost use Rattle.ele_output.specs.Front.{AppendsFront};
@@ -11,8 +11,8 @@ use ele_reasons::{Reason, reason};
 use std::alloc::Global;
 use std::io::Write;
 
-/// Why a line as it is kept is no command, where that is told: none where it is one, or where there
-/// was no memory to read it.
+/// Returns why a line is not a command. Returns `None` if it is one, or if memory to read it is
+/// refused.
 pub fn why_bad(alloc: Global, options: RunOptions, line: Option<&[u8]>) -> Option<Reason>
     ensures some { IfSome result
         (IsToldReason options (option_map (λ line. line.now) line.entry)) }
@@ -27,7 +27,7 @@ pub fn why_bad(alloc: Global, options: RunOptions, line: Option<&[u8]>) -> Optio
     }
 }
 
-/// Why a last line without its line feed is never run, unless it is empty.
+/// Returns why a last line without its line feed is never run, or `None` if it is empty.
 pub fn why_cut(line: Option<&[u8]>) -> Option<Reason>
     ensures { result ≡ cut_reason (option_map (λ line. line.now) line.entry) }
 {
@@ -38,8 +38,8 @@ pub fn why_cut(line: Option<&[u8]>) -> Option<Reason>
     }
 }
 
-/// Tells why the line with this number is no command. Where the writer fails it has a front of that,
-/// and where there is no memory for the text nothing.
+/// Writes why the line with this number is not a command. If the writer fails, it has a prefix of the
+/// text; if memory for the text is refused, nothing is written. Neither is reported.
 pub fn tell_why<E: Write>(alloc: Global, number: u64, why: Option<Reason>, reasons: &mut E)
     ensures { AppendsFront (E.contents reasons.old) (E.contents reasons.new) (why_line number why) }
 {

@@ -1,27 +1,25 @@
-//! The manner in which a run tells its answers.
-//! A contract sees it as its options.
+//! The options of a run.
+//! A contract sees them as plain data.
 ghost use Rattle.std.specs.Prelude.{◌≡◌};
 ghost use Rattle.ele_runs.specs.RunOptions.{plain, tells_reasons};
 
-/// In which manner a run tells its answers. What a line is answered that asks for no explanation is
-/// never changed by an option.
+/// The options of a run. They never change the answer to a line, except to `why` and `ahead`.
 #[derive(Clone, Copy, Debug, PartialEq, Eq)]
 pub struct RunOptions {
     /// The run ends at the first line that is answered `no`, `bad` or `stop`.
     pub strict: bool,
-    /// The line's number and a space stand in front of each block, and why a line is no command is
-    /// told beside it, unless the run is strict. All lines of the input count, empty ones and
-    /// remarks too.
+    /// The line's number and a space precede each block. Unless the run is strict, the reason for each
+    /// bad line is written beside it. All lines of the input count, also empty ones and remarks.
     pub numbers: bool,
     /// A line that begins with `#` is a remark, and gets no answer.
     pub remarks: bool,
-    /// The lines `why T` and `ahead M` are answered too, from the world as it is. They stand in no
-    /// history, and change nothing.
+    /// The lines `why T` and `ahead M` are answered too, from the current world. They make no entry in
+    /// the history, and change nothing.
     pub explain: bool,
 }
 
 impl RunOptions {
-    /// Without any option.
+    /// Returns the options with each one off.
     pub fn plain() -> RunOptions
         ensures { result ≡ plain }
     {
@@ -33,7 +31,7 @@ impl RunOptions {
         }
     }
 
-    /// Whether why a line is no command is told beside its block.
+    /// Whether the reasons for bad lines are written beside their blocks.
     pub(crate) fn tells_reasons(self) -> bool
         ensures { result ≡ tells_reasons self }
     {

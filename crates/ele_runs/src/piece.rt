@@ -1,4 +1,4 @@
-//! Reading in pieces.
+//! Reads the input in pieces.
 //! A contract sees the bytes that are taken from the reader.
 ghost use Rattle.std.specs.Prelude.{◌<◌, ◌≤◌, length};
 ghost use Rattle.ele_runs.specs.Taken.{TakesPiece};
@@ -6,8 +6,8 @@ ghost use Rattle.ele_runs.specs.Taken.{TakesPiece};
 use crate::fault::ShellFault;
 use std::io::{ErrorKind, Read};
 
-/// Reads what the reader has, at most so many bytes, into the front of the piece, and tells how
-/// many these are: none only at the end of the input. What is only interrupted is tried again.
+/// Reads at most `most` bytes into the start of the piece. Returns their number, which is 0 only at the
+/// end of the input. An interrupted read is repeated. `ReadFault` if the reader fails.
 pub(crate) fn read_piece<R: Read>(
     reader: &mut R,
     piece: &mut [u8],

@@ -1,5 +1,5 @@
-//! The keeper of a run: a history, the answers to its lines, and the manner in which they are told.
-//! A contract sees a keeper as how far its run has got, by itself without what it tells of reasons.
+//! A run over a history: its options, the number of its lines and their tally.
+//! A contract sees it as the state of the run, without the reasons that it wrote.
 ghost use Rattle.std.specs.Prelude.{◌≡◌, ◌+◌, ◌<◌, ◌≤◌, ◌^◌, false, List, None, ℕ, IfOk};
 ghost use Rattle.std.specs.Option.{option_map};
 ghost use Rattle.ele_history.specs.Past.{fresh};
@@ -23,7 +23,7 @@ use std::alloc::Global;
 use std::io::Write;
 use std::marker::Model;
 
-/// A history, where lines are read, in which manner they are answered, and how many were.
+/// A run over a history: its options, the number of its lines and their tally.
 #[derive(Drop)]
 pub(crate) struct Runner<C: Explain> {
     alloc: Global,
@@ -42,12 +42,12 @@ impl<C: Explain> Model for Runner<C> {
 
     ghost view = { λ k. record { options = k.options; past = k.history; number = k.lines; ended = k.has_ended; tally = k.tally; notes = None } };
 
-    // No more lines were counted than were heard.
+    // The tally counts at most the lines that were run.
     ghost invariant = { λ k. (k.tally.bad ≤ k.lines) × (k.tally.refused ≤ k.lines) × (k.tally.stopped ≤ k.lines) };
 }
 
 impl<C: Explain> Runner<C> {
-    /// The history of a fresh world, before the first line.
+    /// Starts a run over the history of a fresh world. `NoMemory` if memory is refused.
     pub(crate) fn new(
         alloc: Global,
         limits: Limits,
@@ -66,28 +66,28 @@ impl<C: Explain> Runner<C> {
         })
     }
 
-    /// The manner of the run.
+    /// Returns the options of the run.
     pub(crate) fn options(&self) -> RunOptions
         ensures { result ≡ self.now.options }
     {
         self.options
     }
 
-    /// How many lines were heard.
+    /// Returns the number of lines that were run.
     pub(crate) fn lines(&self) -> u64
         ensures { result ≡ self.now.number }
     {
         self.lines
     }
 
-    /// Whether one of them has ended the run.
+    /// Whether a line has ended the run.
     pub(crate) fn has_ended(&self) -> bool
         ensures { result ≡ self.now.ended }
     {
         self.has_ended
     }
 
-    /// How many lines were not answered by `ok`, and which of them came first.
+    /// Returns a copy of the tally.
     pub(crate) fn tally(&self) -> Tally
         ensures value { result ≡ self.now.tally }
         ensures few { result.bad ≤ self.now.number }
@@ -95,7 +95,7 @@ impl<C: Explain> Runner<C> {
         self.tally.copy()
     }
 
-    // Hears the next line as it is kept, and answers it.
+    // Runs the next line, which is `None` if it is too long, and returns its answer.
     #[tactic(auto, using(crate::proofs::Blocks::heard_next))]
     fn hear(&mut self, line: Option<&[u8]>) -> Said
         requires { self.old.number + 1 < 2 ^ 64 }
@@ -109,7 +109,7 @@ impl<C: Explain> Runner<C> {
         said
     }
 
-    // Tells why the line that was heard is no command, where reasons are told.
+    // Writes why the line is bad, if it is bad and reasons are written.
     fn tell_reason<E: Write>(&self, line: Option<&[u8]>, said: &Said, reasons: &mut E)
         ensures { (text : List ℕ) → IsText (answer_of self.now.past said.now) text
             → IsNoted self.now.options self.now.number (option_map (λ line. line.now) line.entry)
@@ -123,7 +123,7 @@ impl<C: Explain> Runner<C> {
         }
     }
 
-    /// Tells why a last line without its line feed is never run, where reasons are told.
+    /// Writes why a last line without its line feed is never run, if reasons are written.
     pub(crate) fn tell_cut<E: Write>(&self, line: Option<&[u8]>, reasons: &mut E)
         requires { self.now.number + 1 < 2 ^ 64 }
         ensures { AppendsFront (E.contents reasons.old) (E.contents reasons.new)
@@ -134,8 +134,8 @@ impl<C: Explain> Runner<C> {
         }
     }
 
-    /// Answers the next line as it is kept: tells why it is no command, where reasons are told, and
-    /// puts what is told for it.
+    /// Runs the next line, which is `None` if it is too long. Writes why it is bad, if it is bad and
+    /// reasons are written, and prints its block.
     pub(crate) fn put_block<W: Write, E: Write>(
         &mut self,
         line: Option<&[u8]>,

@@ -1,21 +1,21 @@
-//! How many lines of a run were not answered by `ok`, and which of them came first.
-//! A contract sees a tally as its numbers, and a line as it is kept.
+//! Counts the lines of a run that were not answered by `ok`, and keeps the first of them.
+//! A contract sees a tally as its numbers, and a line as its bytes unless it is too long.
 ghost use Rattle.std.specs.Prelude.{◌≡◌, ◌+◌, ◌<◌, ◌^◌};
 ghost use Rattle.std.specs.Option.{option_map};
 ghost use Rattle.ele_runs.specs.Tally.{cut_tallied, fresh_tally, tallied, whole_bad, with_bad, with_first};
 
 use crate::line_buffer::LineBuffer;
 
-/// How a line was answered.
+/// The kind of the answer to a line.
 #[derive(Clone, Copy, Debug, PartialEq, Eq)]
 pub enum Outcome {
-    /// By `ok`, or not at all.
+    /// `ok`, or no answer.
     Well,
-    /// By `bad`.
+    /// `bad`.
     Bad,
-    /// By `no`.
+    /// `no`.
     Refused,
-    /// By `stop`.
+    /// `stop`.
     Stopped,
 }
 
@@ -24,7 +24,7 @@ pub enum Outcome {
 pub struct BadLine {
     /// Its number, counted from 1.
     pub number: u64,
-    /// The line as it is kept.
+    /// The line, unless it is too long.
     pub line: LineBuffer,
     /// Whether it is a last line without its line feed, which is never run.
     pub is_cut: bool,
@@ -42,23 +42,23 @@ impl BadLine {
     }
 }
 
-/// How many lines were not answered by `ok`, and which of them came first.
+/// The numbers of lines that were not answered by `ok`, and the first of them.
 #[derive(Drop)]
 pub struct Tally {
-    /// How many were answered by `bad`.
+    /// The number of lines that were answered by `bad`.
     pub bad: u64,
-    /// How many were answered by `no`.
+    /// The number of lines that were answered by `no`.
     pub refused: u64,
-    /// How many were answered by `stop`.
+    /// The number of lines that were answered by `stop`.
     pub stopped: u64,
-    /// The number of the first of all these.
+    /// The number of the first of these lines, counted from 1.
     pub first: Option<u64>,
-    /// The first that was answered by `bad`.
+    /// The first line that was answered by `bad`.
     pub first_bad: Option<BadLine>,
 }
 
 impl Tally {
-    /// Before the first line.
+    /// Makes the tally of no lines.
     pub(crate) fn new() -> Tally
         ensures { result ≡ fresh_tally }
     {
@@ -71,7 +71,7 @@ impl Tally {
         }
     }
 
-    /// A copy of it.
+    /// Returns a copy.
     pub(crate) fn copy(&self) -> Tally
         ensures { result ≡ self.now }
     {
@@ -88,7 +88,7 @@ impl Tally {
         }
     }
 
-    /// Counts the line with this number, which was answered so.
+    /// Counts the line with this number and this outcome.
     pub(crate) fn add(&mut self, number: u64, line: Option<&[u8]>, outcome: Outcome)
         requires bad { self.old.bad + 1 < 2 ^ 64 }
         requires refused { self.old.refused + 1 < 2 ^ 64 }
@@ -149,7 +149,7 @@ impl Tally {
         }
     }
 
-    // The line with this number came first, unless another did.
+    // Keeps the number of a line, if it is the first.
     fn note_first(&mut self, number: u64)
         ensures { self.new ≡ with_first self.old number }
     {

@@ -3,7 +3,7 @@ use Rattle.ele_output.specs.Prints.{outlet}
 use Rattle.ele_output.proofs.Known.{HasPut}
 use Rattle.ele_commands.proofs.byte_words.put_hexadecimal.Given as goal
 
--- the digits of the bytes so far are put, and the others are left
+-- the digits of the bytes so far are printed, and the others are left
 abbrev pub invariant-pieces : goal.invariant-pieces
 invariant-pieces g l =
     HasPut (outlet g.W.Write.contents l.fn.printer) (outlet g.W.Write.contents l.printer) (encode_lower l.bytes) (encode_lower l.rest)

@@ -4,7 +4,7 @@ use Rattle.ele_output.specs.Prints.{outlet}
 use Rattle.ele_output.proofs.Known.{HasPut}
 use Rattle.ele_forecast_text.proofs.table.put_numbers.Given as goal
 
--- the numbers so far are put, and the others are left
+-- the numbers so far are printed, and the others are left
 abbrev pub invariant-loop-number : goal.invariant-loop-number
 invariant-loop-number g l =
     HasPut (outlet g.W.Write.contents l.fn.printer) (outlet g.W.Write.contents l.printer) (flat_map (λ (number : ℕ). 32 ∷ decimal number) l.numbers) (flat_map (λ (number : ℕ). 32 ∷ decimal number) (drop l.number-index l.numbers))
