@@ -1,5 +1,5 @@
 //! What the words of a forecast ask for.
-ghost use Rattle.ele_words.specs.Invocation.{IsAsked, IsRefusal};
+ghost use Rattle.ele_invocation.specs.Invocation.{IsAsked, IsRefusal};
 
 use crate::invocation::{Invocation, flag, not_understood};
 use clap::{Arg, ArgAction, ArgMatches, Command};

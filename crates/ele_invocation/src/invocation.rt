@@ -2,16 +2,11 @@
 //! A contract sees the limits of a run, and that words which were refused ask for none.
 ghost use Rattle.std.specs.Prelude.{◌≡◌};
 ghost use Rattle.ele_model.specs.Bounds.{largest_bounds};
-ghost use Rattle.ele_words.specs.Invocation.{IsEvents, IsAsked, IsRefusal};
+ghost use Rattle.ele_invocation.specs.Invocation.{IsEvents, IsAsked, IsRefusal};
 
-mod errors;
-mod forecast;
-mod pages;
-mod paragraphs;
-mod script;
-mod storm;
-mod topics;
-
+use crate::forecast::{asked_forecast, forecast};
+use crate::storm::{asked_storm, storm};
+use crate::topics::{asked_help, asked_topic};
 use clap::error::ErrorKind;
 use clap::{Arg, ArgAction, ArgMatches, Command, Error};
 use ele_model::Limits;
@@ -19,11 +14,8 @@ use ele_moment::read_number;
 use ele_outlook::ForecastOptions;
 use ele_runs::RunOptions;
 use ele_storm::StormPlan;
-use forecast::{asked_forecast, forecast};
 use std::alloc::{AllocError, Global};
 use std::{io, mem};
-use storm::{asked_storm, storm};
-use topics::{asked_help, asked_topic};
 
 /// What the words ask for.
 #[derive(Debug, Drop)]
@@ -89,7 +81,7 @@ const RUN: &str = "Runs the script on standard input. A line is answered as it c
     whatever whole lines have come are answered before more is read";
 
 // An option that is given or not.
-fn flag<'a>(alloc: Global, name: &'a str, help: &'a str) -> Arg<'a> {
+pub(crate) fn flag<'a>(alloc: Global, name: &'a str, help: &'a str) -> Arg<'a> {
     Arg::new(alloc, name)
         .long(name)
         .help(help)
@@ -129,7 +121,7 @@ fn command<'a>(alloc: Global) -> Result<Command<'a>, AllocError> {
 }
 
 // A refusal of words in these.
-fn not_understood(alloc: Global, text: &str) -> Invocation
+pub(crate) fn not_understood(alloc: Global, text: &str) -> Invocation
     ensures { IsRefusal result }
 {
     match String::from_str(alloc, text) {

@@ -1,7 +1,7 @@
 //! What each number and name after `no`, `bad` and `stop`, or on standard error, means, and what to do.
 //! `tools/examples` compares it with `docs/ERRORS.md`.
 
-use crate::invocation::script::pad;
+use crate::script::pad;
 use ele_model::{Refusal, Stop, Which};
 use ele_printer::LineFault;
 use ele_runs::ShellFault;
@@ -235,7 +235,7 @@ fn put_storm_faults(alloc: Global, text: &mut String) -> Result<(), AllocError> 
 }
 
 /// What `elephant help refusals` prints.
-pub(super) fn errors_help(alloc: Global) -> Result<String, AllocError> {
+pub(crate) fn errors_help(alloc: Global) -> Result<String, AllocError> {
     let mut text = String::new(alloc);
     put_refusals(alloc, &mut text)?;
     put_line_faults(alloc, &mut text)?;

@@ -1,5 +1,5 @@
 //! What the words of a storm ask for.
-ghost use Rattle.ele_words.specs.Invocation.{IsAsked};
+ghost use Rattle.ele_invocation.specs.Invocation.{IsAsked};
 
 use crate::invocation::{Invocation, not_understood};
 use clap::{Arg, ArgMatches, Command};

@@ -2,7 +2,7 @@
 //! examples.
 
 /// What a command does, and an example or nothing, in the order of `Command`.
-pub(super) static PARAGRAPHS: [(&str, &str); 37] = [
+pub(crate) static PARAGRAPHS: [(&str, &str); 37] = [
     // ahead
     (
         "Lists what 'due' would list at M if only the clock moves. It needs the option --explain. NotAhead\nif M is earlier than now.",

@@ -63,7 +63,7 @@ fn letters(kind: WordKind, after_path: bool) -> &'static str {
 }
 
 /// Appends the words of a command, and the letters of the words after them.
-pub(super) fn put_usage(text: &mut String, row: &Row) -> Result<(), AllocError> {
+pub(crate) fn put_usage(text: &mut String, row: &Row) -> Result<(), AllocError> {
     let (_, first, second, kinds, _) = *row;
     text.push_str(first)?;
     if !second.is_empty() {
@@ -80,7 +80,7 @@ pub(super) fn put_usage(text: &mut String, row: &Row) -> Result<(), AllocError> 
 }
 
 /// Appends spaces to a text that is shorter than a width.
-pub(super) fn pad(text: &mut String, width: usize) -> Result<(), AllocError> {
+pub(crate) fn pad(text: &mut String, width: usize) -> Result<(), AllocError> {
     let length = text.len();
     for _ in length..width {
         text.push_str(" ")?;
@@ -112,7 +112,7 @@ fn put_topic(alloc: Global, text: &mut String, wanted: Topic) -> Result<(), Allo
 }
 
 /// What `elephant help script` prints.
-pub(super) fn script_help(alloc: Global) -> Result<String, AllocError> {
+pub(crate) fn script_help(alloc: Global) -> Result<String, AllocError> {
     let mut text = String::from_str(alloc, HEAD)?;
     for entry in HEADINGS.iter() {
         let (topic, heading) = *entry;

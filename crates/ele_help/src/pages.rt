@@ -1,7 +1,7 @@
 //! The pages of help on policies and on limits. `tools/examples` runs the example.
 
 /// What `elephant help policies` prints.
-pub(super) const POLICIES: &str = "\
+pub(crate) const POLICIES: &str = "\
 The policy of a file decides when an old version is due, which means that it may be removed. A version
 ends when the next version of its file closes, or when the file loses its last name. It ages from then.
 
@@ -25,7 +25,7 @@ Example:
 ";
 
 /// What `elephant help limits` prints.
-pub(super) const LIMITS: &str = "\
+pub(crate) const LIMITS: &str = "\
 What was ever made counts for good: nothing that you remove, unlink or close makes a number free again.
 
   What                                    Most             Answer above it
