@@ -94,7 +94,7 @@ fn put_error(
     text.push_str("\n")
 }
 
-// The refusal with that number.
+// Returns the refusal with this number.
 fn refusal_at(number: u8) -> Option<Refusal> {
     match number {
         3 => Some(Refusal::ClockBack),

@@ -5,22 +5,26 @@ use ele_commands::{HELP, ROWS, Row, Topic, WordKind};
 use std::alloc::{AllocError, Global};
 
 const HEAD: &str = "\
-A script is lines of words with one space between each two. Each line gets one answer, which begins with
-ok, with no and the number and name of a refusal, with bad where the line is no command, or with stop.
+A script is lines of words with one space between each two. Each line gets one
+answer. Its first word is ok, no (a refusal, with its number and name), bad (the
+line is no command) or stop (no memory, or the history is full).
 'elephant help COMMAND' explains one command, as in 'elephant help create'.
 
 Lines and their answers:
 ";
 
 const LETTERS: &str = "
-  N, H, V  a number, a handle, a version's number: digits without a zero in front
+  N, H, V  a number, a handle, a version's number: digits without a leading zero
   M, U     a moment: seconds since 1970, or a time as 2026-01-31T12:00:00Z
   P, Q     a path: / or names as /docs/notes
-  A        a path, or a path@M for what was there at that moment
+  A        a path, or a path@M for what was there at that moment: if several
+           versions closed in that second, the last of them
   T        the same, or a path#V for the version of that number
   G        the name of a group
-  X        bytes as hexadecimal digits, or - for none
-  POL      one, all, safe:SECONDS, safe:SECONDS/FLOOR, or landmarks:AGE/WIDTH,.. in seconds
+  X        bytes as hexadecimal digits, as printf 'hi' | xxd -p prints them, or -
+           for none
+  POL      one, all, safe:SECONDS, safe:SECONDS/FLOOR or landmarks:AGE/WIDTH,..
+           in seconds: 604800 is a week
   [U]      a word that you may leave out; T|H is either of two
 ";
 

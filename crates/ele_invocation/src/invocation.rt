@@ -1,56 +1,48 @@
-//! What the program's words ask for.
-//! A contract sees the limits of a run, and that words which were refused ask for none.
-ghost use Rattle.std.specs.Prelude.{◌≡◌};
-ghost use Rattle.ele_model.specs.Bounds.{largest_bounds};
-ghost use Rattle.ele_invocation.specs.Invocation.{IsEvents, IsAsked, IsRefusal};
+//! What the program's arguments ask for.
+//! A contract sees the limits of a run, and that arguments which aren't understood ask for none.
+ghost use Rattle.ele_invocation.specs.Invocation.{IsAsked, IsRefusal};
 
 use crate::forecast::{asked_forecast, forecast};
+use crate::run::{asked_run, run};
 use crate::storm::{asked_storm, storm};
 use crate::topics::{asked_help, asked_topic};
 use clap::error::ErrorKind;
 use clap::{Arg, ArgAction, ArgMatches, Command, Error};
 use ele_model::Limits;
-use ele_moment::read_number;
 use ele_outlook::ForecastOptions;
 use ele_runs::RunOptions;
 use ele_storm::StormPlan;
 use std::alloc::{AllocError, Global};
 use std::{io, mem};
 
-/// What the words ask for.
+/// What the arguments ask for.
 #[derive(Debug, Drop)]
 pub enum Invocation {
-    /// A run of the script on standard input in this manner, under these limits: from 1 to
-    /// 1,000,000,000 events, and else the largest.
+    /// A run of the script on standard input, with from 1 to 1,000,000,000 events and otherwise
+    /// the largest limits.
     Run(Limits, RunOptions),
-    /// A storm over a fresh core of the largest limits, with an audit behind it.
+    /// A storm over a new core with the largest limits, and its audit.
     Storm(StormPlan),
     /// A forecast of the closings on standard input.
     Forecast(ForecastOptions),
-    /// The help or the version, which end with status 0.
+    /// A text of help, or the version. The program ends with status 0.
     Help(String),
-    /// The words weren't understood, which ends with status 2.
+    /// The arguments aren't understood, for the reason in the text. The program ends with status 2.
     NotUnderstood(String),
-    /// There was no memory to read them.
+    /// There was no memory to read the arguments.
     NoMemory,
 }
 
-const BAD_EVENTS: &str = "error: --events takes a number from 1 to 1000000000, \
-    without a zero in front\n\nFor more information, try 'elephant run --help'.\n";
-
 const NO_COMMAND: &str =
     "error: there is no command\n\nFor more information, try 'elephant --help'.\n";
-
-const FILE_GIVEN: &str =
-    "error: the script comes on standard input, as in 'elephant run < FILE'\n\n\
-    For more information, try 'elephant run --help'.\n";
 
 const NO_WORDS: &str = "error: the words can't be read as text\n";
 
 const VERSION: &str = "0.3.0";
 
 const EXAMPLE: &str = "\
-A script is lines, and each is answered as it comes. This one saves a file, and reads it as it was:
+A script is lines, and each is answered as it comes. This one saves a file, and
+reads it as it was:
 
     create /notes           ok file 1
     open write /notes       ok handle 1
@@ -58,29 +50,15 @@ A script is lines, and each is answered as it comes. This one saves a file, and 
     close 1                 ok closed version 2
     read /notes             ok bytes 4 706c616e
 
-'elephant run < FILE' runs the script in FILE, and 'elephant help script' lists all commands.
-'elephant help TOPIC' explains script, policies, refusals, limits, run, storm, forecast, or a command,
-as in 'elephant help create'.";
+'elephant run < FILE' runs the script in FILE, and 'elephant help script' lists
+all commands. 'elephant help TOPIC' explains script, policies, refusals, limits,
+run, storm, forecast, or a command, as in 'elephant help create'.";
 
-const SCRIPT: &str = "Tells the commands of scripts";
+const SCRIPT: &str = "List the commands of scripts";
 
 const ALL_COMMANDS: &str = "'elephant help script' lists all commands.";
 
-const STRICT: &str = "Ends the run, with status 5, at the first line that isn't answered by `ok`, \
-    and tells it on standard error, with the word at fault where it is `bad`";
-
-const NUMBERS: &str = "Puts the number of its line in front of each answer, and tells on \
-    standard error the word at fault of each line that is `bad`";
-
-const REMARKS: &str = "Passes over lines that begin with `#`";
-
-const EXPLAIN: &str =
-    "Answers `why T` and `ahead M` too: why a version is held or due, and what will be due by then";
-
-const RUN: &str = "Runs the script on standard input. A line is answered as it comes: \
-    whatever whole lines have come are answered before more is read";
-
-// An option that is given or not.
+/// Returns an option without a value.
 pub(crate) fn flag<'a>(alloc: Global, name: &'a str, help: &'a str) -> Arg<'a> {
     Arg::new(alloc, name)
         .long(name)
@@ -88,39 +66,47 @@ pub(crate) fn flag<'a>(alloc: Global, name: &'a str, help: &'a str) -> Arg<'a> {
         .action(ArgAction::SetTrue)
 }
 
-// The words that the program understands.
-fn command<'a>(alloc: Global) -> Result<Command<'a>, AllocError> {
-    let events = Arg::new(alloc, "events")
-        .long("events")
-        .value_name("N")
-        .help("How many events may be answered, 1 to 1000000000")
-        .default_value("1000000");
-    // Whoever gives a file is told how to hand it in.
-    let file = Arg::new(alloc, "file").hide(true);
-    let run = Command::new(alloc, "run")
-        .about(RUN)
-        .arg(events)?
-        .arg(file)?
-        .arg(flag(alloc, "strict", STRICT))?
-        .arg(flag(alloc, "numbers", NUMBERS))?
-        .arg(flag(alloc, "remarks", REMARKS))?
-        .arg(flag(alloc, "explain", EXPLAIN))?;
-    let script = Command::new(alloc, "script")
-        .about(SCRIPT)
-        .after_help(ALL_COMMANDS);
+// Returns the program without its commands.
+fn program<'a>(alloc: Global) -> Command<'a> {
     Command::new(alloc, "elephant")
         .about("A file system's core that keeps earlier versions")
         .version(VERSION)
         .after_help(EXAMPLE)
         .subcommand_required(true)
         .arg_required_else_help(true)
-        .subcommand(run)?
+}
+
+// Returns the program with each of its commands.
+fn whole_program<'a>(alloc: Global) -> Result<Command<'a>, AllocError> {
+    let script = Command::new(alloc, "script")
+        .about(SCRIPT)
+        .after_help(ALL_COMMANDS);
+    program(alloc)
+        .subcommand(run(alloc)?)?
         .subcommand(storm(alloc)?)?
         .subcommand(forecast(alloc)?)?
         .subcommand(script)
 }
 
-// A refusal of words in these.
+// Returns the program as clap needs it to read these arguments. A command that comes first needs no other.
+fn command<'a>(alloc: Global, words: &[String]) -> Result<Command<'a>, AllocError> {
+    match word(words, 1) {
+        Some("run") => program(alloc).subcommand(run(alloc)?),
+        Some("storm") => program(alloc).subcommand(storm(alloc)?),
+        Some("forecast") => program(alloc).subcommand(forecast(alloc)?),
+        _ => whole_program(alloc),
+    }
+}
+
+/// Returns the word at a position, if there are so many.
+pub(crate) fn word(words: &[String], at: usize) -> Option<&str> {
+    match words.get(at) {
+        Some(word) => Some(word.as_str()),
+        None => None,
+    }
+}
+
+/// Returns a refusal with this text.
 pub(crate) fn not_understood(alloc: Global, text: &str) -> Invocation
     ensures { IsRefusal result }
 {
@@ -130,35 +116,7 @@ pub(crate) fn not_understood(alloc: Global, text: &str) -> Invocation
     }
 }
 
-// What a run in some manner asks for with so many events.
-fn run_with(alloc: Global, events: u64, options: RunOptions) -> Invocation
-    ensures run { IsEvents events
-        → result ≡ Invocation.Run (record largest_bounds { events = events }) options }
-    ensures refused { ¬ IsEvents events → IsRefusal result }
-    ensures invocation { IsAsked result }
-{
-    match Limits::with_events(events) {
-        Some(limits) if events > 0 => Invocation::Run(limits, options),
-        _ => not_understood(alloc, BAD_EVENTS),
-    }
-}
-
-// How many events a run may answer. The option has a default, so that its word is missing nowhere.
-fn events_in(run: &ArgMatches) -> Option<u64> {
-    read_number(run.get_str("events")?.as_bytes())
-}
-
-// In which manner a run is asked for.
-fn manner_in(run: &ArgMatches) -> RunOptions {
-    RunOptions {
-        strict: run.get_flag("strict"),
-        numbers: run.get_flag("numbers"),
-        remarks: run.get_flag("remarks"),
-        explain: run.get_flag("explain"),
-    }
-}
-
-// What words that were understood ask for.
+// Returns what arguments ask for that clap understood.
 fn understood(alloc: Global, matches: &ArgMatches) -> Invocation
     ensures { IsAsked result }
 {
@@ -171,19 +129,13 @@ fn understood(alloc: Global, matches: &ArgMatches) -> Invocation
     if matches.subcommand_matches("script").is_some() {
         return asked_topic(alloc, "script", None);
     }
-    let Some(run) = matches.subcommand_matches("run") else {
-        return not_understood(alloc, NO_COMMAND);
-    };
-    if run.contains_id("file") {
-        return not_understood(alloc, FILE_GIVEN);
-    }
-    match events_in(run) {
-        Some(events) => run_with(alloc, events, manner_in(run)),
-        None => not_understood(alloc, BAD_EVENTS),
+    match matches.subcommand_matches("run") {
+        Some(run) => asked_run(alloc, run),
+        None => not_understood(alloc, NO_COMMAND),
     }
 }
 
-// What words ask for that were refused, or that ask for help.
+// Returns what clap's error asks for: it is a refusal, or a text of help.
 fn refused(alloc: Global, error: &Error) -> Invocation
     ensures { IsAsked result }
 {
@@ -197,14 +149,14 @@ fn refused(alloc: Global, error: &Error) -> Invocation
     }
 }
 
-/// What the program's words ask for, its name first.
+/// Returns what the program's arguments ask for. The first of them is the program's name.
 pub fn words(alloc: Global, words: &[String]) -> Invocation
     ensures { IsAsked result }
 {
     if let Some(asked) = asked_help(alloc, words) {
         return asked;
     }
-    let Ok(command) = command(alloc) else {
+    let Ok(command) = command(alloc, words) else {
         return Invocation::NoMemory;
     };
     match command.try_get_matches_from(words) {
@@ -218,7 +170,7 @@ pub fn words(alloc: Global, words: &[String]) -> Invocation
     }
 }
 
-/// What is asked for where the words can't be had.
+/// Returns what is asked for if the system doesn't provide the arguments, for that reason.
 pub fn unreadable_args(alloc: Global, why: io::ErrorKind) -> Invocation
     ensures { IsRefusal result }
 {

@@ -4,6 +4,7 @@
 
 mod forecast;
 mod invocation;
+mod run;
 mod storm;
 mod topics;
 

@@ -1,4 +1,4 @@
-//! What the words of a storm ask for.
+//! The arguments of a storm.
 ghost use Rattle.ele_invocation.specs.Invocation.{IsAsked};
 
 use crate::invocation::{Invocation, not_understood};
@@ -7,14 +7,22 @@ use ele_moment::read_number;
 use ele_storm::StormPlan;
 use std::alloc::{AllocError, Global};
 
-const STORM: &str = "Lets many writers and historians and a cleaner call one file system at once, \
-    and then audits it";
+const STORM: &str = "Call one file system from many threads, and audit its answers";
+
+const MORE: &str = "\
+In each round a writer saves its own file, a historian reads the first version
+of one of the files, and the cleaner makes a clean. Then an audit compares the
+due versions, the restorable names and the usage with a full scan. It prints
+'storm events N audit equal', or 'unequal' with status 4.
+
+Example:
+  elephant storm --writers 4 --historians 2 --rounds 100";
 
 const BAD_PLAN: &str = "error: a storm takes 1 to 16 writers, 1 to 16 historians \
-    and 1 to 1000 rounds, without a zero in front\n\n\
+    and 1 to 1000 rounds, without a leading zero\n\n\
     For more information, try 'elephant storm --help'.\n";
 
-// An option that takes a number.
+// Returns an option that takes a number.
 fn option<'a>(alloc: Global, name: &'a str, help: &'a str, number: &'a str) -> Arg<'a> {
     Arg::new(alloc, name)
         .long(name)
@@ -23,24 +31,40 @@ fn option<'a>(alloc: Global, name: &'a str, help: &'a str, number: &'a str) -> A
         .default_value(number)
 }
 
-/// The words of a storm.
+/// Returns the arguments of a storm, as clap reads them.
 pub(crate) fn storm<'a>(alloc: Global) -> Result<Command<'a>, AllocError> {
-    let writers = option(alloc, "writers", "How many write a file each, 1 to 16", "2");
-    let historians = option(alloc, "historians", "How many read, 1 to 16", "1");
-    let rounds = option(alloc, "rounds", "How often each does so, 1 to 1000", "10");
+    let writers = option(
+        alloc,
+        "writers",
+        "Start N threads that write, from 1 to 16",
+        "2",
+    );
+    let historians = option(
+        alloc,
+        "historians",
+        "Start N threads that read, from 1 to 16",
+        "1",
+    );
+    let rounds = option(
+        alloc,
+        "rounds",
+        "Repeat the work N times, from 1 to 1000",
+        "10",
+    );
     Command::new(alloc, "storm")
         .about(STORM)
+        .after_help(MORE)
         .arg(writers)?
         .arg(historians)?
         .arg(rounds)
 }
 
-// The number that stands behind an option. Each has a default, so that its word is missing nowhere.
+// Returns the number of an option. Each has a default, so its word always exists.
 fn number_in(storm: &ArgMatches, name: &str) -> Option<u32> {
     u32::try_from(read_number(storm.get_str(name)?.as_bytes())?).ok()
 }
 
-// The plan that the words tell, if its numbers are such as may be.
+// Returns the plan with these numbers, if they are in range.
 fn plan_in(storm: &ArgMatches) -> Option<StormPlan> {
     StormPlan::new(
         number_in(storm, "writers")?,
@@ -49,7 +73,7 @@ fn plan_in(storm: &ArgMatches) -> Option<StormPlan> {
     )
 }
 
-/// What the words of a storm ask for, once they were understood.
+/// Returns what the arguments of a storm ask for.
 pub(crate) fn asked_storm(alloc: Global, storm: &ArgMatches) -> Invocation
     ensures { IsAsked result }
 {

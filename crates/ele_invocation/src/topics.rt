@@ -2,22 +2,14 @@
 ghost use Rattle.std.specs.Prelude.{IfSome};
 ghost use Rattle.ele_invocation.specs.Invocation.{IsAsked};
 
-use crate::invocation::{Invocation, not_understood};
+use crate::invocation::{Invocation, not_understood, word};
 use ele_help::topic_help;
 use std::alloc::Global;
 
 const NO_TOPIC: &str = "error: there is no help on this topic\n\n\
-    Topics: script, policies, refusals, limits, run, storm, forecast, and each command of scripts, \
-    as 'elephant help create'\n\n\
+    Topics: script, policies, refusals, limits, run, storm, forecast,\n\
+    and each command of scripts, as in 'elephant help create'\n\n\
     For more information, try 'elephant help' and 'elephant help script'.\n";
-
-// Returns the word at a position, if there are so many.
-fn word(words: &[String], at: usize) -> Option<&str> {
-    match words.get(at) {
-        Some(word) => Some(word.as_str()),
-        None => None,
-    }
-}
 
 // Whether clap has the help on a word of the program.
 fn is_left_to_clap(first: &str) -> bool {
