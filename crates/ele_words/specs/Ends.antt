@@ -11,8 +11,8 @@ use Rattle.ele_words.specs.Status.{status_of}
 use Rattle.ele_words.specs.Forecasts.{ForecastEnds}
 pub use Rattle.ele_words.specs.RunEnds.{RunEnds}
 use Rattle.ele_words.specs.Progress.{EndsWatched}
-use Rattle.ele_words.specs.declared.invocation.Invocation.{Invocation}
-use Rattle.ele_words.specs.declared.invocation.Invocation.TheVariants as invocation
+use Rattle.ele_invocation.specs.declared.invocation.Invocation.{Invocation}
+use Rattle.ele_invocation.specs.declared.invocation.Invocation.TheVariants as invocation
 
 -- help, by the fault that ended it: all of it was written, or a front
 abbrev pub HasWritten : List ℕ → Option (List ℕ) → Option (List ℕ) → Option ShellFault → Type 0

@@ -1,4 +1,3 @@
-pub mod Invocation
 pub mod Ends
 pub mod Forecasts
 pub mod Progress

@@ -1,10 +1,9 @@
-//! The program's words, and what it does with what they ask for, over whatever steps.
-//! A contract sees the limits of a run, how it ended, what the ends hold then, and the status.
+//! What the program does with what its arguments ask for, over whatever steps.
+//! A contract sees how a run ended, what the reader and the writers hold then, and the status.
 #![tactic(auto)]
 
 mod failure;
 mod forecasting;
-mod invocation;
 mod keeps_error;
 mod program;
 mod storming;
@@ -13,8 +12,8 @@ mod summary;
 mod system_reason;
 mod watched;
 
+pub use ele_invocation::{Invocation, unreadable_args, words};
 pub use failure::{Failure, status};
-pub use invocation::{Invocation, unreadable_args, words};
 pub use keeps_error::{KeepsError, LastError};
 pub use program::{dispatch, dispatch_alone};
 pub use system_reason::SystemReason;

@@ -3,7 +3,7 @@
 //! forecast` reads when a file closed, and prints what becomes of its versions.
 #![tactic(auto)]
 
-ghost use Rattle.ele_words.specs.Invocation.{IsAsked};
+ghost use Rattle.ele_invocation.specs.Invocation.{IsAsked};
 
 use ele_core::Core;
 use ele_words::{Invocation, KeepsError, dispatch, unreadable_args, words};

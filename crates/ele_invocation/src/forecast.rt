@@ -1,5 +1,5 @@
-//! What the words of a forecast ask for.
-ghost use Rattle.ele_words.specs.Invocation.{IsAsked, IsRefusal};
+//! The arguments of a forecast.
+ghost use Rattle.ele_invocation.specs.Invocation.{IsAsked, IsRefusal};
 
 use crate::invocation::{Invocation, flag, not_understood};
 use clap::{Arg, ArgAction, ArgMatches, Command};
@@ -10,37 +10,43 @@ use ele_tool_policy::{read_length, read_policy};
 use ele_tool_time::read_time;
 use std::alloc::{AllocError, Global};
 
-const FORECAST: &str = "Tells from when on each version of a file may be forgotten, and why, \
-    and which stay at given moments. The moments at which the file closed come on standard input, \
-    one a line, oldest first";
+const FORECAST: &str = "Print when each version of a file becomes due, and why";
 
-const POLICY: &str = "The file's policy: one, all, standard, safe:LENGTH, safe:LENGTH/FLOOR, \
-    or landmarks:AGE/WIDTH,..; a length is seconds, or a number and s, m, h, d, w or y; \
-    up to 16 policies are compared";
+const MORE: &str = "\
+The moments at which the file closed come from standard input, one a line, the
+oldest first: 2026-01-31T12:00:00Z, 2026-01-31 or seconds since 1970.
 
-const AT: &str = "Tells which versions stay at that moment; may be given several times";
+A policy is one, all, standard, safe:LENGTH, safe:LENGTH/FLOOR or
+landmarks:AGE/WIDTH,.. ('elephant help policies'). AGE, WIDTH and LENGTH are
+seconds, or a number with s, m, h, d, w or y, as 7d.
 
-const SVG: &str = "Draws it as SVG in place of the table";
+Example:
+  printf '2026-01-01\\n2026-01-02\\n' | elephant forecast --policy safe:7d";
 
-const TITLE: &str = "The title of the drawing";
+const POLICY: &str = "Forecast under POL; give up to 16 to compare them";
 
-const EVERY: &str =
-    "Prints how many versions each policy keeps, at moments from the first closing on \
-    that follow each other by this length";
+const AT: &str = "Also print which versions are kept at the moment M; can\n\
+    be given several times";
 
-const JSON: &str = "Prints JSON in place of the table";
+const SVG: &str = "Print an SVG drawing instead of the table";
 
-const CSV: &str = "Prints CSV in place of the table";
+const TITLE: &str = "Give the drawing this title";
 
-const LABELS: &str =
-    "Takes a tab and a label behind the time of each line, and prints it in each row";
+const EVERY: &str = "Print how many versions each policy keeps, every\n\
+    LENGTH from the first closing on";
 
-const SIZES: &str =
-    "Takes a tab and a size in bytes behind the time of each line, before a label, and prints it";
+const JSON: &str = "Print JSON instead of the table";
 
-const LIST: &str =
-    "Lists the labels of the versions that are due at the moment of --at, or kept then, \
-    in place of the table; numbers without --labels";
+const CSV: &str = "Print CSV instead of the table";
+
+const LABELS: &str = "Read a tab and a label after each time, and print it";
+
+const SIZES: &str = "Read a tab and a size in bytes after each time, before a\n\
+    label, and print it";
+
+const LIST: &str = "Print only the versions that are `due` or `kept` at the\n\
+    moment of --at: their labels, or without --labels their\n\
+    numbers";
 
 const BAD_MOMENT: &str =
     "error: --at takes a time as 2026-01-31T12:00:00Z, 2026-01-31 or seconds since 1970\n\n\
@@ -62,7 +68,7 @@ const TWO_FORMS: &str = "error: --every, --list, --svg, --json and --csv exclude
 const BAD_EVERY: &str = "error: --every takes a length as 3600, 90m, 7d or 1y, and no --at\n\n\
     For more information, try 'elephant forecast --help'.\n";
 
-/// The words of a forecast.
+/// Returns the arguments of a forecast, as clap reads them.
 pub(crate) fn forecast<'a>(alloc: Global) -> Result<Command<'a>, AllocError> {
     let policy = Arg::new(alloc, "policy")
         .long("policy")
@@ -89,6 +95,7 @@ pub(crate) fn forecast<'a>(alloc: Global) -> Result<Command<'a>, AllocError> {
         .help(TITLE);
     Command::new(alloc, "forecast")
         .about(FORECAST)
+        .after_help(MORE)
         .arg(policy)?
         .arg(at)?
         .arg(every)?
@@ -101,7 +108,7 @@ pub(crate) fn forecast<'a>(alloc: Global) -> Result<Command<'a>, AllocError> {
         .arg(flag(alloc, "csv", CSV))
 }
 
-// How many forms are asked for.
+// Returns how many forms are given.
 fn count_forms(forecast: &ArgMatches) -> usize {
     let flags = [
         forecast.get_flag("svg"),
@@ -113,7 +120,7 @@ fn count_forms(forecast: &ArgMatches) -> usize {
     flags.iter().filter(|is_given| **is_given).count()
 }
 
-// The form in which it is to be told, of which one is asked for at most. None if there is no such list or length.
+// Returns the form of the forecast, of which at most one is given. `None` if there is no such list or length.
 fn form_in(forecast: &ArgMatches) -> Option<Form> {
     if let Some(which) = forecast.get_str("list") {
         return list_of(which);
@@ -124,7 +131,7 @@ fn form_in(forecast: &ArgMatches) -> Option<Form> {
     Some(flagged_form(forecast))
 }
 
-// The form that a flag asks for, which is the table without one.
+// Returns the form of the flag that is given, or the table.
 fn flagged_form(forecast: &ArgMatches) -> Form {
     if forecast.get_flag("svg") {
         Form::Drawing
@@ -137,7 +144,7 @@ fn flagged_form(forecast: &ArgMatches) -> Form {
     }
 }
 
-// The list of that name.
+// Returns the list with that name.
 fn list_of(which: &str) -> Option<Form> {
     match which {
         "due" => Some(Form::Due),
@@ -146,7 +153,7 @@ fn list_of(which: &str) -> Option<Form> {
     }
 }
 
-// A table over time with steps of the length that a word spells.
+// Returns a table over time with steps of this length.
 fn every_of(word: &str) -> Option<Form> {
     match read_length(word.as_bytes()) {
         Some(step) if step > 0 => Some(Form::Every(step)),
@@ -154,7 +161,7 @@ fn every_of(word: &str) -> Option<Form> {
     }
 }
 
-// The refusal of a form that isn't one.
+// Returns the refusal of an unknown list or length.
 fn no_form(alloc: Global, forecast: &ArgMatches) -> Invocation
     ensures { IsRefusal result }
 {
@@ -165,7 +172,7 @@ fn no_form(alloc: Global, forecast: &ArgMatches) -> Invocation
     }
 }
 
-// The title of a drawing, which is empty if none is given. None if there was no memory.
+// Returns the title of a drawing, which is empty if none is given. `None` if there was no memory.
 fn title_in(alloc: Global, forecast: &ArgMatches) -> Option<Vec<u8>> {
     let mut title = Vec::new(alloc);
     if let Some(text) = forecast.get_str("title") {
@@ -174,14 +181,14 @@ fn title_in(alloc: Global, forecast: &ArgMatches) -> Option<Vec<u8>> {
     Some(title)
 }
 
-// What a line and a drawing have besides moments.
+// What a forecast has besides policies, moments and a form.
 #[derive(Debug, Drop)]
 struct Extras {
     columns: Columns,
     title: Vec<u8>,
 }
 
-// Which columns each line has besides its time.
+// Returns which columns each line has after its time.
 fn columns_in(forecast: &ArgMatches) -> Columns {
     Columns {
         labels: forecast.get_flag("labels"),
@@ -189,12 +196,12 @@ fn columns_in(forecast: &ArgMatches) -> Columns {
     }
 }
 
-// Whether a script spells a policy by that word too.
+// Whether a script spells a policy by this word too.
 fn is_plain(word: &str) -> bool {
     ele_script::read_policy(word.as_bytes()).is_ok()
 }
 
-// Whether the form tells of that many policies and moments.
+// Whether the form takes so many policies and moments.
 fn suits(form: Form, policies: usize, moments: usize) -> bool {
     match form {
         Form::Table | Form::Drawing | Form::Json | Form::Csv => true,
@@ -203,7 +210,7 @@ fn suits(form: Form, policies: usize, moments: usize) -> bool {
     }
 }
 
-// The refusal of too many policies or moments for the form.
+// Returns the refusal of too many policies or moments for the form.
 fn unsuited(alloc: Global, form: Form) -> Invocation
     ensures { IsRefusal result }
 {
@@ -215,7 +222,7 @@ fn unsuited(alloc: Global, form: Form) -> Invocation
     }
 }
 
-// What a forecast under the policies of these words asks for at the times of those.
+// Returns the forecast under the policies of these words, at the times of those, or a refusal.
 fn asked_under(
     alloc: Global,
     policy_words: &[&str],
@@ -245,7 +252,7 @@ fn asked_under(
     asked_at(alloc, policies, named, time_words, extras, form)
 }
 
-// What a forecast under these policies asks for at the times that these words spell.
+// Returns the forecast under these policies, at the times of these words, or a refusal.
 fn asked_at(
     alloc: Global,
     policies: Vec<Policy>,
@@ -276,7 +283,7 @@ fn asked_at(
     })
 }
 
-/// What the words of a forecast ask for, once they were understood.
+/// Returns what the arguments of a forecast ask for.
 pub(crate) fn asked_forecast(alloc: Global, forecast: &ArgMatches) -> Invocation
     ensures { IsAsked result }
 {

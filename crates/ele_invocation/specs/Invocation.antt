@@ -1,8 +1,8 @@
 -- What the program's words may ask for.
 use Rattle.std.specs.Prelude.{◌≡◌, ℕ, ◌≤◌, Bool, true, false}
 use Rattle.ele_model.specs.Bounds.{largest_bounds}
-use Rattle.ele_words.specs.declared.invocation.Invocation.{Invocation}
-use Rattle.ele_words.specs.declared.invocation.Invocation.TheVariants.{Run, Storm, Forecast, Help, NotUnderstood, NoMemory}
+use Rattle.ele_invocation.specs.declared.invocation.Invocation.{Invocation}
+use Rattle.ele_invocation.specs.declared.invocation.Invocation.TheVariants.{Run, Storm, Forecast, Help, NotUnderstood, NoMemory}
 
 -- so many events may be answered: from 1 to 1,000,000,000
 pub record IsEvents (events : ℕ) : Type 0 where

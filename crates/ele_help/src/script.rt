@@ -5,22 +5,26 @@ use ele_commands::{HELP, ROWS, Row, Topic, WordKind};
 use std::alloc::{AllocError, Global};
 
 const HEAD: &str = "\
-A script is lines of words with one space between each two. Each line gets one answer, which begins with
-ok, with no and the number and name of a refusal, with bad where the line is no command, or with stop.
+A script is lines of words with one space between each two. Each line gets one
+answer. Its first word is ok, no (a refusal, with its number and name), bad (the
+line is no command) or stop (no memory, or the history is full).
 'elephant help COMMAND' explains one command, as in 'elephant help create'.
 
 Lines and their answers:
 ";
 
 const LETTERS: &str = "
-  N, H, V  a number, a handle, a version's number: digits without a zero in front
+  N, H, V  a number, a handle, a version's number: digits without a leading zero
   M, U     a moment: seconds since 1970, or a time as 2026-01-31T12:00:00Z
   P, Q     a path: / or names as /docs/notes
-  A        a path, or a path@M for what was there at that moment
+  A        a path, or a path@M for what was there at that moment: if several
+           versions closed in that second, the last of them
   T        the same, or a path#V for the version of that number
   G        the name of a group
-  X        bytes as hexadecimal digits, or - for none
-  POL      one, all, safe:SECONDS, safe:SECONDS/FLOOR, or landmarks:AGE/WIDTH,.. in seconds
+  X        bytes as hexadecimal digits, as printf 'hi' | xxd -p prints them, or -
+           for none
+  POL      one, all, safe:SECONDS, safe:SECONDS/FLOOR or landmarks:AGE/WIDTH,..
+           in seconds: 604800 is a week
   [U]      a word that you may leave out; T|H is either of two
 ";
 
@@ -63,7 +67,7 @@ fn letters(kind: WordKind, after_path: bool) -> &'static str {
 }
 
 /// Appends the words of a command, and the letters of the words after them.
-pub(super) fn put_usage(text: &mut String, row: &Row) -> Result<(), AllocError> {
+pub(crate) fn put_usage(text: &mut String, row: &Row) -> Result<(), AllocError> {
     let (_, first, second, kinds, _) = *row;
     text.push_str(first)?;
     if !second.is_empty() {
@@ -80,7 +84,7 @@ pub(super) fn put_usage(text: &mut String, row: &Row) -> Result<(), AllocError> 
 }
 
 /// Appends spaces to a text that is shorter than a width.
-pub(super) fn pad(text: &mut String, width: usize) -> Result<(), AllocError> {
+pub(crate) fn pad(text: &mut String, width: usize) -> Result<(), AllocError> {
     let length = text.len();
     for _ in length..width {
         text.push_str(" ")?;
@@ -112,7 +116,7 @@ fn put_topic(alloc: Global, text: &mut String, wanted: Topic) -> Result<(), Allo
 }
 
 /// What `elephant help script` prints.
-pub(super) fn script_help(alloc: Global) -> Result<String, AllocError> {
+pub(crate) fn script_help(alloc: Global) -> Result<String, AllocError> {
     let mut text = String::from_str(alloc, HEAD)?;
     for entry in HEADINGS.iter() {
         let (topic, heading) = *entry;

@@ -1,7 +1,7 @@
 //! What each number and name after `no`, `bad` and `stop`, or on standard error, means, and what to do.
 //! `tools/examples` compares it with `docs/ERRORS.md`.
 
-use crate::invocation::script::pad;
+use crate::script::pad;
 use ele_model::{Refusal, Stop, Which};
 use ele_printer::LineFault;
 use ele_runs::ShellFault;
@@ -94,7 +94,7 @@ fn put_error(
     text.push_str("\n")
 }
 
-// The refusal with that number.
+// Returns the refusal with this number.
 fn refusal_at(number: u8) -> Option<Refusal> {
     match number {
         3 => Some(Refusal::ClockBack),
@@ -235,7 +235,7 @@ fn put_storm_faults(alloc: Global, text: &mut String) -> Result<(), AllocError> 
 }
 
 /// What `elephant help refusals` prints.
-pub(super) fn errors_help(alloc: Global) -> Result<String, AllocError> {
+pub(crate) fn errors_help(alloc: Global) -> Result<String, AllocError> {
     let mut text = String::new(alloc);
     put_refusals(alloc, &mut text)?;
     put_line_faults(alloc, &mut text)?;

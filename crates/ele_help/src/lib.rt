@@ -1,0 +1,11 @@
+//! The texts of `elephant help TOPIC`: the commands of scripts, policies, limits, refusals, and each command.
+//! A contract sees a text and no more: what it says is tested.
+#![tactic(auto)]
+
+mod errors;
+mod pages;
+mod paragraphs;
+mod script;
+mod topics;
+
+pub use topics::topic_help;
