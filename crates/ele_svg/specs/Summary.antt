@@ -12,20 +12,20 @@ use Rattle.ele_forecast_plans.specs.declared.counts.Counts.{Counts}
 use Rattle.ele_forecast_text.specs.declared.plan.Plan.{Plan}
 use Rattle.ele_forecast_text.specs.declared.staying.Staying.{Staying}
 use Rattle.ele_svg_rows.specs.Drawing.{foot_drawn, moment_drawn}
-use Rattle.ele_svg_rows.specs.Head.{head_drawn, policy_name}
-use Rattle.ele_svg_rows.specs.Labels.{labels_drawn}
-use Rattle.ele_svg_rows.specs.Mark.{glued, mark_text, stroke_words}
-use Rattle.ele_svg_rows.specs.Page.{first_of, label_rows, last_of, rungs_of, span_of, x_of}
-use Rattle.ele_svg_rows.specs.Walk.{walked}
-use Rattle.ele_svg_rows.specs.declared.mark.Fill.TheVariants as fill
-use Rattle.ele_svg_rows.specs.declared.mark.Mark.{Mark}
-use Rattle.ele_svg_rows.specs.declared.mark.Mark.TheVariants.{Rect, Line, Text}
-use Rattle.ele_svg_rows.specs.declared.mark.Side.TheVariants.{Before}
-use Rattle.ele_svg_rows.specs.declared.mark.Stroke.{Stroke}
-use Rattle.ele_svg_rows.specs.declared.mark.Stroke.TheVariants as stroke
-use Rattle.ele_svg_rows.specs.declared.mark.Words.{Words}
-use Rattle.ele_svg_rows.specs.declared.mark.Words.TheVariants as words
-use Rattle.ele_svg_rows.specs.declared.page.Page.{Page}
+use Rattle.ele_svg_marks.specs.Head.{head_drawn, policy_name}
+use Rattle.ele_svg_marks.specs.Labels.{labels_drawn}
+use Rattle.ele_svg_marks.specs.Mark.{glued, mark_text, stroke_words}
+use Rattle.ele_svg_marks.specs.Page.{first_of, label_rows, last_of, rungs_of, span_of, x_of}
+use Rattle.ele_svg_marks.specs.Walk.{walked}
+use Rattle.ele_svg_marks.specs.declared.mark.Fill.TheVariants as fill
+use Rattle.ele_svg_marks.specs.declared.mark.Mark.{Mark}
+use Rattle.ele_svg_marks.specs.declared.mark.Mark.TheVariants.{Rect, Line, Text}
+use Rattle.ele_svg_marks.specs.declared.mark.Side.TheVariants.{Before}
+use Rattle.ele_svg_marks.specs.declared.mark.Stroke.{Stroke}
+use Rattle.ele_svg_marks.specs.declared.mark.Stroke.TheVariants as stroke
+use Rattle.ele_svg_marks.specs.declared.mark.Words.{Words}
+use Rattle.ele_svg_marks.specs.declared.mark.Words.TheVariants as words
+use Rattle.ele_svg_marks.specs.declared.page.Page.{Page}
 
 -- the most that stay at any point under any of the policies, and one at least
 abbrev pub highest_at : ℕ → Counts → ℕ

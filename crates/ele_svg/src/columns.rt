@@ -9,7 +9,7 @@ use ele_forecast::Closings;
 use ele_forecast_plans::{Counts, counts_at_moments};
 use ele_forecast_text::Plan;
 use ele_moment::{Moment, NoMemory};
-use ele_svg_rows::Page;
+use ele_svg_marks::Page;
 use std::alloc::Global;
 
 // The points of a curve.

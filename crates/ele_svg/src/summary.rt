@@ -3,7 +3,7 @@
 ghost use Rattle.std.specs.Prelude.{◌≡◌, ◌<◌, ◌≤◌, ◌^◌, ◌++◌, ◌∷◌, [], codes, decimal, length, slice_get, Some};
 ghost use Rattle.std.specs.List.{fold};
 ghost use Rattle.ele_output.specs.Prints.{Prints};
-ghost use Rattle.ele_svg_rows.specs.Mark.{glued};
+ghost use Rattle.ele_svg_marks.specs.Mark.{glued};
 ghost use Rattle.ele_svg_rows.specs.Drawing.{rows_text};
 ghost use Rattle.ele_svg.specs.Drawing.{drawing_text, single_text};
 ghost use Rattle.ele_svg.specs.Summary.{axis_drawn, first_ladder, key_drawn, key_y, keys_drawn, ladder_of, last_of_plan, moments_of, summary_body, summary_frame, summary_heading, summary_page, summary_text, versions_of};
@@ -16,10 +16,11 @@ use ele_forecast_text::{Plan, Staying};
 use ele_moment::Moment;
 use ele_output::Printer;
 use ele_policy::Policy;
-use ele_svg_rows::{
-    Mark, Page, first_of, label_rows, last_of, put_foot, put_head, put_labels, put_marks,
-    put_moments, put_name, put_parts, put_rows_drawing, rungs_of,
+use ele_svg_marks::{
+    Mark, Page, first_of, label_rows, last_of, put_head, put_labels, put_marks, put_name,
+    put_parts, rungs_of,
 };
+use ele_svg_rows::{put_foot, put_moments, put_rows_drawing};
 use itoa::Buffer;
 use std::io::Write;
 

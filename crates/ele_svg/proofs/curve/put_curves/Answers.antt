@@ -1,7 +1,7 @@
 use Rattle.std.proofs.Common.{arith}
 use Rattle.ele_svg.specs.Summary.{curve_drawn}
 use Rattle.ele_svg.proofs.Ranges.{each_whole}
-use Rattle.ele_svg_rows.proofs.Known.{each_more, each_none}
+use Rattle.ele_svg_marks.proofs.Known.{each_more, each_none}
 use Rattle.ele_output.proofs.Known.{put_all, put_more, put_none}
 use Rattle.ele_svg.proofs.curve.put_curves.Goals as goal
 

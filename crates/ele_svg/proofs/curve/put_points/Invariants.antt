@@ -2,7 +2,7 @@ use Rattle.std.proofs.Common.{◌≡◌}
 use Rattle.std.specs.Prelude.{drop}
 use Rattle.ele_output.specs.Prints.{outlet}
 use Rattle.ele_svg.specs.Summary.{column_after, point_text, points_drawn}
-use Rattle.ele_svg_rows.specs.Walk.{walked}
+use Rattle.ele_svg_marks.specs.Walk.{walked}
 use Rattle.ele_output.proofs.Known.{HasPut}
 use Rattle.ele_svg.proofs.curve.put_points.Given as goal
 
