@@ -12,6 +12,12 @@ walked_none : {S A : Type 0} (line : S → A → List ℕ) (next : S → A → S
 unfolding walked
 walked_none line next state = refl
 
+-- the next item at a place is the one there
+pub walked_here : {S A : Type 0} (line : S → A → List ℕ) (next : S → A → S) (state : S) (xs : List A) (i : ℕ) (d : A) → i < length xs
+    → walked line next state (drop i xs) ≡ line state (get_or xs i d) ++ walked line next (next state (get_or xs i d)) (drop (i + 1) xs)
+walked_here {S} {A} line next state xs i d lt =
+    ap (λ (ys : List A). walked line next state ys) (drop_more xs i d lt) ∙ walked_first line next state (get_or xs i d) (drop (i + 1) xs)
+
 -- at an item, it is next
 pub walked_more : {S A : Type 0} (line : S → A → List ℕ) (next : S → A → S) (state : S) (xs : List A) (i : ℕ) (x : A) → i < length xs → x ≡ get_or xs i x
     → walked line next state (drop i xs) ≡ line state x ++ walked line next (next state x) (drop (i + 1) xs)

@@ -1,5 +1,5 @@
 -- What stands above a drawing: its title, what it draws, and what its colours mean.
-use Rattle.std.specs.Prelude.{ℕ, zero, suc, ◌==◌, ◌||◌, nat_lt, List, [], ◌∷◌, ◌++◌, codes, decimal, if◌then◌else◌}
+use Rattle.std.specs.Prelude.{ℕ, zero, suc, ◌==◌, ◌&&◌, ◌||◌, nat_le, nat_lt, List, [], ◌∷◌, ◌++◌, codes, decimal, if◌then◌else◌}
 use Rattle.std.specs.List.{flat_map, join_with_byte}
 use Rattle.ele_policy.specs.Ladder.{Rung}
 use Rattle.ele_policy.specs.declared.policy.Policy.{Policy}
@@ -7,6 +7,7 @@ use Rattle.ele_policy.specs.declared.policy.Policy.TheVariants as policy
 use Rattle.ele_forecast_text.specs.Why.{length_words}
 use Rattle.ele_svg_marks.specs.Mark.{glued}
 use Rattle.ele_svg_marks.specs.Page.{height_of}
+use Rattle.ele_svg_marks.specs.Walk.{walked}
 use Rattle.ele_svg_marks.specs.declared.page.Page.{Page}
 
 -- a byte of a title: what XML reserves is written as a reference, and a control byte as a space
@@ -15,8 +16,16 @@ escaped_byte byte =
     if byte == 38 then codes "&amp;" else (if byte == 60 then codes "&lt;" else (if byte == 62 then codes "&gt;" else (if byte == 39 then codes "&#39;"
     else (if byte == 34 then codes "&quot;" else (if nat_lt byte 32 || (byte == 127) then codes " " else byte ∷ [])))))
 
+-- the characters U+FFFE and U+FFFF begin with the bytes 239 and 191: how many of these a byte ends, after so many
+abbrev pub begun_after : ℕ → ℕ → ℕ
+begun_after begun byte = if byte == 239 then 1 else (if (begun == 1) && (byte == 191) then 2 else 0)
+
+-- XML has no such characters: their third byte, 190 or 191, is written as 189, which makes U+FFFD of them
+abbrev pub escaped_at : ℕ → ℕ → List ℕ
+escaped_at begun byte = if (begun == 2) && (nat_le 190 byte && nat_le byte 191) then 189 ∷ [] else escaped_byte byte
+
 abbrev pub escaped : List ℕ → List ℕ
-escaped title = flat_map escaped_byte title
+escaped title = walked escaped_at begun_after 0 title
 
 -- a title, or what stands in its place
 abbrev pub titled : List ℕ → List ℕ

@@ -3,7 +3,7 @@ ghost use Rattle.std.specs.Prelude.{◌≡◌, ◌++◌, ◌∷◌, [], codes, d
 ghost use Rattle.std.specs.List.{flat_map, join_with_byte};
 ghost use Rattle.ele_output.specs.Prints.{Prints};
 ghost use Rattle.ele_forecast_text.specs.Why.{length_words, spaced};
-ghost use Rattle.ele_svg_marks.specs.Head.{escaped, escaped_byte, floor_words, head_drawn, heading_drawn, legend_drawn, policy_name, rung_text, titled};
+ghost use Rattle.ele_svg_marks.specs.Head.{begun_after, escaped, escaped_at, escaped_byte, floor_words, head_drawn, heading_drawn, legend_drawn, policy_name, rung_text, titled};
 ghost use Rattle.ele_svg_marks.specs.Mark.{glued};
 
 use crate::mark::put_parts;
@@ -81,8 +81,34 @@ fn put_titled<W: Write>(title: &[u8], printer: &mut Printer<'_, W>)
 fn put_escaped<W: Write>(title: &[u8], printer: &mut Printer<'_, W>)
     ensures { Prints W.contents printer.old printer.new (escaped title.now) }
 {
+    let mut begun = 0;
     for byte in title {
-        put_escaped_byte(*byte, printer);
+        put_escaped_at(begun, *byte, printer);
+        begun = begun_after(begun, *byte);
+    }
+}
+
+// How many bytes that begin U+FFFE and U+FFFF there are up to this one, after so many before it.
+fn begun_after(begun: u64, byte: u8) -> u64
+    ensures { result ≡ begun_after begun byte }
+{
+    if byte == 239 {
+        1
+    } else if begun == 1 && byte == 191 {
+        2
+    } else {
+        0
+    }
+}
+
+// Puts a byte of a title after so many bytes that begin U+FFFE and U+FFFF.
+fn put_escaped_at<W: Write>(begun: u64, byte: u8, printer: &mut Printer<'_, W>)
+    ensures { Prints W.contents printer.old printer.new (escaped_at begun byte) }
+{
+    if begun == 2 && byte >= 190 && byte <= 191 {
+        printer.put(&[189]);
+    } else {
+        put_escaped_byte(byte, printer);
     }
 }
 
