@@ -1,5 +1,5 @@
 -- A forecast of many versions, or under several policies, as a drawing: how many versions stay over time, and which pass each level.
-use Rattle.std.specs.Prelude.{ℕ, ◌+◌, ◌-◌, ◌*◌, ◌/◌, ◌%◌, ◌&&◌, max, min, nat_lt, Bool, true, false, List, [], ◌∷◌, ◌++◌, codes, decimal, length, map, slice_get, Option, Some, None, if◌then◌else◌}
+use Rattle.std.specs.Prelude.{ℕ, ◌+◌, ◌-◌, ◌*◌, ◌/◌, ◌%◌, ◌&&◌, max, min, nat_lt, Bool, true, List, [], ◌∷◌, ◌++◌, codes, decimal, length, map, slice_get, if◌then◌else◌}
 use Rattle.std.specs.List.{flat_map, fold, range_with_len}
 use Rattle.std.specs.Option.{option_map_or}
 use Rattle.ele_policy.specs.Ladder.{Rung, level_of}
@@ -42,16 +42,13 @@ count_of place row = option_map_or (λ count. count) (slice_get row.counts.items
 abbrev pub curve_y : Page → ℕ → ℕ → ℕ
 curve_y page highest count = page.top + 240 - min (count * 240 / highest) 240
 
--- a point: each stands four pixels right of the one before
-abbrev pub point_text : Page → ℕ → ℕ → ℕ → Counts → List ℕ
-point_text page highest place column row =
-    glued (decimal (150 + 4 * min column 186) ∷ codes "," ∷ decimal (curve_y page highest (count_of place row)) ∷ codes " " ∷ [])
-
-abbrev pub column_after : ℕ → Counts → ℕ
-column_after column row = column + 1
+-- a point stands at the place of its moment
+abbrev pub point_text : Page → ℕ → ℕ → Counts → List ℕ
+point_text page highest place row =
+    glued (decimal (x_of page row.at) ∷ codes "," ∷ decimal (curve_y page highest (count_of place row)) ∷ codes " " ∷ [])
 
 abbrev pub points_drawn : Page → ℕ → ℕ → List Counts → List ℕ
-points_drawn page highest place rows = walked (point_text page highest place) column_after 0 rows
+points_drawn page highest place rows = flat_map (point_text page highest place) rows
 
 -- the policies' curves, in their order
 abbrev pub curve_stroke : ℕ → Stroke

@@ -136,10 +136,8 @@ fn put_points<W: Write>(
     ensures { Prints W.contents printer.old printer.new
         (points_drawn page.now highest place rows.now) }
 {
-    let mut column = 0;
     for row in rows {
-        put_point(page, highest, place, column, row, printer);
-        column += 1;
+        put_point(page, highest, place, row, printer);
     }
 }
 
@@ -158,20 +156,20 @@ fn put_point<W: Write>(
     page: &Page,
     highest: u64,
     place: usize,
-    column: usize,
     row: &Counts,
     printer: &mut Printer<'_, W>,
 )
     requires { 0 < highest }
     ensures { Prints W.contents printer.old printer.new
-        (point_text page.now highest place column row.now) }
+        (point_text page.now highest place row.now) }
 {
     let mut x = Buffer::new();
     let mut y = Buffer::new();
+    let from_left = page.x(row.at);
     let count = count_of(place, row);
     put_parts(
         &[
-            x.format(150 + 4 * column.min(186) as u64).as_bytes(),
+            x.format(from_left).as_bytes(),
             b",",
             y.format(curve_y(page, highest, count)).as_bytes(),
             b" ",
