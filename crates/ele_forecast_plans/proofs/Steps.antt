@@ -1,7 +1,7 @@
 -- Moments in equal steps, and what is counted at each.
 use Rattle.std.proofs.Common.{◌≡◌, ℕ, zero, suc, ◌+◌, ◌*◌, ◌/◌, ◌<◌, ◌≤◌, List, [], ◌∷◌, ◌++◌, length, map, take, drop, get_or, sym, ap, subst, ◌∙◌, arith}
 use Rattle.std.proofs.Math.Nat.{mul-div-le}
-use Rattle.std.proofs.lemmas.List.{at_drop_all, drop_more, map-append}
+use Rattle.std.proofs.lemmas.List.{at_drop_all, drop_more, map-append, take_more}
 use Rattle.std.specs.List.{AllByRecursion, AllZip, fold, range_with_len}
 use Rattle.ele_forecast_text.specs.declared.plan.Plan.{Plan}
 use Rattle.ele_forecast_plans.specs.OverTime.{AreCounts, AreCountsAt, moments_from}
@@ -43,11 +43,11 @@ all_more P [] x all is = (is, tt)
 all_more P (y ∷ xs) x all is = (all.0, all_more P xs x all.1 is)
 
 -- the counts of one more moment
-pub counts_more : (step first n : ℕ) (closings : List ℕ) (plans : List Plan) (rows : List Counts) (row : Counts) → AreCountsAt (moments_from step first n) closings plans rows → row.at ≡ first + step * n → AreCounts closings plans row
-    → AreCountsAt (moments_from step first (n + 1)) closings plans (rows ++ row ∷ [])
-counts_more step first n closings plans rows row far at is =
+pub counts_more : (moments : List ℕ) (i : ℕ) (closings : List ℕ) (plans : List Plan) (rows : List Counts) (row : Counts) → AreCountsAt (take i moments) closings plans rows → i < length moments → row.at ≡ get_or moments i row.at → AreCounts closings plans row
+    → AreCountsAt (take (i + 1) moments) closings plans (rows ++ row ∷ [])
+counts_more moments i closings plans rows row far lt at is =
     record {
-      at = map-append (λ (r : Counts). r.at) rows (row ∷ []) ∙ ap (λ (ms : List ℕ). ms ++ row.at ∷ []) far.at ∙ ap (λ (m : ℕ). moments_from step first n ++ m ∷ []) at ∙ moments_more step first n;
+      at = map-append (λ (r : Counts). r.at) rows (row ∷ []) ∙ ap (λ (ms : List ℕ). ms ++ row.at ∷ []) far.at ∙ ap (λ (m : ℕ). take i moments ++ m ∷ []) at ∙ sym (take_more moments i row.at lt);
       kept = all_more (AreCounts closings plans) rows row far.kept is;
     }
 

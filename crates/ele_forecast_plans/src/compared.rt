@@ -5,10 +5,9 @@ ghost use Rattle.ele_output.specs.Prints.{Prints};
 ghost use Rattle.ele_forecast_plans.specs.Compared.{compared_heading, compared_line, compared_text, due_column, due_word, forecasts_of, policy_column, version_columns};
 ghost use Rattle.ele_forecast_text.specs.Stamp.{stamp_of, stamp_or};
 
-use crate::details::{put_details, put_headings};
 use crate::stayings::put_stayings;
 use ele_forecast::Forecast;
-use ele_forecast_text::{Details, Plan, put_policy, stamp_of};
+use ele_forecast_text::{Details, Plan, put_details, put_headings, put_policy, stamp_of};
 use ele_moment::{Moment, VersionNo};
 use ele_output::{Printer, put_number, put_word};
 use std::io::Write;

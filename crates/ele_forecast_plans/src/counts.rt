@@ -27,9 +27,9 @@ pub fn is_too_long(step: u64, plans: &[Plan]) -> bool
     MOST_MOMENTS < count_every(step, plans)
 }
 
-/// How many versions stay, under the policies of these plans, at each moment from the first closing to the last change,
-/// in steps of so many seconds. The plans are those of the closings. A pass over the closings counts for one moment and
-/// one policy.
+/// Returns how many versions stay under the policies of these plans at each moment from the first closing to the last
+/// change, in steps of so many seconds. The plans are those of the closings. A pass over the closings counts for one
+/// moment and one policy.
 pub fn counts_every(
     alloc: Global,
     step: u64,
@@ -46,6 +46,26 @@ pub fn counts_every(
         }
         None => Ok(Vec::new(alloc)),
     }
+}
+
+/// Returns how many versions stay under the policies of these plans at each of these moments. Without moments this takes
+/// no memory. A pass over the closings counts for one moment and one policy.
+pub fn counts_at_moments(
+    alloc: Global,
+    moments: &[Moment],
+    closings: &Closings,
+    plans: &[Plan],
+) -> Result<Vec<Counts>, NoMemory>
+    ensures ok { IfOk result (λ rows. AreCountsAt moments.now closings.now plans.now rows.items) }
+    ensures err { OnErr result (moments.now ≢ []) }
+{
+    let mut rows = Vec::new(alloc);
+    for moment in moments {
+        let at = *moment;
+        let counts = counts_at(alloc, at, closings, plans)?;
+        rows.push(Counts { at, counts })?;
+    }
+    Ok(rows)
 }
 
 // How many moments there are.
@@ -70,13 +90,25 @@ fn counts_between(
     ensures { IfOk result (λ rows. AreCountsAt
         (moments_from step first (count_between step first last)) closings.now plans.now rows.items) }
 {
-    let mut rows = Vec::new(alloc);
+    let moments = moments_between(alloc, step, first, last)?;
+    counts_at_moments(alloc, moments.as_slice(), closings, plans)
+}
+
+// The moments between these two, in steps of so many seconds.
+fn moments_between(
+    alloc: Global,
+    step: u64,
+    first: Moment,
+    last: Moment,
+) -> Result<Vec<Moment>, NoMemory>
+    ensures { IfOk result
+        (λ moments. moments.items ≡ moments_from step first (count_between step first last)) }
+{
+    let mut moments = Vec::new(alloc);
     for k in 0..count_between(step, first, last) {
-        let at = moment_at(step, first, last, k);
-        let counts = counts_at(alloc, at, closings, plans)?;
-        rows.push(Counts { at, counts })?;
+        moments.push(moment_at(step, first, last, k))?;
     }
-    Ok(rows)
+    Ok(moments)
 }
 
 // So many steps behind the first moment.

@@ -4,10 +4,9 @@
 
 mod compared;
 mod counts;
-mod details;
 mod over_time;
 mod stayings;
 
 pub use compared::put_compared;
-pub use counts::{Counts, counts_every, is_too_long};
+pub use counts::{Counts, counts_at_moments, counts_every, is_too_long};
 pub use over_time::put_over_time;

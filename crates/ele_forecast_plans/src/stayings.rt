@@ -7,8 +7,7 @@ ghost use Rattle.ele_policy.specs.PolicyText.{policy_word};
 ghost use Rattle.ele_forecast_plans.specs.Compared.{kept_text, plan_staying, policy_staying, stayings_text};
 ghost use Rattle.ele_forecast_text.specs.Stamp.{stamp_of};
 
-use crate::details::put_total;
-use ele_forecast_text::{Details, Plan, Staying, put_policy, stamp_of};
+use ele_forecast_text::{Details, Plan, Staying, put_policy, put_total, stamp_of};
 use ele_moment::{Moment, VersionNo};
 use ele_output::{Printer, put_with_number};
 use ele_policy::Policy;

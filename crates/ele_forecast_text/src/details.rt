@@ -51,7 +51,7 @@ pub fn bytes_of(sizes: &[u64], numbers: &[VersionNo]) -> u128
 }
 
 /// Puts a space and each heading of the columns.
-pub(crate) fn put_headings<W: Write>(details: &Details, printer: &mut Printer<'_, W>)
+pub fn put_headings<W: Write>(details: &Details, printer: &mut Printer<'_, W>)
     ensures { Prints W.contents printer.old printer.new (spaced (detail_headings details.now)) }
 {
     put_heading(details.columns.labels, b"label", printer);
@@ -69,11 +69,7 @@ fn put_heading<W: Write>(has_column: bool, heading: &[u8], printer: &mut Printer
 }
 
 /// Puts a space and each detail of the version of that number.
-pub(crate) fn put_details<W: Write>(
-    details: &Details,
-    number: VersionNo,
-    printer: &mut Printer<'_, W>,
-)
+pub fn put_details<W: Write>(details: &Details, number: VersionNo, printer: &mut Printer<'_, W>)
     ensures { Prints W.contents printer.old printer.new (spaced (detail_words details.now number)) }
 {
     put_label(details, number, printer);
@@ -108,11 +104,7 @@ fn put_size<W: Write>(details: &Details, number: VersionNo, printer: &mut Printe
 
 /// Puts a space and each word of how many bytes the versions of these numbers have together, if
 /// versions have sizes.
-pub(crate) fn put_total<W: Write>(
-    details: &Details,
-    numbers: &[VersionNo],
-    printer: &mut Printer<'_, W>,
-)
+pub fn put_total<W: Write>(details: &Details, numbers: &[VersionNo], printer: &mut Printer<'_, W>)
     ensures { Prints W.contents printer.old printer.new
         (spaced (total_words details.now numbers.now)) }
 {

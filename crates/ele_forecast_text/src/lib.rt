@@ -13,7 +13,7 @@ mod table;
 mod unit;
 mod why;
 
-pub use details::{Columns, Details, bytes_of, size_of};
+pub use details::{Columns, Details, bytes_of, put_details, put_headings, put_total, size_of};
 pub use label::{Label, name_of, put_names};
 pub use listing::listed_at;
 pub use plan::{Plan, plan_of, plans_of};

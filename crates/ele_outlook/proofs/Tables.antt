@@ -1,5 +1,5 @@
 -- The tables of plans, and their moments.
-use Rattle.std.proofs.Common.{◌≡◌, ◌≢◌, ℕ, ◌<◌, Bool, false, List, [], ◌∷◌, length, map, refl, ap, ◌∙◌, arith}
+use Rattle.std.proofs.Common.{◌≡◌, ◌≢◌, ℕ, ◌<◌, ◌⊎◌, inl, inr, Bool, true, false, List, [], ◌∷◌, length, map, refl, ap, ◌∙◌, arith}
 use Rattle.ele_policy.specs.declared.policy.Policy.{Policy}
 use Rattle.ele_forecast_plans.specs.Compared.{compared_text, forecasts_of}
 use Rattle.ele_forecast.specs.FileOf.{lives_from}
@@ -9,7 +9,8 @@ use Rattle.ele_forecast_text.specs.Plan.{ArePlans}
 use Rattle.ele_forecast_text.specs.declared.details.Details.{Details}
 use Rattle.ele_forecast_text.specs.declared.plan.Plan.{Plan}
 use Rattle.ele_forecast_text.specs.declared.staying.Staying.{Staying}
-use Rattle.std.specs.Prelude.{decimal}
+use Rattle.std.specs.Prelude.{decimal, nat_lt}
+use Rattle.ele_svg.specs.Drawing.{has_curves}
 use Rattle.ele_forecast_plans.specs.declared.counts.Counts.{Counts}
 use Rattle.ele_outlook.specs.declared.options.ForecastOptions.{ForecastOptions}
 use Rattle.ele_outlook.specs.Told.{AreRows, IsForecastText, is_over, line_form, listed_numbers, stayings_of, texts_of, told_of, told_table}
@@ -39,6 +40,29 @@ pub closed_some : (policies : List Policy) (closings moments : List ℕ) (plans 
 closed_some policies closings moments [] are some none = some refl
 closed_some [] closings moments (plan ∷ plans) are some none = are
 closed_some (policy ∷ policies) closings moments (plan ∷ plans) are some none = some (no_forecasts plan.forecasts.items closings are.0.told.lives none)
+
+-- more versions than have a row each are some
+some_told : (forecasts : List Forecast) → nat_lt 200 (length forecasts) ≡ true → forecasts ≢ []
+some_told [] many none = absurd cc
+some_told (told ∷ forecasts) many none = absurd cc
+
+uncurved : (closings moments : List ℕ) (policies : List Policy) → (closings ≢ []) ⊎ (1 < length policies) → (closings ≢ []) ⊎ (moments ≢ []) ⊎ (1 < length policies)
+uncurved closings moments policies (inl some) = inl some
+uncurved closings moments policies (inr many) = inr (inr many)
+
+-- if a drawing has curves, the file has closed or there are several policies
+pub drawn_some : (policies : List Policy) (closings moments : List ℕ) (plans : List Plan) → ArePlans policies closings moments plans → has_curves plans ≡ true → (closings ≢ []) ⊎ (1 < length policies)
+drawn_some policies closings moments [] are drawn = absurd cc
+drawn_some (policy ∷ next ∷ policies) closings moments (plan ∷ other ∷ plans) are drawn = inr (omega arith)
+drawn_some policies closings moments (plan ∷ []) are drawn = inl (closed_some policies closings moments (plan ∷ []) are (some_told plan.forecasts.items drawn))
+drawn_some [] closings moments (plan ∷ other ∷ plans) are drawn = absurd are
+drawn_some (policy ∷ []) closings moments (plan ∷ other ∷ plans) are drawn = absurd are.1
+
+-- there was no memory for the counts
+pub uncounted : (policies : List Policy) (closings moments : List ℕ) (plans : List Plan) → ArePlans policies closings moments plans → (forecasts_of plans ≢ []) ⊎ (has_curves plans ≡ true)
+    → (closings ≢ []) ⊎ (moments ≢ []) ⊎ (1 < length policies)
+uncounted policies closings moments plans are (inl some) = inl (closed_some policies closings moments plans are some)
+uncounted policies closings moments plans are (inr drawn) = uncurved closings moments policies (drawn_some policies closings moments plans are drawn)
 
 -- policies, if there are some and not one, are several
 pub several : (policies : List Policy) → length policies ≢ 1 → policies ≢ [] → 1 < length policies

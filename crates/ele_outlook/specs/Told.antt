@@ -1,10 +1,10 @@
 -- The text of a forecast, in each form.
 use Rattle.std.specs.Prelude.{◌≡◌, ℕ, Bool, true, false, List, [], ◌∷◌, ◌++◌, codes, decimal, length, map}
 use Rattle.ele_forecast.specs.declared.forecast.Forecast.{Forecast}
-use Rattle.ele_svg.specs.Drawing.{drawing_text}
+use Rattle.ele_svg.specs.Drawing.{drawing_text, drawn_moments}
 use Rattle.ele_policy.specs.PolicyText.{policy_word}
 use Rattle.ele_forecast_plans.specs.Compared.{compared_text}
-use Rattle.ele_forecast_plans.specs.OverTime.{AreCountsEvery, is_too_long, over_time_text}
+use Rattle.ele_forecast_plans.specs.OverTime.{AreCountsAt, AreCountsEvery, is_too_long, over_time_text}
 use Rattle.ele_forecast_plans.specs.declared.counts.Counts.{Counts}
 use Rattle.ele_forecast_data.specs.Csv.{csv_text}
 use Rattle.ele_forecast_data.specs.Json.{json_text}
@@ -57,7 +57,7 @@ told_table named details (plan ∷ next ∷ plans) moments = compared_text detai
 
 abbrev pub told_text : Form → ForecastOptions → Details → List Plan → List ℕ → List Counts → List ℕ
 told_text Table options details plans listed rows = told_table options.named details plans (length options.moments.items)
-told_text Drawing options details plans listed rows = drawing_text options.title.items plans
+told_text Drawing options details plans listed rows = drawing_text options.title.items plans rows
 told_text Due options details plans listed rows = names_text details.labels.items listed
 told_text Kept options details plans listed rows = names_text details.labels.items listed
 told_text Json options details plans listed rows = json_text details plans
@@ -67,10 +67,11 @@ told_text (Every step) options details plans listed rows = over_time_text plans 
 abbrev pub told_of : ForecastOptions → Details → List Plan → List ℕ → List Counts → List ℕ
 told_of options details plans listed rows = told_text options.form options details plans listed rows
 
--- the rows of a table over time count the versions that stay; another form has none
+-- the rows of a table over time count the versions that stay at its moments, and those of a drawing at the moments of its curves' points;
+-- another form has none
 abbrev pub AreRows : Form → List ℕ → List Plan → List Counts → Type 0
 AreRows Table closings plans rows = rows ≡ []
-AreRows Drawing closings plans rows = rows ≡ []
+AreRows Drawing closings plans rows = AreCountsAt (drawn_moments plans) closings plans rows
 AreRows Due closings plans rows = rows ≡ []
 AreRows Kept closings plans rows = rows ≡ []
 AreRows Json closings plans rows = rows ≡ []

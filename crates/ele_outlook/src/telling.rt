@@ -1,11 +1,12 @@
 //! Reads closings and writes forecasts. A contract sees the bytes that are read and written.
-ghost use Rattle.std.specs.Prelude.{◌≡◌, ◌≢◌, ◌∷◌, ◌++◌, ℕ, List, [], IfErr, IfOk, MatchOption, OnErr, codes, decimal, length, map};
+ghost use Rattle.std.specs.Prelude.{◌≡◌, ◌≢◌, ◌∷◌, ◌++◌, ◌⊎◌, ℕ, List, true, [], IfErr, IfOk, MatchOption, OnErr, codes, decimal, length, map};
 ghost use Rattle.std.specs.Io.KnownBytes.{Keeps};
 ghost use Rattle.ele_policy.specs.PolicyText.{policy_word};
 ghost use Rattle.ele_output.specs.Front.{WritesText};
 ghost use Rattle.ele_output.specs.Prints.{Prints};
 ghost use Rattle.ele_forecast_text.specs.Plan.{ArePlans};
 ghost use Rattle.ele_forecast_plans.specs.Compared.{compared_text, forecasts_of};
+ghost use Rattle.ele_svg.specs.Drawing.{has_curves};
 ghost use Rattle.ele_outlook.specs.Foretold.{Foretells, TellsForecast};
 ghost use Rattle.ele_outlook.specs.Input.{SpellClosings, labels_of, lines_of, size_words_of};
 ghost use Rattle.ele_outlook.specs.Reading.{FailsToRead, TellsClosings};
@@ -25,7 +26,7 @@ use ele_forecast_text::{
 use ele_moment::{Moment, NoMemory, VersionNo};
 use ele_output::{Printer, WriteFault};
 use ele_policy::Policy;
-use ele_svg::put_drawing;
+use ele_svg::{drawing_counts, put_drawing};
 use std::alloc::Global;
 use std::io::{Read, Write};
 
@@ -172,7 +173,7 @@ fn is_over(form: Form, plans: &[Plan]) -> bool
     }
 }
 
-// Returns the rows of a table over time, or none if the form is another.
+// Returns the counts of a table over time or of a drawing's curves, or none for another form.
 fn counted(
     alloc: Global,
     form: Form,
@@ -180,13 +181,12 @@ fn counted(
     plans: &[Plan],
 ) -> Result<Vec<Counts>, NoMemory>
     ensures ok { IfOk result (λ rows. AreRows form closings.now plans.now rows.items) }
-    ensures err { OnErr result (forecasts_of plans.now ≢ []) }
+    ensures err { OnErr result ((forecasts_of plans.now ≢ []) ⊎ (has_curves plans.now ≡ true)) }
 {
     match form {
         Form::Every(step) => counts_every(alloc, step, closings, plans),
-        Form::Table | Form::Drawing | Form::Due | Form::Kept | Form::Json | Form::Csv => Ok(
-            Vec::new(alloc),
-        ),
+        Form::Drawing => drawing_counts(alloc, closings, plans),
+        Form::Table | Form::Due | Form::Kept | Form::Json | Form::Csv => Ok(Vec::new(alloc)),
     }
 }
 
@@ -299,7 +299,7 @@ fn put_told<W: Write>(
 {
     match options.form {
         Form::Table => put_told_table(options, details, plans, printer),
-        Form::Drawing => put_drawing(options.title.as_slice(), plans, printer),
+        Form::Drawing => put_drawing(options.title.as_slice(), plans, rows, printer),
         Form::Due | Form::Kept => put_names(details.labels.as_slice(), listed, printer),
         Form::Json => put_json(details, plans, printer),
         Form::Csv => put_csv(details, plans, printer),

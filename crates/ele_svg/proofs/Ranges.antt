@@ -1,5 +1,7 @@
--- What the numbers of a range come to.
-use Rattle.std.proofs.Common.{◌≡◌, ℕ, ◌-◌, ◌<◌, ◌≤◌, List, ap, arith}
+-- What the numbers of a range and of a list come to.
+use Rattle.std.proofs.Common.{◌≡◌, ℕ, zero, suc, ◌+◌, ◌-◌, ◌*◌, ◌/◌, ◌<◌, ◌≤◌, List, [], ◌∷◌, ◌++◌, length, drop, get_or, map, ap, sym, ◌∙◌, arith}
+use Rattle.std.proofs.Math.Nat.{mul-div-le}
+use Rattle.std.proofs.lemmas.List.{drop_more}
 use Rattle.std.specs.List.{flat_map, fold, range_with_len}
 
 -- none is done yet
@@ -8,11 +10,31 @@ each_whole line n =
     let e : n ≡ n - 0 = omega arith in
     ap (λ (m : ℕ). flat_map line (range_with_len 0 m)) e
 
-pub fold_whole : {B : Type 0} (f : B → ℕ → B) (b : B) (n : ℕ) → fold f b (range_with_len 0 (n - 0)) ≡ fold f b (range_with_len 0 n)
-fold_whole f b n =
-    let e : n - 0 ≡ n = omega arith in
-    ap (λ (m : ℕ). fold f b (range_with_len 0 m)) e
+range_more : (f : ℕ → ℕ) (a n : ℕ) → map f (range_with_len a n) ++ f (a + n) ∷ [] ≡ map f (range_with_len a (suc n))
+range_more f a zero =
+    let same : a + 0 ≡ a = omega arith in
+    ap (λ (m : ℕ). f m ∷ []) same
+range_more f a (suc n) =
+    let same : a + 1 + n ≡ a + suc n = omega arith in
+    ap (λ (xs : List ℕ). f a ∷ xs) (ap (λ (m : ℕ). map f (range_with_len (a + 1) n) ++ f m ∷ []) (sym same) ∙ range_more f (a + 1) n)
+
+-- one more number
+pub map_more : (f : ℕ → ℕ) (n : ℕ) → map f (range_with_len 0 n) ++ f n ∷ [] ≡ map f (range_with_len 0 (n + 1))
+map_more f n =
+    let e : suc n ≡ n + 1 = omega arith in
+    let z : n ≡ 0 + n = omega arith in
+    ap (λ (m : ℕ). map f (range_with_len 0 n) ++ f m ∷ []) z ∙ range_more f 0 n ∙ ap (λ (m : ℕ). map f (range_with_len 0 m)) e
+
+-- at a number of a list, it is taken in
+pub fold_here : {B : Type 0} (f : B → ℕ → B) (b : B) (xs : List ℕ) (i d : ℕ) → i < length xs → fold f b (drop i xs) ≡ fold f (f b (get_or xs i d)) (drop (i + 1) xs)
+fold_here f b xs i d lt = ap (λ (ys : List ℕ). fold f b ys) (drop_more xs i d lt)
 
 -- a number that rises is still one at least
 pub still_some : (a b : ℕ) → 0 < a → a ≤ b → 0 < b
 still_some a b some rises = omega (arith, some, rises)
+
+-- a column is no farther than the last one
+pub within_span : (span column : ℕ) → column < 187 → span * column / 186 ≤ span
+within_span span column lt =
+    let most = mul-div-le (span * column) 186 in
+    grind (arith, lt, most)

@@ -1,14 +1,25 @@
 -- What becomes of a file's versions under some policies, as a drawing.
-use Rattle.std.specs.Prelude.{ℕ, nat_le, nat_lt, List, length, Option, Some, None, slice_get, if◌then◌else◌}
+use Rattle.std.specs.Prelude.{ℕ, nat_le, nat_lt, Bool, true, false, List, [], ◌∷◌, length, Option, Some, None, slice_get, if◌then◌else◌}
+use Rattle.ele_forecast_plans.specs.declared.counts.Counts.{Counts}
 use Rattle.ele_forecast_text.specs.declared.plan.Plan.{Plan}
 use Rattle.ele_svg_rows.specs.Drawing.{rows_text}
-use Rattle.ele_svg.specs.Summary.{summary_text}
+use Rattle.ele_svg.specs.Summary.{column_moments, summary_text}
+
+-- a summary has a curve for each policy, and it is drawn of several policies, or of one with more than 200 versions
+abbrev pub has_curves : List Plan → Bool
+has_curves [] = false
+has_curves (plan ∷ []) = nat_lt 200 (length plan.forecasts.items)
+has_curves (plan ∷ next ∷ plans) = true
+
+-- the moments at which a drawing counts the versions that stay: those of the points of its curves
+abbrev pub drawn_moments : List Plan → List ℕ
+drawn_moments plans = if has_curves plans then column_moments plans else []
 
 -- one policy's versions have a row each if they are 200 at most
-abbrev pub single_text : List ℕ → List Plan → Option Plan → List ℕ
-single_text title plans None = summary_text title plans
-single_text title plans (Some plan) =
-    if nat_le (length plan.forecasts.items) 200 then rows_text title plan.policy plan.forecasts.items plan.stayings.items else summary_text title plans
+abbrev pub single_text : List ℕ → List Plan → List Counts → Option Plan → List ℕ
+single_text title plans rows None = summary_text title plans rows
+single_text title plans rows (Some plan) =
+    if nat_le (length plan.forecasts.items) 200 then rows_text title plan.policy plan.forecasts.items plan.stayings.items else summary_text title plans rows
 
-abbrev pub drawing_text : List ℕ → List Plan → List ℕ
-drawing_text title plans = if nat_lt 1 (length plans) then summary_text title plans else single_text title plans (slice_get plans 0)
+abbrev pub drawing_text : List ℕ → List Plan → List Counts → List ℕ
+drawing_text title plans rows = if nat_lt 1 (length plans) then summary_text title plans rows else single_text title plans rows (slice_get plans 0)

@@ -1,6 +1,6 @@
 -- A forecast of many versions, or under several policies, as a drawing: how many versions stay over time, and which pass each level.
-use Rattle.std.specs.Prelude.{ℕ, ◌+◌, ◌-◌, ◌*◌, ◌/◌, ◌%◌, ◌&&◌, not, max, min, nat_le, nat_lt, Bool, true, false, List, [], ◌∷◌, ◌++◌, codes, decimal, length, slice_get, Option, Some, None, if◌then◌else◌}
-use Rattle.std.specs.List.{count_by, flat_map, fold, range_with_len}
+use Rattle.std.specs.Prelude.{ℕ, ◌+◌, ◌-◌, ◌*◌, ◌/◌, ◌%◌, ◌&&◌, max, min, nat_lt, Bool, true, List, [], ◌∷◌, ◌++◌, codes, decimal, length, map, slice_get, if◌then◌else◌}
+use Rattle.std.specs.List.{flat_map, fold, range_with_len}
 use Rattle.std.specs.Option.{option_map_or}
 use Rattle.ele_policy.specs.Ladder.{Rung, level_of}
 use Rattle.ele_policy.specs.declared.cause.Cause.{Cause}
@@ -8,76 +8,60 @@ use Rattle.ele_policy.specs.declared.cause.Cause.TheVariants as cause
 use Rattle.ele_forecast.specs.declared.forecast.Forecast.{Forecast}
 use Rattle.ele_forecast.specs.declared.forecast.Why.{Why}
 use Rattle.ele_forecast.specs.declared.forecast.Why.TheVariants as why
+use Rattle.ele_forecast_plans.specs.declared.counts.Counts.{Counts}
 use Rattle.ele_forecast_text.specs.declared.plan.Plan.{Plan}
 use Rattle.ele_forecast_text.specs.declared.staying.Staying.{Staying}
 use Rattle.ele_svg_rows.specs.Drawing.{foot_drawn, moment_drawn}
-use Rattle.ele_svg_rows.specs.Head.{head_drawn, policy_name}
-use Rattle.ele_svg_rows.specs.Labels.{labels_drawn}
-use Rattle.ele_svg_rows.specs.Mark.{glued, mark_text, stroke_words}
-use Rattle.ele_svg_rows.specs.Page.{first_of, label_rows, last_of, rungs_of, span_of, x_of}
-use Rattle.ele_svg_rows.specs.Walk.{walked}
-use Rattle.ele_svg_rows.specs.declared.mark.Fill.TheVariants as fill
-use Rattle.ele_svg_rows.specs.declared.mark.Mark.{Mark}
-use Rattle.ele_svg_rows.specs.declared.mark.Mark.TheVariants.{Rect, Line, Text}
-use Rattle.ele_svg_rows.specs.declared.mark.Side.TheVariants.{Before}
-use Rattle.ele_svg_rows.specs.declared.mark.Stroke.{Stroke}
-use Rattle.ele_svg_rows.specs.declared.mark.Stroke.TheVariants as stroke
-use Rattle.ele_svg_rows.specs.declared.mark.Words.{Words}
-use Rattle.ele_svg_rows.specs.declared.mark.Words.TheVariants as words
-use Rattle.ele_svg_rows.specs.declared.page.Page.{Page}
+use Rattle.ele_svg_marks.specs.Head.{head_drawn, policy_name}
+use Rattle.ele_svg_marks.specs.Labels.{labels_drawn}
+use Rattle.ele_svg_marks.specs.Mark.{glued, mark_text, stroke_words}
+use Rattle.ele_svg_marks.specs.Page.{first_of, label_rows, last_of, rungs_of, span_of, x_of}
+use Rattle.ele_svg_marks.specs.Walk.{walked}
+use Rattle.ele_svg_marks.specs.declared.mark.Fill.TheVariants as fill
+use Rattle.ele_svg_marks.specs.declared.mark.Mark.{Mark}
+use Rattle.ele_svg_marks.specs.declared.mark.Mark.TheVariants.{Rect, Line, Text}
+use Rattle.ele_svg_marks.specs.declared.mark.Side.TheVariants.{Before}
+use Rattle.ele_svg_marks.specs.declared.mark.Stroke.{Stroke}
+use Rattle.ele_svg_marks.specs.declared.mark.Stroke.TheVariants as stroke
+use Rattle.ele_svg_marks.specs.declared.mark.Words.{Words}
+use Rattle.ele_svg_marks.specs.declared.mark.Words.TheVariants as words
+use Rattle.ele_svg_marks.specs.declared.page.Page.{Page}
 
--- a curve has 187 points, and this is the moment of each, from the first moment to the last
-abbrev pub column_moment : Page → ℕ → ℕ
-column_moment page column = page.first + span_of page * column / 186
+-- the most that stay at any point under any of the policies, and one at least
+abbrev pub highest_at : ℕ → Counts → ℕ
+highest_at highest row = fold max highest row.counts.items
 
-abbrev pub has_passed : Option ℕ → ℕ → Bool
-has_passed None moment = false
-has_passed (Some ripe) moment = nat_le ripe moment
+abbrev pub highest_of : List Counts → ℕ
+highest_of rows = fold highest_at 1 rows
 
--- a version stays at a moment: it has closed by then, and is not due by then
-abbrev pub stays_at : ℕ → Forecast → Bool
-stays_at moment told = nat_le told.closed moment && not (has_passed told.ripe moment)
-
--- how many stay at a column
-abbrev pub count_at : Page → List Forecast → ℕ → ℕ
-count_at page forecasts column = count_by (stays_at (column_moment page column)) forecasts
-
--- the most that stay at any column under any of the policies, and one at least
-abbrev pub highest_in : Page → ℕ → List Forecast → ℕ → ℕ
-highest_in page highest forecasts columns = fold (λ most column. max most (count_at page forecasts column)) highest (range_with_len 0 columns)
-
-abbrev pub highest_plan : Page → ℕ → Plan → ℕ
-highest_plan page highest plan = highest_in page highest plan.forecasts.items 187
-
-abbrev pub highest_of : Page → List Plan → ℕ
-highest_of page plans = fold (highest_plan page) 1 plans
+-- how many stay under the policy at that place
+abbrev pub count_of : ℕ → Counts → ℕ
+count_of place row = option_map_or (λ count. count) (slice_get row.counts.items place) 0
 
 -- how far from above a curve is at so many: the most are at the top, and none are 240 pixels below
 abbrev pub curve_y : Page → ℕ → ℕ → ℕ
 curve_y page highest count = page.top + 240 - min (count * 240 / highest) 240
 
-abbrev pub point_text : Page → ℕ → List Forecast → ℕ → List ℕ
-point_text page highest forecasts column =
-    glued (decimal (150 + 4 * column) ∷ codes "," ∷ decimal (curve_y page highest (count_at page forecasts column)) ∷ codes " " ∷ [])
+-- a point stands at the place of its moment
+abbrev pub point_text : Page → ℕ → ℕ → Counts → List ℕ
+point_text page highest place row =
+    glued (decimal (x_of page row.at) ∷ codes "," ∷ decimal (curve_y page highest (count_of place row)) ∷ codes " " ∷ [])
+
+abbrev pub points_drawn : Page → ℕ → ℕ → List Counts → List ℕ
+points_drawn page highest place rows = flat_map (point_text page highest place) rows
 
 -- the policies' curves, in their order
 abbrev pub curve_stroke : ℕ → Stroke
 curve_stroke place =
     if nat_lt (place % 4) 1 then stroke.First else (if nat_lt (place % 4) 2 then stroke.Second else (if nat_lt (place % 4) 3 then stroke.Third else stroke.Fourth))
 
-abbrev pub points_drawn : Page → ℕ → List Forecast → ℕ → List ℕ
-points_drawn page highest forecasts columns = flat_map (point_text page highest forecasts) (range_with_len 0 columns)
-
-abbrev pub curve_drawn : Page → ℕ → ℕ → Plan → List ℕ
-curve_drawn page highest place plan =
+abbrev pub curve_drawn : Page → ℕ → List Counts → ℕ → List ℕ
+curve_drawn page highest rows place =
     glued (codes "<polyline fill='none' stroke='" ∷ stroke_words (curve_stroke place) ∷ codes "' points='" ∷ [])
-    ++ (points_drawn page highest plan.forecasts.items 187 ++ codes "'/>\n")
+    ++ (points_drawn page highest place rows ++ codes "'/>\n")
 
-abbrev pub place_after : ℕ → Plan → ℕ
-place_after place plan = place + 1
-
-abbrev pub curves_drawn : Page → ℕ → List Plan → List ℕ
-curves_drawn page highest plans = walked (curve_drawn page highest) place_after 0 plans
+abbrev pub curves_drawn : Page → ℕ → List Counts → ℕ → List ℕ
+curves_drawn page highest rows curves = flat_map (curve_drawn page highest rows) (range_with_len 0 curves)
 
 -- each curve's line and policy
 abbrev pub key_y : ℕ → ℕ
@@ -87,6 +71,9 @@ abbrev pub key_drawn : ℕ → Plan → List ℕ
 key_drawn place plan =
     flat_map mark_text (Line (20, key_y place) (54, key_y place) (curve_stroke place) ∷ [])
     ++ (glued (codes "<text x='58' y='" ∷ decimal (key_y place + 4) ∷ codes "' font-size='11'>" ∷ []) ++ (policy_name plan.policy ++ codes "</text>\n"))
+
+abbrev pub place_after : ℕ → Plan → ℕ
+place_after place plan = place + 1
 
 abbrev pub keys_drawn : List Plan → List ℕ
 keys_drawn plans = walked key_drawn place_after 0 plans
@@ -177,6 +164,16 @@ summary_page plans =
       labels = label_rows (moments_of plans);
     }
 
+-- a curve has 187 points, and this is the moment of each, from the first moment to the last
+abbrev pub column_moment : Page → ℕ → ℕ
+column_moment page column = page.first + span_of page * column / 186
+
+abbrev pub moments_until : Page → ℕ → List ℕ
+moments_until page columns = map (column_moment page) (range_with_len 0 columns)
+
+abbrev pub column_moments : List Plan → List ℕ
+column_moments plans = moments_until (summary_page plans) 187
+
 abbrev pub summary_heading : ℕ → List ℕ
 summary_heading count = glued (codes "<text x='20' y='37' font-size='11'>" ∷ decimal count ∷ codes " versions, and how many stay over time</text>\n" ∷ [])
 
@@ -186,13 +183,13 @@ summary_frame page title plans highest =
     head_drawn page title ++ (summary_heading (length (versions_of plans)) ++ (keys_drawn plans ++ (foot_drawn page ++ axis_drawn page highest)))
 
 -- the moments that are asked about, the strips, the curves and the moments' labels
-abbrev pub summary_body : Page → List Plan → ℕ → List ℕ
-summary_body page plans highest =
+abbrev pub summary_body : Page → List Plan → List Counts → ℕ → List ℕ
+summary_body page plans rows highest =
     strips_drawn page (ladder_of plans) (versions_of plans)
-    ++ (flat_map (moment_drawn page) (moments_of plans) ++ (curves_drawn page highest plans ++ labels_drawn page (moments_of plans)))
+    ++ (flat_map (moment_drawn page) (moments_of plans) ++ (curves_drawn page highest rows (length plans) ++ labels_drawn page (moments_of plans)))
 
-abbrev pub summary_text : List ℕ → List Plan → List ℕ
-summary_text title plans =
+abbrev pub summary_text : List ℕ → List Plan → List Counts → List ℕ
+summary_text title plans rows =
     let page = summary_page plans in
-    let highest = highest_of page plans in
-    summary_frame page title plans highest ++ (summary_body page plans highest ++ codes "</svg>\n")
+    let highest = highest_of rows in
+    summary_frame page title plans highest ++ (summary_body page plans rows highest ++ codes "</svg>\n")

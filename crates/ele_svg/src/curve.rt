@@ -1,58 +1,16 @@
 //! The curves of a summary: how many versions stay over time. A contract sees a count as a number, and
 //! what is put as its text.
 ghost use Rattle.std.specs.Prelude.{◌≡◌, ◌<◌, ◌≤◌, ◌^◌, ◌∷◌, [], codes, max};
-ghost use Rattle.std.specs.List.{flat_map};
+ghost use Rattle.std.specs.List.{flat_map, fold};
 ghost use Rattle.ele_output.specs.Prints.{Prints};
-ghost use Rattle.ele_svg_rows.specs.Mark.{glued, mark_text, stroke_words};
-ghost use Rattle.ele_svg.specs.Summary.{axis_line, axis_marks, column_moment, count_at, curve_drawn, curve_stroke, curve_y, curves_drawn, has_passed, highest_in, highest_of, highest_plan, point_text, points_drawn, stays_at};
+ghost use Rattle.ele_svg_marks.specs.Mark.{glued, mark_text, stroke_words};
+ghost use Rattle.ele_svg.specs.Summary.{axis_line, axis_marks, count_of, curve_drawn, curve_stroke, curve_y, curves_drawn, highest_at, highest_of, point_text, points_drawn};
 
-use ele_forecast::Forecast;
-use ele_forecast_text::Plan;
-use ele_moment::Moment;
+use ele_forecast_plans::Counts;
 use ele_output::Printer;
-use ele_svg_rows::{Mark, Page, Side, Stroke, Words, put_marks, put_parts};
+use ele_svg_marks::{Mark, Page, Side, Stroke, Words, put_marks, put_parts};
 use itoa::Buffer;
 use std::io::Write;
-
-// The points of a curve.
-const COLUMNS: u64 = 187;
-
-// The seconds of a column's moment.
-fn column_moment(page: &Page, column: u64) -> u64
-    requires { column < 187 }
-    ensures { result ≡ column_moment page.now column }
-{
-    page.first.seconds() + page.span() * column / 186
-}
-
-// Whether there is a moment, and it is that one or earlier.
-fn has_passed(ripe: Option<Moment>, moment: u64) -> bool
-    ensures { result ≡ has_passed ripe moment }
-{
-    match ripe {
-        Some(ripe) => ripe.seconds() <= moment,
-        None => false,
-    }
-}
-
-// Whether a version stays at a moment.
-fn stays_at(moment: u64, forecast: &Forecast) -> bool
-    ensures { result ≡ stays_at moment forecast.now }
-{
-    forecast.closed.seconds() <= moment && !has_passed(forecast.ripe, moment)
-}
-
-// How many stay at a column.
-fn count_at(page: &Page, forecasts: &[Forecast], column: u64) -> u64
-    requires { column < 187 }
-    ensures { result ≡ count_at page.now forecasts.now column }
-{
-    let moment = column_moment(page, column);
-    forecasts
-        .iter()
-        .filter(|forecast| stays_at(moment, forecast))
-        .count() as u64
-}
 
 // The larger of two numbers.
 fn larger(a: u64, b: u64) -> u64
@@ -62,35 +20,34 @@ fn larger(a: u64, b: u64) -> u64
     if a < b { b } else { a }
 }
 
-// The most that stay at any of so many columns, and a number before it.
-fn highest_in(page: &Page, highest: u64, forecasts: &[Forecast], columns: u64) -> u64
-    requires { columns ≤ 187 }
-    ensures value { result ≡ highest_in page.now highest forecasts.now columns }
+// The largest of these counts, and of a number before them.
+fn highest_in(highest: u64, counts: &[usize]) -> u64
+    ensures value { result ≡ fold max highest counts.now }
     ensures rises { highest ≤ result }
 {
     let mut most = highest;
-    for column in 0..columns {
-        most = larger(most, count_at(page, forecasts, column));
+    for count in counts {
+        most = larger(most, *count as u64);
     }
     most
 }
 
-// The most that stay under a policy, and a number before it.
-fn highest_plan(page: &Page, highest: u64, plan: &Plan) -> u64
-    ensures value { result ≡ highest_plan page.now highest plan.now }
+// The most that stay at a point under any of the policies, and a number before it.
+fn highest_at(highest: u64, row: &Counts) -> u64
+    ensures value { result ≡ highest_at highest row.now }
     ensures rises { highest ≤ result }
 {
-    highest_in(page, highest, plan.forecasts.as_slice(), COLUMNS)
+    highest_in(highest, row.counts.as_slice())
 }
 
-/// The most that stay at any column under any of the policies, and one at least.
-pub(crate) fn highest_of(page: &Page, plans: &[Plan]) -> u64
-    ensures value { result ≡ highest_of page.now plans.now }
+/// Returns the most that stay at any point under any of the policies, and 1 at least.
+pub(crate) fn highest_of(rows: &[Counts]) -> u64
+    ensures value { result ≡ highest_of rows.now }
     ensures some { 0 < result }
 {
     let mut highest = 1;
-    for plan in plans {
-        highest = highest_plan(page, highest, plan);
+    for row in rows {
+        highest = highest_at(highest, row);
     }
     highest
 }
@@ -117,37 +74,37 @@ pub(crate) fn curve_stroke(place: usize) -> Stroke
     }
 }
 
-/// Puts the curve of each policy.
+/// Puts so many curves, one for each policy.
 pub(crate) fn put_curves<W: Write>(
     page: &Page,
     highest: u64,
-    plans: &[Plan],
-    printer: &mut Printer<'_, W>,
-)
-    requires { 0 < highest }
-    ensures { Prints W.contents printer.old printer.new (curves_drawn page.now highest plans.now) }
-{
-    let mut place = 0;
-    for plan in plans {
-        put_curve(page, highest, place, plan, printer);
-        place += 1;
-    }
-}
-
-// Puts a curve.
-fn put_curve<W: Write>(
-    page: &Page,
-    highest: u64,
-    place: usize,
-    plan: &Plan,
+    rows: &[Counts],
+    curves: usize,
     printer: &mut Printer<'_, W>,
 )
     requires { 0 < highest }
     ensures { Prints W.contents printer.old printer.new
-        (curve_drawn page.now highest place plan.now) }
+        (curves_drawn page.now highest rows.now curves) }
+{
+    for place in 0..curves {
+        put_curve(page, highest, rows, place, printer);
+    }
+}
+
+// Puts the curve of the policy at that place.
+fn put_curve<W: Write>(
+    page: &Page,
+    highest: u64,
+    rows: &[Counts],
+    place: usize,
+    printer: &mut Printer<'_, W>,
+)
+    requires { 0 < highest }
+    ensures { Prints W.contents printer.old printer.new
+        (curve_drawn page.now highest rows.now place) }
 {
     put_curve_opening(place, printer);
-    put_points(page, highest, plan.forecasts.as_slice(), COLUMNS, printer);
+    put_points(page, highest, place, rows, printer);
     printer.put(b"'/>\n");
 }
 
@@ -167,21 +124,30 @@ fn put_curve_opening<W: Write>(place: usize, printer: &mut Printer<'_, W>)
     );
 }
 
-// Puts a curve's points at so many columns.
+// Puts a curve's points.
 fn put_points<W: Write>(
     page: &Page,
     highest: u64,
-    forecasts: &[Forecast],
-    columns: u64,
+    place: usize,
+    rows: &[Counts],
     printer: &mut Printer<'_, W>,
 )
-    requires some { 0 < highest }
-    requires few { columns ≤ 187 }
+    requires { 0 < highest }
     ensures { Prints W.contents printer.old printer.new
-        (points_drawn page.now highest forecasts.now columns) }
+        (points_drawn page.now highest place rows.now) }
 {
-    for column in 0..columns {
-        put_point(page, highest, forecasts, column, printer);
+    for row in rows {
+        put_point(page, highest, place, row, printer);
+    }
+}
+
+// How many stay under the policy at that place.
+fn count_of(place: usize, row: &Counts) -> u64
+    ensures { result ≡ count_of place row.now }
+{
+    match row.counts.get(place) {
+        Some(count) => *count as u64,
+        None => 0,
     }
 }
 
@@ -189,21 +155,21 @@ fn put_points<W: Write>(
 fn put_point<W: Write>(
     page: &Page,
     highest: u64,
-    forecasts: &[Forecast],
-    column: u64,
+    place: usize,
+    row: &Counts,
     printer: &mut Printer<'_, W>,
 )
-    requires some { 0 < highest }
-    requires within { column < 187 }
+    requires { 0 < highest }
     ensures { Prints W.contents printer.old printer.new
-        (point_text page.now highest forecasts.now column) }
+        (point_text page.now highest place row.now) }
 {
     let mut x = Buffer::new();
     let mut y = Buffer::new();
-    let count = count_at(page, forecasts, column);
+    let from_left = page.x(row.at);
+    let count = count_of(place, row);
     put_parts(
         &[
-            x.format(150 + 4 * column).as_bytes(),
+            x.format(from_left).as_bytes(),
             b",",
             y.format(curve_y(page, highest, count)).as_bytes(),
             b" ",

@@ -3,14 +3,15 @@
 ghost use Rattle.std.specs.Prelude.{◌≡◌, ◌<◌, ◌^◌, ◌++◌, codes};
 ghost use Rattle.std.specs.List.{flat_map};
 ghost use Rattle.ele_output.specs.Prints.{Prints};
-ghost use Rattle.ele_svg_rows.specs.Mark.{mark_text};
+ghost use Rattle.ele_svg_marks.specs.Mark.{mark_text};
 ghost use Rattle.ele_svg.specs.Summary.{is_seen, last_if, last_seen, level_strip, passes, passes_by, strip_drawn, strip_marks, strip_tick, strip_top, strips_drawn, tick_if};
-ghost use Rattle.ele_svg_rows.specs.Walk.{walked};
+ghost use Rattle.ele_svg_marks.specs.Walk.{walked};
 
 use ele_forecast::{Forecast, Why};
 use ele_output::Printer;
 use ele_policy::Cause;
-use ele_svg_rows::{Fill, Mark, Page, Side, Stroke, Words, level_of, put_marks};
+use ele_svg_marks::{Fill, Mark, Page, Side, Stroke, Words, put_marks};
+use ele_svg_rows::level_of;
 use std::io::Write;
 
 /// Puts a strip of all versions, and one for each level of a ladder.

@@ -3,7 +3,7 @@
 ghost use Rattle.std.specs.Prelude.{◌≡◌, ◌<◌, ◌≤◌, ◌^◌, ◌++◌, ◌∷◌, [], codes, decimal, length, slice_get, Some};
 ghost use Rattle.std.specs.List.{fold};
 ghost use Rattle.ele_output.specs.Prints.{Prints};
-ghost use Rattle.ele_svg_rows.specs.Mark.{glued};
+ghost use Rattle.ele_svg_marks.specs.Mark.{glued};
 ghost use Rattle.ele_svg_rows.specs.Drawing.{rows_text};
 ghost use Rattle.ele_svg.specs.Drawing.{drawing_text, single_text};
 ghost use Rattle.ele_svg.specs.Summary.{axis_drawn, first_ladder, key_drawn, key_y, keys_drawn, ladder_of, last_of_plan, moments_of, summary_body, summary_frame, summary_heading, summary_page, summary_text, versions_of};
@@ -11,49 +11,64 @@ ghost use Rattle.ele_svg.specs.Summary.{axis_drawn, first_ladder, key_drawn, key
 use crate::curve::{curve_stroke, highest_of, put_axis_line, put_curves};
 use crate::strip::put_strips;
 use ele_forecast::Forecast;
+use ele_forecast_plans::Counts;
 use ele_forecast_text::{Plan, Staying};
 use ele_moment::Moment;
 use ele_output::Printer;
 use ele_policy::Policy;
-use ele_svg_rows::{
-    Mark, Page, first_of, label_rows, last_of, put_foot, put_head, put_labels, put_marks,
-    put_moments, put_name, put_parts, put_rows_drawing, rungs_of,
+use ele_svg_marks::{
+    Mark, Page, first_of, label_rows, last_of, put_head, put_labels, put_marks, put_name,
+    put_parts, rungs_of,
 };
+use ele_svg_rows::{put_foot, put_moments, put_rows_drawing};
 use itoa::Buffer;
 use std::io::Write;
 
 /// Puts a drawing of what becomes of the same versions under each policy. Its title is one in UTF-8, and
-/// none if it is empty. Up to 200 versions under one policy have a row each, and else there is a summary.
-pub fn put_drawing<W: Write>(title: &[u8], plans: &[Plan], printer: &mut Printer<'_, W>)
-    ensures { Prints W.contents printer.old printer.new (drawing_text title.now plans.now) }
+/// none if it is empty. Up to 200 versions under one policy have a row each, and else there is a summary. The points of
+/// its curves are these counts, one for each plan.
+pub fn put_drawing<W: Write>(
+    title: &[u8],
+    plans: &[Plan],
+    rows: &[Counts],
+    printer: &mut Printer<'_, W>,
+)
+    ensures { Prints W.contents printer.old printer.new
+        (drawing_text title.now plans.now rows.now) }
 {
     if plans.len() > 1 {
-        put_summary(title, plans, printer);
+        put_summary(title, plans, rows, printer);
     } else {
-        put_single(title, plans, printer);
+        put_single(title, plans, rows, printer);
     }
 }
 
 // Puts a drawing of one policy, or of none.
-fn put_single<W: Write>(title: &[u8], plans: &[Plan], printer: &mut Printer<'_, W>)
+fn put_single<W: Write>(title: &[u8], plans: &[Plan], rows: &[Counts], printer: &mut Printer<'_, W>)
     ensures { Prints W.contents printer.old printer.new
-        (single_text title.now plans.now (slice_get plans.now 0)) }
+        (single_text title.now plans.now rows.now (slice_get plans.now 0)) }
 {
     match plans.first() {
-        Some(plan) => put_only(title, plans, plan, printer),
-        None => put_summary(title, plans, printer),
+        Some(plan) => put_only(title, plans, plan, rows, printer),
+        None => put_summary(title, plans, rows, printer),
     }
 }
 
 // Puts a drawing of the only one of these plans.
-fn put_only<W: Write>(title: &[u8], plans: &[Plan], plan: &Plan, printer: &mut Printer<'_, W>)
+fn put_only<W: Write>(
+    title: &[u8],
+    plans: &[Plan],
+    plan: &Plan,
+    rows: &[Counts],
+    printer: &mut Printer<'_, W>,
+)
     ensures { Prints W.contents printer.old printer.new
-        (single_text title.now plans.now (Some plan.now)) }
+        (single_text title.now plans.now rows.now (Some plan.now)) }
 {
     if plan.forecasts.len() <= 200 {
         put_plan(title, plan, printer);
     } else {
-        put_summary(title, plans, printer);
+        put_summary(title, plans, rows, printer);
     }
 }
 
@@ -72,13 +87,18 @@ fn put_plan<W: Write>(title: &[u8], plan: &Plan, printer: &mut Printer<'_, W>)
 }
 
 // Puts a summary.
-fn put_summary<W: Write>(title: &[u8], plans: &[Plan], printer: &mut Printer<'_, W>)
-    ensures { Prints W.contents printer.old printer.new (summary_text title.now plans.now) }
+fn put_summary<W: Write>(
+    title: &[u8],
+    plans: &[Plan],
+    rows: &[Counts],
+    printer: &mut Printer<'_, W>,
+)
+    ensures { Prints W.contents printer.old printer.new (summary_text title.now plans.now rows.now) }
 {
     let page = summary_page(plans);
-    let highest = highest_of(&page, plans);
+    let highest = highest_of(rows);
     put_frame(&page, title, plans, highest, printer);
-    put_body(&page, plans, highest, printer);
+    put_body(&page, plans, rows, highest, printer);
     printer.put(b"</svg>\n");
 }
 
@@ -112,14 +132,20 @@ fn put_axis<W: Write>(page: &Page, highest: u64, printer: &mut Printer<'_, W>)
 }
 
 // Puts the strips, the moments that are asked about, the curves and the moments' labels.
-fn put_body<W: Write>(page: &Page, plans: &[Plan], highest: u64, printer: &mut Printer<'_, W>)
+fn put_body<W: Write>(
+    page: &Page,
+    plans: &[Plan],
+    rows: &[Counts],
+    highest: u64,
+    printer: &mut Printer<'_, W>,
+)
     requires { 0 < highest }
     ensures { Prints W.contents printer.old printer.new
-        (summary_body page.now plans.now highest) }
+        (summary_body page.now plans.now rows.now highest) }
 {
     put_strips(page, ladder_of(plans), versions_of(plans), printer);
     put_moments(page, moments_of(plans), printer);
-    put_curves(page, highest, plans, printer);
+    put_curves(page, highest, rows, plans.len(), printer);
     put_labels(page, moments_of(plans), printer);
 }
 
@@ -253,8 +279,8 @@ fn last_of_all(first: Moment, plans: &[Plan]) -> Moment
     last
 }
 
-// The page of a summary.
-fn summary_page(plans: &[Plan]) -> Page
+/// Returns the page of a summary.
+pub(crate) fn summary_page(plans: &[Plan]) -> Page
     ensures { result ≡ summary_page plans.now }
 {
     let first = first_of(versions_of(plans));

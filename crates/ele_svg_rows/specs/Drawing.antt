@@ -10,24 +10,24 @@ use Rattle.ele_forecast.specs.declared.forecast.Why.{Why}
 use Rattle.ele_forecast.specs.declared.forecast.Why.TheVariants as why
 use Rattle.ele_forecast_text.specs.Table.{table_line}
 use Rattle.ele_forecast_text.specs.declared.staying.Staying.{Staying}
-use Rattle.ele_svg_rows.specs.Calendar.{begins, date_words, seconds_of}
-use Rattle.ele_svg_rows.specs.Head.{head_drawn, heading_drawn, legend_drawn}
-use Rattle.ele_svg_rows.specs.Labels.{labels_drawn}
-use Rattle.ele_svg_rows.specs.Mark.{mark_text}
-use Rattle.ele_svg_rows.specs.Page.{in_seconds, page_of, rungs_of, span_of, step_of, x_of, x_or, y_of}
-use Rattle.ele_svg_rows.specs.declared.calendar.Step.{Step}
-use Rattle.ele_svg_rows.specs.declared.mark.Fill.{Fill}
-use Rattle.ele_svg_rows.specs.declared.mark.Fill.TheVariants as fill
-use Rattle.ele_svg_rows.specs.declared.mark.Mark.{Mark}
-use Rattle.ele_svg_rows.specs.declared.mark.Mark.TheVariants.{Rect, Line, Text}
-use Rattle.ele_svg_rows.specs.declared.mark.Side.{Side}
-use Rattle.ele_svg_rows.specs.declared.mark.Side.TheVariants.{Before, Around, Behind}
-use Rattle.ele_svg_rows.specs.declared.mark.Stroke.TheVariants.{Grid, Thin, Dotted, Dashed}
-use Rattle.ele_svg_rows.specs.declared.mark.Words.{Words}
-use Rattle.ele_svg_rows.specs.declared.mark.Words.TheVariants as words
-use Rattle.ele_svg_rows.specs.declared.page.Page.{Page}
-use Rattle.ele_svg_rows.specs.declared.page.Scale.{Scale}
-use Rattle.ele_svg_rows.specs.declared.page.Scale.TheVariants.{Foot, Band}
+use Rattle.ele_svg_marks.specs.Calendar.{begins, date_words, seconds_of}
+use Rattle.ele_svg_marks.specs.Head.{head_drawn, heading_drawn, legend_drawn}
+use Rattle.ele_svg_marks.specs.Labels.{labels_drawn}
+use Rattle.ele_svg_marks.specs.Mark.{mark_text}
+use Rattle.ele_svg_marks.specs.Page.{in_seconds, page_of, rungs_of, span_of, step_of, x_of, x_or, y_of}
+use Rattle.ele_svg_marks.specs.declared.calendar.Step.{Step}
+use Rattle.ele_svg_marks.specs.declared.mark.Fill.{Fill}
+use Rattle.ele_svg_marks.specs.declared.mark.Fill.TheVariants as fill
+use Rattle.ele_svg_marks.specs.declared.mark.Mark.{Mark}
+use Rattle.ele_svg_marks.specs.declared.mark.Mark.TheVariants.{Rect, Line, Text}
+use Rattle.ele_svg_marks.specs.declared.mark.Side.{Side}
+use Rattle.ele_svg_marks.specs.declared.mark.Side.TheVariants.{Before, Around, Behind}
+use Rattle.ele_svg_marks.specs.declared.mark.Stroke.TheVariants.{Grid, Thin, Dotted, Dashed}
+use Rattle.ele_svg_marks.specs.declared.mark.Words.{Words}
+use Rattle.ele_svg_marks.specs.declared.mark.Words.TheVariants as words
+use Rattle.ele_svg_marks.specs.declared.page.Page.{Page}
+use Rattle.ele_svg_rows.specs.declared.drawing.Scale.{Scale}
+use Rattle.ele_svg_rows.specs.declared.drawing.Scale.TheVariants.{Foot, Band}
 
 -- a bar from one moment's place to another's, a third of its row high and seen even where both are one
 abbrev pub bar_of : Page → ℕ → ℕ → ℕ → Fill → Mark

@@ -1,7 +1,1 @@
-pub mod Calendar
 pub mod Drawing
-pub mod Head
-pub mod Labels
-pub mod Mark
-pub mod Page
-pub mod Walk

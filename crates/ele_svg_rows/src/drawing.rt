@@ -4,23 +4,29 @@ ghost use Rattle.std.specs.List.{flat_map};
 ghost use Rattle.ele_policy.specs.Ladder.{level_of};
 ghost use Rattle.ele_output.specs.Prints.{Prints};
 ghost use Rattle.ele_svg_rows.specs.Drawing.{IsOnPage, band_drawn, band_marks, band_top, foot_drawn, frame_drawn, kept_drawn, kept_marks, moment_drawn, rows_drawn, rows_text, scale_drawn, scale_marks, spans_drawn, tick_marks, tie_from, ties_for, version_drawn, version_tied};
-ghost use Rattle.ele_svg_rows.specs.Mark.{mark_text};
+ghost use Rattle.ele_svg_marks.specs.Mark.{mark_text};
 
-use crate::calendar::Step;
-use crate::head::{put_head, put_heading, put_legend};
-use crate::labels::put_labels;
-use crate::mark::put_marks;
 use crate::marks::{
     asked_marks, band_marks, band_top, border_marks, foot_marks, hatch_marks, kept_marks,
     tie_marks, version_marks,
 };
-use crate::page::{Page, Scale, page_of, rungs_of};
 use ele_forecast::{Forecast, Why};
 use ele_forecast_text::{Staying, put_version};
 use ele_moment::{Moment, VersionNo};
 use ele_output::Printer;
 use ele_policy::{Cause, Policy};
+use ele_svg_marks::{
+    Page, Step, page_of, put_head, put_heading, put_labels, put_legend, put_marks, rungs_of,
+};
 use std::io::Write;
+
+/// Where moments are told: at the foot, or at the borders of the spans of a level, whose band
+/// begins so far from above.
+#[derive(Clone, Copy, Debug)]
+pub(crate) enum Scale {
+    Foot(Step),
+    Band(u64),
+}
 
 /// Puts a drawing with a row for each version.
 pub fn put_rows_drawing<W: Write>(

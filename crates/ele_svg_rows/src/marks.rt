@@ -2,12 +2,10 @@
 ghost use Rattle.std.specs.Prelude.{◌≡◌, ◌<◌, ◌^◌};
 ghost use Rattle.ele_svg_rows.specs.Drawing.{asked_marks, band_marks, band_top, bar_of, beside_of, border_marks, cause_end, due_bar_of, end_words, foot_marks, hatch_marks, kept_marks, square_of, tie_marks, version_marks};
 
-use crate::calendar::Step;
-use crate::mark::{Fill, Mark, Side, Stroke, Words};
-use crate::page::Page;
 use ele_forecast::{Forecast, Why};
 use ele_moment::{Moment, VersionNo};
 use ele_policy::Cause;
+use ele_svg_marks::{Fill, Mark, Page, Side, Step, Stroke, Words};
 
 // A bar from one place to another.
 fn bar(page: &Page, y: u64, from: u64, to: u64, color: Fill) -> Mark

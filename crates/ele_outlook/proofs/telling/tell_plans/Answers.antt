@@ -3,7 +3,7 @@ use Rattle.std.proofs.KnownBytes.{Keeps-refl}
 use Rattle.std.proofs.lemmas.Result.{err_from_is_err_and}
 use Rattle.ele_forecast_plans.specs.declared.counts.Counts.{Counts}
 use Rattle.ele_outlook.specs.Told.{AreRows, told_of}
-use Rattle.ele_outlook.proofs.Tables.{asked, closed_some, is_text}
+use Rattle.ele_outlook.proofs.Tables.{asked, is_text, uncounted}
 use Rattle.ele_outlook.proofs.telling.tell_plans.Goals as goal
 
 pub returns-in_default : goal.returns-in_default
@@ -12,7 +12,7 @@ returns-in_default g c =
 
 pub returns-in_default-counted : goal.returns-in_default-counted
 returns-in_default-counted g c =
-    (inl (closed_some c.args.options.now.policies.items c.args.closings.now c.args.options.now.moments.items c.args.plans.now c.requires.are c.in_default-counted.ensures.err), Keeps-refl _)
+    (uncounted c.args.options.now.policies.items c.args.closings.now c.args.options.now.moments.items c.args.plans.now c.requires.are c.in_default-counted.ensures.err, Keeps-refl _)
 
 pub returns-in_err-write_told : goal.returns-in_err-write_told
 returns-in_err-write_told g c =

@@ -1,8 +1,8 @@
 use Rattle.std.proofs.Common.{◌≡◌, ◌<◌, drop}
 use Rattle.std.specs.List.{fold}
-use Rattle.ele_svg.specs.Summary.{highest_of, highest_plan}
+use Rattle.ele_svg.specs.Summary.{highest_at, highest_of}
 use Rattle.ele_svg.proofs.curve.highest_of.Given as goal
 
--- the other policies are left
-abbrev pub invariant-loop-plan : goal.invariant-loop-plan
-invariant-loop-plan l = (fold (highest_plan l.page) l.highest (drop l.plan-index l.plans) ≡ highest_of l.page l.plans) × (0 < l.highest)
+-- the other points are left
+abbrev pub invariant-loop-row : goal.invariant-loop-row
+invariant-loop-row l = (fold highest_at l.highest (drop l.row-index l.rows) ≡ highest_of l.rows) × (0 < l.highest)

@@ -1,12 +1,15 @@
 use Rattle.std.proofs.Common.{arith}
-use Rattle.ele_svg.specs.Summary.{curve_drawn, place_after}
-use Rattle.ele_svg_rows.proofs.Walk.{walked_end, walked_more}
-use Rattle.ele_output.proofs.Known.{put_all, put_more}
+use Rattle.ele_svg.specs.Summary.{curve_drawn}
+use Rattle.ele_svg.proofs.Ranges.{each_whole}
+use Rattle.ele_svg_marks.proofs.Known.{each_more, each_none}
+use Rattle.ele_output.proofs.Known.{put_all, put_more, put_none}
 use Rattle.ele_svg.proofs.curve.put_curves.Goals as goal
 
-pub loop-plan-preserved : goal.loop-plan-preserved
-loop-plan-preserved g c =
-    (omega (arith, c.loop-plan.invariant.0), put_more c.loop-plan.invariant.1 (walked_more (curve_drawn c.args.page.now c.args.highest) place_after c.loop-plan.place c.args.plans.now c.loop-plan.plan-index c.plan-item.result (omega arith) c.plan-item.is) c.put_curve.ensures)
+pub loop-place-init : goal.loop-place-init
+loop-place-init g c = put_none (each_whole (curve_drawn c.args.page.now c.args.highest c.args.rows.now) c.args.curves)
+
+pub loop-place-preserved : goal.loop-place-preserved
+loop-place-preserved g c = put_more c.loop-place.invariant (each_more (curve_drawn c.args.page.now c.args.highest c.args.rows.now) c.loop-place.place c.args.curves (omega arith)) c.put_curve.ensures
 
 pub returns : goal.returns
-returns g c = put_all c.loop-plan.invariant.1 (walked_end (curve_drawn c.args.page.now c.args.highest) place_after c.loop-plan.place c.args.plans.now c.loop-plan.plan-index c.loop-plan-test.false)
+returns g c = put_all c.loop-place.invariant (each_none (curve_drawn c.args.page.now c.args.highest c.args.rows.now) c.loop-place.place c.args.curves (omega arith))

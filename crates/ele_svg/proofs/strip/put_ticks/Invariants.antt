@@ -1,7 +1,7 @@
 use Rattle.std.specs.Prelude.{drop}
 use Rattle.ele_output.specs.Prints.{outlet}
 use Rattle.ele_svg.specs.Summary.{last_seen, strip_tick}
-use Rattle.ele_svg_rows.specs.Walk.{walked}
+use Rattle.ele_svg_marks.specs.Walk.{walked}
 use Rattle.ele_output.proofs.Known.{HasPut}
 use Rattle.ele_svg.proofs.strip.put_ticks.Given as goal
 

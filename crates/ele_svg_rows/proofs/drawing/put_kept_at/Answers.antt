@@ -2,7 +2,7 @@ use Rattle.std.proofs.Common.{arith}
 use Rattle.std.specs.Prelude.{ℕ}
 use Rattle.std.specs.List.{flat_map}
 use Rattle.ele_svg_rows.specs.Drawing.{kept_marks}
-use Rattle.ele_svg_rows.specs.Mark.{mark_text}
+use Rattle.ele_svg_marks.specs.Mark.{mark_text}
 use Rattle.ele_output.proofs.Lists.{list_done, list_more}
 use Rattle.ele_svg_rows.proofs.drawing.put_kept_at.Goals as goal
 

@@ -2,7 +2,7 @@ use Rattle.std.specs.Prelude.{drop, ℕ}
 use Rattle.std.specs.List.{flat_map}
 use Rattle.ele_output.specs.Prints.{outlet}
 use Rattle.ele_svg_rows.specs.Drawing.{kept_marks}
-use Rattle.ele_svg_rows.specs.Mark.{mark_text}
+use Rattle.ele_svg_marks.specs.Mark.{mark_text}
 use Rattle.ele_output.proofs.Known.{HasPut}
 use Rattle.ele_svg_rows.proofs.drawing.put_kept_at.Given as goal
 

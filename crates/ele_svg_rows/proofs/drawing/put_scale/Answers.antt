@@ -1,8 +1,8 @@
 use Rattle.std.proofs.Common.{ℕ, ◌*◌, ◌/◌, arith}
 use Rattle.std.specs.List.{flat_map}
 use Rattle.ele_svg_rows.specs.Drawing.{scale_marks}
-use Rattle.ele_svg_rows.specs.Mark.{mark_text}
-use Rattle.ele_svg_rows.proofs.Known.{each_between, each_more, each_none}
+use Rattle.ele_svg_marks.specs.Mark.{mark_text}
+use Rattle.ele_svg_marks.proofs.Known.{each_between, each_more, each_none}
 use Rattle.ele_output.proofs.Known.{put_all, put_more, put_none}
 use Rattle.ele_svg_rows.proofs.drawing.put_scale.Goals as goal
 

@@ -2,7 +2,7 @@ use Rattle.std.proofs.Common.{ℕ, ◌*◌, ◌-◌}
 use Rattle.std.specs.List.{flat_map, range_with_len}
 use Rattle.ele_output.specs.Prints.{outlet}
 use Rattle.ele_svg_rows.specs.Drawing.{scale_drawn, scale_marks}
-use Rattle.ele_svg_rows.specs.Mark.{mark_text}
+use Rattle.ele_svg_marks.specs.Mark.{mark_text}
 use Rattle.ele_output.proofs.Known.{HasPut}
 use Rattle.ele_svg_rows.proofs.drawing.put_scale.Given as goal
 

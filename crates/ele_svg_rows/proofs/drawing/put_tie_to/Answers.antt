@@ -1,6 +1,6 @@
 use Rattle.std.proofs.Common.{◌-◌, ◌≤◌, arith, length}
 use Rattle.std.proofs.lemmas.Option.{slice_get_past}
-use Rattle.ele_svg_rows.proofs.Known.{no_tie}
+use Rattle.ele_svg_rows.proofs.Ties.{no_tie}
 use Rattle.ele_svg_rows.proofs.drawing.put_tie_to.Goals as goal
 
 pub returns-in-None : goal.returns-in-None

@@ -1,0 +1,12 @@
+use Rattle.std.proofs.Common.{ℕ, arith, sym, ◌∙◌}
+use Rattle.std.specs.Prelude.{max}
+use Rattle.ele_forecast_text.specs.declared.staying.Staying.{Staying}
+use Rattle.ele_svg_marks.proofs.Known.{fold_end, fold_more}
+use Rattle.ele_svg_marks.proofs.page.last_asked.Goals as goal
+
+pub loop-staying-preserved : goal.loop-staying-preserved
+loop-staying-preserved c =
+    rw c.later-last.ensures (sym (fold_more (λ (last : ℕ) (staying : Staying). max last staying.at) c.loop-staying.last c.args.stayings.now c.loop-staying.staying-index c.staying-item.result (omega arith) c.staying-item.is) ∙ c.loop-staying.invariant)
+
+pub returns : goal.returns
+returns c = sym (fold_end (λ (last : ℕ) (staying : Staying). max last staying.at) c.loop-staying.last c.args.stayings.now c.loop-staying.staying-index c.loop-staying-test.false) ∙ c.loop-staying.invariant

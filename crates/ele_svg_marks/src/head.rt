@@ -1,0 +1,218 @@
+//! What stands above a drawing. A contract sees its text, and a printer as its outlet.
+ghost use Rattle.std.specs.Prelude.{◌≡◌, ◌++◌, ◌∷◌, [], codes, decimal};
+ghost use Rattle.std.specs.List.{flat_map, join_with_byte};
+ghost use Rattle.ele_output.specs.Prints.{Prints};
+ghost use Rattle.ele_forecast_text.specs.Why.{length_words, spaced};
+ghost use Rattle.ele_svg_marks.specs.Head.{begun_after, escaped, escaped_at, escaped_byte, floor_words, head_drawn, heading_drawn, legend_drawn, policy_name, rung_text, titled};
+ghost use Rattle.ele_svg_marks.specs.Mark.{glued};
+
+use crate::mark::put_parts;
+use crate::page::Page;
+use ele_forecast_text::put_length;
+use ele_output::{Printer, put_words};
+use ele_policy::{Floor, Policy};
+use itoa::Buffer;
+use std::io::Write;
+
+/// Puts the document's opening, its title, its background and what its hatches are.
+pub fn put_head<W: Write>(page: &Page, title: &[u8], printer: &mut Printer<'_, W>)
+    ensures { Prints W.contents printer.old printer.new (head_drawn page.now title.now) }
+{
+    put_opening(page.height(), printer);
+    put_titled(title, printer);
+    put_background(page.height(), printer);
+    put_titled(title, printer);
+    printer.put(b"</text>\n");
+}
+
+// Puts the document's opening.
+fn put_opening<W: Write>(height: u64, printer: &mut Printer<'_, W>)
+    ensures { Prints W.contents printer.old printer.new (
+        glued (codes "<?xml version='1.0' encoding='UTF-8'?>\n"
+        ∷ codes "<!DOCTYPE svg PUBLIC '-//W3C//DTD SVG 1.1//EN' 'http://www.w3.org/Graphics/SVG/1.1/DTD/svg11.dtd'>\n"
+        ∷ codes "<svg xmlns='http://www.w3.org/2000/svg' version='1.1' font-family='sans-serif' width='960' height='"
+        ∷ decimal height ∷ codes "'>\n<title>" ∷ [])) }
+{
+    let mut digits = Buffer::new();
+    put_parts(
+        &[
+            b"<?xml version='1.0' encoding='UTF-8'?>\n",
+            b"<!DOCTYPE svg PUBLIC '-//W3C//DTD SVG 1.1//EN' 'http://www.w3.org/Graphics/SVG/1.1/DTD/svg11.dtd'>\n",
+            b"<svg xmlns='http://www.w3.org/2000/svg' version='1.1' font-family='sans-serif' width='960' height='",
+            digits.format(height).as_bytes(),
+            b"'>\n<title>",
+        ],
+        printer,
+    );
+}
+
+// Puts what stands between the two places of the title.
+fn put_background<W: Write>(height: u64, printer: &mut Printer<'_, W>)
+    ensures { Prints W.contents printer.old printer.new (
+        glued (codes "</title>\n<style>text{paint-order:stroke;stroke:#fff;stroke-width:5px;stroke-linejoin:round}</style>\n"
+        ∷ codes "<defs><pattern id='hatch' width='6' height='6' patternUnits='userSpaceOnUse'><path d='M0,6 6,0' stroke='#555' stroke-width='0.8'/></pattern></defs>\n"
+        ∷ codes "<rect width='960' height='" ∷ decimal height
+        ∷ codes "' fill='#fff'/>\n<text x='20' y='20' font-size='15'>" ∷ [])) }
+{
+    let mut digits = Buffer::new();
+    put_parts(
+        &[
+            b"</title>\n<style>text{paint-order:stroke;stroke:#fff;stroke-width:5px;stroke-linejoin:round}</style>\n",
+            b"<defs><pattern id='hatch' width='6' height='6' patternUnits='userSpaceOnUse'><path d='M0,6 6,0' stroke='#555' stroke-width='0.8'/></pattern></defs>\n",
+            b"<rect width='960' height='",
+            digits.format(height).as_bytes(),
+            b"' fill='#fff'/>\n<text x='20' y='20' font-size='15'>",
+        ],
+        printer,
+    );
+}
+
+// Puts a title, or what stands in its place.
+fn put_titled<W: Write>(title: &[u8], printer: &mut Printer<'_, W>)
+    ensures { Prints W.contents printer.old printer.new (titled title.now) }
+{
+    match title {
+        [] => printer.put(b"Retention forecast"),
+        [_, ..] => put_escaped(title, printer),
+    }
+}
+
+// Puts the bytes of a title.
+fn put_escaped<W: Write>(title: &[u8], printer: &mut Printer<'_, W>)
+    ensures { Prints W.contents printer.old printer.new (escaped title.now) }
+{
+    let mut begun = 0;
+    for byte in title {
+        put_escaped_at(begun, *byte, printer);
+        begun = begun_after(begun, *byte);
+    }
+}
+
+// How many bytes that begin U+FFFE and U+FFFF there are up to this one, after so many before it.
+fn begun_after(begun: u64, byte: u8) -> u64
+    ensures { result ≡ begun_after begun byte }
+{
+    if byte == 239 {
+        1
+    } else if begun == 1 && byte == 191 {
+        2
+    } else {
+        0
+    }
+}
+
+// Puts a byte of a title after so many bytes that begin U+FFFE and U+FFFF.
+fn put_escaped_at<W: Write>(begun: u64, byte: u8, printer: &mut Printer<'_, W>)
+    ensures { Prints W.contents printer.old printer.new (escaped_at begun byte) }
+{
+    if begun == 2 && byte >= 190 && byte <= 191 {
+        printer.put(&[189]);
+    } else {
+        put_escaped_byte(byte, printer);
+    }
+}
+
+// Puts a byte of a title.
+fn put_escaped_byte<W: Write>(byte: u8, printer: &mut Printer<'_, W>)
+    ensures { Prints W.contents printer.old printer.new (escaped_byte byte) }
+{
+    match byte {
+        b'&' => printer.put(b"&amp;"),
+        b'<' => printer.put(b"&lt;"),
+        b'>' => printer.put(b"&gt;"),
+        b'\'' => printer.put(b"&#39;"),
+        b'"' => printer.put(b"&quot;"),
+        0..=31 | 127 => printer.put(b" "),
+        _ => printer.put(&[byte]),
+    }
+}
+
+/// Puts how many versions there are, and their policy.
+pub fn put_heading<W: Write>(policy: &Policy, count: usize, printer: &mut Printer<'_, W>)
+    ensures { Prints W.contents printer.old printer.new (heading_drawn policy.now count) }
+{
+    printer.put(b"<text x='20' y='37' font-size='11'>");
+    put_count(count, printer);
+    put_name(policy, printer);
+    printer.put(b"</text>\n");
+}
+
+// Puts how many versions there are.
+fn put_count<W: Write>(count: usize, printer: &mut Printer<'_, W>)
+    ensures { Prints W.contents printer.old printer.new
+        (join_with_byte 32 (decimal count ∷ codes "versions under" ∷ [])) }
+{
+    let mut digits = Buffer::new();
+    put_words(
+        digits.format(count).as_bytes(),
+        &[b"versions under"],
+        printer,
+    );
+}
+
+/// Puts a space and the name of a policy with its numbers.
+pub fn put_name<W: Write>(policy: &Policy, printer: &mut Printer<'_, W>)
+    ensures { Prints W.contents printer.old printer.new (policy_name policy.now) }
+{
+    match policy {
+        Policy::One => printer.put(b" Keep One"),
+        Policy::All => printer.put(b" Keep All"),
+        Policy::Safe(interval, floor) => {
+            put_length(b" Keep Safe for", interval.seconds(), printer);
+            put_floor(*floor, printer);
+        }
+        Policy::Landmarks(ladder) => {
+            printer.put(b" Keep Landmarks (age / span)");
+            put_rungs(ladder.pairs(), printer);
+        }
+    }
+}
+
+// Puts a space and the name of a floor, or nothing for none.
+fn put_floor<W: Write>(floor: Floor, printer: &mut Printer<'_, W>)
+    ensures { Prints W.contents printer.old printer.new (spaced (floor_words floor)) }
+{
+    let versions = floor.number();
+    if versions == 0 {
+        return;
+    }
+    let mut digits = Buffer::new();
+    put_words(
+        b" with a floor of",
+        &[digits.format(versions).as_bytes()],
+        printer,
+    );
+}
+
+// Puts the levels of a ladder.
+fn put_rungs<W: Write>(rungs: &[(u64, u64)], printer: &mut Printer<'_, W>)
+    ensures { Prints W.contents printer.old printer.new (flat_map rung_text rungs.now) }
+{
+    for rung in rungs {
+        put_rung(*rung, printer);
+    }
+}
+
+// Puts a level of a ladder.
+fn put_rung<W: Write>(rung: (u64, u64), printer: &mut Printer<'_, W>)
+    ensures { Prints W.contents printer.old printer.new (rung_text rung) }
+{
+    put_length(b",", rung.0, printer);
+    put_length(b" /", rung.1, printer);
+}
+
+/// Puts what the colours of a row mean.
+pub fn put_legend<W: Write>(printer: &mut Printer<'_, W>)
+    ensures { Prints W.contents printer.old printer.new legend_drawn }
+{
+    put_parts(
+        &[
+            b"<g font-size='10'>\n<rect x='20' y='47' width='8' height='8' fill='#fff' stroke='#000' stroke-width='0.6'/><text x='33' y='55'>closed</text>\n",
+            b"<rect x='90' y='48' width='20' height='6' fill='#14375a' stroke='#000' stroke-width='0.6'/><text x='115' y='55'>current</text>\n",
+            b"<rect x='180' y='48' width='20' height='6' fill='#3f7fbf' stroke='#000' stroke-width='0.6'/><text x='205' y='55'>kept by the policy</text>\n",
+            b"<rect x='320' y='49' width='20' height='3' fill='#f5b041' stroke='#000' stroke-width='0.6'/><text x='345' y='55'>due: may be removed</text>\n",
+            b"<rect x='475' y='47' width='8' height='8' fill='#000' stroke='#000' stroke-width='0.6'/><text x='488' y='55'>stays at the moment of a broken line</text>\n</g>\n",
+        ],
+        printer,
+    );
+}

@@ -1,8 +1,0 @@
-use Rattle.ele_output.proofs.Known.{puts_then}
-use Rattle.ele_svg_rows.proofs.head.put_heading.Goals as goal
-
-pub returns : goal.returns
-returns g c =
-    puts_then c.put.ensures (
-    puts_then c.put_count.ensures (
-    puts_then c.put_name.ensures c.put-2.ensures))

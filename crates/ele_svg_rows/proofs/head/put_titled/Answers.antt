@@ -1,5 +1,0 @@
-use Rattle.ele_svg_rows.proofs.Known.{titled_none}
-use Rattle.ele_svg_rows.proofs.head.put_titled.Goals as goal
-
-pub returns-in-empty : goal.returns-in-empty
-returns-in-empty g c = rw (titled_none c.args.title.now c.in-empty.len_below) c.put.ensures
