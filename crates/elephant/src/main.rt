@@ -47,16 +47,14 @@ fn main(rt: HostRuntime) -> ExitCode {
     greet(&rt, &invocation);
     let watched = rt.stderr().is_terminal();
     let meter = Meter::new(&rt, rt.stderr());
-    let shown = is_metered(&rt, &invocation).then_some(&meter);
-    // Output to the terminal replaces the progress. Other output is counted.
-    let (replaced, counted) = if rt.stdout().is_terminal() {
-        (shown, None)
-    } else {
-        (None, shown)
-    };
-    let mut input = KeepsError::new(Counted::new(rt.stdin(), shown));
-    let mut output = KeepsError::new(Counted::new(Cleared::new(rt.stdout(), replaced), counted));
-    let mut errors = Cleared::new(rt.stderr(), shown);
+    let is_metered = is_metered(&rt, &invocation);
+    // Output to the same terminal replaces the progress. Other output is counted.
+    let replaces = is_metered && rt.stdout().is_terminal();
+    let counts = is_metered && !replaces;
+    let mut input = KeepsError::new(Counted::new(rt.stdin(), is_metered.then_some(&meter)));
+    let output = Cleared::new(rt.stdout(), replaces.then_some(&meter));
+    let mut output = KeepsError::new(Counted::new(output, counts.then_some(&meter)));
+    let mut errors = Cleared::new(rt.stderr(), is_metered.then_some(&meter));
     let status = dispatch::<Core, _, _, _, _>(
         &rt,
         rt.alloc(),
