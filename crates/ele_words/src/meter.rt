@@ -10,8 +10,7 @@ use std::io;
 use std::io::{Read, Write};
 use std::time::{Clock, Duration, Instant};
 
-// The first line of progress comes after so many milliseconds, and each further one at least so
-// many later.
+// Milliseconds before the progress is first shown, and at least between two times.
 const PAUSE: u64 = 1_000;
 
 // Removes the line from the terminal.
@@ -45,7 +44,7 @@ impl<T: Clock, P: Write> Counts<T, P> {
         }
     }
 
-    // Whether the last time was long enough ago. If it was, now becomes the last time.
+    // Whether the last time is long enough ago. If it is, now becomes the last time.
     fn is_due(&mut self) -> bool {
         let (Some(last), Ok(now)) = (self.last, Instant::now(&self.clock)) else {
             return false;

@@ -1,4 +1,4 @@
-//! A storm that reports its progress while it runs in another thread. Only this thread writes.
+//! A storm that runs in another thread while the calling thread reports its progress.
 //! A contract sees the counts that were reported, and the result of the storm.
 ghost use Rattle.std.specs.Prelude.{◌≡◌};
 ghost use Rattle.std.specs.Thread.{IsSync};
@@ -54,10 +54,10 @@ impl Bell {
     }
 }
 
-// A seat, and the result of the storm that called by it.
+// The seat of a storm, and the storm's result.
 type Ended<C> = (Seat<C>, Result<u64, StormFault>);
 
-// The storm's thread promises that its result is one of this plan, from this seat.
+// The thread's promise: its result is that of a storm of this plan, from this seat.
 #[derive(Drop)]
 struct Storming<C: Step> {
     before: Snapshot<Seat<C>>,
