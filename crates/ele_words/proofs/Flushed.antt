@@ -1,4 +1,4 @@
--- What was done stands where its writer was flushed behind it, and else it ended with a writer that failed.
+-- A run or a text ends as it did if the flush after it succeeds, and else with a writer that failed.
 use Rattle.std.proofs.Common.{◌≡◌, ℕ, Bool, true, false, List, [], ◌∷◌, ◌++◌, Option, Some, None, Result, Ok, Err, refl, sym, ap, subst, ◌∙◌, append_assoc, inl, inr}
 use Rattle.std.specs.Prelude.{codes, decimal, unwrap_or, if◌then◌else◌}
 use Rattle.std.specs.Result.{result_err}
@@ -19,7 +19,7 @@ use Rattle.ele_runs.specs.declared.tally.Tally.{Tally}
 use Rattle.ele_runs.specs.declared.fault.ShellFault.TheVariants.{ReadFault, WriteFault, TooManyLines, NoMemory}
 use Rattle.ele_words.specs.Ends.{HasWritten, fault_line}
 
--- what was told stays as its writer is flushed, and is written there
+-- a flush keeps what was written
 kept : {Told : List ℕ → Type 0} (old mid new : Option (List ℕ)) → Writes Told old mid → Keeps mid new → Writes Told old new
 kept old mid new is same = record { text = is.text; told = is.told; written = Appends-kept old mid new is.text is.written same }
 
@@ -33,7 +33,7 @@ kept_run start input rest old mid new notes (Err TooManyLines) ran same = kept o
 kept_run start input rest old mid new notes (Err WriteFault) ran same = kept_front old mid new ran same
 kept_run start input rest old mid new notes (Err NoMemory) ran same = (ran.0, Keeps-trans old mid new ran.1 same, ran.2)
 
--- the line of a fault was told, or a front of it
+-- the line of a fault was written, or a prefix of it
 pub line_flushed : {A E : Type 0} (old mid new : Option (List ℕ)) (fault : ShellFault) (number : ℕ) (name : List ℕ) (r : Result A E) → number ≡ number_of fault → name ≡ name_of fault → WritesText (line_text (codes "elephant:" ∷ decimal number ∷ name ∷ [])) old mid r
     → Keeps mid new → AppendsFront old new (fault_line fault)
 line_flushed old mid new fault number name r n m told same =
@@ -59,11 +59,11 @@ untaken : (input : Option (List ℕ)) → Keeps input (Some (left input))
 untaken None = tt
 untaken (Some xs) = refl
 
--- where nothing was told a front was of whatever might have been
+-- if nothing was written, a prefix of any text was
 front_of_kept : (old new : Option (List ℕ)) (bytes : List ℕ) → Keeps old new → AppendsFront old new bytes
 front_of_kept old new bytes same = record { front = []; back = bytes; parts = refl; written = Appends-kept old old new [] (Appends-nil old) same }
 
--- what a run that ended in any way has told, one whose writer failed may have told too
+-- what a run that ended in any way has written, one whose writer failed may have written too
 cut_failed : (start : RunState) (is_cut : Bool) (input rest notes : Option (List ℕ)) (given : List ℕ) (lines : List (List ℕ)) (line text : List ℕ)
     → Consumes input rest given → EndsAtLine is_cut start given rest lines line notes text → ToldToAWriteFault start input notes text
 cut_failed start false input rest notes given lines line text taken by = record {
@@ -100,7 +100,7 @@ end_failed start n None tally input rest notes text (ran, counts) = record {
 }
 end_failed start n (Some end) tally input rest notes text ran = cut_failed start end.is_cut input rest notes ran.given ran.lines ran.line text ran.taken ran.by
 
--- what is told of whole lines is, whatever was read behind them
+-- so for whole lines, whatever was read after them
 part_failed : (start state : RunState) (input rest notes : Option (List ℕ)) (given more : List ℕ) (lines : List (List ℕ)) (part text : List ℕ)
     → Consumes input rest (given ++ more) → IsToldOf start given lines part text state → Keeps state.notes notes → ToldToAWriteFault start input notes text
 part_failed start state input rest notes given more lines part text taken is noted = record {

@@ -1,4 +1,4 @@
--- What is told of a storm while it runs, line after line.
+-- The reports of a watched storm, line by line.
 use Rattle.std.proofs.Common.{◌≡◌, ℕ, ◌≤◌, List, [], ◌∷◌, ◌++◌, length, refl, sym, ap, subst, ◌∙◌, append_assoc, append-nil, length-append, arith, Option}
 use Rattle.std.specs.Io.KnownBytes.{Appends}
 use Rattle.std.proofs.KnownBytes.{Appends-nil, Appends-trans}
@@ -34,7 +34,7 @@ text_next [] next = append-nil (progress_line next)
 text_next (count ∷ counts) next =
     ap (λ rest. progress_line count ++ rest) (text_next counts next) ∙ sym (append_assoc (progress_line count) (progress_text counts) (progress_line next))
 
--- lines of counts that rise to this one at most were written, and all of them
+-- lines of rising counts, none above this one, were written in full
 pub record Telling (before after : Option (List ℕ)) (most : ℕ) : Type 0 where
   pub counts : List ℕ
   pub rise : Rise 0 counts most
@@ -57,7 +57,7 @@ shows_told a b upto told = record {
   written = record { front = progress_text told.counts; back = []; parts = sym (append-nil (progress_text told.counts)); written = told.written };
 }
 
--- a line of which a front was written is the last
+-- a line of which only a prefix was written is the last
 pub shows_front : (a b c : Option (List ℕ)) (upto next : ℕ) → Telling a b upto → upto ≤ next → AppendsFront b c (progress_line next) → ShowsProgress a c next
 shows_front a b c upto next told more line =
     let front : progress_text (told.counts ++ next ∷ []) ≡ (progress_text told.counts ++ line.front) ++ line.back =

@@ -1,4 +1,4 @@
--- What is told of a storm.
+-- The report of a storm.
 use Rattle.std.proofs.Common.{◌≡◌, ℕ, Bool, List, [], ◌∷◌, ◌++◌, Option, Some, None, ap, append_assoc, sym}
 use Rattle.std.specs.Prelude.{codes, decimal}
 use Rattle.ele_runs.specs.declared.fault.ShellFault.{ShellFault}

@@ -1,4 +1,4 @@
--- What a watched storm came to.
+-- The result of a watched storm.
 use Rattle.std.proofs.Common.{◌≡◌, ℕ, ◌+◌, Bool, IsTrue, List, [], length, ap, subst, ◌∙◌, arith, length-append, Option, Ok}
 use Rattle.ele_history.specs.Legal.{IsLegal}
 use Rattle.ele_history.specs.Past.{Past, count_of, fresh, world_of}
@@ -17,7 +17,7 @@ use Rattle.ele_model.specs.declared.entry.Entry.{Entry}
 use Rattle.ele_words.specs.Progress.{ShowsProgress}
 use Rattle.ele_words.specs.Watched.{Watched}
 
--- the calls of the storm's seat stand in the history that it was closed to with the watcher's
+-- the history that both seats were closed to has the calls of the storm's seat
 storm_stands : (opening after : Past) (last watcher both : Knowledge) → Joined last watcher both → (closes : Closes opening both after)
     → (others : List Entry) × IsWoven (entries_of last.own) others (entries_of closes.log)
 storm_stands opening after last watcher both joined closes =

@@ -1,4 +1,4 @@
--- How the program ends: what its reader and its two writers hold then, and with which status.
+-- How the program ends: what its reader and its two writers hold then, and its exit status.
 use Rattle.std.specs.Prelude.{◌≡◌, ℕ, Bool, List, string_bytes, Option, Some, None}
 use Rattle.std.specs.Io.KnownBytes.{Appends, Keeps}
 use Rattle.ele_output.specs.Front.{AppendsFront}
@@ -14,7 +14,7 @@ use Rattle.ele_words.specs.Progress.{EndsWatched}
 use Rattle.ele_invocation.specs.declared.invocation.Invocation.{Invocation}
 use Rattle.ele_invocation.specs.declared.invocation.Invocation.TheVariants as invocation
 
--- help, by the fault that ended it: all of it was written, or a front
+-- a text, by the fault that ended it: all of it was written, or a prefix
 abbrev pub HasWritten : List ℕ → Option (List ℕ) → Option (List ℕ) → Option ShellFault → Type 0
 HasWritten text old new None = Appends old new text
 HasWritten text old new (Some WriteFault) = AppendsFront old new text
@@ -22,18 +22,18 @@ HasWritten text old new (Some ReadFault) = ⊥
 HasWritten text old new (Some TooManyLines) = ⊥
 HasWritten text old new (Some NoMemory) = ⊥
 
--- something was done up to a fault, or to its end; the status is that of the fault, which was told
+-- something was done up to a fault, or to its end; the fault was reported, and the status is its own
 pub record Ends (Done : Option ShellFault → Type 0) (before after : Option (List ℕ)) (status : ℕ) : Type 0 where
   pub fault : Option ShellFault
   pub done : Done fault
   pub status_is : status ≡ status_of fault
   pub told : TellsFault fault before after
 
--- without other threads, by what was asked for; words that weren't understood are told with status 2
+-- without other threads, by what was asked for; arguments that weren't understood have status 2
 abbrev pub EndsAlone : Invocation → Option (List ℕ) → Option (List ℕ) → Option (List ℕ) → Option (List ℕ) → Option (List ℕ) → Option (List ℕ) → ℕ → Type 0
 EndsAlone (invocation.Run limits options) input rest old new before after status =
     RunEnds (begun options (fresh limits) before) input rest old new after status
--- a storm takes threads
+-- a storm needs threads
 EndsAlone (invocation.Storm plan) input rest old new before after status = ⊥
 EndsAlone (invocation.Forecast ask) input rest old new before after status = ForecastEnds ask input rest old new before after status
 EndsAlone (invocation.Help text) input rest old new before after status =
@@ -43,7 +43,7 @@ EndsAlone (invocation.NotUnderstood text) input rest old new before after status
 EndsAlone invocation.NoMemory input rest old new before after status =
     Keeps input rest × Keeps old new × AppendsFront before after (fault_line NoMemory) × (status ≡ 3)
 
--- with them; only a storm may be watched
+-- with threads; only a storm may be watched
 abbrev pub EndsWith : Invocation → Bool → Option (List ℕ) → Option (List ℕ) → Option (List ℕ) → Option (List ℕ) → Option (List ℕ) → Option (List ℕ) → ℕ → Type 0
 EndsWith (invocation.Storm plan) watched input rest old new before after status = Keeps input rest × EndsWatched watched plan old new before after status
 EndsWith asked watched input rest old new before after status = EndsAlone asked input rest old new before after status

@@ -1,4 +1,4 @@
--- How the program ends after a forecast: what its reader and its two writers hold then, and with which status.
+-- How the program ends after a forecast: what its reader and its two writers hold then, and its exit status.
 use Rattle.std.specs.Prelude.{◌≡◌, ℕ, List, Option, Result, Ok, Err, codes}
 use Rattle.std.specs.Io.KnownBytes.{Keeps}
 use Rattle.ele_output.specs.Front.{AppendsFront}
@@ -17,7 +17,7 @@ forecast_status TooLong = 2
 forecast_status WriteFault = 1
 forecast_status NoMemory = 3
 
--- the line that tells a fault of a forecast
+-- the line of a fault of a forecast
 abbrev pub forecast_line : ForecastFault → List ℕ
 forecast_line ReadFault = fault_line shell.ReadFault
 forecast_line (BadInput number why) = bad_line_text number why
@@ -25,12 +25,12 @@ forecast_line TooLong = codes "elephant: more than 400 moments; --every takes a 
 forecast_line WriteFault = fault_line shell.WriteFault
 forecast_line NoMemory = fault_line shell.NoMemory
 
--- a forecast without a fault ends with status 0; a fault was told, and has its status
+-- a forecast without a fault has status 0; a fault was reported, and has its own status
 abbrev pub TellsForecast : {A : Type 0} → Result A ForecastFault → Option (List ℕ) → Option (List ℕ) → ℕ → Type 0
 TellsForecast (Ok _) before after status = Keeps before after × (status ≡ 0)
 TellsForecast (Err fault) before after status = AppendsFront before after (forecast_line fault) × (status ≡ forecast_status fault)
 
--- the closings that were read were told, up to a fault or to the end
+-- the forecast of the closings was written, or a fault ended it
 pub record ForecastEnds (ask : ForecastOptions) (input rest old new before after : Option (List ℕ)) (status : ℕ) : Type 0 where
   pub ended : Result (Unit {0}) ForecastFault
   pub foretold : Foretells ask input rest old new ended

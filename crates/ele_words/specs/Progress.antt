@@ -1,4 +1,4 @@
--- What is told of a storm while it runs, and how the program ends after one of which that was told.
+-- What a watched storm reports while it runs, and how the program ends after it.
 use Rattle.std.specs.Prelude.{ℕ, ◌≤◌, Bool, true, false, List, [], ◌∷◌, ◌++◌, length, codes, decimal, Option, Result, Ok, Err}
 use Rattle.ele_output.specs.Front.{AppendsFront}
 use Rattle.ele_output.specs.Line.{line_text}
@@ -6,7 +6,7 @@ use Rattle.ele_storm.specs.declared.fault.AuditFault.{AuditFault}
 use Rattle.ele_storm.specs.declared.plan.StormPlan.{StormPlan}
 use Rattle.ele_words.specs.Storms.{HasStormed, StormEnds}
 
--- the line that tells how many events were answered by then
+-- the line with the number of events that were answered by then
 abbrev pub progress_line : ℕ → List ℕ
 progress_line count = line_text (codes "storm" ∷ decimal count ∷ codes "events" ∷ codes "answered" ∷ [])
 
@@ -14,23 +14,23 @@ abbrev pub progress_text : List ℕ → List ℕ
 progress_text [] = []
 progress_text (count ∷ counts) = progress_line count ++ progress_text counts
 
--- from one number to another no count is less than the one before
+-- the counts rise from one number to another
 abbrev pub Rise : ℕ → List ℕ → ℕ → Type 0
 Rise from [] upto = from ≤ upto
 Rise from (count ∷ counts) upto = (from ≤ count) × Rise count counts upto
 
--- lines of counts that rise to this one at most were written, or a front of them
+-- lines of rising counts, none above this one, were written, or a prefix of them
 pub record ShowsProgress (before after : Option (List ℕ)) (most : ℕ) : Type 0 where
   pub counts : List ℕ
   pub rise : Rise 0 counts most
   pub written : AppendsFront before after (progress_text counts)
 
--- no more events than these stand in the history of a storm that was audited
+-- the history of an audited storm has at least this many events
 abbrev pub StandBehind : ℕ → (plan : StormPlan) (ended : Result (ℕ × Bool) AuditFault) → HasStormed plan ended → Type 0
 StandBehind most plan (Ok told) stormed = most ≤ length stormed.0.entries
 StandBehind most plan (Err fault) stormed = Unit {0}
 
--- a storm of which its progress was told, by counts that its history reaches: behind those lines it ends as any other
+-- a watched storm ends as any other, after lines of counts that its history reaches
 pub record WatchedEnds (plan : StormPlan) (old new before after : Option (List ℕ)) (status : ℕ) : Type 0 where
   pub most : ℕ
   pub between : Option (List ℕ)
@@ -38,7 +38,7 @@ pub record WatchedEnds (plan : StormPlan) (old new before after : Option (List �
   pub ends : StormEnds plan old new between after status
   pub behind : StandBehind most plan ends.ended ends.has_stormed
 
--- where it isn't watched no progress is told
+-- a storm that isn't watched reports no progress
 abbrev pub EndsWatched : Bool → StormPlan → Option (List ℕ) → Option (List ℕ) → Option (List ℕ) → Option (List ℕ) → ℕ → Type 0
 EndsWatched true plan old new before after status = WatchedEnds plan old new before after status
 EndsWatched false plan old new before after status = StormEnds plan old new before after status

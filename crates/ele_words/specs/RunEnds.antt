@@ -1,4 +1,4 @@
--- How the program ends after a run: what it tells, and with which status.
+-- How the program ends after a run: what it reports, and its exit status.
 use Rattle.std.specs.Prelude.{◌≡◌, ℕ, List, Option, Some, None, Result, Ok, Err}
 use Rattle.ele_output.specs.Front.{AppendsFront}
 use Rattle.ele_runs.specs.RunState.{RunState}
@@ -18,18 +18,18 @@ abbrev pub run_status : Result RunEnd ShellFault → ℕ
 run_status (Ok end) = end_status end.ended_by
 run_status (Err fault) = fault_status fault
 
--- which line ended a strict run was told; of a run that no line ended how many lines were not answered by `ok`
+-- the line that ended a strict run was reported, or the summary of a run that no line ended
 abbrev pub TellsRunEnd : RunOptions → ℕ → Option EndLine → Tally → Option (List ℕ) → Option (List ℕ) → Type 0
 TellsRunEnd options lines None tally before after = TellsSummary options lines tally before after
 TellsRunEnd options lines (Some end) tally before after = TellsStrictEnd options lines end before after
 
--- how it ended was told, or which fault ended it, and why the system failed to read or to write, where that is known
+-- the end of a run was reported, or the fault that ended it, with the reason if that is known
 abbrev pub TellsRun : RunOptions → Result RunEnd ShellFault → Option (List ℕ) → Option (List ℕ) → Type 0
 TellsRun options (Ok end) before after = TellsRunEnd options end.lines end.ended_by end.tally before after
 TellsRun options (Err fault) before after =
     (why : Option SystemReason) × IsReasonOf fault why × AppendsFront before after (failed_text fault why)
 
--- a run was done up to an end, which was told behind `notes`, the reasons of bad lines
+-- a run was done up to an end, which was reported after `notes`, the reasons of bad lines
 pub record RunEnds (start : RunState) (input rest old new after : Option (List ℕ)) (status : ℕ) : Type 0 where
   pub ended : Result RunEnd ShellFault
   pub notes : Option (List ℕ)

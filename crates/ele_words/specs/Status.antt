@@ -1,4 +1,4 @@
--- The status that the program ends with, and how it tells a fault.
+-- The exit status of the program, and the line of a fault.
 use Rattle.std.specs.Prelude.{ℕ, List, [], ◌∷◌, codes, decimal, Option, Some, None}
 use Rattle.std.specs.Io.KnownBytes.{Keeps}
 use Rattle.ele_output.specs.Front.{AppendsFront}
@@ -36,16 +36,16 @@ fault_status fault = status_after (Fault fault)
 abbrev pub storm_status : AuditFault → ℕ
 storm_status fault = status_after (Storm fault)
 
--- where a fault ended what was asked for, or none did
+-- after a fault, or without one
 abbrev pub status_of : Option ShellFault → ℕ
 status_of None = 0
 status_of (Some fault) = fault_status fault
 
--- the line that tells a fault
+-- the line of a fault: its number and its name
 abbrev pub fault_line : ShellFault → List ℕ
 fault_line fault = line_text (codes "elephant:" ∷ decimal (number_of fault) ∷ name_of fault ∷ [])
 
--- the line of the fault was written, or a front of it; nothing where there is none
+-- the line of the fault was written, or a prefix of it; nothing if there is no fault
 abbrev pub TellsFault : Option ShellFault → Option (List ℕ) → Option (List ℕ) → Type 0
 TellsFault None before after = Keeps before after
 TellsFault (Some fault) before after = AppendsFront before after (fault_line fault)

@@ -1,4 +1,4 @@
--- How the program tells once a run has ended how many lines were not answered by `ok`.
+-- The summary at the end of a run: how many of its lines were not answered by `ok`.
 use Rattle.std.specs.Prelude.{◌≡◌, ℕ, Bool, true, false, List, ◌++◌, codes, decimal, Option, Some, None}
 use Rattle.std.specs.Io.KnownBytes.{Keeps}
 use Rattle.ele_output.specs.Front.{AppendsFront}
@@ -11,13 +11,13 @@ use Rattle.ele_words.specs.StrictEnd.{IsWhyEnded}
 use Rattle.ele_words.specs.declared.summary.First.{First}
 use Rattle.ele_words.specs.declared.summary.First.TheVariants.{Answered, Bad, BadFor}
 
--- which line came first, and of a bad one why it is no command, where that is known
+-- which line was the first, and why it is no command if it is a bad one whose reason is known
 abbrev pub first_text : First → List ℕ
 first_text (Answered number) = codes "the first is line " ++ decimal number
 first_text (Bad number) = codes "the first bad one is line " ++ decimal number
 first_text (BadFor number why) = codes "the first bad one is line " ++ (decimal number ++ (codes ", " ++ reason_text why))
 
--- the line that tells how many lines of so many were not answered by `ok`, and which of them came first
+-- the summary: how many of the lines were not answered by `ok`, and which was the first
 abbrev pub summary_line : ℕ → Tally → First → List ℕ
 summary_line lines tally first =
     codes "elephant: " ++ (decimal tally.bad ++ (codes " bad, " ++ (decimal tally.refused ++ (codes " refused and " ++ (decimal tally.stopped
@@ -34,7 +34,7 @@ IsFirstOf options (Some bad) number first =
 IsFirstOf options None (Some number) first = first ≡ Some (Answered number)
 IsFirstOf options None None first = first ≡ None
 
--- none is named of a run with numbers, which has told each
+-- a run with numbers names none: it has reported each
 abbrev pub IsNamed : Bool → RunOptions → Tally → Option First → Type 0
 IsNamed true options tally first = first ≡ None
 IsNamed false options tally first = IsFirstOf options tally.first_bad tally.first first
@@ -42,12 +42,12 @@ IsNamed false options tally first = IsFirstOf options tally.first_bad tally.firs
 abbrev pub IsFirst : RunOptions → Tally → Option First → Type 0
 IsFirst options tally first = IsNamed options.numbers options tally first
 
--- the line that names it was written, or a front of it; nothing where none is named
+-- the summary was written, or a prefix of it; nothing if it would name no line
 abbrev pub TellsFirst : ℕ → Tally → Option First → Option (List ℕ) → Option (List ℕ) → Type 0
 TellsFirst lines tally None before after = Keeps before after
 TellsFirst lines tally (Some first) before after = AppendsFront before after (summary_line lines tally first)
 
--- how many lines were not answered by `ok` was told, unless all were, or the run has numbers
+-- the summary was written, unless all lines were answered by `ok` or the run has numbers
 abbrev pub TellsSummary : RunOptions → ℕ → Tally → Option (List ℕ) → Option (List ℕ) → Type 0
 TellsSummary options lines tally before after =
     (first : Option First) × IsFirst options tally first × TellsFirst lines tally first before after

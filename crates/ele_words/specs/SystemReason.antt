@@ -1,4 +1,4 @@
--- How the program tells a fault, and why the system failed to read or to write.
+-- The report of a fault, and of why the system failed to read or to write.
 use Rattle.std.specs.Prelude.{◌≡◌, List, ℕ, ◌++◌, codes, Option, Some, None}
 use Rattle.ele_runs.specs.declared.fault.ShellFault.{ShellFault}
 use Rattle.ele_runs.specs.declared.fault.ShellFault.TheVariants.{ReadFault, WriteFault, TooManyLines, NoMemory}
@@ -15,12 +15,12 @@ reason_line NotPermitted = codes "elephant: it is not permitted\n"
 reason_line Device = codes "elephant: the device failed\n"
 reason_line NotOpen = codes "elephant: it is not open\n"
 
--- the line of a fault, and then the reason's, where the system told one
+-- the line of a fault, and then that of the reason if it is known
 abbrev pub failed_text : ShellFault → Option SystemReason → List ℕ
 failed_text fault None = fault_line fault
 failed_text fault (Some why) = fault_line fault ++ reason_line why
 
--- the system may have failed only where something was read or written
+-- only a fault of reading or writing has a reason
 abbrev pub IsReasonOf : ShellFault → Option SystemReason → Type 0
 IsReasonOf ReadFault why = Unit {0}
 IsReasonOf WriteFault why = Unit {0}

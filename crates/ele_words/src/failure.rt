@@ -1,4 +1,4 @@
-//! Why the program ends with a status other than 0.
+//! Why the program exits with a status other than 0.
 //! A contract sees the variant and its status.
 ghost use Rattle.std.specs.Prelude.{◌≡◌};
 ghost use Rattle.ele_words.specs.Status.{status_after};
@@ -6,24 +6,24 @@ ghost use Rattle.ele_words.specs.Status.{status_after};
 use ele_runs::ShellFault;
 use ele_storm::{AuditFault, StormFault};
 
-/// Why the program ends with a status other than 0.
+/// Why the program exits with a status other than 0.
 #[derive(Clone, Copy, Debug, PartialEq, Eq)]
 pub enum Failure {
-    /// A reader or a writer failed, memory was refused, or a script was too long.
+    /// A reader or a writer failed, memory ran out, or a script was too long.
     Fault(ShellFault),
-    /// A storm ended early, or there was no audit of it.
+    /// A storm ended early, or it wasn't audited.
     Storm(AuditFault),
-    /// The audit of a storm found an answer that the scans don't give.
+    /// The audit of a storm found an answer that differs from a scan.
     Unequal,
-    /// The program's words weren't understood.
+    /// The arguments weren't understood.
     NotUnderstood,
-    /// The input of a forecast wasn't understood, or there were too many closings to draw.
+    /// A line of a forecast's input is bad, or its table would have too many moments.
     BadInput,
     /// A line ended a strict run.
     StrictLine,
 }
 
-/// The status that the program ends with after this failure.
+/// Returns the exit status of this failure.
 pub fn status(failure: Failure) -> u8
     ensures { result ≡ status_after failure }
 {

@@ -1,5 +1,5 @@
-//! A forecast as the program tells it: a table at a writer, and a fault at another.
-//! A contract sees what was read, what both hold then, and the status.
+//! A forecast as the program makes it. It goes to one writer, and a fault to the other.
+//! A contract sees what was read, what both writers hold then, and the status.
 ghost use Rattle.std.specs.Prelude.{◌≡◌, codes};
 ghost use Rattle.ele_output.specs.Front.{AppendsFront};
 ghost use Rattle.ele_outlook.specs.Input.{bad_line_text};
@@ -13,8 +13,7 @@ use ele_runs::ShellFault;
 use std::alloc::Global;
 use std::io::{Read, Write};
 
-/// Tells what becomes of the versions of the closings that the reader gives. The result is the
-/// status that the program ends with.
+/// Reads closings and writes their forecast. Reports a fault to `errors`. Returns the exit status.
 pub(crate) fn run_forecast<R: Read, W: Write, E: Write>(
     alloc: Global,
     ask: &ForecastOptions,
@@ -32,7 +31,7 @@ pub(crate) fn run_forecast<R: Read, W: Write, E: Write>(
     }
 }
 
-// Tells the fault of a forecast, and answers the status to end with.
+// Reports the fault of a forecast. Returns the exit status.
 fn tell_fault<E: Write>(fault: ForecastFault, errors: &mut E) -> u8
     ensures status { result ≡ forecast_status fault }
     ensures told { AppendsFront (E.contents errors.old) (E.contents errors.new)
@@ -47,7 +46,7 @@ fn tell_fault<E: Write>(fault: ForecastFault, errors: &mut E) -> u8
     }
 }
 
-// Tells that there are too many moments, and answers the status to end with.
+// Reports that a table has too many moments. Returns the exit status.
 fn tell_too_long<E: Write>(errors: &mut E) -> u8
     ensures status { result ≡ 2 }
     ensures told { AppendsFront (E.contents errors.old) (E.contents errors.new)
@@ -61,7 +60,7 @@ fn tell_too_long<E: Write>(errors: &mut E) -> u8
     status(Failure::BadInput)
 }
 
-// Tells a bad line, and answers the status to end with.
+// Reports a bad line. Returns the exit status.
 fn tell_bad_line<E: Write>(number: u64, why: BadLine, errors: &mut E) -> u8
     ensures status { result ≡ 2 }
     ensures told { AppendsFront (E.contents errors.old) (E.contents errors.new)

@@ -1,18 +1,18 @@
-//! A reader or a writer that remembers why the system failed.
-//! A contract sees it as the one that it stands before.
+//! A reader or a writer that keeps the reason of its last error.
+//! A contract sees it as the stream that it wraps.
 ghost use Rattle.std.specs.Prelude.{◌≡◌};
 
 use crate::system_reason::{SystemReason, system_reason};
 use std::io;
 use std::io::{ErrorKind, Read, Write};
 
-/// A reader or a writer that may know why it failed. What it says has no contract.
+/// A reader or a writer that may know why it failed.
 pub trait LastError {
-    /// Why the system failed, by the last error that it gave.
+    /// Returns the reason of the last error, if it is a known one. No clause says which it is.
     fn why_failed(&self) -> Option<SystemReason>;
 }
 
-/// A reader or a writer, and why the system failed by the last error that it gave.
+/// Wraps a reader or a writer, and keeps the reason of its last error.
 #[derive(Drop)]
 pub struct KeepsError<T: Drop> {
     end: T,
@@ -20,7 +20,7 @@ pub struct KeepsError<T: Drop> {
 }
 
 impl<T: Drop> KeepsError<T> {
-    /// One that has given no error so far.
+    /// Wraps a stream, with no error so far.
     pub fn new(end: T) -> KeepsError<T>
         ensures { result.end ≡ end }
     {
@@ -29,7 +29,7 @@ impl<T: Drop> KeepsError<T> {
 }
 
 impl<T: Drop> KeepsError<T> {
-    // Remembers the error, unless it was only interrupted, which is tried again.
+    // Keeps the reason of an error. An interrupted call is no failure, as it is tried again.
     fn note<A>(&mut self, done: &io::Result<A>)
         ensures { self.new.end ≡ self.old.end }
     {

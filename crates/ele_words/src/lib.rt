@@ -1,10 +1,11 @@
 //! What the program does with what its arguments ask for, over whatever steps.
-//! A contract sees how a run ended, what the reader and the writers hold then, and the status.
+//! A contract sees how a run ended, what the streams hold then, and the status.
 #![tactic(auto)]
 
 mod failure;
 mod forecasting;
 mod keeps_error;
+mod meter;
 mod program;
 mod storming;
 mod strict;
@@ -15,5 +16,6 @@ mod watched;
 pub use ele_invocation::{Invocation, unreadable_args, words};
 pub use failure::{Failure, status};
 pub use keeps_error::{KeepsError, LastError};
+pub use meter::{Cleared, Counted, Meter};
 pub use program::{dispatch, dispatch_alone};
 pub use system_reason::SystemReason;

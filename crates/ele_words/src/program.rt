@@ -1,5 +1,5 @@
-//! What the program does with what its words ask for, over a reader and two writers.
-//! A contract sees how a run ended, what the ends hold then, and the status.
+//! What the program does for its arguments, over a reader and two writers.
+//! A contract sees how a run ended, what the reader and the writers hold then, and the status.
 ghost use Rattle.std.specs.Prelude.{◌≡◌, false, Err, IfErr, is_ok, if◌then◌else◌};
 ghost use Rattle.std.specs.Result.{result_err};
 ghost use Rattle.ele_history.specs.Past.{fresh};
@@ -29,7 +29,7 @@ use std::sync::Wait;
 use std::thread::Threads;
 use std::time::Clock;
 
-/// How it ended if its writer was flushed behind it.
+/// Returns how a run ended, or `WriteFault` if the flush after it failed.
 pub(crate) fn after_flush<T: Drop>(
     ended: Result<T, ShellFault>,
     flushed: &io::Result<()>,
@@ -43,8 +43,7 @@ pub(crate) fn after_flush<T: Drop>(
     }
 }
 
-// Runs the script that the reader gives in this manner under these limits, and flushes what it
-// wrote, however it ended.
+// Runs a script, and flushes the writer however the run ended.
 fn run_script<C: Explain, R: Read, W: Write, E: Write>(
     alloc: Global,
     options: RunOptions,
@@ -62,7 +61,7 @@ fn run_script<C: Explain, R: Read, W: Write, E: Write>(
     after_flush(ran, &flushed)
 }
 
-// Why the system failed where its failure ended a run, if the end that failed knows.
+// Why the reader or the writer failed, if its failure ended the run and it kept the reason.
 fn why_failed<R: LastError, W: LastError>(
     ran: &Result<RunEnd, ShellFault>,
     reader: &R,
@@ -78,7 +77,7 @@ fn why_failed<R: LastError, W: LastError>(
     }
 }
 
-// Reports how a run ended, and why where the system failed, and the status to end with.
+// Reports how a run ended, and why the system failed if it did. Returns the exit status.
 fn tell_run<E: Write>(
     alloc: Global,
     options: RunOptions,
@@ -96,7 +95,7 @@ fn tell_run<E: Write>(
     }
 }
 
-/// Writes a text, and flushes it.
+/// Writes a text, and flushes it. After a `WriteFault` the writer has a prefix of the text.
 pub(crate) fn write_text<W: Write>(text: &str, writer: &mut W) -> Result<(), ShellFault>
     ensures { HasWritten text.now (W.contents writer.old) (W.contents writer.new)
         (result_err result) }
@@ -107,7 +106,7 @@ pub(crate) fn write_text<W: Write>(text: &str, writer: &mut W) -> Result<(), She
     after_flush(Ok(()), &flushed)
 }
 
-/// Reports the fault as its number and its name, if there is one, and the status to end with.
+/// Writes the number and the name of the fault, if there is one. Returns the exit status.
 pub(crate) fn tell<E: Write>(fault: Option<ShellFault>, errors: &mut E) -> u8
     ensures status { result ≡ status_of fault }
     ensures told { TellsFault fault (E.contents errors.old) (E.contents errors.new) }
@@ -120,10 +119,11 @@ pub(crate) fn tell<E: Write>(fault: Option<ShellFault>, errors: &mut E) -> u8
     status(Failure::Fault(fault))
 }
 
-/// Does what was asked for, unless it is a storm: answers at the writer, and reports faults and words
-/// that weren't understood at the other, and there too, of a run with numbers, why its bad lines are
-/// no commands. It calls no other thread, waits for none, and returns. The result is the status that
-/// the program ends with.
+/// Does what the arguments ask for, unless that is a storm, and returns the exit status.
+///
+/// Answers go to `writer`. Faults, the end of a run, and arguments that weren't understood are
+/// reported to `errors`. A run with numbers also reports there why its bad lines are no commands.
+/// No other thread is started or waited for.
 pub fn dispatch_alone<C: Explain, R: Read + LastError, W: Write + LastError, E: Write>(
     alloc: Global,
     invocation: &Invocation,
@@ -154,9 +154,10 @@ pub fn dispatch_alone<C: Explain, R: Read + LastError, W: Write + LastError, E: 
     }
 }
 
-/// Does what was asked for, as `dispatch_alone` does if it isn't a storm. A storm calls its core from
-/// many threads and may wait for them for ever; if it is watched, how far it is is reported at the
-/// writer of faults. The result is the status that the program ends with.
+/// Does what the arguments ask for, and returns the exit status.
+///
+/// A storm calls its core from many threads, and may wait for them forever. If it is `watched`, it
+/// reports its progress to `errors`. All else is done by `dispatch_alone`.
 pub fn dispatch<
     C: Audit + Explain + Send,
     T: Threads + Wait + Clock + Sync,

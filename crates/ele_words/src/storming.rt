@@ -1,4 +1,4 @@
-//! A storm as the program runs it: one line at a writer, and a fault at another.
+//! A storm as the program runs it. Its result goes to one writer, and a fault to the other.
 //! A contract sees what both hold then, and the status.
 ghost use Rattle.std.specs.Prelude.{◌≡◌};
 ghost use Rattle.std.specs.Result.{result_err};
@@ -21,12 +21,12 @@ use std::sync::Wait;
 use std::thread::Threads;
 use std::time::Clock;
 
-/// How often a worker looks for another one's flag, at most.
+/// A worker looks at most so often for the flag of another.
 const MOST_LOOKS: u64 = 10_000_000;
 
-/// Runs the storm over a fresh core of the largest limits, audits it, and tells how many events it
-/// ran and whether the audit found all equal. Where it is watched it also tells how far it is while
-/// it runs, at the writer of faults. The result is the status that the program ends with.
+/// Runs the storm over a fresh core under the largest limits, and audits the core. Writes how many
+/// events it ran, and whether all answers equal the scans'. If it is watched, it also reports its
+/// progress to `errors`. Returns the exit status.
 pub(crate) fn run_storm<C: Audit + Send, T: Threads + Wait + Clock + Sync, W: Write, E: Write>(
     rt: &T,
     alloc: Global,
@@ -46,7 +46,7 @@ pub(crate) fn run_storm<C: Audit + Send, T: Threads + Wait + Clock + Sync, W: Wr
     tell_ended(alloc, ended, writer, errors)
 }
 
-// Tells what a storm came to, and answers the status to end with.
+// Reports the result of a storm. Returns the exit status.
 fn tell_ended<W: Write, E: Write>(
     alloc: Global,
     ended: Result<(u64, bool), AuditFault>,
@@ -62,7 +62,7 @@ fn tell_ended<W: Write, E: Write>(
     }
 }
 
-// Runs the storm, audits what its core tells, and tells meanwhile how far it is.
+// Runs the storm and audits its core. Meanwhile it reports the progress.
 fn storm_and_watch<C: Audit + Send, T: Threads + Wait + Clock + Sync, E: Write>(
     rt: &T,
     alloc: Global,
@@ -75,7 +75,7 @@ fn storm_and_watch<C: Audit + Send, T: Threads + Wait + Clock + Sync, E: Write>(
     watch_storm::<C, T, E>(rt, alloc, plan, &flags, errors)
 }
 
-// Runs the storm, and audits what its core tells.
+// Runs the storm and audits its core.
 fn storm_and_look<C: Audit + Send, T: Threads + Wait + Sync>(
     rt: &T,
     alloc: Global,
@@ -90,14 +90,14 @@ fn storm_and_look<C: Audit + Send, T: Threads + Wait + Sync>(
     Ok((events, equal))
 }
 
-// The word for what an audit found.
+// The word for an audit's result.
 fn audit_word(equal: bool) -> &'static str
     ensures { result.now ≡ audit_word equal }
 {
     if equal { "equal" } else { "unequal" }
 }
 
-// Writes the line of a storm that was audited, and flushes it.
+// Writes the line of an audited storm, and flushes it.
 fn write_line<W: Write>(
     alloc: Global,
     events: u64,
@@ -114,7 +114,7 @@ fn write_line<W: Write>(
     write_text(line.as_str(), writer)
 }
 
-// Tells a storm that was audited, and answers the status to end with.
+// Reports an audited storm. Returns the exit status.
 fn tell_storm<W: Write, E: Write>(
     alloc: Global,
     events: u64,
@@ -132,7 +132,7 @@ fn tell_storm<W: Write, E: Write>(
     }
 }
 
-// Tells the fault of a storm as its number and its name, and answers the status to end with.
+// Writes the number and the name of the fault. Returns the exit status.
 fn tell_fault<E: Write>(fault: AuditFault, errors: &mut E) -> u8
     ensures status { result ≡ storm_status fault }
     ensures told { AppendsFront (E.contents errors.old) (E.contents errors.new)

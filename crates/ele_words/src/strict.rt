@@ -1,4 +1,4 @@
-//! Which line ended a strict run, and why it is no command, as the program tells it.
+//! How a run ended, as the program reports it, above all the line that ended a strict run.
 //! A contract sees what the writer holds then, and the status.
 ghost use Rattle.std.specs.Prelude.{◌≡◌, ◌++◌};
 ghost use Rattle.ele_output.specs.Front.{AppendsFront};
@@ -14,8 +14,8 @@ use ele_script::write_placed;
 use std::alloc::Global;
 use std::io::Write;
 
-/// Tells which line ended a strict run, if one did, and why it is no command, if it is none; else
-/// how many lines were not answered by `ok`. The result is the status to end with.
+/// Reports the line that ended a strict run, and why it is no command if it is none. If no line
+/// ended the run, writes the summary. Returns the exit status.
 pub(crate) fn report_end<E: Write>(
     alloc: Global,
     options: RunOptions,
@@ -36,7 +36,7 @@ pub(crate) fn report_end<E: Write>(
     status(Failure::StrictLine)
 }
 
-// Tells which line ended a run, and why it is no command.
+// Writes which line ended a run, and why it is no command.
 fn tell_line<E: Write>(
     alloc: Global,
     number: u64,
@@ -54,7 +54,7 @@ fn tell_line<E: Write>(
     tell_why(alloc, number, why, errors);
 }
 
-// The text of the line that ended a run.
+// What is shown of the line that ended a run.
 fn shown(line: &LineBuffer) -> &[u8]
     ensures { result.now ≡ shown line.now }
 {
@@ -64,7 +64,7 @@ fn shown(line: &LineBuffer) -> &[u8]
     }
 }
 
-/// Why the line is no command, or, if it is a last one without its line feed, why it is never run.
+/// Returns why the line is no command, or why a last line without its line feed is never run.
 pub(crate) fn why_ended(
     alloc: Global,
     options: RunOptions,

@@ -1,4 +1,4 @@
-//! How many lines of a run were not answered by `ok`, as the program tells it once the run has ended.
+//! The summary at the end of a run: how many of its lines were not answered by `ok`.
 //! A contract sees what the writer holds then.
 ghost use Rattle.std.specs.Prelude.{◌≡◌, IfSome, Some};
 ghost use Rattle.ele_output.specs.Front.{AppendsFront};
@@ -20,9 +20,9 @@ const ROOM: usize = 1024;
 /// The first line that was not answered by `ok`, by its number.
 #[derive(Clone, Copy, Debug, PartialEq, Eq)]
 pub(crate) enum First {
-    /// It was answered by `no` or `stop`, as no line was bad.
+    /// It was answered by `no` or `stop`. No line was bad.
     Answered(u64),
-    /// It is the first bad one, and there was no memory to tell why.
+    /// It is the first bad one. There was no memory to find the reason.
     Bad(u64),
     /// It is the first bad one, for this reason.
     BadFor(u64, Reason),
@@ -40,8 +40,8 @@ impl fmt::Display for First {
     }
 }
 
-/// Tells how many lines were not answered by `ok`, and which was the first, if there is one and the
-/// run has no numbers. A run with numbers has told each.
+/// Writes the summary of a run, unless all lines were answered by `ok`. A run with numbers has none,
+/// since it has reported each line.
 pub(crate) fn report_summary<E: Write>(
     alloc: Global,
     options: RunOptions,
@@ -57,7 +57,7 @@ pub(crate) fn report_summary<E: Write>(
     }
 }
 
-// The line that a summary names, if there is one and the run has no numbers.
+// The line that the summary names, if there is a summary.
 fn first_of(alloc: Global, options: RunOptions, tally: &Tally) -> Option<First>
     ensures { IsFirst options tally.now result }
 {
@@ -73,7 +73,7 @@ fn first_of(alloc: Global, options: RunOptions, tally: &Tally) -> Option<First>
     }
 }
 
-// The first bad line, and why it is bad, if that is known.
+// The first bad line, with the reason if that is known.
 fn bad_first(number: u64, why: Option<Reason>) -> First
     ensures { result ≡ bad_first number why }
 {
@@ -83,7 +83,7 @@ fn bad_first(number: u64, why: Option<Reason>) -> First
     }
 }
 
-// Writes a summary that names this line.
+// Writes the summary that names this line.
 fn write_summary<E: Write>(lines: u64, tally: &Tally, first: First, errors: &mut E)
     ensures { AppendsFront (E.contents errors.old) (E.contents errors.new)
         (summary_line lines tally.now first) }
@@ -95,7 +95,7 @@ fn write_summary<E: Write>(lines: u64, tally: &Tally, first: First, errors: &mut
     let _ = errors.flush();
 }
 
-// The summary that names this line. It takes no memory.
+// The summary that names this line. Nothing is allocated.
 fn summary_of(lines: u64, tally: &Tally, first: First) -> Option<ArrayString<ROOM>>
     ensures { IfSome result (λ text. text.bytes ≡ summary_line lines tally.now first) }
 {

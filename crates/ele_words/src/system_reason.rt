@@ -1,4 +1,4 @@
-//! Why a reader or a writer failed, as the program tells it.
+//! Why a reader or a writer failed, and the lines that report it.
 //! A contract sees a reason as itself, and what the writer holds then.
 ghost use Rattle.std.specs.Prelude.{◌≡◌, Some};
 ghost use Rattle.std.specs.IoError.{error_kind};
@@ -13,24 +13,24 @@ use ele_script::write_named;
 use std::io;
 use std::io::{ErrorKind, Write};
 
-/// Why the system failed to read or to write, where it told.
+/// Why the system failed to read or to write.
 #[derive(Clone, Copy, Debug, PartialEq, Eq)]
 pub enum SystemReason {
     /// It is a directory.
     IsDirectory,
-    /// There is no space left.
+    /// No space is left.
     NoSpace,
     /// Nobody reads the pipe any more.
     BrokenPipe,
-    /// It isn't permitted.
+    /// Permission is missing.
     NotPermitted,
     /// The device failed.
     Device,
-    /// It isn't open, or not for this.
+    /// It isn't open for reading or for writing.
     NotOpen,
 }
 
-/// Why the system gave an error, if that is one of these.
+/// Returns the reason of the system's error, if it is one of these.
 pub(crate) fn system_reason(error: &io::Error) -> Option<SystemReason>
     ensures directory { error_kind error.now ≡ ErrorKind.IsADirectory
         → result ≡ Some SystemReason.IsDirectory }
@@ -54,8 +54,8 @@ pub(crate) fn system_reason(error: &io::Error) -> Option<SystemReason>
     }
 }
 
-/// Tells the fault as its number and its name, and on a second line why the system failed, if it told. The result is the status to end
-/// with.
+/// Writes the number and the name of the fault, and a second line with the reason if it is known.
+/// Returns the exit status.
 pub(crate) fn report_error<E: Write>(
     fault: ShellFault,
     why: Option<SystemReason>,
@@ -70,7 +70,7 @@ pub(crate) fn report_error<E: Write>(
     status(Failure::Fault(fault))
 }
 
-// Writes the fault's line, and the reason's. Where the writer fails it took a front of these.
+// Writes these lines. A writer that fails has a prefix of them.
 fn write_failed<E: Write>(fault: ShellFault, why: Option<SystemReason>, errors: &mut E)
     ensures { AppendsFront (E.contents errors.old) (E.contents errors.new)
         (failed_text fault why) }

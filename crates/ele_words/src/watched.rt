@@ -1,6 +1,5 @@
-//! A storm that tells how far it is while it runs. The thread that was asked for it watches, so that
-//! one thread alone writes.
-//! A contract sees the counts that were told, and what the storm came to.
+//! A storm that runs in another thread while the calling thread reports its progress.
+//! A contract sees the counts that were reported, and the result of the storm.
 ghost use Rattle.std.specs.Prelude.{◌≡◌};
 ghost use Rattle.std.specs.Thread.{IsSync};
 ghost use Rattle.ele_output.specs.Front.{WritesText};
@@ -20,10 +19,10 @@ use std::sync::{Condvar, Mutex, Wait};
 use std::thread::{Promise, Threads, scope, scope_env};
 use std::time::{Clock, Duration};
 
-// For so many milliseconds nothing is told of a storm.
+// Milliseconds before the first report.
 const QUIET: u64 = 1_000;
 
-// So many are between two lines, at least.
+// Milliseconds between two reports, at least.
 const PAUSE: u64 = 100;
 
 // Rings once the storm has ended.
@@ -46,7 +45,7 @@ impl Bell {
         self.rings.notify_one();
     }
 
-    // Waits until it has rung, so many milliseconds at most, and answers whether it has.
+    // Waits until it rings, at most for these milliseconds. Returns whether it has rung.
     fn rings_within<R: Wait + Clock>(&self, rt: &R, millis: u64) -> bool {
         let most = Duration::from_millis(millis);
         let rung = self.rung.lock(rt);
@@ -55,10 +54,10 @@ impl Bell {
     }
 }
 
-// A seat, and how the storm by it ended.
+// The seat of a storm, and the storm's result.
 type Ended<C> = (Seat<C>, Result<u64, StormFault>);
 
-// What is promised of a storm by a seat.
+// The thread's promise: its result is that of a storm of this plan, from this seat.
 #[derive(Drop)]
 struct Storming<C: Step> {
     before: Snapshot<Seat<C>>,
@@ -69,9 +68,9 @@ impl<C: Step> Promise<Ended<C>> for Storming<C> {
     ghost kept_by = { λ p r. Stormed p.plan p.before.value r.0 r.1 };
 }
 
-/// Runs the storm over a fresh core of the largest limits, and audits it. Meanwhile it tells how many
-/// events were answered: nothing in the first second, and then ten lines a second at most. Once a
-/// line can't be written no more are.
+/// Runs the storm over a fresh core under the largest limits, and audits the core. Meanwhile it
+/// reports how many events were answered: after a second, and then at most ten times a second.
+/// After a failed write it reports no more.
 pub(crate) fn watch_storm<C: Audit + Send, R: Threads + Wait + Clock + Sync, E: Write>(
     rt: &R,
     alloc: Global,
@@ -93,8 +92,8 @@ pub(crate) fn watch_storm<C: Audit + Send, R: Threads + Wait + Clock + Sync, E: 
     Ok((events, equal))
 }
 
-// Runs the storm by the seat in a thread of its own, and tells by the watcher's how far it is. Where
-// that thread is refused the storm runs in this one, and nothing is told.
+// Runs the storm by `seat` in a thread of its own, and reports the progress that `watcher` sees. If
+// no thread can be started, the storm runs in this one, and nothing is reported.
 fn run_watched<C: Step + Send, R: Threads + Wait + Clock + Sync, E: Write>(
     rt: &R,
     alloc: Global,
@@ -150,12 +149,13 @@ fn run_watched<C: Step + Send, R: Threads + Wait + Clock + Sync, E: Write>(
     (watcher, ended)
 }
 
-// Does nothing, but this use of a returned reference ties it to the parameter that lent it.
+// Does nothing. A proof needs this use of a returned reference, to tie it to the parameter that it
+// was borrowed from.
 fn end_borrow<E>(errors: &mut E)
     ensures { errors.new ≡ errors.old }
 {}
 
-// Runs the storm by the seat, and then rings.
+// Runs the storm, and then rings the bell.
 fn run_and_ring<C: Step + Send, R: Threads + Wait + Sync>(
     rt: &R,
     alloc: Global,
@@ -173,7 +173,7 @@ fn run_and_ring<C: Step + Send, R: Threads + Wait + Sync>(
     (seat, ended)
 }
 
-// Tells how far the storm is until the bell rings, or until a line can't be written.
+// Reports the progress until the bell rings or a write fails.
 fn tell_until<C: Step, R: Wait + Clock, E: Write>(
     rt: &R,
     shared: &Shared<C>,
@@ -199,7 +199,7 @@ fn tell_until<C: Step, R: Wait + Clock, E: Write>(
     unreachable!()
 }
 
-// Tells how many events were answered by now.
+// Reports how many events have been answered.
 fn tell_next<C: Step, E: Write>(
     shared: &Shared<C>,
     seat: &mut Seat<C>,

@@ -6,14 +6,16 @@
 ghost use Rattle.ele_invocation.specs.Invocation.{IsAsked};
 
 use ele_core::Core;
-use ele_words::{Invocation, KeepsError, dispatch, unreadable_args, words};
+use ele_words::{
+    Cleared, Counted, Invocation, KeepsError, Meter, dispatch, unreadable_args, words,
+};
 use std::io::{IsTerminal, Write};
 use std::process::ExitCode;
 
 const GREETING: &str = "elephant: each line is answered as it comes, and Ctrl-D ends the run; \
     'elephant help script' tells the commands\n";
 
-// What the program's words ask for.
+// What the arguments ask for.
 fn asked_for(rt: &HostRuntime) -> Invocation
     ensures { IsAsked result }
 {
@@ -26,21 +28,33 @@ fn asked_for(rt: &HostRuntime) -> Invocation
     }
 }
 
-// Greets a person at a terminal, on standard error: a run waits for their input.
+// Greets on standard error if the script of a run is typed at a terminal.
 fn greet(rt: &HostRuntime, invocation: &Invocation) {
     if matches!(invocation, Invocation::Run(_, _)) && rt.stdin().is_terminal() {
         let _ = rt.stderr().write_all(GREETING.as_bytes());
     }
 }
 
+// Whether a run or a forecast shows its progress: at a terminal, if nobody types the input.
+fn is_metered(rt: &HostRuntime, invocation: &Invocation) -> bool {
+    matches!(invocation, Invocation::Run(_, _) | Invocation::Forecast(_))
+        && rt.stderr().is_terminal()
+        && !rt.stdin().is_terminal()
+}
+
 fn main(rt: HostRuntime) -> ExitCode {
     let invocation = asked_for(&rt);
     greet(&rt, &invocation);
-    let mut input = KeepsError::new(rt.stdin());
-    let mut output = KeepsError::new(rt.stdout());
-    let mut errors = rt.stderr();
-    // At a terminal the program reports how far a storm is.
-    let watched = errors.is_terminal();
+    let watched = rt.stderr().is_terminal();
+    let meter = Meter::new(&rt, rt.stderr());
+    let is_metered = is_metered(&rt, &invocation);
+    // Output to the same terminal replaces the progress. Other output is counted.
+    let replaces = is_metered && rt.stdout().is_terminal();
+    let counts = is_metered && !replaces;
+    let mut input = KeepsError::new(Counted::new(rt.stdin(), is_metered.then_some(&meter)));
+    let output = Cleared::new(rt.stdout(), replaces.then_some(&meter));
+    let mut output = KeepsError::new(Counted::new(output, counts.then_some(&meter)));
+    let mut errors = Cleared::new(rt.stderr(), is_metered.then_some(&meter));
     let status = dispatch::<Core, _, _, _, _>(
         &rt,
         rt.alloc(),
@@ -50,5 +64,6 @@ fn main(rt: HostRuntime) -> ExitCode {
         &mut output,
         &mut errors,
     );
+    meter.clear();
     ExitCode::from(status)
 }

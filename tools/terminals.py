@@ -1,0 +1,37 @@
+"""A terminal that is a program's standard error, or another of its streams."""
+
+import os
+import pty
+import threading
+
+
+class Terminal:
+    """Collects what programs write to a terminal. Within a `with`, pass them `end`, and type by `type`. `written` is known after it."""
+
+    def __init__(self):
+        self.ours, self.end = pty.openpty()
+        self.pieces = []
+        self.reading = threading.Thread(target=self.collect)
+        self.written = ""
+
+    def collect(self):
+        """Reads until nobody has the terminal open any more, which the system reports by an error."""
+        try:
+            while piece := os.read(self.ours, 4096):
+                self.pieces.append(piece)
+        except OSError:
+            pass
+
+    def type(self, keys):
+        os.write(self.ours, keys)
+
+    def __enter__(self):
+        self.reading.start()
+        return self
+
+    def __exit__(self, *failure):
+        os.close(self.end)
+        self.reading.join()
+        os.close(self.ours)
+        # The terminal puts a carriage return before each line feed.
+        self.written = b"".join(self.pieces).replace(b"\r\n", b"\n").decode("ascii", "replace")
