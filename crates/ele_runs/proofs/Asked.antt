@@ -44,6 +44,7 @@ met_or_faulty before line (answer.History folded entries) after may p =
     inl (record { asked = asks.History; asks = may.0; met = (may.1, may.2, may.3) })
 met_or_faulty before line (answer.Trimmed count) after may p = inl (record { asked = asks.Trim; asks = may.0; met = (may.1, may.2) })
 met_or_faulty before line (answer.Why told) after may p = absurd (let never = may.1.allowed in cc)
+met_or_faulty before line (answer.WhyRemoved row) after may p = absurd (let never = may.1.allowed in cc)
 met_or_faulty before line (answer.Ahead told) after may p = absurd (let never = may.1.allowed in cc)
 met_or_faulty before line (answer.Gone folded rows) after may p = absurd (let never = may.0.allowed in cc)
 met_or_faulty before line (answer.Handles handles) after may p = absurd (let never = may.0.allowed in cc)

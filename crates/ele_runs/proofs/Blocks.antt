@@ -2,7 +2,7 @@
 use Rattle.ele_runs.proofs.Basics.{◌≡◌, ◌≢◌, ℕ, ◌≤◌, ◌+◌, Bool, true, false, List, [], ◌∷◌, length, Option, Some, None, Result, Ok, Err, ◌⊎◌, inl, inr, refl, sym, ap, subst, arith, nat_tests, ◌++◌, ◌-◌, ◌∙◌, length-append, slice_get}
 use Rattle.std.specs.Option.{option_map}
 use Rattle.std.specs.Prelude.{not, ◌&&◌, if◌then◌else◌, IsErr, ◌<◌}
-use Rattle.ele_runs.proofs.Words.{HistoryFull, RunState, Outlet, Puts, IsNoted, recorded, MayAnswer, MayMean, as_entry, as_gone, as_handles, as_told, as_trim, IsTold, front_of, heard, is_well, noting, Past, PutsBlock, reply_to, world_of}
+use Rattle.ele_runs.proofs.Words.{HistoryFull, RunState, Outlet, Puts, IsNoted, recorded, MayAnswer, MayMean, as_entry, as_gone, as_handles, as_told, as_trim, as_why, IsTold, front_of, heard, is_well, noting, Past, PutsBlock, reply_to, world_of}
 use Rattle.ele_model.specs.declared.entry.Entry.{Entry}
 use Rattle.ele_model.specs.declared.event.Event.{Event}
 use Rattle.ele_model.specs.declared.refusal.Stop.TheVariants.{NoMemory}
@@ -20,7 +20,7 @@ use Rattle.ele_runs.specs.Said.{Explains, Hears, HearsKept, HearsNext, Records, 
 use Rattle.ele_runs.specs.declared.options.RunOptions.{RunOptions}
 use Rattle.ele_runs.specs.Tally.{outcome_of, tallied}
 use Rattle.ele_runs.specs.declared.said.Said.{Said}
-use Rattle.ele_runs.specs.declared.said.Said.TheVariants.{Nothing, Bad, Stopped, Replied, Trimmed, Why, Ahead, Gone, Handles, Answers}
+use Rattle.ele_runs.specs.declared.said.Said.TheVariants.{Nothing, Bad, Stopped, Replied, Trimmed, Why, WhyRemoved, Ahead, Gone, Handles, Answers}
 use Rattle.ele_output.proofs.Known.{puts_no_more, puts_then}
 use Rattle.ele_runs.specs.Told.{cut_told}
 use Rattle.ele_runs.specs.Written.{WritesLast, end_by}
@@ -56,6 +56,9 @@ hears_trim before after line said asked trims = absurd trims
 
 pub hears_question : {explains : Bool} (past : Past) (line : List ℕ) (question : Question) (said : Said) → Asks explains line (asks.Question question) → Explains past question said → Hears explains past line said past
 hears_question past line (question.Why tagged) (Why told) asked says = (tagged, asked, says, refl)
+hears_question past line (question.Why tagged) (WhyRemoved row) asked says = (tagged, asked, says, refl)
+hears_question past line (question.Why tagged) (Stopped NoMemory) asked says = (as_why tagged asked, refl)
+hears_question past line (question.Why tagged) (Stopped HistoryFull) asked says = absurd cc
 hears_question past line (question.Why tagged) said asked says = absurd says
 hears_question past line (question.Ahead moment) (Ahead told) asked says = (moment, asked, says, refl)
 hears_question past line (question.Ahead moment) (Stopped NoMemory) asked says = (as_told moment asked says.1, refl)

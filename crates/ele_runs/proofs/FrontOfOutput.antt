@@ -44,6 +44,7 @@ answer_within before after line (answer.Pass end) within may = pass_within befor
 answer_within before after line (answer.History folded entries) within may = subst IsWithin (sym may.3) within
 answer_within before after line (answer.Trimmed count) within may = subst IsWithin (sym may.2) (trimmed_within before within)
 answer_within before after line (answer.Why told) within may = subst IsWithin (sym may.3) within
+answer_within before after line (answer.WhyRemoved row) within may = subst IsWithin (sym may.3) within
 answer_within before after line (answer.Ahead told) within may = subst IsWithin (sym may.3) within
 answer_within before after line (answer.Gone folded rows) within may = subst IsWithin (sym may.3) within
 answer_within before after line (answer.Handles handles) within may = subst IsWithin (sym may.2) within

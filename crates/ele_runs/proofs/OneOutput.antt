@@ -2,10 +2,13 @@
 use Rattle.ele_runs.proofs.Basics.{◌≡◌, ◌≢◌, ℕ, false, List, [], ◌∷◌, ◌++◌, Option, Ok, Err, refl, sym, ap, subst, ◌∙◌, append_assoc}
 use Rattle.ele_runs.proofs.Words.{Reply, IsBlock, MayAnswer, line_unless_long, AreBlocks, Past, cut_block}
 use Rattle.ele_moment.proofs.Moments.{one_text}
+use Rattle.ele_audit.specs.AuditText.{AreAnswers}
+use Rattle.ele_model.specs.declared.entry.Entry.{Entry}
+use Rattle.ele_printer.specs.HistoryText.{entry_line}
 use Rattle.ele_printer.specs.Printed.{IsReplyText, pass_text, stop_text}
 use Rattle.ele_output.specs.Line.{line_text}
 use Rattle.std.specs.Fmt.{decimal}
-use Rattle.std.specs.Prelude.{codes}
+use Rattle.std.specs.Prelude.{codes, length}
 use Rattle.ele_model.specs.declared.pass.PassEnd.TheVariants.{Stopped}
 use Rattle.ele_model.specs.declared.refusal.Stop.TheVariants.{NoMemory}
 use Rattle.ele_model.specs.declared.reply.Reply.TheVariants.{Now}
@@ -23,9 +26,18 @@ one_reply_text (Now moment) s t a b =
     a.2 ∙ ap (λ (stamp : List ℕ). line_text (codes "ok now" ∷ decimal moment ∷ stamp ∷ [])) (one_text a.0 b.0 moment a.1 b.1) ∙ sym b.2
 one_reply_text reply s t a b = a ∙ sym b
 
--- and so has an answer
+-- so have the entries of a history with their replies
+one_answers : (entries : List Entry) (s t : List ℕ) → AreAnswers entries s → AreAnswers entries t → s ≡ t
+one_answers [] s t a b = a ∙ sym b
+one_answers (entry ∷ entries) s t (reply, others, is, are, parts) (reply', others', is', are', parts') =
+    parts ∙ ap (λ (w : List ℕ). entry_line entry ++ (w ++ others)) (one_reply_text entry.reply reply reply' is is')
+    ∙ ap (λ (w : List ℕ). entry_line entry ++ (reply' ++ w)) (one_answers entries others others' are are') ∙ sym parts'
+
+-- and an answer
 one_said : (said : Answer) (s t : List ℕ) → IsText said s → IsText said t → s ≡ t
 one_said (answer.Reply (Ok reply)) s t a b = one_reply_text reply s t a b
+one_said (answer.Answers folded entries) s t a b =
+    a.2 ∙ ap (λ (w : List ℕ). line_text (codes "ok answers" ∷ decimal folded ∷ decimal (length entries) ∷ []) ++ w) (one_answers entries a.0 b.0 a.1 b.1) ∙ sym b.2
 one_said said s t a b = a ∙ sym b
 
 -- what stands nowhere stands in no part

@@ -15,7 +15,7 @@ use Rattle.ele_printer.specs.declared.fault.LineFault.{LineFault}
 
 -- nothing; that it is no command, by its first fault; what the command is answered, or why it was not run; how the pass ended
 -- that it asks for; how many entries were folded, and those that are stored; how many a trim folded; what becomes of the
--- version that it asks about, or why it means none; which versions will be due at a moment, or that this has passed; how many
+-- version that it asks about, or why it means none, or what became of the removed one that it means; which versions will be due at a moment, or that this has passed; how many
 -- entries were folded, and which versions the stored ones removed; which handles are open; how many entries were folded, and
 -- the stored ones with their replies
 pub data Answer : Type 0 where
@@ -26,6 +26,7 @@ pub data Answer : Type 0 where
   History : ℕ → List Entry → Answer
   Trimmed : ℕ → Answer
   Why : Result Fate Refusal → Answer
+  WhyRemoved : Removed → Answer
   Ahead : Result (List Key) Refusal → Answer
   Gone : ℕ → List Removed → Answer
   Handles : List OpenHandle → Answer

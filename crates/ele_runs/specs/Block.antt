@@ -1,10 +1,14 @@
 -- The block of one line: what is written for it.
-use Rattle.std.specs.Prelude.{◌≡◌, ℕ, ◌≤◌, Bool, List, [], ◌∷◌, length, Option, Some, None, Ok, Err}
-use Rattle.ele_audit.specs.AuditText.{IsAnswersText, gone_text, handles_text}
+use Rattle.std.specs.Prelude.{◌≡◌, ℕ, ◌≤◌, Bool, List, [], ◌∷◌, length, Option, Some, None, Result, Ok, Err}
+use Rattle.ele_audit.specs.AuditText.{IsAnswersText, gone_text, handles_text, why_gone_text}
 use Rattle.ele_audit.specs.Open.{AreOpen}
-use Rattle.ele_audit.specs.Removals.{AreRemoved}
+use Rattle.ele_audit.specs.Removals.{AreRemoved, IsRemovedVersion}
+use Rattle.ele_audit.specs.declared.row.Removed.{Removed}
 use Rattle.ele_model.specs.Why.{IsAhead, IsWhy}
 use Rattle.ele_model.specs.declared.event.Event.{Event}
+use Rattle.ele_model.specs.declared.fate.Fate.{Fate}
+use Rattle.ele_model.specs.declared.refusal.Refusal.{Refusal}
+use Rattle.ele_model.specs.declared.refusal.Refusal.TheVariants.{Forgotten}
 use Rattle.ele_model.specs.declared.refusal.Stop.TheVariants.{NoMemory, HistoryFull}
 use Rattle.ele_path.specs.declared.tagged.TaggedPath.{TaggedPath}
 use Rattle.ele_printer.specs.declared.fault.LineFault.TheVariants.{Syntax, LineTooLong}
@@ -24,14 +28,31 @@ use Rattle.ele_history.specs.Past.{Past, HasRoom, trimmed, world_of}
 use Rattle.ele_history.specs.Reply.{MayReply}
 
 -- a line may want memory: its command takes a path or bytes, its event makes an entry, or it asks for a trim, for what will be
--- due at a moment that hasn't passed, for removed versions or for open handles
+-- due at a moment that hasn't passed, for why a version is held or was removed, for removed versions or for open handles
 pub data LineTakesMemory (explains : Bool) (before : Past) (line : List ℕ) : Type 0 where
   as_read : TakesMemory explains (words_of line) → LineTakesMemory explains before line
   as_entry : (event : Event) → Asks explains line (asks.Event event) → HasRoom before → LineTakesMemory explains before line
   as_trim : Asks explains line asks.Trim → LineTakesMemory explains before line
   as_told : (moment : ℕ) → Asks explains line (asks.Question (question.Ahead moment)) → (world_of before).now ≤ moment → LineTakesMemory explains before line
+  as_why : (tagged : TaggedPath) → Asks explains line (asks.Question (question.Why tagged)) → LineTakesMemory explains before line
   as_gone : Asks explains line (asks.Question question.Gone) → LineTakesMemory explains before line
   as_handles : Asks explains line (asks.Question question.Handles) → LineTakesMemory explains before line
+
+-- a version that isn't held any more was removed by no stored entry
+abbrev pub NoneRemoved : Past → TaggedPath → Result Fate Refusal → Type 0
+NoneRemoved past tagged (Err (Forgotten number)) = IsRemovedVersion past tagged None
+NoneRemoved past tagged told = Unit {0}
+
+-- the fate of the version that the tagged path means, or why it means none
+pub record IsWhyNow (past : Past) (tagged : TaggedPath) (told : Result Fate Refusal) : Type 0 where
+  pub why : IsWhy (world_of past) tagged told
+  pub none : NoneRemoved past tagged told
+
+-- the version isn't held any more, and this stored removal is its own
+pub record IsWhyRemoved (past : Past) (tagged : TaggedPath) (row : Removed) : Type 0 where
+  pub number : Option ℕ
+  pub why : IsWhy (world_of past) tagged (Err (Forgotten number))
+  pub removed : IsRemovedVersion past tagged (Some row)
 
 -- a line that has bytes is answered its first fault, what the event is answered that it asks for, how the pass ends, the history or
 -- how many entries the trim folds; in a run that explains a question too, from the world as it is and the history, which stands
@@ -51,7 +72,9 @@ MayMean explains before line (answer.History folded entries) after =
 MayMean explains before line (answer.Trimmed count) after =
     Asks explains line asks.Trim × (count ≡ length before.entries) × (after ≡ trimmed before)
 MayMean explains before line (answer.Why told) after =
-    (tagged : TaggedPath) × Asks explains line (asks.Question (question.Why tagged)) × IsWhy (world_of before) tagged told × (after ≡ before)
+    (tagged : TaggedPath) × Asks explains line (asks.Question (question.Why tagged)) × IsWhyNow before tagged told × (after ≡ before)
+MayMean explains before line (answer.WhyRemoved row) after =
+    (tagged : TaggedPath) × Asks explains line (asks.Question (question.Why tagged)) × IsWhyRemoved before tagged row × (after ≡ before)
 MayMean explains before line (answer.Ahead told) after =
     (moment : ℕ) × Asks explains line (asks.Question (question.Ahead moment)) × IsAhead (world_of before) moment told × (after ≡ before)
 MayMean explains before line (answer.Gone folded rows) after =
@@ -76,6 +99,7 @@ IsText (answer.Pass end) text = text ≡ pass_text end
 IsText (answer.History folded entries) text = text ≡ history_text folded entries
 IsText (answer.Trimmed count) text = text ≡ trimmed_text count
 IsText (answer.Why told) text = text ≡ why_text told
+IsText (answer.WhyRemoved row) text = text ≡ why_gone_text row
 IsText (answer.Ahead told) text = text ≡ ahead_text told
 IsText (answer.Gone folded rows) text = text ≡ gone_text folded rows
 IsText (answer.Handles handles) text = text ≡ handles_text handles

@@ -7,15 +7,16 @@ use Rattle.ele_history.specs.Past.{HasRoom, Past, recorded, trimmed, world_of}
 use Rattle.ele_history.specs.Reply.{MayStop}
 use Rattle.ele_runs.specs.Answer.{Answer}
 use Rattle.ele_runs.specs.Answer as answer
-use Rattle.ele_runs.specs.Block.{IsText, MayAnswer, MayMean}
+use Rattle.ele_path.specs.declared.tagged.TaggedPath.{TaggedPath}
+use Rattle.ele_runs.specs.Block.{IsText, IsWhyNow, IsWhyRemoved, MayAnswer, MayMean}
 use Rattle.ele_runs.specs.RunState.{RunState, advance}
 use Rattle.ele_runs.specs.RunOptions.{front_of, heard}
 use Rattle.ele_runs.specs.declared.options.RunOptions.{RunOptions}
 use Rattle.ele_runs.specs.declared.said.Said.{Said}
-use Rattle.ele_runs.specs.declared.said.Said.TheVariants.{Nothing, Bad, Stopped, Replied, Passed, History, Trimmed, Why, Ahead, Gone, Handles, Answers}
+use Rattle.ele_runs.specs.declared.said.Said.TheVariants.{Nothing, Bad, Stopped, Replied, Passed, History, Trimmed, Why, WhyRemoved, Ahead, Gone, Handles, Answers}
 use Rattle.ele_script.specs.declared.reading.Question.{Question}
 use Rattle.ele_script.specs.declared.reading.Question.TheVariants as question
-use Rattle.ele_model.specs.Why.{IsAhead, IsWhy}
+use Rattle.ele_model.specs.Why.{IsAhead}
 use Rattle.ele_model.specs.World.{World}
 use Rattle.ele_model.specs.declared.reply.Reply.{Reply}
 use Rattle.std.specs.Option.{option_map}
@@ -56,6 +57,7 @@ answer_by last history (Passed end) = answer.Pass end
 answer_by last history History = history_of history
 answer_by last history (Trimmed count) = answer.Trimmed count
 answer_by last history (Why told) = answer.Why told
+answer_by last history (WhyRemoved row) = answer.WhyRemoved row
 answer_by last history (Ahead told) = answer.Ahead told
 answer_by last history (Gone rows) = gone_of history rows.items
 answer_by last history (Handles handles) = answer.Handles handles.items
@@ -104,6 +106,13 @@ SaysAhead w moment (Ahead told) = IsAhead w moment told
 SaysAhead w moment (Stopped stop) = (stop ≡ NoMemory) × (w.now ≤ moment)
 SaysAhead w moment said = ⊥
 
+-- why a version is held was told, or why it was removed, or there was no memory for that
+abbrev pub SaysWhy : Past → TaggedPath → Said → Type 0
+SaysWhy past tagged (Why told) = IsWhyNow past tagged told
+SaysWhy past tagged (WhyRemoved row) = IsWhyRemoved past tagged row
+SaysWhy past tagged (Stopped stop) = stop ≡ NoMemory
+SaysWhy past tagged said = ⊥
+
 -- the removed versions were told, or there was no memory for them
 abbrev pub SaysGone : Past → Said → Type 0
 SaysGone past (Gone rows) = AreRemoved past rows.items
@@ -118,8 +127,7 @@ SaysHandles past said = ⊥
 
 -- a question was answered, from the world as it is and the history
 abbrev pub Explains : Past → Question → Said → Type 0
-Explains past (question.Why tagged) (Why told) = IsWhy (world_of past) tagged told
-Explains past (question.Why tagged) said = ⊥
+Explains past (question.Why tagged) said = SaysWhy past tagged said
 Explains past (question.Ahead moment) said = SaysAhead (world_of past) moment said
 Explains past question.Gone said = SaysGone past said
 Explains past question.Handles said = SaysHandles past said

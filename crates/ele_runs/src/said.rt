@@ -1,19 +1,26 @@
 //! What a line is answered, and the text of it.
 //! A contract sees the answer that is meant, beside the history that it left.
-ghost use Rattle.std.specs.Prelude.{◌≡◌, List, ℕ};
+ghost use Rattle.std.specs.Prelude.{◌≡◌, Err, List, Option, ℕ};
 ghost use Rattle.std.specs.Option.{option_copied, option_map};
+ghost use Rattle.ele_history.specs.Past.{world_of};
+ghost use Rattle.ele_model.specs.Why.{IsWhy};
+ghost use Rattle.ele_model.specs.declared.refusal.Refusal.TheVariants.{Forgotten};
 ghost use Rattle.ele_output.specs.Prints.{Prints};
 ghost use Rattle.ele_runs.specs.RunOptions.{is_well};
 ghost use Rattle.ele_runs.specs.Tally.{outcome_of};
 ghost use Rattle.ele_runs.specs.Block.{IsText};
-ghost use Rattle.ele_runs.specs.Said.{Explains, Hears, HearsKept, Records, SaysAhead, SaysGone, SaysHandles, Trims, answer_by, answer_of, answers_of, gone_of, has_no_reply, history_of, last_reply, reply_of, said_front};
+ghost use Rattle.ele_runs.specs.Said.{Explains, Hears, HearsKept, Records, SaysAhead, SaysGone, SaysHandles, SaysWhy, Trims, answer_by, answer_of, answers_of, gone_of, has_no_reply, history_of, last_reply, reply_of, said_front};
 
 use crate::options::RunOptions;
 use crate::tally::Outcome;
-use ele_audit::{OpenHandle, Removed, open_handles, put_answers, put_gone, put_handles, removed};
+use ele_audit::{
+    OpenHandle, Removed, open_handles, put_answers, put_gone, put_handles, put_why_gone, removed,
+    removed_version,
+};
 use ele_history::History;
 use ele_model::{Event, Explain, Fate, KeyList, Moment, PassEnd, Refusal, Reply, Stop};
 use ele_output::Printer;
+use ele_path::TaggedPath;
 use ele_printer::{put_history, put_in_front, put_trimmed};
 use ele_script::{
     Line, LineFault, Question, put_ahead, put_answer, put_fault, put_pass, put_stop, put_why,
@@ -41,6 +48,8 @@ pub enum Said {
     Trimmed(u64),
     /// What becomes of the version that it asks about, or why it means none.
     Why(Result<Fate, Refusal>),
+    /// What became of the removed version that it asks about.
+    WhyRemoved(Removed),
     /// What will be due at the moment that it asks about.
     Ahead(Result<KeyList, Refusal>),
     /// The versions that the history removed.
@@ -123,11 +132,40 @@ fn explain<C: Explain>(alloc: Global, question: &Question, history: &History<C>)
     ensures { Explains history.now question.now result }
 {
     match question {
-        Question::Why(tagged) => Said::Why(history.core().fate_at(tagged)),
+        Question::Why(tagged) => hear_why(alloc, tagged, history),
         Question::Ahead(moment) => hear_ahead(*moment, history.core()),
         Question::Gone => hear_gone(alloc, history),
         Question::Handles => hear_handles(alloc, history),
         Question::Answers => Said::Answers,
+    }
+}
+
+// Returns why a version is held, or why it was removed.
+fn hear_why<C: Explain>(alloc: Global, tagged: &TaggedPath, history: &History<C>) -> Said
+    ensures { SaysWhy history.now tagged.now result }
+{
+    let told = history.core().fate_at(tagged);
+    match &told {
+        Err(Refusal::Forgotten(_)) => hear_forgotten(alloc, told, tagged, history),
+        _ => Said::Why(told),
+    }
+}
+
+// Returns why a version was removed, or that no stored entry removed it.
+fn hear_forgotten<C: Explain>(
+    alloc: Global,
+    told: Result<Fate, Refusal>,
+    tagged: &TaggedPath,
+    history: &History<C>,
+) -> Said
+    requires why { IsWhy (world_of history.now) tagged.now told }
+    requires forgotten { (before : Option ℕ) × (told ≡ Err (Forgotten before)) }
+    ensures { SaysWhy history.now tagged.now result }
+{
+    match removed_version(alloc, tagged, history) {
+        Ok(Some(row)) => Said::WhyRemoved(row),
+        Ok(None) => Said::Why(told),
+        Err(_) => Said::Stopped(Stop::NoMemory),
     }
 }
 
@@ -232,6 +270,7 @@ impl Said {
             Said::History => put_past(history, printer),
             Said::Trimmed(count) => put_trimmed(*count, printer),
             Said::Why(told) => put_why(told, printer),
+            Said::WhyRemoved(row) => put_why_gone(row, printer),
             Said::Ahead(told) => put_ahead(told, printer),
             Said::Gone(rows) => put_removed(rows.as_slice(), history, printer),
             Said::Handles(handles) => put_handles(handles.as_slice(), printer),
