@@ -1,1 +1,6 @@
 mod Basics
+mod Paths
+mod Clocks
+mod Gathers
+mod Lines
+mod Texts

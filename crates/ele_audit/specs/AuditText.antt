@@ -10,7 +10,7 @@ use Rattle.ele_output.specs.Line.{line_text}
 use Rattle.ele_path.specs.PathText.{path_word}
 use Rattle.ele_printer.specs.HistoryText.{entry_line}
 use Rattle.ele_printer.specs.Printed.{IsReplyText, end_word}
-use Rattle.ele_printer.specs.Why.{fate_words}
+use Rattle.ele_model.specs.FateText.{fate_words}
 use Rattle.ele_audit.specs.LivePath.{names_in}
 use Rattle.ele_audit.specs.Open.{file_of}
 use Rattle.ele_audit.specs.declared.row.OpenHandle.{OpenHandle}

@@ -1,5 +1,5 @@
 -- Two lists whose elements belong together, place by place.
-use Rattle.std.specs.Prelude.{⊥, List, [], ◌∷◌}
+use Rattle.std.specs.Prelude.{List, [], ◌∷◌}
 
 -- the lists are equally long, and R holds between the elements at each place
 abbrev pub AreEach : {A B : Type 0} → (A → B → Type 0) → List A → List B → Type 0

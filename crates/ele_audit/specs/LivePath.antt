@@ -25,5 +25,5 @@ abbrev pub live_path : List NameRow → Target → Option (List (List ℕ))
 live_path rows target = path_within (length rows) rows target
 
 -- the path as a list of names
-abbrev pub names_in : Option (Vec (List ℕ)) → Option (List (List ℕ))
+abbrev pub names_in : {A : Type 0} → Option (Vec (List ℕ) A) → Option (List (List ℕ))
 names_in path = option_map (λ names. names.items) path

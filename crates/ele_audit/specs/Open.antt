@@ -39,7 +39,7 @@ since_of past number (Version file version) = opened_at number past.base past.en
 
 -- the handle, since when it has been open, and the path that leads to its file now
 pub record IsOpen (past : Past) (row : HandleRow) (handle : OpenHandle) : Type 0 where
-  pub row : handle.row ≡ row
+  pub is : handle.row ≡ row
   pub since : handle.since ≡ since_of past row.number row.reads
   pub path : names_in handle.path ≡ live_path (world_of past).names (File (file_of row.reads))
 

@@ -1,5 +1,5 @@
 -- The versions that the stored entries of a history removed.
-use Rattle.std.specs.Prelude.{◌≡◌, ℕ, zero, suc, false, List, [], ◌∷◌, ◌++◌, Option, Some, None, find, ◌&&◌, ◌==◌, Bool, Result, Ok, Err}
+use Rattle.std.specs.Prelude.{◌≡◌, ℕ, zero, suc, false, List, [], ◌∷◌, ◌++◌, Option, Some, None, find, ◌&&◌, ◌==◌, Bool, Result, Ok}
 use Rattle.ele_due.specs.declared.key.Key.{Key}
 use Rattle.ele_history.specs.Past.{Past, world_of}
 use Rattle.ele_model.specs.declared.entry.Entry.{Entry}

@@ -2,14 +2,16 @@
 //! A contract sees the answers as rows, and their text as bytes.
 #![tactic(auto)]
 
+mod fate;
 mod gone;
 mod listing;
 mod path;
-mod replay;
 mod row;
 mod text;
+mod version;
 
-pub use gone::{removed, removed_version};
+pub use gone::removed;
 pub use listing::open_handles;
 pub use row::{OpenHandle, Removed};
 pub use text::{put_answers, put_gone, put_handles, put_why_gone};
+pub use version::removed_version;

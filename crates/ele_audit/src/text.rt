@@ -1,13 +1,22 @@
 //! Puts what an audit asks. A contract sees a printer as its outlet.
-ghost use Rattle.std.specs.Prelude.{List, ℕ};
-ghost use Rattle.ele_audit.specs.AuditText.{IsAnswersText, gone_text, handles_text, why_gone_text};
+ghost use Rattle.std.specs.Prelude.{◌≡◌, ◌∷◌, ◌++◌, [], List, ℕ, codes, decimal};
+ghost use Rattle.std.specs.List.{flat_map};
+ghost use Rattle.ele_audit.specs.AuditText.{AreAnswers, IsAnswersText, gone_text, handle_line, handles_text, path_or_dash, read_word, removed_line, why_gone_text};
+ghost use Rattle.ele_audit.specs.LivePath.{names_in};
+ghost use Rattle.ele_audit.specs.Open.{file_of};
 ghost use Rattle.ele_output.specs.Prints.{Prints};
+ghost use Rattle.ele_path.specs.PathText.{path_word};
+ghost use Rattle.ele_printer.specs.HistoryText.{entry_line};
+ghost use Rattle.ele_printer.specs.Printed.{IsReplyText, end_word};
 
+use crate::fate::put_gone_words;
 use crate::row::{OpenHandle, Removed};
-use ele_commands::Word::{self, Number};
-use ele_commands::put_line_of;
-use ele_model::Entry;
-use ele_output::Printer;
+use ele_commands::Word::Number;
+use ele_commands::{put_event_line, put_line_of};
+use ele_model::{Entry, HandleRow, Key, Reads};
+use ele_moment::{Moment, Name};
+use ele_output::{Printer, put_with_number};
+use ele_printer::put_answer;
 use std::io::Write;
 
 /// Puts how many entries were folded, how many versions were removed since, and a line for each.
@@ -16,6 +25,66 @@ pub fn put_gone<W: Write>(folded: u64, removed: &[Removed], printer: &mut Printe
 {
     let words = [Number(folded), Number(removed.len() as u64)];
     put_line_of(b"ok gone", &words, printer);
+    put_removed_lines(removed, printer);
+}
+
+// Puts the line of each removed version.
+fn put_removed_lines<W: Write>(removed: &[Removed], printer: &mut Printer<'_, W>)
+    ensures { Prints W.contents printer.old printer.new (flat_map removed_line removed.now) }
+{
+    for row in removed {
+        put_removed(row, printer);
+    }
+}
+
+// Puts the line of a removed version.
+fn put_removed<W: Write>(row: &Removed, printer: &mut Printer<'_, W>)
+    ensures { Prints W.contents printer.old printer.new (removed_line row.now) }
+{
+    put_version(row.at, &row.key, printer);
+    put_path(&row.path, printer);
+    put_gone_words(row.key.ripe, &row.fate, printer);
+}
+
+// Puts a dash, a moment, and the file and the number of a version.
+fn put_version<W: Write>(at: Moment, key: &Key, printer: &mut Printer<'_, W>)
+    ensures { Prints W.contents printer.old printer.new
+        ((codes "-" ++ ((32 ∷ decimal at) ++ (32 ∷ decimal key.now.file))) ++ (32 ∷ decimal key.now.number)) }
+{
+    put_numbers(at.seconds(), file_number(key), printer);
+    put_with_number(b" ", version_number(key), printer);
+}
+
+// The number of the key's file.
+fn file_number(key: &Key) -> u64
+    ensures { result ≡ key.now.file }
+{
+    key.file.0
+}
+
+// The number of the key's version.
+fn version_number(key: &Key) -> u64
+    ensures { result ≡ key.now.number }
+{
+    key.number.0
+}
+
+// Puts a dash and two numbers.
+fn put_numbers<W: Write>(first: u64, second: u64, printer: &mut Printer<'_, W>)
+    ensures { Prints W.contents printer.old printer.new
+        (codes "-" ++ ((32 ∷ decimal first) ++ (32 ∷ decimal second))) }
+{
+    printer.put(b"-");
+    put_with_number(b" ", first, printer);
+    put_with_number(b" ", second, printer);
+}
+
+/// Puts when a version was removed, and why.
+pub fn put_why_gone<W: Write>(removed: &Removed, printer: &mut Printer<'_, W>)
+    ensures { Prints W.contents printer.old printer.new (why_gone_text removed.now) }
+{
+    put_with_number(b"ok why removed ", removed.at.seconds(), printer);
+    put_gone_words(removed.key.ripe, &removed.fate, printer);
 }
 
 /// Puts how many handles are open, and a line for each.
@@ -23,6 +92,108 @@ pub fn put_handles<W: Write>(handles: &[OpenHandle], printer: &mut Printer<'_, W
     ensures { Prints W.contents printer.old printer.new (handles_text handles.now) }
 {
     put_line_of(b"ok handles", &[Number(handles.len() as u64)], printer);
+    put_handle_lines(handles, printer);
+}
+
+// Puts the line of each handle.
+fn put_handle_lines<W: Write>(handles: &[OpenHandle], printer: &mut Printer<'_, W>)
+    ensures { Prints W.contents printer.old printer.new (flat_map handle_line handles.now) }
+{
+    for handle in handles {
+        put_handle(handle, printer);
+    }
+}
+
+// Puts the line of a handle.
+fn put_handle<W: Write>(handle: &OpenHandle, printer: &mut Printer<'_, W>)
+    ensures { Prints W.contents printer.old printer.new (handle_line handle.now) }
+{
+    put_with_number(b"- ", handle_number(&handle.row), printer);
+    put_file(&handle.row.reads, printer);
+    put_read(&handle.row.reads, printer);
+    put_opening(&handle.since, &handle.path, printer);
+}
+
+// The number of a handle.
+fn handle_number(row: &HandleRow) -> u64
+    ensures { result ≡ row.now.number }
+{
+    row.number.0
+}
+
+// Puts since when a handle has been open, the path of its file, and a line feed.
+fn put_opening<W: Write>(
+    since: &Option<Moment>,
+    path: &Option<Vec<Name>>,
+    printer: &mut Printer<'_, W>,
+)
+    ensures { Prints W.contents printer.old printer.new
+        ((32 ∷ end_word since.now) ++ ((32 ∷ path_or_dash (names_in path.now)) ++ 10 ∷ [])) }
+{
+    put_since(since, printer);
+    put_path(path, printer);
+    printer.put(b"\n");
+}
+
+// Puts a space and the number of the file that is read.
+fn put_file<W: Write>(reads: &Reads, printer: &mut Printer<'_, W>)
+    ensures { Prints W.contents printer.old printer.new (32 ∷ decimal (file_of reads.now)) }
+{
+    match reads {
+        Reads::Draft(file) => put_with_number(b" ", file.0, printer),
+        Reads::Version(file, _) => put_with_number(b" ", file.0, printer),
+    }
+}
+
+// Puts a space and what is read.
+fn put_read<W: Write>(reads: &Reads, printer: &mut Printer<'_, W>)
+    ensures { Prints W.contents printer.old printer.new (32 ∷ read_word reads.now) }
+{
+    match reads {
+        Reads::Draft(_) => printer.put(b" draft"),
+        Reads::Version(_, number) => put_with_number(b" ", number.0, printer),
+    }
+}
+
+// Puts a space and the seconds of a moment, or `-`.
+fn put_since<W: Write>(since: &Option<Moment>, printer: &mut Printer<'_, W>)
+    ensures { Prints W.contents printer.old printer.new (32 ∷ end_word since.now) }
+{
+    match since {
+        Some(moment) => put_with_number(b" ", moment.seconds(), printer),
+        None => printer.put(b" -"),
+    }
+}
+
+// Puts a space and a path, or `-`.
+fn put_path<W: Write>(path: &Option<Vec<Name>>, printer: &mut Printer<'_, W>)
+    ensures { Prints W.contents printer.old printer.new (32 ∷ path_or_dash (names_in path.now)) }
+{
+    match path {
+        Some(names) => put_names(names.as_slice(), printer),
+        None => printer.put(b" -"),
+    }
+}
+
+// Puts a space and the names, each with a slash before it, or a slash for none.
+fn put_names<W: Write>(names: &[Name], printer: &mut Printer<'_, W>)
+    ensures { Prints W.contents printer.old printer.new (32 ∷ path_word names.now) }
+{
+    if names.is_empty() {
+        return printer.put(b" /");
+    }
+    printer.put(b" ");
+    for name in names {
+        put_step(name.bytes(), printer);
+    }
+}
+
+// Puts a slash and the bytes of a name.
+fn put_step<W: Write>(name: &[u8], printer: &mut Printer<'_, W>)
+    ensures { Prints W.contents printer.old printer.new (47 ∷ name.now) }
+{
+    printer.put(b"/");
+    printer.put(name);
 }
 
 /// Puts how many entries were folded, how many are stored, and the line of each stored event with
@@ -33,11 +204,25 @@ pub fn put_answers<W: Write>(folded: u64, entries: &[Entry], printer: &mut Print
 {
     let words = [Number(folded), Number(entries.len() as u64)];
     put_line_of(b"ok answers", &words, printer);
+    put_each_answer(entries, printer);
 }
 
-/// Puts when a version was removed, and why.
-pub fn put_why_gone<W: Write>(removed: &Removed, printer: &mut Printer<'_, W>)
-    ensures { Prints W.contents printer.old printer.new (why_gone_text removed.now) }
+// Puts the line of each event, and its reply.
+fn put_each_answer<W: Write>(entries: &[Entry], printer: &mut Printer<'_, W>)
+    ensures { (text : List ℕ) × AreAnswers entries.now text × Prints W.contents printer.old
+        printer.new text }
 {
-    put_line_of(b"ok why removed", &[Word::Moment(removed.at)], printer);
+    for entry in entries {
+        put_entry(entry, printer);
+    }
+}
+
+// Puts the line of an event, and its reply.
+fn put_entry<W: Write>(entry: &Entry, printer: &mut Printer<'_, W>)
+    ensures { (reply : List ℕ) × IsReplyText entry.now.reply reply × Prints W.contents
+        printer.old printer.new (entry_line entry.now ++ reply) }
+{
+    printer.put(b"- ");
+    put_event_line(&entry.event, printer);
+    put_answer(&entry.reply, printer);
 }

@@ -1,0 +1,160 @@
+-- Rows, entry after entry.
+use Rattle.ele_audit.proofs.Basics.{List, [], append_assoc, append-nil, arith, ap, length, drop, refl, sym, subst, ℕ, ◌++◌, ◌∷◌, ◌≡◌, ◌≤◌, ◌<◌, ◌+◌, ◌∙◌, get_or, Some, None, false, true, drop_more, at_drop_all, suc, zero}
+use Rattle.ele_audit.proofs.Clocks.{clocked}
+use Rattle.ele_audit.specs.Clock.{clock_after}
+use Rattle.ele_audit.specs.Each.{AreEach}
+use Rattle.ele_audit.specs.Open.{opened_at, opens}
+use Rattle.ele_audit.specs.Removals.{AreRemoved, IsBare, IsExplained, IsRow, removal_in, removals}
+use Rattle.ele_history.specs.Past.{Past}
+use Rattle.std.specs.Prelude.{Err, IfOk, Ok, Result, Vec}
+use Rattle.ele_audit.specs.declared.row.Removed.{Removed}
+use Rattle.ele_due.specs.declared.key.Key.{Key}
+use Rattle.ele_history.specs.Legal.{IsLegal}
+use Rattle.ele_history.specs.Reached.{IsReached}
+use Rattle.ele_model.specs.declared.event.Event.{Event}
+use Rattle.ele_model.specs.Run.{run_of}
+use Rattle.ele_model.specs.declared.entry.Entry.{Entry}
+use Rattle.ele_model.specs.Step.{step}
+use Rattle.ele_model.specs.World.{World, fresh_world}
+
+-- ---- lists
+
+pub each_append : {A B : Type 0} (R : A → B → Type 0) (xs ys : List A) (us vs : List B) → AreEach R xs us → AreEach R ys vs → AreEach R (xs ++ ys) (us ++ vs)
+each_append R [] ys [] vs h k = k
+each_append R [] ys (u ∷ us) vs h k = absurd h
+each_append R (x ∷ xs) ys [] vs h k = absurd h
+each_append R (x ∷ xs) ys (u ∷ us) vs h k = (h.0, each_append R xs ys us vs h.1 k)
+
+-- whatever rows the other elements have, they go after these
+abbrev pub Gathers : {A B : Type 0} → (A → B → Type 0) → List A → List A → List B → Type 0
+Gathers {A} {B} R all left rows = (rest : List B) → AreEach R left rest → AreEach R all (rows ++ rest)
+
+pub gathers_none : {A B : Type 0} (R : A → B → Type 0) (all : List A) → Gathers R all all []
+gathers_none R all = λ rest h. h
+
+pub gathers_new : {A B : Type 0} (R : A → B → Type 0) (all : List A) (rows : List B) → rows ≡ [] → Gathers R all all rows
+gathers_new R all rows none = rw none (gathers_none R all)
+
+pub gathers_more : {A B : Type 0} (R : A → B → Type 0) (all left here next : List A) (rows added more : List B) → left ≡ here ++ next → AreEach R here added → more ≡ rows ++ added → Gathers R all left rows → Gathers R all next more
+gathers_more R all left here next rows added more is added_are more_is so =
+    λ rest h. rw more_is (rw append_assoc (so (added ++ rest) (rw is (each_append R here next added rest added_are h))))
+
+pub gathers_done : {A B : Type 0} (R : A → B → Type 0) (all left : List A) (rows : List B) → left ≡ [] → Gathers R all left rows → AreEach R all rows
+gathers_done {A} {B} R all left rows is so = subst (λ (us : List B). AreEach R all us) (append-nil rows) (so [] (rw is tt))
+
+-- ---- the entries that are left
+
+pub left_more : {A : Type 0} (xs : List A) (i : ℕ) (x : A) → i < length xs → x ≡ get_or xs i x → drop i xs ≡ x ∷ drop (i + 1) xs
+left_more {A} xs i x lt is = drop_more xs i x lt ∙ ap (λ (y : A). y ∷ drop (i + 1) xs) (sym is)
+
+pub left_none : {A : Type 0} (xs : List A) (i : ℕ) → length xs ≤ i → drop i xs ≡ []
+left_none {A} xs i le = at_drop_all (λ (ys : List A). ys) xs i le
+
+-- ---- removals on a core
+
+pub replays_more : (R : World × Key → Removed → Type 0) (all : List (World × Key)) (w next : World) (entries : List Entry) (i : ℕ) (entry : Entry) (rows added more : List Removed)
+    → i < length entries → entry ≡ get_or entries i entry → next ≡ (step w entry.event).1 → AreEach R (removal_in w entry.reply) added → more ≡ rows ++ added
+    → Gathers R all (removals w (drop i entries)) rows → Gathers R all (removals next (drop (i + 1) entries)) more
+replays_more R all w next entries i entry rows added more lt is next_is added_are more_is so =
+    gathers_more R all (removals w (drop i entries)) (removal_in w entry.reply) (removals next (drop (i + 1) entries)) rows added more
+    (rw next_is (ap (λ (left : List Entry). removals w left) (left_more entries i entry lt is))) added_are more_is so
+
+pub replays_done : (R : World × Key → Removed → Type 0) (all : List (World × Key)) (w : World) (entries : List Entry) (i : ℕ) (rows : List Removed) → length entries ≤ i
+    → Gathers R all (removals w (drop i entries)) rows → AreEach R all rows
+replays_done R all w entries i rows le so = gathers_done R all (removals w (drop i entries)) rows (ap (λ (left : List Entry). removals w left) (left_none entries i le)) so
+
+-- ---- the clock by the replies
+
+-- a world with this moment, in which the entries that are left are legal
+pub record IsTime (left : List Entry) (clock : ℕ) (w : World) : Type 0 where
+  pub now : clock ≡ w.now
+  pub legal : IsLegal w left
+
+pub time_more : (w : World) (entries : List Entry) (i clock : ℕ) (entry : Entry) → i < length entries → entry ≡ get_or entries i entry → IsTime (drop i entries) clock w
+    → IsTime (drop (i + 1) entries) (clock_after entry.reply clock) ((step w entry.event).1)
+time_more w entries i clock entry lt is time =
+    let legal : IsLegal w (entry ∷ drop (i + 1) entries) = subst (λ (left : List Entry). IsLegal w left) (left_more entries i entry lt is) time.legal in
+    record { now = rw (time.now, legal.0) (sym (clocked w entry.event)); legal = legal.1 }
+
+-- ---- removals by the replies
+
+pub record Lists (all : List (World × Key)) (left : List Entry) (clock : ℕ) (rows : List Removed) : Type 0 where
+  pub w : World
+  pub time : IsTime left clock w
+  pub gathers : Gathers IsBare all (removals w left) rows
+
+pub lists_more : (all : List (World × Key)) (entries : List Entry) (i clock : ℕ) (entry : Entry) (rows added more : List Removed)
+    → i < length entries → entry ≡ get_or entries i entry → ((w : World) → clock ≡ w.now → AreEach IsBare (removal_in w entry.reply) added) → more ≡ rows ++ added
+    → Lists all (drop i entries) clock rows → Lists all (drop (i + 1) entries) (clock_after entry.reply clock) more
+lists_more all entries i clock entry rows added more lt is added_are more_is so = record {
+  w = (step so.w entry.event).1;
+  time = time_more so.w entries i clock entry lt is so.time;
+  gathers = replays_more IsBare all so.w ((step so.w entry.event).1) entries i entry rows added more lt is refl (added_are so.w so.time.now) more_is so.gathers;
+}
+
+-- ---- when a handle was opened
+
+pub record Seeks (number : ℕ) (start : World) (all left : List Entry) (clock : ℕ) : Type 0 where
+  pub w : World
+  pub time : IsTime left clock w
+  pub same : opened_at number start all ≡ opened_at number w left
+
+pub seeks_more : (number : ℕ) (start : World) (entries : List Entry) (i clock : ℕ) (entry : Entry) → i < length entries → entry ≡ get_or entries i entry → opens number entry.reply ≡ false
+    → Seeks number start entries (drop i entries) clock → Seeks number start entries (drop (i + 1) entries) (clock_after entry.reply clock)
+seeks_more number start entries i clock entry lt is other so = record {
+  w = (step so.w entry.event).1;
+  time = time_more so.w entries i clock entry lt is so.time;
+  same = so.same ∙ (ap (λ (left : List Entry). opened_at number so.w left) (left_more entries i entry lt is) ∙ rw other refl);
+}
+
+pub seeks_found : (number : ℕ) (start : World) (entries : List Entry) (i clock : ℕ) (entry : Entry) → i < length entries → entry ≡ get_or entries i entry → opens number entry.reply ≡ true
+    → Seeks number start entries (drop i entries) clock → opened_at number start entries ≡ Some clock
+seeks_found number start entries i clock entry lt is opened so = so.same ∙ (ap (λ (left : List Entry). opened_at number so.w left) (left_more entries i entry lt is) ∙ rw opened (ap Some (sym so.time.now)))
+
+pub seeks_none : (number : ℕ) (start : World) (entries : List Entry) (i clock : ℕ) → length entries ≤ i → Seeks number start entries (drop i entries) clock → opened_at number start entries ≡ None
+seeks_none number start entries i clock le so = so.same ∙ ap (λ (left : List Entry). opened_at number so.w left) (left_none entries i le)
+
+-- ---- the beginnings
+
+empty : {A : Type 0} (xs : List A) → length xs ≡ 0 → xs ≡ []
+empty [] none = refl
+empty (x ∷ xs) none = absurd (omega (arith, none))
+
+-- a base into which nothing was folded is the fresh world
+pub fresh_base : (w : World) (folded : ℕ) → folded ≡ 0 → IsReached folded w → fresh_world w.limits ≡ w
+fresh_base w folded none reached = sym (reached.world ∙ ap (λ (events : List Event). run_of (fresh_world w.limits) events) (empty reached.events (reached.long ∙ none)))
+
+pub replays_none : (R : World × Key → Removed → Type 0) (start w : World) (entries : List Entry) (rows : List Removed) → rows ≡ [] → w ≡ start → Gathers R (removals start entries) (removals w entries) rows
+replays_none R start w entries rows none is = rw (is, none) (gathers_none R (removals start entries))
+
+pub lists_none : (start : World) (entries : List Entry) (clock : ℕ) (rows : List Removed) → rows ≡ [] → clock ≡ start.now → IsLegal start entries → Lists (removals start entries) entries clock rows
+lists_none start entries clock rows none is legal = rw none record { w = start; time = record { now = is; legal = legal }; gathers = gathers_none IsBare (removals start entries) }
+
+pub lists_done : (all : List (World × Key)) (entries : List Entry) (i clock : ℕ) (rows : List Removed) → length entries ≤ i → Lists all (drop i entries) clock rows → AreEach IsBare all rows
+lists_done all entries i clock rows le so = replays_done IsBare all so.w entries i rows le so.gathers
+
+pub seeks_begin : (number : ℕ) (start : World) (entries : List Entry) (clock : ℕ) → clock ≡ start.now → IsLegal start entries → Seeks number start entries entries clock
+seeks_begin number start entries clock is legal = record { w = start; time = record { now = is; legal = legal }; same = refl }
+
+-- ---- handles, one by one
+
+pub each_more : {A B : Type 0} (R : A → B → Type 0) (all : List A) (i : ℕ) (x : A) (rows more : List B) (row : B) → i < length all → x ≡ get_or all i x → R x row → more ≡ rows ++ row ∷ []
+    → Gathers R all (drop i all) rows → Gathers R all (drop (i + 1) all) more
+each_more R all i x rows more row lt is of more_is so = gathers_more R all (drop i all) (x ∷ []) (drop (i + 1) all) rows (row ∷ []) more (left_more all i x lt is) (of, tt) more_is so
+
+pub each_done : {A B : Type 0} (R : A → B → Type 0) (all : List A) (i : ℕ) (rows : List B) → length all ≤ i → Gathers R all (drop i all) rows → AreEach R all rows
+each_done R all i rows le so = gathers_done R all (drop i all) rows (left_none all i le) so
+
+-- ---- what a row says
+
+pub explained_rows : {A E : Type 0} (past : Past) (r : Result (Vec Removed A) E) → past.folded ≡ 0 → IfOk r (λ rows. AreEach IsExplained (removals past.base past.entries) rows.items) → IfOk r (λ rows. AreRemoved past rows.items)
+explained_rows past (Ok rows) none are = rw none are
+explained_rows past (Err e) none are = are
+
+by_folded : (folded : ℕ) (all : List (World × Key)) (rows : List Removed) → (folded ≡ 0 → ⊥) → AreEach IsBare all rows → AreEach (IsRow folded) all rows
+by_folded zero all rows some are = absurd (some refl)
+by_folded (suc folded) all rows some are = are
+
+pub bare_rows : {A E : Type 0} (past : Past) (r : Result (Vec Removed A) E) → (past.folded ≡ 0 → ⊥) → IfOk r (λ rows. AreEach IsBare (removals past.base past.entries) rows.items) → IfOk r (λ rows. AreRemoved past rows.items)
+bare_rows past (Ok rows) some are = by_folded past.folded (removals past.base past.entries) rows.items some are
+bare_rows past (Err e) some are = are
