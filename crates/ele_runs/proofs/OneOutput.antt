@@ -1,7 +1,10 @@
 -- Lines have one output, unless want of memory stops one of them.
-use Rattle.ele_runs.proofs.Basics.{◌≡◌, ◌≢◌, ℕ, false, List, [], ◌∷◌, ◌++◌, Option, Ok, Err, refl, sym, ap, subst, ◌∙◌, append_assoc}
+use Rattle.ele_runs.proofs.Basics.{◌≡◌, ◌≢◌, ℕ, false, List, [], ◌∷◌, ◌++◌, length, Option, Ok, Err, refl, sym, ap, subst, ◌∙◌, append_assoc}
 use Rattle.ele_runs.proofs.Words.{Reply, IsBlock, MayAnswer, line_unless_long, AreBlocks, Past, cut_block}
 use Rattle.ele_moment.proofs.Moments.{one_text}
+use Rattle.ele_audit.specs.AuditText.{AreAnswers, IsAnswersText}
+use Rattle.ele_model.specs.declared.entry.Entry.{Entry}
+use Rattle.ele_printer.specs.HistoryText.{entry_line}
 use Rattle.ele_printer.specs.Printed.{IsReplyText, pass_text, stop_text}
 use Rattle.ele_output.specs.Line.{line_text}
 use Rattle.std.specs.Fmt.{decimal}
@@ -23,9 +26,21 @@ one_reply_text (Now moment) s t a b =
     a.2 ∙ ap (λ (stamp : List ℕ). line_text (codes "ok now" ∷ decimal moment ∷ stamp ∷ [])) (one_text a.0 b.0 moment a.1 b.1) ∙ sym b.2
 one_reply_text reply s t a b = a ∙ sym b
 
+-- and so have entries with their replies
+one_answers_text : (entries : List Entry) (s t : List ℕ) → AreAnswers entries s → AreAnswers entries t → s ≡ t
+one_answers_text [] s t a b = a ∙ sym b
+one_answers_text (entry ∷ entries) s t (reply, others, is, are, told) (also, more, is', are', told') =
+    told ∙ ap (λ (w : List ℕ). entry_line entry ++ (w ++ others)) (one_reply_text entry.reply reply also is is')
+    ∙ ap (λ (w : List ℕ). entry_line entry ++ (also ++ w)) (one_answers_text entries others more are are') ∙ sym told'
+
+one_history_text : (folded : ℕ) (entries : List Entry) (s t : List ℕ) → IsAnswersText folded entries s → IsAnswersText folded entries t → s ≡ t
+one_history_text folded entries s t (answers, are, told) (also, are', told') =
+    told ∙ ap (λ (w : List ℕ). line_text (codes "ok answers" ∷ decimal folded ∷ decimal (length entries) ∷ []) ++ w) (one_answers_text entries answers also are are') ∙ sym told'
+
 -- and so has an answer
 one_said : (said : Answer) (s t : List ℕ) → IsText said s → IsText said t → s ≡ t
 one_said (answer.Reply (Ok reply)) s t a b = one_reply_text reply s t a b
+one_said (answer.Answers folded entries) s t a b = one_history_text folded entries s t a b
 one_said said s t a b = a ∙ sym b
 
 -- what stands nowhere stands in no part
