@@ -161,7 +161,8 @@ int32_t elephant_detail(elephant *e, uint64_t *detail);
 /* ---- Lines of the script language ---- */
 
 /* Runs one line, without its line feed, and keeps the text of its answer, of *length bytes: lines with their line feeds, as the
- * program prints them. It answers `why` and `ahead` too. `history` and `trim` are "bad 32 Syntax" in a store without a history.
+ * program prints them. It answers what `--explain` adds too. `history`, `trim`,
+ * `handles`, `gone` and `answers` are "bad 32 Syntax" in a store without a history.
  * An empty line has an empty answer. ELEPHANT_OK: there is an answer, which may be a refusal ("no 5 NoEntry"). UNTOLD: the line
  * was run, but there is no memory for the text; elephant_tell tries again. The handle also keeps the result of the line's event:
  * after `read /f` elephant_take copies the bytes. CLOSED. */

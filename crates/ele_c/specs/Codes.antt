@@ -11,7 +11,7 @@ use Rattle.ele_model.specs.declared.reply.Reply.{Reply}
 use Rattle.ele_model.specs.declared.reply.Reply.TheVariants.{Now, Directory, File, Handle, Version, Closed, Bytes, Rows, NameList, RestoreList, DueList, UsageList, GroupList, Refused}
 use Rattle.ele_printer.specs.LineFault.{fault_number}
 use Rattle.ele_runs.specs.declared.said.Said.{Said}
-use Rattle.ele_runs.specs.declared.said.Said.TheVariants.{Bad, Stopped, Passed, Trimmed, Why, Ahead}
+use Rattle.ele_runs.specs.declared.said.Said.TheVariants.{Bad, Stopped, Passed, Trimmed, Why, Ahead, Gone, Handles}
 
 -- neither a moment nor a level
 abbrev pub never : ℕ
@@ -53,6 +53,8 @@ reply_number reply = 0
 abbrev pub said_number : Said → Option Reply → ℕ
 said_number (Trimmed count) reply = count
 said_number (Ahead (Ok keys)) reply = length keys
+said_number (Gone rows) reply = length rows.items
+said_number (Handles handles) reply = length handles.items
 said_number said reply = reply_number reply
 
 abbrev pub number_of : Embedding → ℕ

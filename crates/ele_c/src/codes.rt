@@ -61,6 +61,8 @@ pub(crate) fn number_of(store: &Store) -> u64
     match store.said() {
         Said::Trimmed(count) => *count,
         Said::Ahead(Ok(keys)) => keys.as_slice().len() as u64,
+        Said::Gone(rows) => rows.len() as u64,
+        Said::Handles(handles) => handles.len() as u64,
         _ => reply_number(store.reply()),
     }
 }

@@ -2,11 +2,16 @@
 //! examples.
 
 /// What a command does, and an example or nothing, in the order of `Command`.
-pub(crate) static PARAGRAPHS: [(&str, &str); 37] = [
+pub(crate) static PARAGRAPHS: [(&str, &str); 40] = [
     // ahead
     (
         "Lists what 'due' would list at M if only the clock moves. It needs the option\n--explain. NotAhead if M is earlier than now.",
         "\nExample:\n    create /f    ok file 1\n    ahead 100    ok ahead 0\n",
+    ),
+    // answers
+    (
+        "Prints how many events were folded (F), how many are stored (K), and each stored one with its answer below\nits line. It needs the option --explain. It is never refused.",
+        "\nExample:\n    create /f    ok file 1\n    answers      ok answers 0 1\n                 - create /f\n                 ok file 1\n",
     ),
     // clock
     (
@@ -63,10 +68,20 @@ pub(crate) static PARAGRAPHS: [(&str, &str); 37] = [
         "Lists the groups with the numbers of their files and the moments of their\nmarks. It is never refused.",
         "\nExample:\n    groups    ok groups 0\n",
     ),
+    // gone
+    (
+        "Lists the versions that the stored events removed: when, the file, the version, the path that the file had\nthen, and why it was due. After a 'trim' the path is - and the reason is unknown. It needs the option\n--explain. It is never refused.",
+        "\nExample:\n    gone    ok gone 0 0\n",
+    ),
     // history
     (
         "Prints how many events were folded (F), how many are stored (K), and the line\nof each stored one. If F is 0, the lines are a script that rebuilds the store.\nIt is never refused.",
         "",
+    ),
+    // handles
+    (
+        "Lists the open handles: the handle, the file, the version that it reads or 'draft', since when, and the path.\nThe draft counts from its first writer. It needs the option --explain. It is never refused.",
+        "\nExample:\n    create /f        ok file 1\n    open write /f    ok handle 1\n    handles          ok handles 1\n                     - 1 1 draft 0 /f\n",
     ),
     // link
     (

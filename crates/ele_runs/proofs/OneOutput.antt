@@ -1,5 +1,5 @@
 -- Lines have one output, unless want of memory stops one of them.
-use Rattle.ele_runs.proofs.Basics.{◌≡◌, ◌≢◌, ℕ, false, List, [], ◌∷◌, ◌++◌, Option, Ok, Err, refl, sym, ap, subst, ◌∙◌, append_assoc}
+use Rattle.ele_runs.proofs.Basics.{◌≡◌, ◌≢◌, ℕ, false, List, [], ◌∷◌, ◌++◌, length, Option, Ok, Err, refl, sym, ap, subst, ◌∙◌, append_assoc}
 use Rattle.ele_runs.proofs.Words.{Reply, IsBlock, MayAnswer, line_unless_long, AreBlocks, Past, cut_block}
 use Rattle.ele_moment.proofs.Moments.{one_text}
 use Rattle.ele_audit.specs.AuditText.{AreAnswers}

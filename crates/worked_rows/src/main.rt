@@ -68,11 +68,12 @@ const LIMITED: [(&str, [u64; 9]); 24] = [
     ("each_limit_is_one", [99, 1, 1, 1, 99, 1, 1, 1, 1]),
 ];
 
-/// Scripts under the largest limits whose run answers `why` and `ahead`.
-const EXPLAINED: [&str; 3] = [
+/// Scripts under the largest limits whose run explains.
+const EXPLAINED: [&str; 4] = [
     "explained_landmarks",
     "explained_policies",
     "explained_floors",
+    "explained_removals",
 ];
 
 /// What the script prints.

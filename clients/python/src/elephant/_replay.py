@@ -9,7 +9,7 @@ from ._errors import JournalError, NoMemory
 
 MOST_PIECE = 4000
 # Lines that change nothing, and that no journal has.
-QUESTIONS = frozenset(b"read stat versions list restorable due usage groups history trim why ahead".split())
+QUESTIONS = frozenset(b"read stat versions list restorable due usage groups history trim why ahead handles gone answers".split())
 
 
 def write_lines(handle: int, offset: int, data: bytes) -> list[bytes]:

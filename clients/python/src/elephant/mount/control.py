@@ -29,7 +29,7 @@ MOST_LINE = 1 << 20
 # The path of a socket has at most 107 bytes.
 MOST_FOLDER = 100
 # Lines after which the tree may differ, and lines that change nothing.
-_ASK = frozenset("read stat versions list restorable due usage groups why ahead history trim".split())
+_ASK = frozenset("read stat versions list restorable due usage groups why ahead handles gone answers history trim".split())
 _SHORT = frozenset("policy default group mark unmark clean pass".split())
 _OF_HANDLES = frozenset("write truncate close read".split())
 Changes = list[tuple[Node, Optional[bytes]]]
