@@ -235,7 +235,7 @@ pub static HELP: [(Topic, &str); 40] = [
         "ok versions K, then K lines - N O C E L by number",
     ),
     (Topic::Contents, "ok done"),
-    (Topic::Why, "ok why FATE"),
+    (Topic::Why, "ok why FATE, or ok why removed MOMENT FATE"),
 ];
 
 impl Command {

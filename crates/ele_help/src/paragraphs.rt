@@ -200,7 +200,7 @@ pub(crate) static PARAGRAPHS: [(&str, &str); 40] = [
     ),
     // why
     (
-        "Prints why a version stays, or since when it may be removed. It needs the\noption --explain. It is refused as 'read' is.",
+        "Prints why a version stays, since when it may be removed, or why it was. It\nneeds the option --explain. It is refused as 'read' is.",
         "\nExample:\n    create /f    ok file 1\n    why /f       ok why current\n",
     ),
 ];

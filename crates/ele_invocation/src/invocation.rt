@@ -38,7 +38,7 @@ const NO_COMMAND: &str =
 
 const NO_WORDS: &str = "error: the words can't be read as text\n";
 
-const VERSION: &str = "0.3.0";
+const VERSION: &str = "0.4.0";
 
 const EXAMPLE: &str = "\
 A script is lines, and each is answered as it comes. This one saves a file, and

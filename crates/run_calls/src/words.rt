@@ -252,7 +252,7 @@ fn words_that_cannot_be_had_are_told_as_such(rt: HostRuntime) {
 #[test]
 fn the_version_is_told_alone(rt: HostRuntime) -> Result<(), Fail> {
     match asked_by(rt.alloc(), "elephant --version")? {
-        Invocation::Help(text) => assert_eq!(rt; text.as_str(), "elephant 0.3.0\n"),
+        Invocation::Help(text) => assert_eq!(rt; text.as_str(), "elephant 0.4.0\n"),
         _ => assert!(rt; false),
     }
     Ok(())
