@@ -1,16 +1,16 @@
--- What the program's words may ask for.
+-- What the program may be asked for by its arguments.
 use Rattle.std.specs.Prelude.{◌≡◌, ℕ, ◌≤◌, Bool, true, false}
 use Rattle.ele_model.specs.Bounds.{largest_bounds}
 use Rattle.ele_invocation.specs.declared.invocation.Invocation.{Invocation}
 use Rattle.ele_invocation.specs.declared.invocation.Invocation.TheVariants.{Run, Storm, Forecast, Help, NotUnderstood, NoMemory}
 
--- so many events may be answered: from 1 to 1,000,000,000
+-- a run answers from 1 to 1,000,000,000 events
 pub record IsEvents (events : ℕ) : Type 0 where
   pub some : 1 ≤ events
   pub within : events ≤ 1000000000
 
--- a run is in any manner, under the largest limits but for that of events; a storm has a plan, whose numbers its type keeps, and
--- a forecast any policy and moments
+-- a run has any options, and the largest limits except that of events; a storm has a plan, with numbers in the bounds of its type;
+-- a forecast has any policies and moments
 abbrev pub IsAsked : Invocation → Type 0
 IsAsked (Run limits options) = IsEvents limits.events × (limits ≡ record largest_bounds { events = limits.events })
 IsAsked (Storm plan) = Unit {0}
@@ -19,12 +19,12 @@ IsAsked (Help text) = Unit {0}
 IsAsked (NotUnderstood text) = Unit {0}
 IsAsked NoMemory = Unit {0}
 
--- a storm is asked for, which takes threads
+-- it is a storm, which takes threads
 abbrev pub is_storm : Invocation → Bool
 is_storm (Storm plan) = true
 is_storm asked = false
 
--- no run, no storm, no forecast and no help: words that weren't understood, or no memory to tell them
+-- the arguments aren't understood, or there is no memory for a message
 abbrev pub IsRefusal : Invocation → Type 0
 IsRefusal (Run limits options) = ⊥
 IsRefusal (Storm plan) = ⊥

@@ -32,8 +32,8 @@ const NUMBERS: &str = "Print the number of its line before each answer, and on\n
 
 const REMARKS: &str = "Skip lines that begin with `#`";
 
-const EXPLAIN: &str = "Answer `why T` (why a version is kept or due) and\n\
-    `ahead M` (what will be due at M) too";
+const EXPLAIN: &str = "Answer `why`, `ahead`, `handles`, `gone` and\n\
+    `answers` too (`elephant help script` lists them)";
 
 const BAD_EVENTS: &str = "error: --events takes a number from 1 to 1000000000, \
     without a leading zero\n\nFor more information, try 'elephant run --help'.\n";
