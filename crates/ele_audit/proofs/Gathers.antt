@@ -2,7 +2,7 @@
 use Rattle.ele_audit.proofs.Basics.{List, [], append_assoc, append-nil, arith, ap, length, drop, refl, sym, subst, ℕ, ◌++◌, ◌∷◌, ◌≡◌, ◌≤◌, ◌<◌, ◌+◌, ◌∙◌, get_or, Some, None, false, true, drop_more, at_drop_all, suc, zero}
 use Rattle.ele_audit.proofs.Clocks.{clocked}
 use Rattle.ele_audit.specs.Clock.{clock_after}
-use Rattle.ele_audit.specs.Each.{AreEach}
+use Rattle.std.specs.List.{AllZip}
 use Rattle.ele_audit.specs.Open.{opened_at, opens}
 use Rattle.ele_audit.specs.Removals.{AreRemoved, IsBare, IsExplained, IsRow, removal_in, removals}
 use Rattle.ele_history.specs.Past.{Past}
@@ -19,7 +19,7 @@ use Rattle.ele_model.specs.World.{World, fresh_world}
 
 -- ---- lists
 
-pub each_append : {A B : Type 0} (R : A → B → Type 0) (xs ys : List A) (us vs : List B) → AreEach R xs us → AreEach R ys vs → AreEach R (xs ++ ys) (us ++ vs)
+pub each_append : {A B : Type 0} (R : A → B → Type 0) (xs ys : List A) (us vs : List B) → AllZip R xs us → AllZip R ys vs → AllZip R (xs ++ ys) (us ++ vs)
 each_append R [] ys [] vs h k = k
 each_append R [] ys (u ∷ us) vs h k = absurd h
 each_append R (x ∷ xs) ys [] vs h k = absurd h
@@ -27,7 +27,7 @@ each_append R (x ∷ xs) ys (u ∷ us) vs h k = (h.0, each_append R xs ys us vs 
 
 -- whatever rows the other elements have, they go after these
 abbrev pub Gathers : {A B : Type 0} → (A → B → Type 0) → List A → List A → List B → Type 0
-Gathers {A} {B} R all left rows = (rest : List B) → AreEach R left rest → AreEach R all (rows ++ rest)
+Gathers {A} {B} R all left rows = (rest : List B) → AllZip R left rest → AllZip R all (rows ++ rest)
 
 pub gathers_none : {A B : Type 0} (R : A → B → Type 0) (all : List A) → Gathers R all all []
 gathers_none R all = λ rest h. h
@@ -35,12 +35,12 @@ gathers_none R all = λ rest h. h
 pub gathers_new : {A B : Type 0} (R : A → B → Type 0) (all : List A) (rows : List B) → rows ≡ [] → Gathers R all all rows
 gathers_new R all rows none = rw none (gathers_none R all)
 
-pub gathers_more : {A B : Type 0} (R : A → B → Type 0) (all left here next : List A) (rows added more : List B) → left ≡ here ++ next → AreEach R here added → more ≡ rows ++ added → Gathers R all left rows → Gathers R all next more
+pub gathers_more : {A B : Type 0} (R : A → B → Type 0) (all left here next : List A) (rows added more : List B) → left ≡ here ++ next → AllZip R here added → more ≡ rows ++ added → Gathers R all left rows → Gathers R all next more
 gathers_more R all left here next rows added more is added_are more_is so =
     λ rest h. rw more_is (rw append_assoc (so (added ++ rest) (rw is (each_append R here next added rest added_are h))))
 
-pub gathers_done : {A B : Type 0} (R : A → B → Type 0) (all left : List A) (rows : List B) → left ≡ [] → Gathers R all left rows → AreEach R all rows
-gathers_done {A} {B} R all left rows is so = subst (λ (us : List B). AreEach R all us) (append-nil rows) (so [] (rw is tt))
+pub gathers_done : {A B : Type 0} (R : A → B → Type 0) (all left : List A) (rows : List B) → left ≡ [] → Gathers R all left rows → AllZip R all rows
+gathers_done {A} {B} R all left rows is so = subst (λ (us : List B). AllZip R all us) (append-nil rows) (so [] (rw is tt))
 
 -- ---- the entries that are left
 
@@ -53,14 +53,14 @@ left_none {A} xs i le = at_drop_all (λ (ys : List A). ys) xs i le
 -- ---- removals on a core
 
 pub replays_more : (R : World × Key → Removed → Type 0) (all : List (World × Key)) (w next : World) (entries : List Entry) (i : ℕ) (entry : Entry) (rows added more : List Removed)
-    → i < length entries → entry ≡ get_or entries i entry → next ≡ (step w entry.event).1 → AreEach R (removal_in w entry.reply) added → more ≡ rows ++ added
+    → i < length entries → entry ≡ get_or entries i entry → next ≡ (step w entry.event).1 → AllZip R (removal_in w entry.reply) added → more ≡ rows ++ added
     → Gathers R all (removals w (drop i entries)) rows → Gathers R all (removals next (drop (i + 1) entries)) more
 replays_more R all w next entries i entry rows added more lt is next_is added_are more_is so =
     gathers_more R all (removals w (drop i entries)) (removal_in w entry.reply) (removals next (drop (i + 1) entries)) rows added more
     (rw next_is (ap (λ (left : List Entry). removals w left) (left_more entries i entry lt is))) added_are more_is so
 
 pub replays_done : (R : World × Key → Removed → Type 0) (all : List (World × Key)) (w : World) (entries : List Entry) (i : ℕ) (rows : List Removed) → length entries ≤ i
-    → Gathers R all (removals w (drop i entries)) rows → AreEach R all rows
+    → Gathers R all (removals w (drop i entries)) rows → AllZip R all rows
 replays_done R all w entries i rows le so = gathers_done R all (removals w (drop i entries)) rows (ap (λ (left : List Entry). removals w left) (left_none entries i le)) so
 
 -- ---- the clock by the replies
@@ -84,7 +84,7 @@ pub record Lists (all : List (World × Key)) (left : List Entry) (clock : ℕ) (
   pub gathers : Gathers IsBare all (removals w left) rows
 
 pub lists_more : (all : List (World × Key)) (entries : List Entry) (i clock : ℕ) (entry : Entry) (rows added more : List Removed)
-    → i < length entries → entry ≡ get_or entries i entry → ((w : World) → clock ≡ w.now → AreEach IsBare (removal_in w entry.reply) added) → more ≡ rows ++ added
+    → i < length entries → entry ≡ get_or entries i entry → ((w : World) → clock ≡ w.now → AllZip IsBare (removal_in w entry.reply) added) → more ≡ rows ++ added
     → Lists all (drop i entries) clock rows → Lists all (drop (i + 1) entries) (clock_after entry.reply clock) more
 lists_more all entries i clock entry rows added more lt is added_are more_is so = record {
   w = (step so.w entry.event).1;
@@ -130,7 +130,7 @@ replays_none R start w entries rows none is = rw (is, none) (gathers_none R (rem
 pub lists_none : (start : World) (entries : List Entry) (clock : ℕ) (rows : List Removed) → rows ≡ [] → clock ≡ start.now → IsLegal start entries → Lists (removals start entries) entries clock rows
 lists_none start entries clock rows none is legal = rw none record { w = start; time = record { now = is; legal = legal }; gathers = gathers_none IsBare (removals start entries) }
 
-pub lists_done : (all : List (World × Key)) (entries : List Entry) (i clock : ℕ) (rows : List Removed) → length entries ≤ i → Lists all (drop i entries) clock rows → AreEach IsBare all rows
+pub lists_done : (all : List (World × Key)) (entries : List Entry) (i clock : ℕ) (rows : List Removed) → length entries ≤ i → Lists all (drop i entries) clock rows → AllZip IsBare all rows
 lists_done all entries i clock rows le so = replays_done IsBare all so.w entries i rows le so.gathers
 
 pub seeks_begin : (number : ℕ) (start : World) (entries : List Entry) (clock : ℕ) → clock ≡ start.now → IsLegal start entries → Seeks number start entries entries clock
@@ -142,19 +142,19 @@ pub each_more : {A B : Type 0} (R : A → B → Type 0) (all : List A) (i : ℕ)
     → Gathers R all (drop i all) rows → Gathers R all (drop (i + 1) all) more
 each_more R all i x rows more row lt is of more_is so = gathers_more R all (drop i all) (x ∷ []) (drop (i + 1) all) rows (row ∷ []) more (left_more all i x lt is) (of, tt) more_is so
 
-pub each_done : {A B : Type 0} (R : A → B → Type 0) (all : List A) (i : ℕ) (rows : List B) → length all ≤ i → Gathers R all (drop i all) rows → AreEach R all rows
+pub each_done : {A B : Type 0} (R : A → B → Type 0) (all : List A) (i : ℕ) (rows : List B) → length all ≤ i → Gathers R all (drop i all) rows → AllZip R all rows
 each_done R all i rows le so = gathers_done R all (drop i all) rows (left_none all i le) so
 
 -- ---- what a row says
 
-pub explained_rows : {A E : Type 0} (past : Past) (r : Result (Vec Removed A) E) → past.folded ≡ 0 → IfOk r (λ rows. AreEach IsExplained (removals past.base past.entries) rows.items) → IfOk r (λ rows. AreRemoved past rows.items)
+pub explained_rows : {A E : Type 0} (past : Past) (r : Result (Vec Removed A) E) → past.folded ≡ 0 → IfOk r (λ rows. AllZip IsExplained (removals past.base past.entries) rows.items) → IfOk r (λ rows. AreRemoved past rows.items)
 explained_rows past (Ok rows) none are = rw none are
 explained_rows past (Err e) none are = are
 
-by_folded : (folded : ℕ) (all : List (World × Key)) (rows : List Removed) → (folded ≡ 0 → ⊥) → AreEach IsBare all rows → AreEach (IsRow folded) all rows
+by_folded : (folded : ℕ) (all : List (World × Key)) (rows : List Removed) → (folded ≡ 0 → ⊥) → AllZip IsBare all rows → AllZip (IsRow folded) all rows
 by_folded zero all rows some are = absurd (some refl)
 by_folded (suc folded) all rows some are = are
 
-pub bare_rows : {A E : Type 0} (past : Past) (r : Result (Vec Removed A) E) → (past.folded ≡ 0 → ⊥) → IfOk r (λ rows. AreEach IsBare (removals past.base past.entries) rows.items) → IfOk r (λ rows. AreRemoved past rows.items)
+pub bare_rows : {A E : Type 0} (past : Past) (r : Result (Vec Removed A) E) → (past.folded ≡ 0 → ⊥) → IfOk r (λ rows. AllZip IsBare (removals past.base past.entries) rows.items) → IfOk r (λ rows. AreRemoved past rows.items)
 bare_rows past (Ok rows) some are = by_folded past.folded (removals past.base past.entries) rows.items some are
 bare_rows past (Err e) some are = are

@@ -6,16 +6,9 @@ use Rattle.ele_audit.specs.Open.{file_of}
 use Rattle.ele_audit.specs.declared.row.OpenHandle.{OpenHandle}
 use Rattle.ele_audit.specs.declared.row.Removed.{Removed}
 use Rattle.ele_model.specs.declared.fate.Fate.{Fate}
-use Rattle.ele_model.specs.declared.fate.Fate.TheVariants.{Current, Due, Kept, Marked, Open}
-use Rattle.ele_model.specs.FateText.{level_words, mark_word, until_words}
-use Rattle.ele_policy.specs.CauseText.{cause_words}
 use Rattle.ele_output.specs.Line.{line_text}
-use Rattle.ele_printer.proofs.Lines.{line_is}
+use Rattle.ele_printer.proofs.Lines.{fate_first, line_is, line_then}
 use Rattle.ele_printer.specs.Printed.{end_word}
-
--- a word, and the line of the others
-pub line_then : (first word : List ℕ) (words : List (List ℕ)) → line_text (first ∷ word ∷ words) ≡ first ++ 32 ∷ line_text (word ∷ words)
-line_then first word words = append_assoc first (32 ∷ join_with_byte 32 (word ∷ words)) (10 ∷ [])
 
 -- the line of a handle in its parts
 pub handle_parts : (handle : OpenHandle) → handle_line handle
@@ -31,11 +24,7 @@ five a b c d e word words = grind (arith, nat_tests, line_is, append_assoc)
 -- there is always a first word of what became of a version
 gone_first : (ripe : ℕ) (fate : Option Fate) → (word : List ℕ) × (words : List (List ℕ)) × (gone_words ripe fate ≡ word ∷ words)
 gone_first ripe None = (codes "due", decimal ripe ∷ [], refl)
-gone_first ripe (Some Current) = (codes "current", [], refl)
-gone_first ripe (Some Open) = (codes "open", [], refl)
-gone_first ripe (Some (Marked group mark)) = (codes "marked", group ∷ mark_word mark ∷ [], refl)
-gone_first ripe (Some (Kept until level)) = (codes "kept", until_words until ++ level_words level, refl)
-gone_first ripe (Some (Due since cause)) = (codes "due", decimal since ∷ cause_words cause, refl)
+gone_first ripe (Some fate) = fate_first fate
 
 pub removed_parts : (row : Removed) → removed_line row
     ≡ ((codes "-" ++ ((32 ∷ decimal row.at) ++ (32 ∷ decimal row.key.file))) ++ (32 ∷ decimal row.key.number)) ++ ((32 ∷ path_or_dash (names_in row.path)) ++ (32 ∷ line_text (gone_words row.key.ripe row.fate)))
@@ -47,6 +36,3 @@ pub why_gone_parts : (row : Removed) → why_gone_text row ≡ (codes "ok why re
 why_gone_parts row =
     let first = gone_first row.key.ripe row.fate in
     rw first.2 (line_then (codes "ok why removed") (decimal row.at) (first.0 ∷ first.1) ∙ ap (λ (rest : List ℕ). codes "ok why removed" ++ 32 ∷ rest) (line_then (decimal row.at) first.0 first.1) ∙ sym (append_assoc (codes "ok why removed ") (decimal row.at) (32 ∷ line_text (first.0 ∷ first.1))))
-
-pub marked_parts : (group word : List ℕ) → 32 ∷ line_text (codes "marked" ∷ group ∷ word ∷ []) ≡ join_with_byte 32 (codes " marked" ∷ group ∷ []) ++ ((32 ∷ word) ++ 10 ∷ [])
-marked_parts group word = grind (arith, nat_tests, line_is, append_assoc)

@@ -1,6 +1,5 @@
 pub mod AuditText
 pub mod Clock
-pub mod Each
 pub mod LivePath
 pub mod Open
 pub mod Removals

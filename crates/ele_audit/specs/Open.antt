@@ -11,7 +11,7 @@ use Rattle.ele_model.specs.declared.rows.Reads.TheVariants.{Draft, Version}
 use Rattle.ele_model.specs.declared.rows.Target.TheVariants.{File}
 use Rattle.ele_model.specs.Step.{step}
 use Rattle.ele_model.specs.World.{World, is_draft}
-use Rattle.ele_audit.specs.Each.{AreEach}
+use Rattle.std.specs.List.{AllZip}
 use Rattle.ele_audit.specs.LivePath.{live_path, names_in}
 use Rattle.ele_audit.specs.declared.row.OpenHandle.{OpenHandle}
 
@@ -45,4 +45,4 @@ pub record IsOpen (past : Past) (row : HandleRow) (handle : OpenHandle) : Type 0
 
 -- these are the open handles, in order
 abbrev pub AreOpen : Past → List OpenHandle → Type 0
-AreOpen past handles = AreEach (IsOpen past) (world_of past).handles handles
+AreOpen past handles = AllZip (IsOpen past) (world_of past).handles handles

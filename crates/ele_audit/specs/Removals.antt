@@ -15,7 +15,7 @@ use Rattle.ele_model.specs.World.{World, is_held}
 use Rattle.ele_path.specs.declared.tagged.Tag.{Tag}
 use Rattle.ele_path.specs.declared.tagged.Tag.TheVariants as tag
 use Rattle.ele_path.specs.declared.tagged.TaggedPath.{TaggedPath}
-use Rattle.ele_audit.specs.Each.{AreEach}
+use Rattle.std.specs.List.{AllZip}
 use Rattle.ele_audit.specs.LivePath.{live_path, names_in}
 use Rattle.ele_audit.specs.declared.row.Removed.{Removed}
 
@@ -62,7 +62,7 @@ IsRow (suc folded) removal row = IsBare removal row
 
 -- the rows are those of the removals among the stored entries, in order
 abbrev pub AreRemoved : Past → List Removed → Type 0
-AreRemoved past rows = AreEach (IsRow past.folded) (removals past.base past.entries) rows
+AreRemoved past rows = AllZip (IsRow past.folded) (removals past.base past.entries) rows
 
 -- ---- of one version
 

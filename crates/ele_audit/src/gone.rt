@@ -1,7 +1,7 @@
 //! Removed versions of a history. A contract sees them as rows.
 ghost use Rattle.std.specs.Prelude.{◌≡◌, ◌++◌, IfOk, List};
 ghost use Rattle.ele_audit.specs.Clock.{clock_after};
-ghost use Rattle.ele_audit.specs.Each.{AreEach};
+ghost use Rattle.std.specs.List.{AllZip};
 ghost use Rattle.ele_model.specs.World.{World};
 ghost use Rattle.ele_audit.specs.Removals.{AreRemoved, IsBare, IsExplained, removal_in, removals};
 
@@ -31,7 +31,7 @@ pub fn removed<C: Explain>(alloc: Global, history: &History<C>) -> Result<Vec<Re
 // The removed versions, by all entries on a second core.
 fn replayed<C: Explain>(alloc: Global, history: &History<C>) -> Result<Vec<Removed>, NoMemory>
     requires { history.now.folded ≡ 0 }
-    ensures { IfOk result (λ rows. AreEach IsExplained
+    ensures { IfOk result (λ rows. AllZip IsExplained
         (removals history.now.base history.now.entries) rows.items) }
 {
     let mut core = C::fresh(alloc, history.base().limits)?;
@@ -52,7 +52,7 @@ fn explain<C: Explain>(
     rows: &mut Vec<Removed>,
 ) -> Result<(), NoMemory>
     ensures { IfOk result (λ _. (added : List Removed)
-        × AreEach IsExplained (removal_in (C.world core.now) reply.now) added
+        × AllZip IsExplained (removal_in (C.world core.now) reply.now) added
         × (rows.new.items ≡ rows.old.items ++ added)) }
 {
     if let Reply::Removed(key) = reply {
@@ -77,7 +77,7 @@ fn explained<C: Explain>(alloc: Global, core: &C, key: Key) -> Result<Removed, N
 
 // The removed versions, by the replies alone.
 fn listed<C: Step>(alloc: Global, history: &History<C>) -> Result<Vec<Removed>, NoMemory>
-    ensures { IfOk result (λ rows. AreEach IsBare
+    ensures { IfOk result (λ rows. AllZip IsBare
         (removals history.now.base history.now.entries) rows.items) }
 {
     let mut clock = history.base().now;
@@ -93,7 +93,7 @@ fn listed<C: Step>(alloc: Global, history: &History<C>) -> Result<Vec<Removed>, 
 // Pushes the row of what the reply removes at the moment.
 fn note(reply: &Reply, at: Moment, rows: &mut Vec<Removed>) -> Result<(), NoMemory>
     ensures { IfOk result (λ _. (added : List Removed)
-        × ((w : World) → at ≡ w.now → AreEach IsBare (removal_in w reply.now) added)
+        × ((w : World) → at ≡ w.now → AllZip IsBare (removal_in w reply.now) added)
         × (rows.new.items ≡ rows.old.items ++ added)) }
 {
     if let Reply::Removed(key) = reply {

@@ -2,7 +2,6 @@
 //! A contract sees the answers as rows, and their text as bytes.
 #![tactic(auto)]
 
-mod fate;
 mod gone;
 mod listing;
 mod path;

@@ -1,22 +1,22 @@
 //! Puts what an audit asks. A contract sees a printer as its outlet.
 ghost use Rattle.std.specs.Prelude.{◌≡◌, ◌∷◌, ◌++◌, [], List, ℕ, codes, decimal};
 ghost use Rattle.std.specs.List.{flat_map};
-ghost use Rattle.ele_audit.specs.AuditText.{AreAnswers, IsAnswersText, gone_text, handle_line, handles_text, path_or_dash, read_word, removed_line, why_gone_text};
+ghost use Rattle.ele_audit.specs.AuditText.{AreAnswers, IsAnswersText, gone_text, gone_words, handle_line, handles_text, path_or_dash, read_word, removed_line, why_gone_text};
 ghost use Rattle.ele_audit.specs.LivePath.{names_in};
 ghost use Rattle.ele_audit.specs.Open.{file_of};
+ghost use Rattle.ele_output.specs.Line.{line_text};
 ghost use Rattle.ele_output.specs.Prints.{Prints};
 ghost use Rattle.ele_path.specs.PathText.{path_word};
 ghost use Rattle.ele_printer.specs.HistoryText.{entry_line};
 ghost use Rattle.ele_printer.specs.Printed.{IsReplyText, end_word};
 
-use crate::fate::put_gone_words;
 use crate::row::{OpenHandle, Removed};
-use ele_commands::Word::Number;
+use ele_commands::Word::{self, Number};
 use ele_commands::{put_event_line, put_line_of};
-use ele_model::{Entry, HandleRow, Key, Reads};
+use ele_model::{Entry, Fate, HandleRow, Key, Reads};
 use ele_moment::{Moment, Name};
 use ele_output::{Printer, put_with_number};
-use ele_printer::put_answer;
+use ele_printer::{put_answer, put_fate};
 use std::io::Write;
 
 /// Puts how many entries were folded, how many versions were removed since, and a line for each.
@@ -44,6 +44,16 @@ fn put_removed<W: Write>(row: &Removed, printer: &mut Printer<'_, W>)
     put_version(row.at, &row.key, printer);
     put_path(&row.path, printer);
     put_gone_words(row.key.ripe, &row.fate, printer);
+}
+
+// Puts a space, what had become of a removed version with that ripe moment, and a line feed.
+fn put_gone_words<W: Write>(ripe: Moment, fate: &Option<Fate>, printer: &mut Printer<'_, W>)
+    ensures { Prints W.contents printer.old printer.new (32 ∷ line_text (gone_words ripe fate.now)) }
+{
+    match fate {
+        None => put_line_of(b" due", &[Word::Moment(ripe)], printer),
+        Some(fate) => put_fate(fate, printer),
+    }
 }
 
 // Puts a dash, a moment, and the file and the number of a version.

@@ -1,9 +1,14 @@
 -- The bytes of a line, word after word.
+use Rattle.std.specs.Prelude.{Ok}
 use Rattle.ele_printer.proofs.Basics.{nat_tests, arith, ◌≡◌, ℕ, List, [], ◌∷◌, ◌++◌, length, map, get_or, refl, ap, append_assoc, codes, length-append, ◌<◌, decimal, append-nil, join_with_byte}
 use Rattle.ele_printer.proofs.Prelude.{line_text, kind_words, usage_line, usage_lines, group_line}
 use Rattle.ele_commands.proofs.Words.{some_word}
 use Rattle.ele_commands.specs.Pieces.{pieces_or_dash}
-use Rattle.ele_model.specs.FateText.{mark_word}
+use Rattle.ele_model.specs.FateText.{fate_words, level_words, mark_word, until_words}
+use Rattle.ele_model.specs.declared.fate.Fate.{Fate}
+use Rattle.ele_model.specs.declared.fate.Fate.TheVariants.{Current, Due, Kept, Marked, Open}
+use Rattle.ele_policy.specs.CauseText.{cause_words}
+use Rattle.ele_printer.specs.Why.{why_text}
 use Rattle.ele_commands.specs.Command.{command_words}
 use Rattle.ele_commands.specs.EventText.{event_words, value_word}
 use Rattle.ele_printer.specs.HistoryText.{entry_line}
@@ -43,9 +48,25 @@ pub last_word : (first last : List ℕ) (words : List (List ℕ)) → line_text 
 last_word first last [] = append_assoc first (32 ∷ last) (10 ∷ [])
 last_word first last (word ∷ words) = grind (arith, nat_tests, append_assoc, last_word word last words)
 
--- the line of a version that a mark holds, in its parts
-pub marked_parts : (group : List ℕ) (mark : MarkRow) → line_text (codes "ok why" ∷ codes "marked" ∷ group ∷ mark_word mark ∷ []) ≡ join_with_byte 32 (codes "ok why" ∷ codes "marked" ∷ group ∷ []) ++ ((32 ∷ mark_word mark) ++ 10 ∷ [])
-marked_parts group mark = last_word (codes "ok why") (mark_word mark) (codes "marked" ∷ group ∷ [])
+-- the end of the line of a version that a mark holds, in its parts
+pub marked_parts : (group : List ℕ) (mark : MarkRow) → 32 ∷ line_text (codes "marked" ∷ group ∷ mark_word mark ∷ []) ≡ join_with_byte 32 (codes " marked" ∷ group ∷ []) ++ ((32 ∷ mark_word mark) ++ 10 ∷ [])
+marked_parts group mark = last_word (codes " marked") (mark_word mark) (group ∷ [])
+
+-- a word, and the line of the others
+pub line_then : (first word : List ℕ) (words : List (List ℕ)) → line_text (first ∷ word ∷ words) ≡ first ++ 32 ∷ line_text (word ∷ words)
+line_then first word words = append_assoc first (32 ∷ join_with_byte 32 (word ∷ words)) (10 ∷ [])
+
+-- a fate has a first word
+pub fate_first : (fate : Fate) → (word : List ℕ) × (words : List (List ℕ)) × (fate_words fate ≡ word ∷ words)
+fate_first Current = (codes "current", [], refl)
+fate_first Open = (codes "open", [], refl)
+fate_first (Marked group mark) = (codes "marked", group ∷ mark_word mark ∷ [], refl)
+fate_first (Kept until level) = (codes "kept", until_words until ++ level_words level, refl)
+fate_first (Due since cause) = (codes "due", decimal since ∷ cause_words cause, refl)
+
+-- the line of a fate in its parts
+pub why_parts : (fate : Fate) → why_text (Ok fate) ≡ codes "ok why" ++ (32 ∷ line_text (fate_words fate))
+why_parts fate = let first = fate_first fate in rw first.2 (line_then (codes "ok why") first.0 first.1)
 
 -- the lines of usage in their parts
 pub usages_are : (us : List Usage) (d : Usage) → length us ≡ 4 → usage_lines kind_words us ≡ usage_line (codes "one") (get_or us 0 d) ++ (usage_line (codes "all") (get_or us 1 d) ++ (usage_line (codes "safe") (get_or us 2 d) ++ usage_line (codes "landmarks") (get_or us 3 d)))

@@ -1,7 +1,7 @@
 //! Prints why versions are held, and which will be due. A contract sees a fate and a list of keys as
 //! themselves, and a printer as its outlet.
-ghost use Rattle.std.specs.Prelude.{◌∷◌, [], ◌++◌, Ok, codes, decimal};
-ghost use Rattle.ele_model.specs.FateText.{level_words, mark_word, until_words};
+ghost use Rattle.std.specs.Prelude.{◌∷◌, [], ◌++◌, codes, decimal};
+ghost use Rattle.ele_model.specs.FateText.{fate_words, level_words, mark_word, until_words};
 ghost use Rattle.ele_output.specs.Prints.{Prints};
 ghost use Rattle.ele_output.specs.Line.{line_text};
 ghost use Rattle.ele_policy.specs.CauseText.{cause_words};
@@ -21,86 +21,71 @@ pub fn put_why<W: Write>(told: &Result<Fate, Refusal>, printer: &mut Printer<'_,
     ensures { Prints W.contents printer.old printer.new (why_text told.now) }
 {
     match told {
-        Ok(fate) => put_fate(fate, printer),
+        Ok(fate) => {
+            printer.put(b"ok why");
+            put_fate(fate, printer);
+        }
         Err(refusal) => put_refusal(refusal, printer),
     }
 }
 
-// Prints the line of a version's fate.
-fn put_fate<W: Write>(fate: &Fate, printer: &mut Printer<'_, W>)
-    ensures { Prints W.contents printer.old printer.new (why_text (Ok fate.now)) }
+/// Prints a space, a version's fate, and a line feed.
+pub fn put_fate<W: Write>(fate: &Fate, printer: &mut Printer<'_, W>)
+    ensures { Prints W.contents printer.old printer.new (32 ∷ line_text (fate_words fate.now)) }
 {
     match fate {
-        Fate::Current => put_line_of(b"ok why", &[Plain(b"current")], printer),
-        Fate::Open => put_line_of(b"ok why", &[Plain(b"open")], printer),
+        Fate::Current => printer.put(b" current\n"),
+        Fate::Open => printer.put(b" open\n"),
         Fate::Marked { group, mark } => put_marked(group.bytes(), mark, printer),
         Fate::Kept { until, level } => put_kept(*until, *level, printer),
-        Fate::Due { since, cause } => put_cause(*since, cause, printer),
+        Fate::Due { since, cause } => put_due(*since, cause, printer),
     }
 }
 
-// Prints the line of a version that a mark of a group holds.
+// Prints the end of the line of a version that a mark of a group holds.
 fn put_marked<W: Write>(group: &[u8], mark: &MarkRow, printer: &mut Printer<'_, W>)
     ensures { Prints W.contents printer.old printer.new
-        (line_text (codes "ok why" ∷ codes "marked" ∷ group.now ∷ mark_word mark.now ∷ [])) }
+        (32 ∷ line_text (codes "marked" ∷ group.now ∷ mark_word mark.now ∷ [])) }
 {
-    put_words(b"ok why", &[b"marked", group], printer);
+    put_words(b" marked", &[group], printer);
     mark.put_piece(b" ", printer);
     printer.put(b"\n");
 }
 
-// Prints the line of a version that its policy retains, until a moment and at a level if it has them.
+// Prints the end of the line of a version that its policy retains, until a moment and at a level if it has them.
 fn put_kept<W: Write>(until: Option<Moment>, level: Option<usize>, printer: &mut Printer<'_, W>)
     ensures { Prints W.contents printer.old printer.new
-        (line_text (codes "ok why" ∷ codes "kept" ∷ until_words until ++ level_words level)) }
+        (32 ∷ line_text (codes "kept" ∷ until_words until ++ level_words level)) }
 {
     match (until, level) {
-        (None, None) => put_line_of(b"ok why", &[Plain(b"kept")], printer),
+        (None, None) => printer.put(b" kept\n"),
         (Some(until), None) => {
-            let words = [Plain(b"kept"), Plain(b"until"), Word::Moment(until)];
-            put_line_of(b"ok why", &words, printer);
+            put_line_of(b" kept until", &[Word::Moment(until)], printer);
         }
-        (None, Some(level)) => {
-            let words = [Plain(b"kept"), Plain(b"level"), Number(level as u64)];
-            put_line_of(b"ok why", &words, printer);
-        }
+        (None, Some(level)) => put_line_of(b" kept level", &[Number(level as u64)], printer),
         (Some(until), Some(level)) => {
             let (until, level) = (Word::Moment(until), Number(level as u64));
-            let words = [
-                Plain(b"kept"),
-                Plain(b"until"),
-                until,
-                Plain(b"level"),
-                level,
-            ];
-            put_line_of(b"ok why", &words, printer);
+            put_line_of(b" kept until", &[until, Plain(b"level"), level], printer);
         }
     }
 }
 
-// Prints the line of a version that is due, since a moment and for a cause.
-fn put_cause<W: Write>(since: Moment, cause: &Cause, printer: &mut Printer<'_, W>)
+// Prints the end of the line of a version that is due, since a moment and for a cause.
+fn put_due<W: Write>(since: Moment, cause: &Cause, printer: &mut Printer<'_, W>)
     ensures { Prints W.contents printer.old printer.new
-        (line_text (codes "ok why" ∷ codes "due" ∷ decimal since ∷ cause_words cause.now)) }
+        (32 ∷ line_text (codes "due" ∷ decimal since ∷ cause_words cause.now)) }
 {
-    let (due, since) = (Plain(b"due"), Word::Moment(since));
+    let since = Word::Moment(since);
     match cause {
-        Cause::AtOnce => {
-            put_line_of(
-                b"ok why",
-                &[due, since, Plain(b"at"), Plain(b"once")],
-                printer,
-            )
-        }
+        Cause::AtOnce => put_line_of(b" due", &[since, Plain(b"at once")], printer),
         Cause::Age(interval) => {
-            let age = Number(interval.seconds());
-            let words = [due, since, Plain(b"by"), Plain(b"age"), age];
-            put_line_of(b"ok why", &words, printer);
+            let words = [since, Plain(b"by age"), Number(interval.seconds())];
+            put_line_of(b" due", &words, printer);
         }
         Cause::Displaced { level, by } => {
             let (by, level) = (Number(by.0), Number(*level as u64));
-            let words = [due, since, Plain(b"by"), by, Plain(b"level"), level];
-            put_line_of(b"ok why", &words, printer);
+            let words = [since, Plain(b"by"), by, Plain(b"level"), level];
+            put_line_of(b" due", &words, printer);
         }
     }
 }

@@ -1,6 +1,6 @@
 use Rattle.ele_audit.proofs.Basics.{arith, ◌∙◌, ap, subst, List}
 use Rattle.ele_audit.proofs.Gathers.{each_done, each_more, gathers_new}
-use Rattle.ele_audit.specs.Each.{AreEach}
+use Rattle.std.specs.List.{AllZip}
 use Rattle.ele_audit.specs.Open.{IsOpen}
 use Rattle.ele_model.specs.declared.rows.HandleRow.{HandleRow}
 use Rattle.ele_audit.proofs.listing.open_handles.Goals as goal
@@ -15,4 +15,4 @@ loop-row-preserved g c =
 pub returns : goal.returns
 returns g c =
     let rows = c.handles-rows.ensures ∙ ap (λ w. w.handles) c.core-2.ensures in
-    subst (λ (rows : List HandleRow). AreEach (IsOpen c.args.history.now) rows c.loop-row.handles.items) rows (each_done (IsOpen c.args.history.now) c.handles-rows.result.now c.loop-row.row-index c.loop-row.handles.items c.loop-row-test.false c.loop-row.invariant)
+    subst (λ (rows : List HandleRow). AllZip (IsOpen c.args.history.now) rows c.loop-row.handles.items) rows (each_done (IsOpen c.args.history.now) c.handles-rows.result.now c.loop-row.row-index c.loop-row.handles.items c.loop-row-test.false c.loop-row.invariant)
