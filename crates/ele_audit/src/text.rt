@@ -1,4 +1,4 @@
-//! Puts what an audit asks. A contract sees a printer as its outlet.
+//! Prints the answers to an audit. A contract sees a printer as its outlet.
 ghost use Rattle.std.specs.Prelude.{◌≡◌, ◌∷◌, ◌++◌, [], List, ℕ, codes, decimal};
 ghost use Rattle.std.specs.List.{flat_map};
 ghost use Rattle.ele_audit.specs.AuditText.{AreAnswers, IsAnswersText, gone_text, gone_words, handle_line, handles_text, path_or_dash, read_word, removed_line, why_gone_text};
@@ -19,7 +19,7 @@ use ele_output::{Printer, put_with_number};
 use ele_printer::{put_answer, put_fate};
 use std::io::Write;
 
-/// Puts how many entries were folded, how many versions were removed since, and a line for each.
+/// Prints how many entries were folded, how many versions were removed since, and a line for each.
 pub fn put_gone<W: Write>(folded: u64, removed: &[Removed], printer: &mut Printer<'_, W>)
     ensures { Prints W.contents printer.old printer.new (gone_text folded removed.now) }
 {
@@ -28,7 +28,7 @@ pub fn put_gone<W: Write>(folded: u64, removed: &[Removed], printer: &mut Printe
     put_removed_lines(removed, printer);
 }
 
-// Puts the line of each removed version.
+// Prints the line of each removed version.
 fn put_removed_lines<W: Write>(removed: &[Removed], printer: &mut Printer<'_, W>)
     ensures { Prints W.contents printer.old printer.new (flat_map removed_line removed.now) }
 {
@@ -37,7 +37,7 @@ fn put_removed_lines<W: Write>(removed: &[Removed], printer: &mut Printer<'_, W>
     }
 }
 
-// Puts the line of a removed version.
+// Prints the line of a removed version.
 fn put_removed<W: Write>(row: &Removed, printer: &mut Printer<'_, W>)
     ensures { Prints W.contents printer.old printer.new (removed_line row.now) }
 {
@@ -46,7 +46,7 @@ fn put_removed<W: Write>(row: &Removed, printer: &mut Printer<'_, W>)
     put_gone_words(row.key.ripe, &row.fate, printer);
 }
 
-// Puts a space, what had become of a removed version with that ripe moment, and a line feed.
+// Prints a space, the fate of a removed version or since when it was due, and a line feed.
 fn put_gone_words<W: Write>(ripe: Moment, fate: &Option<Fate>, printer: &mut Printer<'_, W>)
     ensures { Prints W.contents printer.old printer.new (32 ∷ line_text (gone_words ripe fate.now)) }
 {
@@ -56,7 +56,7 @@ fn put_gone_words<W: Write>(ripe: Moment, fate: &Option<Fate>, printer: &mut Pri
     }
 }
 
-// Puts a dash, a moment, and the file and the number of a version.
+// Prints a dash, a moment, and the file and the number of a version.
 fn put_version<W: Write>(at: Moment, key: &Key, printer: &mut Printer<'_, W>)
     ensures { Prints W.contents printer.old printer.new
         ((codes "-" ++ ((32 ∷ decimal at) ++ (32 ∷ decimal key.now.file))) ++ (32 ∷ decimal key.now.number)) }
@@ -79,7 +79,7 @@ fn version_number(key: &Key) -> u64
     key.number.0
 }
 
-// Puts a dash and two numbers.
+// Prints a dash and two numbers.
 fn put_numbers<W: Write>(first: u64, second: u64, printer: &mut Printer<'_, W>)
     ensures { Prints W.contents printer.old printer.new
         (codes "-" ++ ((32 ∷ decimal first) ++ (32 ∷ decimal second))) }
@@ -89,7 +89,7 @@ fn put_numbers<W: Write>(first: u64, second: u64, printer: &mut Printer<'_, W>)
     put_with_number(b" ", second, printer);
 }
 
-/// Puts when a version was removed, and why.
+/// Prints when a version was removed, and why.
 pub fn put_why_gone<W: Write>(removed: &Removed, printer: &mut Printer<'_, W>)
     ensures { Prints W.contents printer.old printer.new (why_gone_text removed.now) }
 {
@@ -97,7 +97,7 @@ pub fn put_why_gone<W: Write>(removed: &Removed, printer: &mut Printer<'_, W>)
     put_gone_words(removed.key.ripe, &removed.fate, printer);
 }
 
-/// Puts how many handles are open, and a line for each.
+/// Prints how many handles are open, and a line for each.
 pub fn put_handles<W: Write>(handles: &[OpenHandle], printer: &mut Printer<'_, W>)
     ensures { Prints W.contents printer.old printer.new (handles_text handles.now) }
 {
@@ -105,7 +105,7 @@ pub fn put_handles<W: Write>(handles: &[OpenHandle], printer: &mut Printer<'_, W
     put_handle_lines(handles, printer);
 }
 
-// Puts the line of each handle.
+// Prints the line of each handle.
 fn put_handle_lines<W: Write>(handles: &[OpenHandle], printer: &mut Printer<'_, W>)
     ensures { Prints W.contents printer.old printer.new (flat_map handle_line handles.now) }
 {
@@ -114,7 +114,7 @@ fn put_handle_lines<W: Write>(handles: &[OpenHandle], printer: &mut Printer<'_, 
     }
 }
 
-// Puts the line of a handle.
+// Prints the line of a handle.
 fn put_handle<W: Write>(handle: &OpenHandle, printer: &mut Printer<'_, W>)
     ensures { Prints W.contents printer.old printer.new (handle_line handle.now) }
 {
@@ -131,7 +131,7 @@ fn handle_number(row: &HandleRow) -> u64
     row.number.0
 }
 
-// Puts since when a handle has been open, the path of its file, and a line feed.
+// Prints since when a handle has been open, the path of its file, and a line feed.
 fn put_opening<W: Write>(
     since: &Option<Moment>,
     path: &Option<Vec<Name>>,
@@ -145,7 +145,7 @@ fn put_opening<W: Write>(
     printer.put(b"\n");
 }
 
-// Puts a space and the number of the file that is read.
+// Prints a space and the number of the file that is read.
 fn put_file<W: Write>(reads: &Reads, printer: &mut Printer<'_, W>)
     ensures { Prints W.contents printer.old printer.new (32 ∷ decimal (file_of reads.now)) }
 {
@@ -155,7 +155,7 @@ fn put_file<W: Write>(reads: &Reads, printer: &mut Printer<'_, W>)
     }
 }
 
-// Puts a space and what is read.
+// Prints a space and what is read.
 fn put_read<W: Write>(reads: &Reads, printer: &mut Printer<'_, W>)
     ensures { Prints W.contents printer.old printer.new (32 ∷ read_word reads.now) }
 {
@@ -165,7 +165,7 @@ fn put_read<W: Write>(reads: &Reads, printer: &mut Printer<'_, W>)
     }
 }
 
-// Puts a space and the seconds of a moment, or `-`.
+// Prints a space and the seconds of a moment, or `-`.
 fn put_since<W: Write>(since: &Option<Moment>, printer: &mut Printer<'_, W>)
     ensures { Prints W.contents printer.old printer.new (32 ∷ end_word since.now) }
 {
@@ -175,7 +175,7 @@ fn put_since<W: Write>(since: &Option<Moment>, printer: &mut Printer<'_, W>)
     }
 }
 
-// Puts a space and a path, or `-`.
+// Prints a space and a path, or `-`.
 fn put_path<W: Write>(path: &Option<Vec<Name>>, printer: &mut Printer<'_, W>)
     ensures { Prints W.contents printer.old printer.new (32 ∷ path_or_dash (names_in path.now)) }
 {
@@ -185,7 +185,7 @@ fn put_path<W: Write>(path: &Option<Vec<Name>>, printer: &mut Printer<'_, W>)
     }
 }
 
-// Puts a space and the names, each with a slash before it, or a slash for none.
+// Prints a space and the names, each with a slash before it, or a slash for none.
 fn put_names<W: Write>(names: &[Name], printer: &mut Printer<'_, W>)
     ensures { Prints W.contents printer.old printer.new (32 ∷ path_word names.now) }
 {
@@ -198,7 +198,7 @@ fn put_names<W: Write>(names: &[Name], printer: &mut Printer<'_, W>)
     }
 }
 
-// Puts a slash and the bytes of a name.
+// Prints a slash and the bytes of a name.
 fn put_step<W: Write>(name: &[u8], printer: &mut Printer<'_, W>)
     ensures { Prints W.contents printer.old printer.new (47 ∷ name.now) }
 {
@@ -206,7 +206,7 @@ fn put_step<W: Write>(name: &[u8], printer: &mut Printer<'_, W>)
     printer.put(name);
 }
 
-/// Puts how many entries were folded, how many are stored, and the line of each stored event with
+/// Prints how many entries were folded, how many are stored, and the line of each stored event with
 /// its reply.
 pub fn put_answers<W: Write>(folded: u64, entries: &[Entry], printer: &mut Printer<'_, W>)
     ensures { (text : List ℕ) × IsAnswersText folded entries.now text × Prints W.contents
@@ -217,7 +217,7 @@ pub fn put_answers<W: Write>(folded: u64, entries: &[Entry], printer: &mut Print
     put_each_answer(entries, printer);
 }
 
-// Puts the line of each event, and its reply.
+// Prints the line of each event, and its reply.
 fn put_each_answer<W: Write>(entries: &[Entry], printer: &mut Printer<'_, W>)
     ensures { (text : List ℕ) × AreAnswers entries.now text × Prints W.contents printer.old
         printer.new text }
@@ -227,7 +227,7 @@ fn put_each_answer<W: Write>(entries: &[Entry], printer: &mut Printer<'_, W>)
     }
 }
 
-// Puts the line of an event, and its reply.
+// Prints the line of an event, and its reply.
 fn put_entry<W: Write>(entry: &Entry, printer: &mut Printer<'_, W>)
     ensures { (reply : List ℕ) × IsReplyText entry.now.reply reply × Prints W.contents
         printer.old printer.new (entry_line entry.now ++ reply) }

@@ -1,4 +1,4 @@
--- What a line asks for, and the answer to that.
+-- A line's command, and its answer.
 use Rattle.ele_runs.proofs.Basics.{false, ◌≡◌, ℕ, List, length, Ok, Err, ◌⊎◌, inl, inr, refl}
 use Rattle.ele_runs.proofs.Words.{HistoryFull, MayMean, MayPass, MayReply, Past, trimmed}
 use Rattle.ele_printer.specs.declared.fault.LineFault.{LineFault}
@@ -10,7 +10,7 @@ use Rattle.ele_model.specs.declared.refusal.Stop.TheVariants.{NoMemory}
 use Rattle.ele_runs.specs.Answer.{Answer, IsForMemory}
 use Rattle.ele_runs.specs.Answer as answer
 
--- what is asked for may be answered so
+-- the answers to a command
 abbrev pub MayMeet : Past → Line → Answer → Past → Type 0
 MayMeet before (asks.Event event) (answer.Reply reply) after = MayReply before event reply after
 MayMeet before (asks.Pass budget) (answer.Pass end) after = MayPass before budget end after
@@ -19,13 +19,13 @@ MayMeet before asks.History (answer.History folded entries) after =
 MayMeet before asks.Trim (answer.Trimmed count) after = (count ≡ length before.entries) × (after ≡ trimmed before)
 MayMeet before asked said after = ⊥
 
--- an answer to what the line asks for
+-- an answer to the line's command
 pub record Met (before : Past) (line : List ℕ) (said : Answer) (after : Past) : Type 0 where
   pub asked : Line
   pub asks : Asks false line asked
   pub met : MayMeet before asked said after
 
--- or the fault of a line that asks for nothing
+-- or the fault of a line without one
 pub record Faulty (before : Past) (line : List ℕ) (said : Answer) (after : Past) : Type 0 where
   pub fault : LineFault
   pub first : IsFirstFault false line fault

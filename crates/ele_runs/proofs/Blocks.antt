@@ -39,7 +39,7 @@ last_reply before after event done =
     let last : slice_get after.entries (length after.entries - 1) ≡ Some entry = rw done (last_is before.entries entry) in
     ap (λ (last : Option Entry). reply_of (option_map (λ (entry : Entry). entry.reply) last)) last
 
--- what is heard of a line, by what it asks for
+-- the answer to a line, by its command
 pub hears_event : {explains : Bool} (before after : Past) (line : List ℕ) (event : Event) (said : Said) → Asks explains line (asks.Event event) → Records before event said after → Hears explains before line said after
 hears_event {explains} before after line event Replied asked done =
     subst (λ (a : Answer). MayMean explains before line a after) (sym (last_reply before after event done.1))
@@ -78,7 +78,7 @@ pub hears_fault : {explains : Bool} (past : Past) (line : List ℕ) (why : LineF
 hears_fault past line why (inl memory) other = absurd (other memory)
 hears_fault past line why (inr first) other = (first, refl)
 
--- what is heard of a line, by whether it is passed over
+-- the line that is run, by whether it is skipped
 abbrev pick : Bool → Option (List ℕ) → Option (List ℕ)
 pick test line = if test then Some [] else line
 
@@ -89,7 +89,7 @@ never false = refl
 long_heard : (options : RunOptions) → heard options None ≡ None
 long_heard options = ap (λ (test : Bool). pick test None) (never options.remarks)
 
--- a line that gets no answer, and one that gets one
+-- a line without an answer, and one with an answer
 heard_none : (options : RunOptions) (line : List ℕ) → has_no_reply options line ≡ true → heard options (Some line) ≡ Some []
 heard_none options [] is = ap (λ (test : Bool). pick test (Some [])) (never options.remarks)
 heard_none options (byte ∷ bytes) is = ap (λ (test : Bool). pick test (Some (byte ∷ bytes))) is
@@ -97,7 +97,7 @@ heard_none options (byte ∷ bytes) is = ap (λ (test : Bool). pick test (Some (
 heard_all : (options : RunOptions) (byte : ℕ) (bytes : List ℕ) → has_no_reply options (byte ∷ bytes) ≡ false → heard options (Some (byte ∷ bytes)) ≡ Some (byte ∷ bytes)
 heard_all options byte bytes is = ap (λ (test : Bool). pick test (Some (byte ∷ bytes))) is
 
--- a line was heard so, by what is heard of it
+-- the answer to a line, by the line that is run
 as_heard : (options : RunOptions) (before after : Past) (line is : Option (List ℕ)) (said : Said) → heard options line ≡ is → MayAnswer options.explain before is (answer_of after said) after
     → ((number : ℕ) → said_front options number said ≡ front_of options number is) → HearsKept options before line said after
 as_heard options before after line is said same may front = record {
@@ -114,11 +114,11 @@ kept_heard options before after [] said is hears = absurd cc
 kept_heard options before after (byte ∷ bytes) said is hears =
     as_heard options before after (Some (byte ∷ bytes)) (Some (byte ∷ bytes)) said (heard_all options byte bytes is) hears (front_is options before after byte bytes said hears)
 
--- one of which nothing is heard
+-- a line that is skipped
 pub kept_silent : (options : RunOptions) (past : Past) (line : List ℕ) → has_no_reply options line ≡ true → HearsKept options past (Some line) Nothing past
 kept_silent options past line is = as_heard options past past (Some line) (Some []) Nothing (heard_none options line is) (refl, refl) (λ number. refl)
 
--- and one that is too long
+-- a line that is too long
 pub kept_long : (options : RunOptions) (past : Past) → HearsKept options past None (Bad fault.LineTooLong) past
 kept_long options past = as_heard options past past None None (Bad fault.LineTooLong) (long_heard options) (refl, refl) (λ number. refl)
 
@@ -136,11 +136,11 @@ heard_next before after line said past fine outcome kept well counts is = rw is 
       ∙ ap (λ (o : Outcome). record before { past = past; number = before.number + 1; ended = before.options.strict && not (is_well text); tally = tallied before.tally (before.number + 1) line o }) (counts text told);
 })
 
--- what is told beside the answer, whatever its text is
+-- the reason beside the answer, for each text of it
 abbrev Notes : RunState → Option (List ℕ) → Said → Option (List ℕ) → Option (List ℕ) → Type 0
 Notes after line said old new = (text : List ℕ) → IsText (answer_of after.past said) text → IsNoted after.options after.number line text old new
 
--- and what is told for it is known
+-- the text for the next line
 told_next : (before after : RunState) (line : Option (List ℕ)) (said : Said) (text : List ℕ) (old new : Option (List ℕ)) → before.ended ≡ false → HearsNext before line said after
     → Notes after line said old new → IsText (answer_of after.past said) text → IsTold (noting before old) line (said_front after.options after.number said ++ text) (noting after new)
 told_next before after line said text old new on hears noted is = record {
@@ -154,7 +154,7 @@ told_next before after line said text old new on hears noted is = record {
   after_is = ap (λ (run_state : RunState). noting run_state new) (hears.after_is text is);
 }
 
--- the number in front and the text were put
+-- the line's number and the text were put
 put_here : (before after : RunState) (line : Option (List ℕ)) (said : Said) (old new : Option (List ℕ)) (a b c : Outlet) → before.ended ≡ false → HearsNext before line said after
     → Notes after line said old new → Puts a b (said_front after.options after.number said) → (text : List ℕ) × IsText (answer_of after.past said) text × Puts b c text
     → PutsBlock (noting before old) line (noting after new) a c
@@ -171,7 +171,7 @@ block_put before after view line said old new a b c is on hears noted front told
     subst (λ (run_state : RunState). PutsBlock (noting before old) line (noting run_state new) a c) is
     (put_here before view line said old new a b c on (subst (λ (run_state : RunState). HearsNext before line said run_state) (sym is) hears) (subst (λ (run_state : RunState). Notes run_state line said old new) (sym is) noted) front told)
 
--- the writer failed as what is told for a last line was handed over
+-- the writer failed at the text for a last line
 pub finishes_err : {E : Type 0} (run_state : RunState) (buffer : Option (List ℕ)) (a b c : Outlet) (r : Result RunEnd E) → IsErr r → Puts a b (cut_told run_state buffer) → Puts b c [] → WritesLast run_state buffer a c r
 finishes_err run_state buffer a b c (Ok x) is p q = absurd cc
 finishes_err run_state buffer a b c (Err x) is p q = (tt, puts_no_more p q)

@@ -1,4 +1,4 @@
--- What stays in a run, and which runs are ended.
+-- What stays the same in a run, and which runs end at a line.
 use Rattle.ele_runs.proofs.Basics.{◌≡◌, inl, inr, Bool, true, false, ℕ, List, [], ◌∷◌, Option, refl, sym, ap, ◌∙◌}
 use Rattle.ele_runs.proofs.Words.{AreTold, RunState, IsTold, is_well, line_unless_long}
 use Rattle.std.specs.Prelude.{not, ◌&&◌}
@@ -8,7 +8,7 @@ use Rattle.std.proofs.lemmas.Bool.{cases_Bool}
 manner_after : (before after : RunState) (line : Option (List ℕ)) (told : List ℕ) → IsTold before line told after → after.options ≡ before.options
 manner_after before after line told is = ap (λ (c : RunState). c.options) is.after_is
 
--- the manner stays
+-- the options stay
 pub manner_stays : (before after : RunState) (lines : List (List ℕ)) (text : List ℕ) → AreTold before lines text after → after.options ≡ before.options
 manner_stays before after [] text are = ap (λ (c : RunState). c.options) are.1
 manner_stays before after (line ∷ lines) text (told, rest, between, is, more, parts) =
@@ -22,7 +22,7 @@ pub clash : {A : Type 0} (test : Bool) → test ≡ true → test ≡ false → 
 clash true e f = absurd cc
 clash false e f = absurd cc
 
--- only a strict run is ended
+-- only a strict run ends at a line
 ends_strict : (before after : RunState) (line : Option (List ℕ)) (told : List ℕ) → IsTold before line told after → after.ended ≡ true → before.options.strict ≡ true
 ends_strict before after line told is ended =
     both before.options.strict (not (is_well is.block)) (sym (ap (λ (c : RunState). c.ended) is.after_is) ∙ ended)

@@ -20,17 +20,17 @@ use Rattle.ele_runs.proofs.Ran.{RanSoFar}
 use Rattle.ele_output.specs.Outlet.{IsHandedOver, Puts}
 use Rattle.ele_output.proofs.Known.{all_written, front_written}
 
--- what was read is all, where nothing is left
+-- if nothing is left, all was read
 whole_input : (input rest : Option (List ℕ)) (given : List ℕ) → Consumes input rest given → IsAtEnd rest → Keeps input (Some given)
 whole_input input rest given taken at_end = grind (arith, append-nil)
 
--- the input goes on in some way behind what was read
+-- the input goes on after the bytes that were read
 known_more : (input rest : Option (List ℕ)) (given : List ℕ) → Consumes input rest given → (more : List ℕ) × Keeps input (Some (given ++ more))
 known_more (Some xs) (Some ys) given taken = (ys, sym taken)
 known_more input None given taken = ([], grind arith)
 known_more None rest given taken = ([], tt)
 
--- the writer failed in the blocks of these lines, whatever comes behind them
+-- the writer failed in the blocks of these lines, whatever follows them
 fails_in : (start state : RunState) (given part text : List ℕ) (lines : List (List ℕ)) (input rest : Option (List ℕ))
     → given ≡ whole_lines lines ++ part → AllByRecursion IsUnbroken lines → AreTold start lines text state → Consumes input rest given
     → ToldToAWriteFault start input state.notes text
@@ -85,20 +85,20 @@ ends_or_not state (Some (byte ∷ bytes)) false e = inl (rw e refl, λ t. clash 
 kept_empty : (part : List ℕ) → line_unless_long part ≡ Some [] → part ≡ []
 kept_empty part e = grind (arith, nat_tests)
 
--- a text that was put was written, where all was handed over, and otherwise a front of it
+-- if all was handed over, the text that was put was written, and otherwise its beginning
 pub all_out : {Told : List ℕ → Type 0} {old new : Outlet} {text : List ℕ} → old.held ≡ [] → Puts old new text → IsHandedOver new → Told text → Writes Told old.known new.known
 all_out none put over told = record { text = _; told = told; written = all_written none put over }
 
 pub front_out : {Told : List ℕ → Type 0} {old new : Outlet} {text : List ℕ} → old.held ≡ [] → Puts old new text → Told text → WritesFront Told old.known new.known
 front_out none put told = record { text = _; told = told; written = front_written none put }
 
--- a reader fails by a fault of its own
+-- a reader fails with ReadFault
 pub read_only : (mid rest : Option (List ℕ)) (most : ℕ) (piece : List ℕ) (fault : ShellFault) → TakesPiece mid rest most piece (Err fault) → Keeps mid rest × (fault ≡ ReadFault)
 read_only mid rest most piece ReadFault keeps = (keeps, refl)
 read_only mid rest most piece fault h = absurd h
 
 module _ {start state : RunState} {room : ℕ} {buffer input mid : Option (List ℕ)} {text : List ℕ} (ran : RanSoFar start state room buffer input mid text) where
-  -- the writer failed as it was handed what is held
+  -- the writer failed at the buffered text
   pub ends_over : ToldToAWriteFault start input state.notes text
   ends_over = fails_in start state ran.given ran.part text ran.lines input mid ran.is.are.parts ran.is.are.whole ran.is.told ran.taken
 
@@ -107,7 +107,7 @@ module _ {start state : RunState} {room : ℕ} {buffer input mid : Option (List 
   ends_read rest keeps =
       record { given = ran.given; lines = ran.lines; part = ran.part; state = state; taken = Consumes-kept input mid rest ran.given ran.taken keeps; is = ran.is; noted = Keeps-refl _ }
 
-  -- a byte stands behind as much as a script may be
+  -- a byte follows as much as a script may have
   pub ends_past : (rest : Option (List ℕ)) (piece : List ℕ) (count : ℕ) → min room (most_lines - state.number) ≡ 0 → 1 ≤ length piece → count ≡ 1
       → Consumes mid rest (take count piece) → ToldPastABound start input rest state.notes text
   ends_past rest piece count full some one took = record {
@@ -184,7 +184,7 @@ module _ {start state : RunState} {room : ℕ} {buffer input mid : Option (List 
           last,
         )
 
-    -- it does
+    -- a last line ends the run
     ends_cut : (count : ℕ) → count ≡ state.number + 1 → state.options.strict ≡ true → buffer ≢ Some [] → ToldToAnEnd start count (cut_line buffer) input rest notes (text ++ cut_told state buffer)
     ends_cut count is strict some =
         record {
@@ -206,14 +206,14 @@ module _ {start state : RunState} {room : ℕ} {buffer input mid : Option (List 
           };
         }
 
-    -- whether it does is told
+    -- the end says whether a last line ended the run
     pub ends_by : (count : ℕ) (kept : Option EndLine) (tally : Tally) → count ≡ state.number + cut_count buffer → kept ≡ end_by state buffer → IsTallyOf state buffer tally → HasTold start input rest notes count kept tally (text ++ cut_told state buffer)
     ends_by count kept tally is by counts = elim (ends_or_not state buffer state.options.strict refl) [
       | inl none ↦ rw (by ∙ none.0) (ends_all count tally is none.1 counts)
       | inr one ↦ rw (by ∙ one.0) (ends_cut count (is ∙ ap (λ (m : ℕ). state.number + m) one.1) one.2 one.3)
     ]
 
-  -- what was read is whole lines, and then these of a piece, whatever comes behind them
+  -- whole lines were read, and then these of a piece, whatever follows them
   parts_more : (piece behind : List ℕ) (more : List (List ℕ)) → ran.part ++ piece ≡ whole_lines more ++ behind → ran.given ++ piece ≡ whole_lines (ran.lines ++ more) ++ behind
   parts_more piece behind more parts =
       ap (λ (w : List ℕ). w ++ piece) ran.is.are.parts ∙ append_assoc (whole_lines ran.lines) ran.part piece ∙ ap (λ (w : List ℕ). whole_lines ran.lines ++ w) parts
@@ -256,12 +256,12 @@ module _ {start state : RunState} {room : ℕ} {buffer input mid : Option (List 
           };
         }
 
-    -- the writer failed as it was handed that
+    -- the writer failed at that text
     pub ends_in_last : ToldToAWriteFault start input after.notes (text ++ did.text)
     ends_in_last =
         ends_in_piece after rest so_far new piece took (record { lines = upto; rest = did.rest; text = did.text; parts = did.parts; whole = did.whole; told = did.told; put = did.put })
 
--- what the writer holds is what the printer's writer holds
+-- the writer holds what the printer's writer holds
 pub told_at : (start : RunState) (input rest : Option (List ℕ)) (a b : Outlet) (old new notes : Option (List ℕ)) (r : Result RunEnd ShellFault) → RunsAt start input rest a b notes r
     → a.known ≡ old → b.known ≡ new → Tells start input rest old new notes r × HadMemory r
 told_at start input rest a b old new notes r h e f = rw (← e, ← f) (h.1, h.2)

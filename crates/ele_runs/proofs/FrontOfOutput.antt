@@ -1,4 +1,4 @@
--- What a run without options has written that its writer ended is a front of an output of its input.
+-- If its writer failed, a run without options has written the beginning of an output of its input.
 use Rattle.ele_runs.proofs.Basics.{ℕ, false, zero, suc, List, [], ◌∷◌, ◌++◌, Option, Some, None, Result, Ok, Err, inl, inr, refl, sym, ap, subst, ◌∙◌, append-nil, append_assoc}
 use Rattle.ele_runs.proofs.Joins.{blocks_append, lines_before}
 use Rattle.ele_runs.proofs.SomeOutput.{some_blocks, some_lines}
@@ -19,7 +19,7 @@ use Rattle.ele_runs.specs.FrontOfOutput.{FrontOfOutput, IsOutputOf}
 use Rattle.ele_runs.specs.Telling.{ToldToAWriteFault}
 use Rattle.ele_runs.specs.SomeAnswer.{IsWithin}
 
--- no more entries are made than may be
+-- the entries stay within the limit
 reply_within : (before after : Past) (event : Event) (said : Result Reply Stop) → IsWithin before → MayReply before event said after → IsWithin after
 reply_within before after event (Ok reply) within may =
     subst IsWithin (sym (ap (λ (told : Reply × Past). told.1) may.1)) (recorded_within before event may.0)
@@ -62,7 +62,7 @@ blocks_within before after (line ∷ lines) text within (block, rest, between, i
     blocks_within between after lines rest (block_within before between (line_unless_long line) block within is) more
 
 module _ (law : EveryLineMeaning) where
-  -- any text that such a run tells begins an output
+  -- the text of a run whose writer failed begins an output
   begins_output : (start : Past) (input before after : Option (List ℕ)) (text : List ℕ) → IsWithin start → ToldToAWriteFault (begun plain start before) input after text
       → (more : List ℕ) × IsOutputOf start input (text ++ more)
   begins_output start input before after text within run =

@@ -1,4 +1,4 @@
--- Replies that tell the time tell of a moment, and so each has a text.
+-- A reply with the time has a moment of the calendar, and so a text.
 use Rattle.std.specs.Prelude.{Bool}
 use Rattle.ele_runs.proofs.Basics.{nat_tests, ℕ, ◌≤◌, List, [], ◌∷◌, refl, arith}
 use Rattle.ele_runs.proofs.VersionInfo.{some_stamp}
@@ -16,7 +16,7 @@ use Rattle.ele_model.specs.declared.event.Event.TheVariants.{Clock, Tick}
 use Rattle.ele_model.specs.declared.reply.Reply.TheVariants.{Now}
 use Rattle.ele_model.proofs.PlanOutcomes.{InAll, outcome_of}
 
--- a reply that tells the time tells of a moment
+-- the time in a reply is a moment
 abbrev pub IsInTime : Reply → Type 0
 IsInTime (Now moment) = moment ≤ last_moment
 IsInTime reply = Unit {0}
@@ -42,7 +42,7 @@ pub asked_in_time : {explains : Bool} (line : List ℕ) (event : Event) → Asks
 asked_in_time line (Clock to) is = first_in_time is.spells.words.arguments to is.spells.words.values
 asked_in_time line event is = tt
 
--- so it has a text
+-- so a reply has a text
 pub some_text : (reply : Reply) → IsInTime reply → (text : List ℕ) × IsReplyText reply text
 some_text (Now moment) in_time = let stamp = some_stamp moment in_time in (_, (stamp.0, stamp.1, refl))
 some_text reply in_time = (_, refl)

@@ -3,7 +3,7 @@ use Rattle.ele_runs.proofs.Basics.{◌≡◌, ℕ, List, [], ◌∷◌, ◌++◌
 use Rattle.ele_runs.proofs.Words.{IsUnbroken, AreLines, whole_line, whole_lines, AreBlocks, AreTold, RunState, Past}
 use Rattle.ele_lists.proofs.Alls.{all-append}
 
--- these lines stand before those of the rest
+-- these lines come before those of the rest
 pub lines_before : (input rest : List ℕ) (before after : List (List ℕ)) (last : List ℕ)
     → input ≡ whole_lines before ++ rest → AllByRecursion IsUnbroken before → AreLines rest after last → AreLines input (before ++ after) last
 lines_before input rest before after last e whole h =
@@ -20,7 +20,7 @@ blocks_append s t u [] b text more h g = rw (h.0, ← h.1) g
 blocks_append s t u (line ∷ a) b text more (own, rest, mid, is, after, e) g =
     (own, rest ++ more, mid, is, blocks_append mid t u a b rest more after g, ap (λ (x : List ℕ). x ++ more) e ∙ append_assoc own rest more)
 
--- and what is told for lines, and then for more
+-- the text for lines, and then for more
 pub told_append : (s t u : RunState) (a b : List (List ℕ)) (text more : List ℕ) → AreTold s a text t → AreTold t b more u → AreTold s (a ++ b) (text ++ more) u
 told_append s t u [] b text more h g = rw (h.0, ← h.1) g
 told_append s t u (line ∷ a) b text more (own, rest, mid, is, after, e) g =

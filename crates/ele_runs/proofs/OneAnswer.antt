@@ -26,7 +26,7 @@ one_reply before event (Err NoMemory) s x y a b p q = absurd (p tt)
 one_reply before event r (Err NoMemory) x y a b p q = absurd (q tt)
 
 module _ (law : OneLineMeaning) (passes : PassIsOfWorld) where
-  -- one thing asked for has one answer
+  -- one command has one answer
   one_met : (before : Past) (asked : Line) (said told : Answer) (x y : Past) → MayMeet before asked said x → MayMeet before asked told y
       → ¬ IsForMemory said → ¬ IsForMemory told → (said ≡ told) × (x ≡ y)
   one_met before (asks.Event event) (answer.Reply r) (answer.Reply s) x y a b p q =

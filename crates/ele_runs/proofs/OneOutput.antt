@@ -40,7 +40,7 @@ one_said (answer.Answers folded entries) s t a b =
     a.2 ∙ ap (λ (w : List ℕ). line_text (codes "ok answers" ∷ decimal folded ∷ decimal (length entries) ∷ []) ++ w) (one_answers entries a.0 b.0 a.1 b.1) ∙ sym b.2
 one_said said s t a b = a ∙ sym b
 
--- what stands nowhere stands in no part
+-- a text that is nowhere in a whole is in no part of it
 front_nowhere : (told text front back : List ℕ) → text ≡ front ++ back → IsNowhere told text → IsNowhere told front
 front_nowhere told text front back are none before behind is =
     none before (behind ++ back) (are ∙ ap (λ (w : List ℕ). w ++ back) is ∙ append_assoc (before ++ told) behind back)
@@ -65,7 +65,7 @@ rest_tells text front back are none = record {
   pass = λ removed. rest_nowhere (pass_text (Stopped NoMemory removed)) text front back are (none.pass removed);
 }
 
--- an answer in a text that tells of no stop for memory is none
+-- in a text without stops for memory, no answer is one
 not_stopped : (said : Answer) (text front back : List ℕ) → IsText said front → text ≡ front ++ back → TellsNoStop text → ¬ IsForMemory said
 not_stopped (answer.Reply (Err NoMemory)) text front back is are none for_memory =
     own_nowhere (stop_text NoMemory) text front back are none.stop is

@@ -33,7 +33,7 @@ not_behind w r s u v pass cleaned lt = grind (arith, cleaned.each r lt, pass.las
 one_finish : (w : World) (r s : ℕ) (u v : World) → IsPass w r u → IsPass w s v → r ≡ s
 one_finish w r s u v a b = omega (arith, not_behind w r s u v a b.cleaned, not_behind w s r v u b a.cleaned)
 
--- how many entries may ever be made
+-- the limit of entries
 abbrev most_entries : Past → ℕ
 most_entries past = past.base.limits.events
 
@@ -47,24 +47,24 @@ one_left before budget (Stopped HistoryFull r) x y a b p = a.1.2.1 ∙ one_remov
 one_left before budget (Stopped NoMemory r) x y a b p = absurd (p tt)
 
 module _ (passes : PassIsOfWorld) where
-  -- clean events that removed a version are a pass whose budget they use up
+  -- clean events that each removed a version are a pass that used up its budget
   so_many : (before x : Past) (n : ℕ) → Removes before n x → PassOfWorld before (Budget n) x
   so_many before x n removes = passes before x n (Budget n) (refl, removes)
 
   limit_is : (before x : Past) (n : ℕ) → Removes before n x → most_entries x ≡ most_entries before
   limit_is before x n removes = ap (λ (w : World). w.limits.events) (so_many before x n removes).base
 
-  -- where a pass finished, there was room for one entry more
+  -- if a pass finished, one entry more was within the limit
   room_behind : (before x : Past) (budget n : ℕ) → MayPass before budget (Finished n) x → count_of before + n < most_entries before
   room_behind before x budget n a =
       omega (arith, a.1.2.0, (so_many before a.1.0 n a.1.1).count, limit_is before a.1.0 n a.1.1)
 
-  -- where it was stopped, there was none
+  -- if it was stopped, none was
   full_behind : (before x : Past) (budget n : ℕ) → MayPass before budget (Stopped HistoryFull n) x → count_of before + n ≡ most_entries before
   full_behind before x budget n a =
       omega (arith, a.1.2.0, (so_many before a.1.0 n a.1.1).count, limit_is before a.1.0 n a.1.1)
 
-  -- what was removed had room
+  -- each removal was within the limit
   room_for : (before x : Past) (n : ℕ) → Removes before n x → n < 1 ⊎ (count_of before + n ≤ most_entries before)
   room_for before x zero a = inl (omega arith)
   room_for before x (suc n) a = inr (omega (arith, a.2.1.0, (so_many before a.0 n a.1).count, limit_is before a.0 n a.1))

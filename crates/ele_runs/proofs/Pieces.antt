@@ -1,4 +1,4 @@
--- A piece that was answered so far.
+-- The answered part of a piece.
 use Rattle.ele_runs.proofs.Basics.{◌≢◌, ◌≡◌, ℕ, ◌+◌, ◌<◌, ◌≤◌, ◌⊎◌, List, [], ◌∷◌, ◌++◌, length, take, drop, get_or, Option, Some, None, Result, Ok, Err, refl, sym, ap, subst, ◌∙◌, arith, append_assoc, length-append, inl, inr, true, false, ◌==◌, zero, nat_tests, suc, IsErr, length-drop, eq-eqb, eqb-true, AllByRecursion}
 use Rattle.ele_runs.proofs.Words.{Outlet, IsTold, line_unless_long, IsUnbroken, whole_line, whole_lines, AreTold, Answers, AnswersAll, AnswersLast, AnswersSome, RunState, PutsBlock}
 use Rattle.ele_lists.proofs.Alls.{all-append}
@@ -12,7 +12,7 @@ use Rattle.ele_runs.proofs.Ran.{told_push, joined_push}
 use Rattle.ele_output.specs.Outlet.{Puts}
 use Rattle.ele_output.proofs.Known.{puts_nil, puts_then}
 
--- these lines of a piece were answered, and so much of it is left; a line that began before is only the first
+-- these lines of a piece were answered, and this is left of it; only the first line may begin before the piece
 pub record HasAnswered (before state : RunState) (part piece left : List ℕ) (buffer : Option (List ℕ)) (old new : Outlet) : Type 0 where
   pub lines : List (List ℕ)
   pub begun : List ℕ
@@ -32,7 +32,7 @@ pub record HasAnswered (before state : RunState) (part piece left : List ℕ) (b
 pub number_told : {before after : RunState} {told : List ℕ} {line : Option (List ℕ)} → IsTold before line told after → after.number ≡ before.number + 1
 number_told is = ap (λ (c : RunState). c.number) is.after_is
 
--- whether a line ended the run tells which lines were answered
+-- which lines were answered, by whether one of them ended the run
 pub all_of : {before after : RunState} {part piece : List ℕ} {buffer : Option (List ℕ)} {old new : Outlet} (ended : Bool) → ended ≡ false → AnswersBy ended before after part piece buffer old new
     → AnswersAll before after part piece buffer old new
 all_of false is answers = answers
@@ -63,20 +63,20 @@ answered_none before part piece buffer old goes_on whole keeps =
       put = puts_nil old;
     }
 
--- no line feed stands in what is searched in vain
+-- a search without a result passes no line feed
 pub none_found : (xs : List ℕ) → IsFirstByte (is_byte 10) xs None → IsUnbroken xs
 none_found [] h = tt
 none_found (x ∷ xs) h =
     (λ e. h 0 (omega arith) (omega arith) (eq-eqb x 10 e), none_found xs (λ k low high is. h (suc k) (omega arith) (omega (arith, high)) is))
 
--- nor before the first that is found
+-- nor does one before its result
 unbroken_before : (xs : List ℕ) (n : ℕ) → ((k : ℕ) → k < n → (get_or xs k 0 == 10) ≡ true → ⊥) → IsUnbroken (take n xs)
 unbroken_before xs zero h = tt
 unbroken_before [] (suc n) h = tt
 unbroken_before (x ∷ xs) (suc n) h =
     (λ e. h 0 (omega arith) (eq-eqb x 10 e), unbroken_before xs n (λ k lt is. h (suc k) (omega (arith, lt)) is))
 
--- what is too long stays too long
+-- a line that is too long stays too long
 pub kept_more : (line bytes : List ℕ) → option_and_then (λ line. line_unless_long (line ++ bytes)) (line_unless_long line) ≡ line_unless_long (line ++ bytes)
 kept_more line bytes = grind (arith, nat_tests, length-append)
 
@@ -84,7 +84,7 @@ line_parts : (begun line behind : List ℕ) → begun ++ (line ++ 10 ∷ behind)
 line_parts begun line behind = sym (append_assoc begun line (10 ∷ behind)) ∙ sym (append_assoc (begun ++ line) (10 ∷ []) behind)
 
 module _ {before between : RunState} {part piece left : List ℕ} {buffer : Option (List ℕ)} {old mid : Outlet} (done : HasAnswered before between part piece left buffer old mid) where
-  -- where the next line feed stands
+  -- the place of the next line feed
   parts_at : (at : ℕ) → IsFirstByte (is_byte 10) left (Some at) → part ++ piece ≡ whole_lines (done.lines ++ (done.begun ++ take at left) ∷ []) ++ drop (at + 1) left
   parts_at at h =
       let line = done.begun ++ take at left in

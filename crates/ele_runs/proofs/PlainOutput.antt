@@ -1,4 +1,4 @@
--- What is told without any option is an output.
+-- The text of a run without options is an output.
 use Rattle.ele_runs.proofs.Basics.{◌≡◌, ℕ, ◌+◌, false, List, [], ◌∷◌, ◌++◌, Option, Some, None, refl, sym, ap, subst, ◌∙◌, Keeps}
 use Rattle.ele_runs.proofs.Words.{AreBlocks, AreTold, RunState, IsBlock, IsNoted, IsTold, Past, begun, cut_block, front_of, heard, is_well, line_unless_long, plain}
 use Rattle.ele_runs.specs.Note as note
@@ -8,7 +8,7 @@ use Rattle.ele_runs.specs.declared.options.RunOptions.{RunOptions}
 use Rattle.std.proofs.KnownBytes.{Keeps-refl, Keeps-trans}
 use Rattle.std.specs.Prelude.{not, ◌&&◌}
 
--- no number stands in front
+-- lines have no numbers
 none_in_front : (number : ℕ) (line : Option (List ℕ)) → front_of plain number line ≡ []
 none_in_front number None = refl
 none_in_front number (Some []) = refl
@@ -17,7 +17,7 @@ none_in_front number (Some (byte ∷ bytes)) = refl
 bare : (options : RunOptions) (number : ℕ) (line : Option (List ℕ)) (block : List ℕ) → options ≡ plain → front_of options number line ++ block ≡ block
 bare options number line block is = ap (λ (m : RunOptions). front_of m number line ++ block) is ∙ ap (λ (w : List ℕ). w ++ block) (none_in_front number line)
 
--- no reason is told
+-- no reason is written
 unnoted : (number : ℕ) (line : Option (List ℕ)) (block : List ℕ) (old new : Option (List ℕ)) → IsNoted plain number line block old new → Keeps old new
 unnoted number line block old new (note.nothing same) = same
 unnoted number line block old new (note.reason tells fault is why told front) = absurd (let never = tells in cc)
@@ -25,7 +25,7 @@ unnoted number line block old new (note.reason tells fault is why told front) = 
 goes_on_after : (options : RunOptions) (block : List ℕ) → options ≡ plain → (options.strict && not (is_well block)) ≡ false
 goes_on_after options block is = ap (λ (m : RunOptions). m.strict && not (is_well block)) is
 
--- what is told for a line is its block, and the next is heard without any option too
+-- the text for a line is its block, and the options stay off
 record IsPlainBlock (before : RunState) (line : Option (List ℕ)) (told : List ℕ) (after : RunState) : Type 0 where
   block : IsBlock false before.past line told after.past
   options : after.options ≡ plain
@@ -63,7 +63,7 @@ told before after (line ∷ lines) text options goes_on (own, rest, between, is,
       noted = Keeps-trans before.notes between.notes after.notes first.noted others.noted;
     }
 
--- so blocks of lines are told
+-- so blocks of lines are a text for them
 block_told : (before : RunState) (line : Option (List ℕ)) (block : List ℕ) (after : Past) → before.options ≡ plain → before.ended ≡ false → IsBlock false before.past line block after
     → IsTold before line block (advance before after line block before.notes)
 block_told before line block after options goes_on is = record {

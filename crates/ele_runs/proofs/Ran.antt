@@ -6,8 +6,8 @@ use Rattle.ele_output.specs.Outlet.{IsHandedOver, Puts}
 use Rattle.ele_output.proofs.Known.{puts_nil, puts_no_more, puts_then}
 use Rattle.ele_runs.specs.Telling.{IsToldOf}
 
--- whole lines were read and a part of one more, and this text is told for them, up to this state; there is room for so many bytes
--- more
+-- whole lines were read and a part of one more, and this text answers them, up to this state; so many bytes more are within the
+-- bound
 pub record RanSoFar (start state : RunState) (room : ℕ) (buffer input rest : Option (List ℕ)) (text : List ℕ) : Type 0 where
   pub given : List ℕ
   pub lines : List (List ℕ)
@@ -19,7 +19,7 @@ pub record RanSoFar (start state : RunState) (room : ℕ) (buffer input rest : O
   pub keeps : buffer ≡ line_unless_long part
   pub taken : Consumes input rest given
 
--- that text was put, and nothing before it is held
+-- that text was put, and nothing before it is buffered
 pub record PutSoFar (start state : RunState) (room : ℕ) (buffer input rest : Option (List ℕ)) (old new : Outlet) : Type 0 where
   pub none : old.held ≡ []
   pub text : List ℕ
@@ -47,7 +47,7 @@ ran_none start buffer input old clear none first goes_on =
       put = puts_nil old;
     }
 
--- what is told for some lines, and then for one more
+-- the text for some lines, and then for one more
 pub told_push : (start between after : RunState) (lines : List (List ℕ)) (line text block : List ℕ)
     → AreTold start lines text between → IsTold between (line_unless_long line) block after → AreTold start (lines ++ line ∷ []) (text ++ block) after
 told_push start between after lines line text block are is = told_append start between after lines (line ∷ []) text block are (block, [], after, is, (refl, refl), sym (append-nil block))
@@ -55,7 +55,7 @@ told_push start between after lines line text block are is = told_append start b
 pub joined_push : (lines : List (List ℕ)) (line : List ℕ) → whole_lines (lines ++ line ∷ []) ≡ whole_lines lines ++ whole_line line
 joined_push lines line = flat_map-append whole_line lines (line ∷ []) ∙ ap (λ (xs : List ℕ). whole_lines lines ++ xs) (flat_map-cons whole_line line [] ∙ append-nil (whole_line line))
 
--- what is held is handed over
+-- the buffered text is handed over
 pub ran_over : {start state : RunState} {room : ℕ} {buffer input rest : Option (List ℕ)} {old known new : Outlet}
     → PutSoFar start state room buffer input rest old known → Puts known new [] × IsHandedOver new
     → PutSoFar start state room buffer input rest old new

@@ -21,7 +21,7 @@ pub record HasEnd (before : Past) (budget : ℕ) : Type 0 where
   pub unstopped : ¬ IsForMemory (answer.Pass end)
   pub within : IsWithin after
 
--- what a clean event is answered goes by what is due
+-- the reply to a clean event, by what is due
 abbrev clean_reply : Past → Option Key → Reply × Past
 clean_reply s due = ((clean_of (world_of s) due).0, recorded s CleanOne)
 

@@ -20,7 +20,7 @@ use Rattle.ele_runs.specs.declared.tally.Outcome.{Outcome}
 use Rattle.ele_runs.specs.declared.tally.Outcome.TheVariants.{Well, Bad, Refused, Stopped}
 use Rattle.ele_runs.specs.declared.tally.Tally.{Tally}
 
--- the first letter of a reply tells whether it is a refusal
+-- a refusal is known by its first letter
 reply_outcome : (said : Reply) (text : List ℕ) → IsReplyText said text → outcome_of text ≡ outcome_for (answer.Reply (Ok said))
 reply_outcome (reply.Now moment) text is = rw is.2 refl
 reply_outcome (reply.Closed None) text is = rw is refl
@@ -34,7 +34,7 @@ fate_outcome (fate.Marked group mark) text is = rw is refl
 fate_outcome (fate.Kept until level) text is = rw is refl
 fate_outcome (fate.Due since cause) text is = rw is refl
 
--- and that of any answer how the line was answered
+-- and so is the outcome of any answer
 answer_outcome : (said : Answer) (text : List ℕ) → IsText said text → outcome_of text ≡ outcome_for said
 answer_outcome (answer.Reply (Ok said)) text is = reply_outcome said text is
 answer_outcome (answer.Reply (Err stop)) text is = rw is refl
@@ -56,7 +56,7 @@ tally_next before after line told is =
 number_next : (before after : RunState) (line : Option (List ℕ)) (told : List ℕ) → IsTold before line told after → after.number ≡ before.number + 1
 number_next before after line told is = ap (λ (state : RunState). state.number) is.after_is
 
--- what one answer more makes of the counts
+-- the counts after one answer more
 bad_next : (outcome : Outcome) (tally : Tally) (number : ℕ) (line : Option (List ℕ)) (rest : List Outcome)
     → (tallied tally number line outcome).bad + length (filter is_bad rest) ≡ tally.bad + length (filter is_bad (outcome ∷ rest))
 bad_next Well tally number line rest = refl
@@ -78,7 +78,7 @@ stopped_next Bad tally number line rest = refl
 stopped_next Refused tally number line rest = refl
 stopped_next Stopped tally number line rest = omega arith
 
--- what came first stays
+-- the first one stays
 stays_first : {A : Type 0} (kept : Option A) (found : A) (later : Option A) → option_or (option_or kept (Some found)) later ≡ option_or kept (Some found)
 stays_first None found later = refl
 stays_first (Some first) found later = refl
@@ -97,7 +97,7 @@ bad_line_next Bad tally number line lines rest = stays_first tally.first_bad _ _
 bad_line_next Refused tally number line lines rest = refl
 bad_line_next Stopped tally number line lines rest = refl
 
--- the counts, whatever was counted before
+-- the counts, from any counts before
 record CountsOn (before after : RunState) (lines : List (List ℕ)) (outcomes : List Outcome) : Type 0 where
   bad : after.tally.bad ≡ before.tally.bad + length (filter is_bad outcomes)
   refused : after.tally.refused ≡ before.tally.refused + length (filter is_refused outcomes)

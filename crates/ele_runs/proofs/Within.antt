@@ -1,4 +1,4 @@
--- Histories of no more entries than may be.
+-- Histories within the limit of entries.
 use Rattle.ele_runs.proofs.Basics.{◌≡◌, ◌+◌, [], ◌∷◌, ap, arith, length-append}
 use Rattle.ele_runs.proofs.Limits.{limits_stay}
 use Rattle.ele_runs.proofs.Words.{HasRoom, IsFull, Past, count_of, recorded, reply_to, trimmed}
@@ -21,6 +21,6 @@ pub trimmed_within : (past : Past) → IsWithin past → IsWithin (trimmed past)
 trimmed_within past within =
     omega (arith, within, ap (λ (limits : Bounds). limits.events) (limits_stay past.base (events_of past.entries)))
 
--- where there is no room, as many entries were made as may be
+-- if no entry more is within the limit, the limit is reached
 pub is_full : (past : Past) → IsWithin past → ¬ HasRoom past → IsFull past
 is_full past within full = omega (arith, full, within)

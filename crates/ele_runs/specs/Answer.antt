@@ -1,4 +1,4 @@
--- What a line is answered.
+-- The answer to a line.
 use Rattle.std.specs.Prelude.{ℕ, List, Result, Err}
 use Rattle.ele_audit.specs.declared.row.OpenHandle.{OpenHandle}
 use Rattle.ele_audit.specs.declared.row.Removed.{Removed}
@@ -13,11 +13,10 @@ use Rattle.ele_model.specs.declared.refusal.Stop.TheVariants.{NoMemory}
 use Rattle.ele_model.specs.declared.reply.Reply as reply
 use Rattle.ele_printer.specs.declared.fault.LineFault.{LineFault}
 
--- nothing; that it is no command, by its first fault; what the command is answered, or why it was not run; how the pass ended
--- that it asks for; how many entries were folded, and those that are stored; how many a trim folded; what becomes of the
--- version that it asks about, or why it means none, or what became of the removed one that it means; which versions will be due at a moment, or that this has passed; how many
--- entries were folded, and which versions the stored ones removed; which handles are open; how many entries were folded, and
--- the stored ones with their replies
+-- none; the first fault of a bad line; the reply to an event, or the stop in its place; the end of a pass; the history, as the number of
+-- folded entries and the stored ones; the number of entries that a trim folded; the fate of a version or a refusal; the removal of a
+-- version; the versions that will be due or a refusal; the removed versions, after the number of folded entries; the open handles; and
+-- the history with its replies
 pub data Answer : Type 0 where
   Nothing : Answer
   Bad : LineFault → Answer

@@ -1,4 +1,4 @@
--- The block of one line: what is written for it.
+-- The block of one line: the answer that is written for it.
 use Rattle.std.specs.Prelude.{◌≡◌, ℕ, ◌≤◌, Bool, List, [], ◌∷◌, length, Option, Some, None, Result, Ok, Err}
 use Rattle.ele_audit.specs.AuditText.{IsAnswersText, gone_text, handles_text, why_gone_text}
 use Rattle.ele_audit.specs.Open.{AreOpen}
@@ -27,8 +27,8 @@ use Rattle.ele_history.specs.Pass.{MayPass}
 use Rattle.ele_history.specs.Past.{Past, HasRoom, trimmed, world_of}
 use Rattle.ele_history.specs.Reply.{MayReply}
 
--- a line may want memory: its command takes a path or bytes, its event makes an entry, or it asks for a trim, for what will be
--- due at a moment that hasn't passed, for why a version is held or was removed, for removed versions or for open handles
+-- a line may need memory: its command takes a path or bytes, its event makes an entry, it is a trim, an `ahead` of a moment that
+-- hasn't passed, a `why`, a `gone` or a `handles`
 pub data LineTakesMemory (explains : Bool) (before : Past) (line : List ℕ) : Type 0 where
   as_read : TakesMemory explains (words_of line) → LineTakesMemory explains before line
   as_entry : (event : Event) → Asks explains line (asks.Event event) → HasRoom before → LineTakesMemory explains before line
@@ -38,25 +38,25 @@ pub data LineTakesMemory (explains : Bool) (before : Past) (line : List ℕ) : T
   as_gone : Asks explains line (asks.Question question.Gone) → LineTakesMemory explains before line
   as_handles : Asks explains line (asks.Question question.Handles) → LineTakesMemory explains before line
 
--- a version that isn't held any more was removed by no stored entry
+-- if the refusal is Forgotten, no stored entry removed the version
 abbrev pub NoneRemoved : Past → TaggedPath → Result Fate Refusal → Type 0
 NoneRemoved past tagged (Err (Forgotten number)) = IsRemovedVersion past tagged None
 NoneRemoved past tagged told = Unit {0}
 
--- the fate of the version that the tagged path means, or why it means none
+-- `why` is answered by the fate of a held version, or by the refusal
 pub record IsWhyNow (past : Past) (tagged : TaggedPath) (told : Result Fate Refusal) : Type 0 where
   pub why : IsWhy (world_of past) tagged told
   pub none : NoneRemoved past tagged told
 
--- the version isn't held any more, and this stored removal is its own
+-- or, for a version that is no longer held, by the stored entry that removed it
 pub record IsWhyRemoved (past : Past) (tagged : TaggedPath) (row : Removed) : Type 0 where
   pub number : Option ℕ
   pub why : IsWhy (world_of past) tagged (Err (Forgotten number))
   pub removed : IsRemovedVersion past tagged (Some row)
 
--- a line that has bytes is answered its first fault, what the event is answered that it asks for, how the pass ends, the history or
--- how many entries the trim folds; in a run that explains a question too, from the world as it is and the history, which stands
--- in no history and changes nothing; want of memory may stop it if it takes memory
+-- the answer to a line that isn't empty: its first fault, the reply to its event, the end of its pass, the history, or the number
+-- of entries that its trim folds. In a run that explains, also the answer to a question, which is no entry and changes nothing.
+-- A line that needs memory may be stopped instead
 abbrev pub MayMean : Bool → Past → List ℕ → Answer → Past → Type 0
 MayMean explains before line answer.Nothing after = ⊥
 MayMean explains before line (answer.Bad fault) after = IsFirstFault explains line fault × (after ≡ before)
@@ -83,14 +83,13 @@ MayMean explains before line (answer.Handles handles) after = Asks explains line
 MayMean explains before line (answer.Answers folded entries) after =
     Asks explains line (asks.Question question.Answers) × (folded ≡ before.folded) × (entries ≡ before.entries) × (after ≡ before)
 
--- and so is a line as it is kept: an empty one gets no answer, and one that is too long only that it is
+-- the answer to a line as it is kept: none to an empty one, and a fault to one that is too long
 abbrev pub MayAnswer : Bool → Past → Option (List ℕ) → Answer → Past → Type 0
 MayAnswer explains before None said after = (said ≡ answer.Bad LineTooLong) × (after ≡ before)
 MayAnswer explains before (Some []) said after = (said ≡ answer.Nothing) × (after ≡ before)
 MayAnswer explains before (Some (byte ∷ bytes)) said after = MayMean explains before (byte ∷ bytes) said after
 
--- the text is that of the bad line, of the reply or the stop, of the end of the pass, of the history, of the trim or of what a
--- question is answered
+-- the text of each answer
 abbrev pub IsText : Answer → List ℕ → Type 0
 IsText answer.Nothing text = text ≡ []
 IsText (answer.Bad fault) text = text ≡ bad_text fault
@@ -105,17 +104,17 @@ IsText (answer.Gone folded rows) text = text ≡ gone_text folded rows
 IsText (answer.Handles handles) text = text ≡ handles_text handles
 IsText (answer.Answers folded entries) text = IsAnswersText folded entries text
 
--- the block of a line as it is kept, in a run that explains, or in one that doesn't
+-- the block of a line as it is kept, in a run that explains or in another
 abbrev pub IsBlock : Bool → Past → Option (List ℕ) → List ℕ → Past → Type 0
 IsBlock explains before line block after = (said : Answer) × MayAnswer explains before line said after × IsText said block
 
--- the block of a last line without its line feed, which is never run
+-- the block of a last line without its line feed; it is never run
 abbrev pub cut_block : Option (List ℕ) → List ℕ
 cut_block None = bad_text LineTooLong
 cut_block (Some []) = []
 cut_block (Some (byte ∷ bytes)) = bad_text Syntax
 
--- it counts unless it is empty
+-- a last line counts unless it is empty
 abbrev pub cut_count : Option (List ℕ) → ℕ
 cut_count None = 1
 cut_count (Some []) = 0

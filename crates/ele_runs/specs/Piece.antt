@@ -54,7 +54,7 @@ abbrev pub Answers : {A : Type 0} → RunState → RunState → List ℕ → Lis
 Answers before after part piece buffer old new (Ok x) = AnswersBy after.ended before after part piece buffer old new
 Answers before after part piece buffer old new (Err fault) = AnswersSome before after part piece old new
 
--- whatever was kept of a line that began before the piece
+-- for any bytes that were kept of a line that began before the piece
 abbrev pub AnswersPiece : {A : Type 0} → RunState → RunState → Option (List ℕ) → List ℕ → Option (List ℕ) → Outlet → Outlet → Result A WriteFault → Type 0
 AnswersPiece before after began piece buffer old new result =
     (part : List ℕ) → IsUnbroken part → began ≡ line_unless_long part → Answers before after part piece buffer old new result

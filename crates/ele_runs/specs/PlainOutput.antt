@@ -8,8 +8,8 @@ use Rattle.ele_runs.specs.RunOptions.{plain}
 use Rattle.ele_runs.specs.RunState.{RunState, begun}
 use Rattle.ele_runs.specs.Told.{AreTold, cut_told}
 
--- the text is the blocks of the lines, and what would be told for a last line is its block: no number stands in front, no line is
--- passed over and none ends the run; the writer of reasons keeps what it holds, since no reason is told
+-- the text is the blocks of the lines, and the text for a last line is its block: lines have no numbers, none is skipped and none
+-- ends the run; the writer of reasons keeps what it holds, since no reason is written
 pub record IsPlain (start : Past) (notes : Option (List ℕ)) (lines : List (List ℕ)) (text : List ℕ) (state : RunState) : Type 0 where
   pub blocks : AreBlocks start lines text state.past
   pub cut : (last : Option (List ℕ)) → cut_told state last ≡ cut_block last
@@ -17,9 +17,9 @@ pub record IsPlain (start : Past) (notes : Option (List ℕ)) (lines : List (Lis
   pub noted : Keeps notes state.notes
 
 pub record PlainOutput : Type 0 where
-  -- what is told for lines is so
+  -- each text for lines is of this kind
   pub told : (start : Past) (notes : Option (List ℕ)) (lines : List (List ℕ)) (text : List ℕ) (state : RunState)
       → AreTold (begun plain start notes) lines text state → IsPlain start notes lines text state
-  -- and their blocks, whichever they are, may be told for them
+  -- and any blocks of the lines are a text for them
   pub blocks : (start : Past) (notes : Option (List ℕ)) (lines : List (List ℕ)) (text : List ℕ) (after : Past)
       → AreBlocks start lines text after → (state : RunState) × AreTold (begun plain start notes) lines text state × (state.past ≡ after)

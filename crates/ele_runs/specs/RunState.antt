@@ -24,8 +24,8 @@ begun options past notes = record { options = options; past = past; number = 0; 
 abbrev pub noting : RunState → Option (List ℕ) → RunState
 noting run_state notes = record run_state { notes = notes }
 
--- this line was heard, which left this history and had this block, and behind which this stands at the writer of reasons: a
--- strict run ends unless all is well
+-- the state after a line, with the history that it left, its block, and what the writer of reasons holds then: a strict run
+-- ends unless the block begins with `ok`
 abbrev pub advance : RunState → Past → Option (List ℕ) → List ℕ → Option (List ℕ) → RunState
 advance run_state past line block notes =
     record run_state {

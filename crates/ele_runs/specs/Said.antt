@@ -1,4 +1,4 @@
--- What a line was answered, before it is told.
+-- The answer to a line, before it is printed.
 use Rattle.std.specs.Prelude.{◌≡◌, ℕ, ◌+◌, ◌-◌, ◌≤◌, ◌==◌, Bool, true, ◌&&◌, List, [], ◌∷◌, ◌++◌, decimal, length, Option, Some, None, Ok, Err, slice_get, if◌then◌else◌}
 use Rattle.ele_audit.specs.Open.{AreOpen}
 use Rattle.ele_audit.specs.Removals.{AreRemoved}
@@ -32,22 +32,22 @@ reply_of None = answer.Nothing
 abbrev pub last_reply : Past → Option Reply
 last_reply past = option_map (λ entry. entry.reply) (slice_get past.entries (length past.entries - 1))
 
--- what whoever asks for the history is answered, if there is one
+-- the answer to `history`, if there is one
 abbrev pub history_of : Option Past → Answer
 history_of (Some past) = answer.History past.folded past.entries
 history_of None = answer.Nothing
 
--- removed versions, if there is a history that removed them
+-- the answer to `gone`, if there is a history
 abbrev pub gone_of : Option Past → List Removed → Answer
 gone_of (Some past) rows = answer.Gone past.folded rows
 gone_of None rows = answer.Nothing
 
--- the entries with their replies, if there is a history
+-- the answer to `answers`, if there is a history
 abbrev pub answers_of : Option Past → Answer
 answers_of (Some past) = answer.Answers past.folded past.entries
 answers_of None = answer.Nothing
 
--- the answer, by the reply to the last event and the history that it left
+-- the answer, by the reply to the last event and the history after it
 abbrev pub answer_by : Option Reply → Option Past → Said → Answer
 answer_by last history Nothing = answer.Nothing
 answer_by last history (Bad fault) = answer.Bad fault
@@ -63,69 +63,69 @@ answer_by last history (Gone rows) = gone_of history rows.items
 answer_by last history (Handles handles) = answer.Handles handles.items
 answer_by last history Answers = answers_of history
 
--- the answer, where it left this history, whose last entry has the reply to an event
+-- the answer, by the history after it: the last entry has the reply to an event
 abbrev pub answer_of : Past → Said → Answer
 answer_of after said = answer_by (last_reply after) (Some after) said
 
--- a line that has bytes was answered so
+-- the answer to a line that isn't empty
 abbrev pub Hears : Bool → Past → List ℕ → Said → Past → Type 0
 Hears explains before line said after = MayMean explains before line (answer_of after said) after
 
--- what stands in front of the answer
+-- the bytes before the answer
 abbrev pub said_front : RunOptions → ℕ → Said → List ℕ
 said_front options number Nothing = []
 said_front options number said = if options.numbers then decimal number ++ 32 ∷ [] else []
 
--- a line as it is kept was heard, and answered so
+-- the answer to a line as it is kept
 pub record HearsKept (options : RunOptions) (before : Past) (line : Option (List ℕ)) (said : Said) (after : Past) : Type 0 where
   pub may : MayAnswer options.explain before (heard options line) (answer_of after said) after
   pub front : (number : ℕ) → said_front options number said ≡ front_of options number (heard options line)
 
--- the next line was heard, and answered so
+-- the answer to the next line of a run
 pub record HearsNext (before : RunState) (line : Option (List ℕ)) (said : Said) (after : RunState) : Type 0 where
   pub kept : HearsKept before.options before.past line said after.past
   pub options : after.options ≡ before.options
   pub number : after.number ≡ before.number + 1
   pub after_is : (text : List ℕ) → IsText (answer_of after.past said) text → after ≡ advance before after.past line text before.notes
 
--- an event became the last entry, with its reply, unless it was stopped, which leaves the history
+-- an event became the last entry, with its reply; or it was stopped, and the history stays
 abbrev pub Records : Past → Event → Said → Past → Type 0
 Records before event Replied after = HasRoom before × (after ≡ recorded before event)
 Records before event (Stopped stop) after = MayStop before stop after
 Records before event said after = ⊥
 
--- the history was folded, or there was no memory for that, which leaves it
+-- the history was folded; or there was no memory, and it stays
 abbrev pub Trims : Past → Said → Past → Type 0
 Trims before (Trimmed count) after = (count ≡ length before.entries) × (after ≡ trimmed before)
 Trims before (Stopped stop) after = (stop ≡ NoMemory) × (after ≡ before)
 Trims before said after = ⊥
 
--- what will be due at a moment was told; want of memory stops that only if it hasn't passed
+-- the answer to `ahead`; it is stopped for memory only if the moment hasn't passed
 abbrev pub SaysAhead : World → ℕ → Said → Type 0
 SaysAhead w moment (Ahead told) = IsAhead w moment told
 SaysAhead w moment (Stopped stop) = (stop ≡ NoMemory) × (w.now ≤ moment)
 SaysAhead w moment said = ⊥
 
--- why a version is held was told, or why it was removed, or there was no memory for that
+-- the answer to `why`, or a stop for memory
 abbrev pub SaysWhy : Past → TaggedPath → Said → Type 0
 SaysWhy past tagged (Why told) = IsWhyNow past tagged told
 SaysWhy past tagged (WhyRemoved row) = IsWhyRemoved past tagged row
 SaysWhy past tagged (Stopped stop) = stop ≡ NoMemory
 SaysWhy past tagged said = ⊥
 
--- the removed versions were told, or there was no memory for them
+-- the answer to `gone`, or a stop for memory
 abbrev pub SaysGone : Past → Said → Type 0
 SaysGone past (Gone rows) = AreRemoved past rows.items
 SaysGone past (Stopped stop) = stop ≡ NoMemory
 SaysGone past said = ⊥
 
--- the open handles were told, or there was no memory for them
+-- the answer to `handles`, or a stop for memory
 abbrev pub SaysHandles : Past → Said → Type 0
 SaysHandles past (Handles handles) = AreOpen past handles.items
 SaysHandles past (Stopped stop) = stop ≡ NoMemory
 SaysHandles past said = ⊥
 
--- a question was answered, from the world as it is and the history
+-- the answer to a question, from the world as it is and the history
 abbrev pub Explains : Past → Question → Said → Type 0
 Explains past (question.Why tagged) said = SaysWhy past tagged said
 Explains past (question.Ahead moment) said = SaysAhead (world_of past) moment said
@@ -133,7 +133,7 @@ Explains past question.Gone said = SaysGone past said
 Explains past question.Handles said = SaysHandles past said
 Explains past question.Answers said = said ≡ Answers
 
--- a line gets no answer: an empty one, or a remark that is passed over
+-- an empty line has no answer, nor has a remark if remarks are allowed
 abbrev pub has_no_reply : RunOptions → List ℕ → Bool
 has_no_reply options [] = true
 has_no_reply options (byte ∷ bytes) = options.remarks && (byte == 35)

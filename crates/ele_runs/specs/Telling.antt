@@ -1,5 +1,5 @@
--- What a run in some manner has read when it ends, the text that it tells, what of that it has written, and `notes`, what is known
--- to stand at the writer of reasons then.
+-- How a run ends: the input that it read, the text that it made and how much of that it wrote. `notes` is what the writer of
+-- reasons is known to hold then.
 use Rattle.std.specs.Prelude.{◌≡◌, ◌≢◌, ℕ, ◌+◌, ◌≤◌, Bool, true, false, List, [], ◌∷◌, ◌++◌, length, Option, Some, None, Result, Ok, Err, ◌⊎◌}
 use Rattle.std.specs.List.{AllByRecursion}
 use Rattle.std.specs.Io.KnownBytes.{Appends, Consumes, Keeps, IsAtEnd}
@@ -17,19 +17,19 @@ use Rattle.ele_runs.specs.Note.{cut_note}
 use Rattle.ele_runs.specs.Tally.{cut_tallied}
 use Rattle.ele_runs.specs.Told.{AreTold, cut_told}
 
--- a text that is told so was written
+-- a text of this kind was written
 pub record Writes (Told : List ℕ → Type 0) (old new : Option (List ℕ)) : Type 0 where
   pub text : List ℕ
   pub told : Told text
   pub written : Appends old new text
 
--- or a front of it
+-- or the beginning of one
 pub record WritesFront (Told : List ℕ → Type 0) (old new : Option (List ℕ)) : Type 0 where
   pub text : List ℕ
   pub told : Told text
   pub written : AppendsFront old new text
 
--- whole lines were read, and bytes of one more, all within the bounds; the text is told for the whole lines, none of which ended
+-- whole lines were read, and bytes of one more, all within the bounds; the text answers the whole lines, and none of them ended
 -- the run
 pub record IsToldOf (start : RunState) (given : List ℕ) (lines : List (List ℕ)) (part text : List ℕ) (state : RunState) : Type 0 where
   pub are : AreLines given lines part
@@ -38,7 +38,7 @@ pub record IsToldOf (start : RunState) (given : List ℕ) (lines : List (List �
   pub told : AreTold start lines text state
   pub goes_on : state.ended ≡ false
 
--- all input was read, n lines within the bounds; the text is told for them, and none of them ended the run
+-- all input was read, n lines within the bounds; the text answers them, and none of them ended the run
 pub record ToldToTheEnd (start : RunState) (n : ℕ) (input rest notes : Option (List ℕ)) (text : List ℕ) : Type 0 where
   pub given : List ℕ
   pub lines : List (List ℕ)
@@ -54,7 +54,7 @@ pub record ToldToTheEnd (start : RunState) (n : ℕ) (input rest notes : Option 
   pub text_is : text ≡ blocks ++ cut_told state (line_unless_long last)
   pub noted : AppendsFront state.notes notes (cut_note state (line_unless_long last))
 
--- the whole line behind these ended the run, whatever of the input was read behind it
+-- the whole line after these ended the run, however much of the input was read after it
 pub record EndsWhole (start : RunState) (given : List ℕ) (lines : List (List ℕ)) (line : List ℕ) (notes : Option (List ℕ)) (text : List ℕ) : Type 0 where
   pub behind : List ℕ
   pub state : RunState
@@ -64,7 +64,7 @@ pub record EndsWhole (start : RunState) (given : List ℕ) (lines : List (List �
   pub ended : state.ended ≡ true
   pub noted : Keeps state.notes notes
 
--- a last line without its line feed ended it, which is never run
+-- a last line without its line feed ended the run; it is never run itself
 pub record EndsCut (start : RunState) (given : List ℕ) (rest : Option (List ℕ)) (lines : List (List ℕ)) (line : List ℕ) (notes : Option (List ℕ)) (text : List ℕ) : Type 0 where
   pub blocks : List ℕ
   pub state : RunState
@@ -74,12 +74,12 @@ pub record EndsCut (start : RunState) (given : List ℕ) (rest : Option (List �
   pub text_is : text ≡ blocks ++ cut_told state (line_unless_long line)
   pub noted : Keeps state.notes notes
 
--- the line that ended it is a last one without its line feed, or a whole one
+-- the line that ended the run is a last one without its line feed, or a whole one
 abbrev pub EndsAtLine : Bool → RunState → List ℕ → Option (List ℕ) → List (List ℕ) → List ℕ → Option (List ℕ) → List ℕ → Type 0
 EndsAtLine true start given rest lines line notes text = EndsCut start given rest lines line notes text
 EndsAtLine false start given rest lines line notes text = EndsWhole start given lines line notes text
 
--- a strict run was ended by its n-th line, and the text is told for the lines up to that one
+-- a strict run ended at its n-th line, and the text answers the lines up to that one
 pub record ToldToAnEnd (start : RunState) (n : ℕ) (end : EndLine) (input rest notes : Option (List ℕ)) (text : List ℕ) : Type 0 where
   pub given : List ℕ
   pub lines : List (List ℕ)
@@ -90,7 +90,7 @@ pub record ToldToAnEnd (start : RunState) (n : ℕ) (end : EndLine) (input rest 
   pub keeps : end.line ≡ line_unless_long line
   pub by : EndsAtLine end.is_cut start given rest lines line notes text
 
--- the reader failed behind what was read
+-- the reader failed after these bytes
 pub record ToldToAReadFault (start : RunState) (input rest notes : Option (List ℕ)) (text : List ℕ) : Type 0 where
   pub given : List ℕ
   pub lines : List (List ℕ)
@@ -100,11 +100,11 @@ pub record ToldToAReadFault (start : RunState) (input rest notes : Option (List 
   pub is : IsToldOf start given lines part text state
   pub noted : Keeps state.notes notes
 
--- these lines, and bytes of one more, are as much as a script may be
+-- these lines, and bytes of one more, are as much as a script may have
 abbrev pub AreMost : List ℕ → List (List ℕ) → List ℕ → Type 0
 AreMost given lines part = ((length lines ≡ most_lines) × (part ≡ [])) ⊎ (length given ≡ most_bytes)
 
--- as much as a script may be was read, and a byte more
+-- one byte more was read than a script may have
 pub record ToldPastABound (start : RunState) (input rest notes : Option (List ℕ)) (text : List ℕ) : Type 0 where
   pub given : List ℕ
   pub byte : ℕ
@@ -116,13 +116,13 @@ pub record ToldPastABound (start : RunState) (input rest notes : Option (List �
   pub most : AreMost given lines part
   pub noted : Keeps state.notes notes
 
--- the text is that of whole lines; where the rest is a last line without its line feed, what is told for that may stand behind
+-- the text answers whole lines; if the rest is a last line without its line feed, the answer to that may follow
 abbrev pub MayTellRest : RunState → List ℕ → List ℕ → Option (List ℕ) → List ℕ → Type 0
 MayTellRest state blocks rest notes text =
     ((text ≡ blocks) × Keeps state.notes notes)
     ⊎ (IsUnbroken rest × (text ≡ blocks ++ cut_told state (line_unless_long rest)) × AppendsFront state.notes notes (cut_note state (line_unless_long rest)))
 
--- the input begins with these whole lines, and the text is told for them
+-- the input begins with these whole lines, and the text answers them
 pub record ToldToAWriteFault (start : RunState) (input notes : Option (List ℕ)) (text : List ℕ) : Type 0 where
   pub lines : List (List ℕ)
   pub rest : List ℕ
@@ -133,24 +133,24 @@ pub record ToldToAWriteFault (start : RunState) (input notes : Option (List ℕ)
   pub told : AreTold start lines blocks state
   pub reaches : MayTellRest state blocks rest notes text
 
--- the tally counts the lines that were heard, and a last line without its line feed
+-- the tally counts the lines that were answered, and a last line without its line feed
 abbrev pub IsTallyOf : RunState → Option (List ℕ) → Tally → Type 0
 IsTallyOf run_state last tally = tally ≡ cut_tallied run_state.tally (run_state.number + 1) last
 
--- what is told by a run that no fault ended: for all lines, which are tallied, or up to the one that ended it
+-- the text of a run that no fault ended: it answers all lines, which are tallied, or those up to the one that ended the run
 abbrev pub HasTold : RunState → Option (List ℕ) → Option (List ℕ) → Option (List ℕ) → ℕ → Option EndLine → Tally → List ℕ → Type 0
 HasTold start input rest notes n None tally text =
     (told : ToldToTheEnd start n input rest notes text) × IsTallyOf told.state (line_unless_long told.last) tally
 HasTold start input rest notes n (Some end) tally text = ToldToAnEnd start n end input rest notes text
 
--- what a run has done that a fault ended; without memory nothing was read or written
+-- what a run did that a fault ended; without memory it read and wrote nothing
 abbrev pub HasFailed : RunState → Option (List ℕ) → Option (List ℕ) → Option (List ℕ) → Option (List ℕ) → Option (List ℕ) → ShellFault → Type 0
 HasFailed start input rest old new notes ReadFault = Writes (ToldToAReadFault start input rest notes) old new
 HasFailed start input rest old new notes TooManyLines = Writes (ToldPastABound start input rest notes) old new
 HasFailed start input rest old new notes WriteFault = WritesFront (ToldToAWriteFault start input notes) old new
 HasFailed start input rest old new notes NoMemory = Keeps input rest × Keeps old new × Keeps start.notes notes
 
--- what a run has done, by how it ends
+-- what a run did, by how it ended
 abbrev pub Tells : RunState → Option (List ℕ) → Option (List ℕ) → Option (List ℕ) → Option (List ℕ) → Option (List ℕ) → Result RunEnd ShellFault → Type 0
 Tells start input rest old new notes (Ok ran) = Writes (HasTold start input rest notes ran.lines ran.ended_by ran.tally) old new
 Tells start input rest old new notes (Err fault) = HasFailed start input rest old new notes fault

@@ -7,8 +7,8 @@ use Rattle.ele_runs.specs.LineLength.{line_unless_long}
 use Rattle.ele_runs.specs.RunOptions.{front_of, heard}
 use Rattle.ele_runs.specs.Note.{IsNoted}
 
--- what is told for the next line: the block of what is heard of it, with the line's number in front where lines are
--- numbered, and beside it why it is a bad one; no line is heard behind one that ended the run
+-- the text for the next line: its block, with the line's number before it if lines are numbered, and in the other writer the
+-- reason of a bad line; no line is answered after one that ended the run
 pub record IsTold (before : RunState) (line : Option (List ℕ)) (told : List ℕ) (after : RunState) : Type 0 where
   pub block : List ℕ
   pub past : Past
@@ -26,6 +26,6 @@ AreTold before (line ∷ lines) text after =
     (told rest : List ℕ) × (between : RunState)
     × IsTold before (line_unless_long line) told between × AreTold between lines rest after × (text ≡ told ++ rest)
 
--- and for a last line without its line feed behind them, which is never run, also where it is a remark
+-- the text for a last line without its line feed; it is never run, also if it is a remark
 abbrev pub cut_told : RunState → Option (List ℕ) → List ℕ
 cut_told run_state last = front_of run_state.options (run_state.number + 1) last ++ cut_block last
