@@ -1,10 +1,11 @@
 //! The help on a topic: a page, or what one command does.
+ghost use Rattle.std.specs.Prelude.{◌<◌};
 
 use crate::errors::errors_help;
 use crate::pages::{LIMITS, POLICIES};
 use crate::paragraphs::PARAGRAPHS;
 use crate::script::{put_usage, script_help};
-use ele_commands::{HELP, ROWS, Row};
+use ele_commands::{Command, HELP, ROWS, Row};
 use std::alloc::{AllocError, Global};
 
 // Whether one word or two name a command: `open` names two commands.
@@ -16,11 +17,19 @@ fn is_named(row: &Row, first: &str, second: Option<&str>) -> bool {
     }
 }
 
+// The place of a command in the tables.
+fn place_of(command: Command) -> usize
+    ensures { result < 40 }
+{
+    command as usize
+}
+
 // Appends the line of a command, its answer, what it does and its example.
 fn put_command(text: &mut String, row: &Row) -> Result<(), AllocError> {
     let (command, _, _, _, _) = *row;
-    let (_, answer) = HELP[command as usize];
-    let (what, example) = PARAGRAPHS[command as usize];
+    let place = place_of(command);
+    let (_, answer) = HELP[place];
+    let (what, example) = PARAGRAPHS[place];
     if !text.is_empty() {
         text.push_str("\n")?;
     }
