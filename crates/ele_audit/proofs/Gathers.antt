@@ -10,7 +10,7 @@ use Rattle.std.specs.Prelude.{Err, IfOk, Ok, Result, Vec}
 use Rattle.ele_audit.specs.declared.row.Removed.{Removed}
 use Rattle.ele_due.specs.declared.key.Key.{Key}
 use Rattle.ele_history.specs.Legal.{IsLegal}
-use Rattle.ele_history.specs.Reached.{IsReached}
+use Rattle.ele_history.specs.Reached.{IsReachedBy}
 use Rattle.ele_model.specs.declared.event.Event.{Event}
 use Rattle.ele_model.specs.Run.{run_of}
 use Rattle.ele_model.specs.declared.entry.Entry.{Entry}
@@ -121,8 +121,11 @@ empty [] none = refl
 empty (x ∷ xs) none = absurd (omega (arith, none))
 
 -- a base into which nothing was folded is the fresh world
-pub fresh_base : (w : World) (folded : ℕ) → folded ≡ 0 → IsReached folded w → fresh_world w.limits ≡ w
-fresh_base w folded none reached = sym (reached.world ∙ ap (λ (events : List Event). run_of (fresh_world w.limits) events) (empty reached.events (reached.long ∙ none)))
+pub fresh_base : (w : World) (folded : ℕ) → folded ≡ 0 → IsReachedBy folded w → fresh_world w.limits ≡ w
+fresh_base w folded none by =
+    let led = by.reached in
+    let is : w ≡ fresh_world led.limits = led.world ∙ ap (λ (events : List Event). run_of (fresh_world led.limits) events) (empty led.events (by.long ∙ none)) in
+    ap (λ (v : World). fresh_world v.limits) is ∙ sym is
 
 pub replays_none : (R : World × Key → Removed → Type 0) (start w : World) (entries : List Entry) (rows : List Removed) → rows ≡ [] → w ≡ start → Gathers R (removals start entries) (removals w entries) rows
 replays_none R start w entries rows none is = rw (is, none) (gathers_none R (removals start entries))

@@ -3,4 +3,5 @@ mod Paths
 mod Clocks
 mod Gathers
 mod Lines
+mod Numbered
 mod Texts

@@ -3,3 +3,4 @@ pub mod Clock
 pub mod LivePath
 pub mod Open
 pub mod Removals
+pub mod Rows

@@ -1,5 +1,5 @@
 -- The versions that the stored entries of a history removed.
-use Rattle.std.specs.Prelude.{◌≡◌, ℕ, zero, suc, false, List, [], ◌∷◌, ◌++◌, Option, Some, None, find, ◌&&◌, ◌==◌, Bool, Result, Ok}
+use Rattle.std.specs.Prelude.{◌≡◌, ℕ, zero, suc, true, false, List, [], ◌∷◌, ◌++◌, Option, Some, None, find, ◌&&◌, ◌==◌, Bool, Result, Ok}
 use Rattle.ele_due.specs.declared.key.Key.{Key}
 use Rattle.ele_history.specs.Past.{Past, world_of}
 use Rattle.ele_model.specs.declared.entry.Entry.{Entry}
@@ -15,7 +15,7 @@ use Rattle.ele_model.specs.World.{World, is_held}
 use Rattle.ele_path.specs.declared.tagged.Tag.{Tag}
 use Rattle.ele_path.specs.declared.tagged.Tag.TheVariants as tag
 use Rattle.ele_path.specs.declared.tagged.TaggedPath.{TaggedPath}
-use Rattle.std.specs.List.{AllZip}
+use Rattle.std.specs.List.{AllZip, list_any}
 use Rattle.ele_audit.specs.LivePath.{live_path, names_in}
 use Rattle.ele_audit.specs.declared.row.Removed.{Removed}
 
@@ -66,17 +66,43 @@ AreRemoved past rows = AllZip (IsRow past.folded) (removals past.base past.entri
 
 -- ---- of one version
 
--- the row of the file's version with that number
-abbrev pub is_row_of : ℕ → ℕ → Removed → Bool
-is_row_of file number row = (row.key.file == file) && (row.key.number == number)
+-- the removal is that of the file's version with that number
+abbrev pub is_removal_of : ℕ → ℕ → World × Key → Bool
+is_removal_of file number removal = (removal.1.file == file) && (removal.1.number == number)
 
--- the row of the version of that number of the file that a path names
-abbrev pub row_at : Result ℕ Refusal → Tag → List Removed → Option Removed
-row_at (Ok file) (tag.Number number) rows = find (is_row_of file number) rows
-row_at found tag rows = None
+-- the removal of the version of that number of the file that a path names; only a number in the tag means one
+abbrev pub removal_at : Result ℕ Refusal → Tag → List (World × Key) → Option (World × Key)
+removal_at (Ok file) (tag.Number number) all = find (is_removal_of file number) all
+removal_at found tag all = None
 
--- the row of the removed version that the path and its tag mean now; only the number of a version means one
-pub record IsRemovedVersion (past : Past) (tagged : TaggedPath) (row : Option Removed) : Type 0 where
-  pub rows : List Removed
-  pub are : AreRemoved past rows
-  pub is : row ≡ row_at (file_now (world_of past).names tagged.path) tagged.tag rows
+-- the row is that of the removal; without a removal there is none
+abbrev pub IsRowIf : ℕ → Option (World × Key) → Option Removed → Type 0
+IsRowIf folded None None = Unit {0}
+IsRowIf folded (Some removal) (Some row) = IsRow folded removal row
+IsRowIf folded removal row = ⊥
+
+-- the row of the removed version that the path and its tag mean now
+abbrev pub IsRemovedVersion : Past → TaggedPath → Option Removed → Type 0
+IsRemovedVersion past tagged row =
+    IsRowIf past.folded (removal_at (file_now (world_of past).names tagged.path) tagged.tag (removals past.base past.entries)) row
+
+-- ---- what takes memory
+
+-- the reply removed a version
+abbrev pub is_removal : Reply → Bool
+is_removal (reply.Removed key) = true
+is_removal reply = false
+
+-- a stored entry removed a version
+abbrev pub HasRemovals : Past → Type 0
+HasRemovals past = list_any (λ entry. is_removal entry.reply) past.entries ≡ true
+
+-- the reply removed a version with that number
+abbrev pub removes_number : ℕ → Reply → Bool
+removes_number number (reply.Removed key) = key.number == number
+removes_number number reply = false
+
+-- a stored entry removed a version with the number of the tag, of this file or of another
+abbrev pub MayBeRemoved : Past → Tag → Type 0
+MayBeRemoved past (tag.Number number) = list_any (λ entry. removes_number number entry.reply) past.entries ≡ true
+MayBeRemoved past tag = ⊥

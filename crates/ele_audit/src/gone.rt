@@ -1,24 +1,53 @@
 //! Removed versions of a history. A contract sees them as rows.
-ghost use Rattle.std.specs.Prelude.{◌≡◌, ◌++◌, IfOk, List};
+ghost use Rattle.std.specs.Prelude.{◌≡◌, ◌++◌, IfOk, OnErr, List};
 ghost use Rattle.ele_audit.specs.Clock.{clock_after};
-ghost use Rattle.std.specs.List.{AllZip};
+ghost use Rattle.std.specs.List.{AllZip, list_any};
 ghost use Rattle.ele_model.specs.World.{World};
-ghost use Rattle.ele_audit.specs.Removals.{AreRemoved, IsBare, IsExplained, removal_in, removals};
+ghost use Rattle.ele_audit.specs.Removals.{AreRemoved, HasRemovals, IsBare, IsExplained, is_removal, removal_in, removals};
 
 use crate::path::path_of;
 use crate::row::Removed;
 use ele_history::History;
-use ele_model::{Explain, Key, NoMemory, Reply, Step, Target};
+use ele_model::{Entry, Explain, Key, NoMemory, Reply, Step, Target};
 use ele_moment::Moment;
 use std::alloc::Global;
 
 /// Returns the versions that the stored entries removed, in order. If entries were folded, the rows
 /// have neither path nor fate.
 ///
-/// `NoMemory` if memory is refused.
+/// `NoMemory` if memory is refused. If no stored entry removed a version, it takes none.
 /// Cost: if nothing is folded, that of all stored events on a second core, and for each removal a
 /// copy of the rows of names. Else it scans the entries.
+#[tactic(auto, using(crate::proofs::Numbered::no_rows))]
 pub fn removed<C: Explain>(alloc: Global, history: &History<C>) -> Result<Vec<Removed>, NoMemory>
+    ensures ok { IfOk result (λ rows. AreRemoved history.now rows.items) }
+    ensures err { OnErr result (HasRemovals history.now) }
+{
+    if !has_removals(history.entries()) {
+        return Ok(Vec::new(alloc));
+    }
+    gathered(alloc, history)
+}
+
+// Whether one of the entries removed a version.
+fn has_removals(entries: &[Entry]) -> bool
+    ensures { result ≡ list_any (λ entry. is_removal entry.reply) entries.now }
+{
+    entries.iter().any(|entry| is_removal(&entry.reply))
+}
+
+// Whether the reply removed a version.
+fn is_removal(reply: &Reply) -> bool
+    ensures { result ≡ is_removal reply.now }
+{
+    match reply {
+        Reply::Removed(_) => true,
+        _ => false,
+    }
+}
+
+// The removed versions, by all entries on a second core, or by the replies alone.
+fn gathered<C: Explain>(alloc: Global, history: &History<C>) -> Result<Vec<Removed>, NoMemory>
     ensures { IfOk result (λ rows. AreRemoved history.now rows.items) }
 {
     if history.folded() == 0 {

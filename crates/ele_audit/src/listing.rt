@@ -1,5 +1,5 @@
 //! The open handles of a history. A contract sees them as rows.
-ghost use Rattle.std.specs.Prelude.{◌≡◌, IfOk};
+ghost use Rattle.std.specs.Prelude.{◌≡◌, ◌≢◌, [], IfOk, OnErr};
 ghost use Rattle.ele_audit.specs.Open.{AreOpen, IsOpen, file_of, opened_at, opens, since_of};
 ghost use Rattle.ele_history.specs.Past.{world_of};
 
@@ -13,13 +13,25 @@ use std::alloc::Global;
 
 /// Returns the open handles, by number.
 ///
-/// `NoMemory` if memory is refused.
+/// `NoMemory` if memory is refused. If no handle is open, it takes none.
 /// Cost: a copy of the rows of names. For each handle it scans these for each name of the path, and
 /// for each reader the entries until the one that opened it.
+#[tactic(auto, using(crate::proofs::Numbered::no_handles))]
 pub fn open_handles<C: Explain>(
     alloc: Global,
     history: &History<C>,
 ) -> Result<Vec<OpenHandle>, NoMemory>
+    ensures ok { IfOk result (λ handles. AreOpen history.now handles.items) }
+    ensures err { OnErr result ((world_of history.now).handles ≢ []) }
+{
+    if history.core().handles().is_empty() {
+        return Ok(Vec::new(alloc));
+    }
+    gathered(alloc, history)
+}
+
+// The open handles, with a copy of the rows of names.
+fn gathered<C: Explain>(alloc: Global, history: &History<C>) -> Result<Vec<OpenHandle>, NoMemory>
     ensures { IfOk result (λ handles. AreOpen history.now handles.items) }
 {
     let names = history.core().name_rows()?;

@@ -3,7 +3,7 @@ use ele_model::{Fate, HandleRow, Key};
 use ele_moment::{Moment, Name};
 
 /// A version that a clean removed.
-#[derive(Debug, Drop)]
+#[derive(Drop)]
 pub struct Removed {
     /// When it was removed.
     pub at: Moment,
@@ -17,7 +17,7 @@ pub struct Removed {
 }
 
 /// An open handle.
-#[derive(Debug, Drop)]
+#[derive(Drop)]
 pub struct OpenHandle {
     /// Its number, and what it reads.
     pub row: HandleRow,

@@ -10,7 +10,7 @@ use std::marker::Model;
 pub const LEAF: usize = 16;
 
 /// Slots that are stored inline in the leaf.
-#[derive(Debug, Drop)]
+#[derive(Drop)]
 pub struct Leaf {
     slots: ArrayVec<Slot, 16>,
 }

@@ -21,7 +21,7 @@ use std::marker::Model;
 /// One content, as the leaves of its slots. A store holds the leaves, and the map owns a share of
 /// them. Who makes a map has to call `give_up` with that store, or its leaves and blocks stay
 /// there.
-#[derive(Debug, Drop)]
+#[derive(Drop)]
 pub struct BlockMap {
     length: u64,
     leaves: Vec<u32>,

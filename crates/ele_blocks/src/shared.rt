@@ -10,7 +10,7 @@ use std::marker::Model;
 
 /// Values under numbers that the store picks. A value is removed with its last owner. The counts
 /// are in a list of their own, so that a change of hundreds of them reads no value.
-#[derive(Debug, Drop)]
+#[derive(Drop)]
 pub struct Shared<T> {
     values: Slab<T>,
     owners: Vec<u64>,

@@ -9,7 +9,7 @@ use ele_moment::VersionNo;
 pub const SLOT: usize = 512;
 
 /// The version that last wrote the slot, and the block with the slot's bytes.
-#[derive(Clone, Copy, Debug)]
+#[derive(Clone, Copy)]
 pub struct Slot {
     pub writer: VersionNo,
     pub block: BlockId,

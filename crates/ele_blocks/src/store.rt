@@ -19,7 +19,7 @@ use std::alloc::Global;
 use std::marker::Model;
 
 /// The number of a block in its store. A later block may get the number of a removed one.
-#[derive(Clone, Copy, Debug, PartialEq, Eq)]
+#[derive(Clone, Copy, PartialEq, Eq)]
 pub struct BlockId {
     pub(crate) key: usize,
 }
@@ -36,7 +36,7 @@ impl Model for BlockId {
 
 /// Blocks of 1 to 512 bytes and leaves, each with a count of its owners. The owners of a leaf are
 /// the maps of this store that have it. Each slot of a leaf owns its block.
-#[derive(Debug, Drop)]
+#[derive(Drop)]
 pub struct BlockStore {
     blocks: Shared<ByteList>,
     leaves: Shared<Leaf>,

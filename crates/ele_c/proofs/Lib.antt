@@ -1,2 +1,1 @@
-pub mod AsStore
 pub mod AsHandle

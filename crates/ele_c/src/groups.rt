@@ -1,12 +1,12 @@
 //! Events of groups and marks.
-ghost use Rattle.ele_c.specs.Asks.{Asks, AsksEnd, AsksMark, AsksMember, AsksName};
-ghost use Rattle.ele_c.specs.Calls.{GivesNumber, RunsOn};
-ghost use Rattle.ele_c.specs.Stored.{stored};
+ghost use Rattle.ele_c_values.specs.Asks.{Asks, AsksEnd, AsksMark, AsksMember, AsksName};
+ghost use Rattle.ele_c_calls.specs.Calls.{GivesNumber, RunsOn};
+ghost use Rattle.ele_c_calls.specs.Stored.{stored};
 ghost use Rattle.ele_model.specs.declared.event.Event.TheVariants as event;
 
-use crate::asks;
-use crate::events::{run, run_for};
-use crate::handle::Elephant;
+use ele_c_calls::Elephant;
+use ele_c_calls::events::{run, run_for};
+use ele_c_values::asks;
 use ele_model::Event;
 use std::alloc::Global;
 

@@ -3,16 +3,11 @@
 #![tactic(auto)]
 
 ghost use Rattle.std.specs.Borrow.{sem};
-ghost use Rattle.ele_c.specs.declared.handle.Elephant.{Elephant};
-ghost use Rattle.ele_c.specs.Given.{given, handle_at};
+ghost use Rattle.ele_c_calls.specs.declared.handle.Elephant.{Elephant};
+ghost use Rattle.ele_c_calls.specs.Given.{given, handle_at};
 
-mod asks;
-mod codes;
-mod copies;
-mod events;
-mod fields;
+mod fresh;
 mod groups;
-mod handle;
 mod history;
 mod lines;
 mod names;
@@ -24,12 +19,12 @@ mod straight;
 mod writes;
 
 use box_parts::Parts;
-pub use fields::{
+pub use ele_c_calls::Elephant;
+pub use ele_c_values::{
     GroupFields, KeyFields, LimitFields, MarkFields, NameFields, StatFields, UsageFields,
     VersionFields, WhyFields,
 };
-pub use handle::Elephant;
-use handle::fresh::{Grip, fresh};
+use fresh::{Grip, fresh};
 use std::alloc::Global;
 
 /// Stores a closed handle on the heap at `out`, or null if memory is refused.
@@ -57,5 +52,5 @@ fn finish(parts: Parts<Elephant, Global>) {
     let boxed = parts.into_box();
     let alloc = *Box::allocator(&boxed);
     let mut elephant = Box::into_inner(boxed);
-    opens::elephant_close(alloc, &mut elephant);
+    ele_c_calls::opens::close(alloc, &mut elephant);
 }

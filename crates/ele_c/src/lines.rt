@@ -1,14 +1,11 @@
 //! Lines of the script language, and the texts of answers.
 ghost use Rattle.std.specs.Prelude.{Some};
-ghost use Rattle.ele_c.specs.Calls.{RunsLine, Shows, ShowsPiece, TellsAgain};
-ghost use Rattle.ele_c.specs.Codes.{detail_of};
-ghost use Rattle.ele_c.specs.Fields.{told_or};
-ghost use Rattle.ele_c.specs.Stored.{stored};
+ghost use Rattle.ele_c_calls.specs.Calls.{RunsLine, Shows, ShowsPiece, TellsAgain};
+ghost use Rattle.ele_c_calls.specs.Stored.{stored};
+ghost use Rattle.ele_c_values.specs.Codes.{detail_of};
+ghost use Rattle.ele_c_values.specs.Fields.{told_or};
 
-use crate::codes::{CLOSED, NO_RESULT, OK, UNTOLD, detail_of};
-use crate::copies::copy_piece;
-use crate::handle::Elephant;
-use box_parts::Parts;
+use ele_c_calls::{Elephant, lines};
 use std::alloc::Global;
 
 /// Runs a line, and makes the text of its answer.
@@ -22,20 +19,7 @@ pub extern "C" fn elephant_line(
     ensures { RunsLine line.now (stored elephant.old) result (stored elephant.new) length.old
         length.new }
 {
-    if !elephant.is_open() {
-        return CLOSED;
-    }
-    let mut store = elephant.take(alloc).into_box();
-    let told = store.line(line);
-    let count = store.answer().len() as u64;
-    elephant.give(Parts::of(store));
-    match told {
-        Ok(()) => {
-            *length = count;
-            OK
-        }
-        Err(_) => UNTOLD,
-    }
+    lines::line(alloc, elephant, line, length)
 }
 
 /// Makes the text of the last call's answer.
@@ -44,20 +28,7 @@ pub extern "C" fn elephant_tell(alloc: Global, elephant: &mut Elephant, length: 
     ensures { TellsAgain (stored elephant.old) result (stored elephant.new) length.old
         length.new }
 {
-    if !elephant.is_open() {
-        return CLOSED;
-    }
-    let mut store = elephant.take(alloc).into_box();
-    let told = store.tell();
-    let count = store.answer().len() as u64;
-    elephant.give(Parts::of(store));
-    match told {
-        Ok(()) => {
-            *length = count;
-            OK
-        }
-        Err(_) => UNTOLD,
-    }
+    lines::tell(alloc, elephant, length)
 }
 
 /// Copies a piece of the text.
@@ -72,13 +43,7 @@ pub extern "C" fn elephant_answer(
     ensures { ShowsPiece (λ store. Some store.answer) offset (stored elephant.old) result
         (stored elephant.new) into.old into.new copied.old copied.new }
 {
-    if !elephant.is_open() {
-        return CLOSED;
-    }
-    let store = elephant.take(alloc).into_box();
-    *copied = copy_piece(store.answer(), offset, into);
-    elephant.give(Parts::of(store));
-    OK
+    lines::answer(alloc, elephant, offset, into, copied)
 }
 
 /// Returns the detail of the last refusal.
@@ -87,17 +52,5 @@ pub extern "C" fn elephant_detail(alloc: Global, elephant: &mut Elephant, detail
     ensures { Shows (λ store. told_or (detail_of store)) (stored elephant.old) result
         (stored elephant.new) detail.old detail.new }
 {
-    if !elephant.is_open() {
-        return CLOSED;
-    }
-    let store = elephant.take(alloc).into_box();
-    let told = detail_of(&store);
-    elephant.give(Parts::of(store));
-    match told {
-        Some(number) => {
-            *detail = number;
-            OK
-        }
-        None => NO_RESULT,
-    }
+    lines::detail(alloc, elephant, detail)
 }

@@ -1,20 +1,15 @@
 //! Events that ask for bytes and lists.
-ghost use Rattle.ele_c.specs.Asks.{Asks, AsksAt, AsksTagged};
-ghost use Rattle.ele_c.specs.Calls.{GivesNumber, RunsOn, ShowsPart, ShowsPiece};
-ghost use Rattle.ele_c.specs.Fields.{content_in, content_of};
-ghost use Rattle.ele_c.specs.Stored.{stored};
-ghost use Rattle.std.specs.Option.{option_copied, option_map};
-ghost use Rattle.std.specs.Prelude.{◌≡◌};
+ghost use Rattle.ele_c_values.specs.Asks.{Asks, AsksAt, AsksTagged};
+ghost use Rattle.ele_c_calls.specs.Calls.{GivesNumber, RunsOn, ShowsPiece};
+ghost use Rattle.ele_c_values.specs.Fields.{content_of};
+ghost use Rattle.ele_c_calls.specs.Stored.{stored};
 ghost use Rattle.ele_model.specs.declared.event.Event.TheVariants as event;
 ghost use Rattle.ele_model.specs.declared.event.Source.TheVariants.{Of, Tagged};
 
-use crate::asks;
-use crate::codes::{CLOSED, NO_RESULT, OK};
-use crate::copies::copy_piece;
-use crate::events::run_for;
-use crate::handle::Elephant;
-use box_parts::Parts;
-use ele_model::{Event, Handle, Reply, Source};
+use ele_c_calls::events::run_for;
+use ele_c_calls::{Elephant, reads};
+use ele_c_values::asks;
+use ele_model::{Event, Handle, Source};
 use std::alloc::Global;
 
 /// Opens a handle that reads a version.
@@ -162,35 +157,5 @@ pub extern "C" fn elephant_take(
     ensures { ShowsPiece content_of offset (stored elephant.old) result
         (stored elephant.new) into.old into.new copied.old copied.new }
 {
-    if !elephant.is_open() {
-        return CLOSED;
-    }
-    let store = elephant.take(alloc).into_box();
-    let code = take_piece(content_in(store.reply()), offset, into, copied);
-    elephant.give(Parts::of(store));
-    code
-}
-
-// The bytes of a reply.
-fn content_in(reply: Option<&Reply>) -> Option<&[u8]>
-    ensures { option_map (λ bytes. bytes.now) result ≡ content_in (option_copied reply.entry) }
-{
-    match reply {
-        Some(Reply::Bytes(bytes)) => Some(bytes.as_slice()),
-        _ => None,
-    }
-}
-
-// Copies a piece of the bytes, if there are any.
-fn take_piece(bytes: Option<&[u8]>, offset: u64, into: &mut [u8], copied: &mut u64) -> i32
-    ensures { ShowsPart (option_map (λ bytes. bytes.now) bytes.entry) offset into.old into.new
-        copied.old copied.new result }
-{
-    match bytes {
-        Some(bytes) => {
-            *copied = copy_piece(bytes, offset, into);
-            OK
-        }
-        None => NO_RESULT,
-    }
+    reads::take_kept(alloc, elephant, offset, into, copied)
 }

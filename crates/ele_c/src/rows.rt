@@ -1,19 +1,10 @@
 //! Rows of the kept list. A contract sees a row as the numbers that C gets.
-ghost use Rattle.std.specs.Prelude.{◌≡◌};
-ghost use Rattle.std.specs.Option.{option_copied, option_map};
-ghost use Rattle.std.specs.Result.{result_map_both};
-ghost use Rattle.ele_c.specs.Calls.{Shows, ShowsBytes, ShowsName};
-ghost use Rattle.ele_c.specs.Fields.{bytes_at, bytes_in, due_in, group_at, group_in, groups_in, item_at, key_at, key_fields, keys_in, mark_at, mark_fields, member_at, name_at, name_in, or_never, target_fields, usage_at, usages_in, version_at, version_fields, versions_in};
-ghost use Rattle.ele_c.specs.Stored.{stored};
-ghost use Rattle.ele_embed.specs.Embedding.{reply_of};
+ghost use Rattle.ele_c_calls.specs.Calls.{Shows, ShowsName};
+ghost use Rattle.ele_c_calls.specs.Stored.{stored};
+ghost use Rattle.ele_c_values.specs.Fields.{bytes_at, group_at, key_at, mark_at, member_at, name_at, usage_at, version_at};
 
-use crate::codes::{CLOSED, NEVER, NO_RESULT, NO_ROW, OK};
-use crate::copies::copy_whole;
-use crate::fields::{GroupFields, KeyFields, MarkFields, NameFields, UsageFields, VersionFields};
-use crate::handle::Elephant;
-use box_parts::Parts;
-use ele_embed::{Said, Store};
-use ele_model::{DirId, GroupRow, Key, MarkRow, Moment, Name, Reply, Target, Usage, VersionInfo};
+use ele_c_calls::{Elephant, rows};
+use ele_c_values::{GroupFields, KeyFields, MarkFields, NameFields, UsageFields, VersionFields};
 use std::alloc::Global;
 
 /// Copies the row of a version.
@@ -27,19 +18,7 @@ pub extern "C" fn elephant_row_version(
     ensures { Shows (λ store. version_at store index) (stored elephant.old) result
         (stored elephant.new) row.old row.new }
 {
-    if !elephant.is_open() {
-        return CLOSED;
-    }
-    let store = elephant.take(alloc).into_box();
-    let found = version_at(&store, index);
-    elephant.give(Parts::of(store));
-    match found {
-        Ok(found) => {
-            *row = found;
-            OK
-        }
-        Err(code) => code,
-    }
+    rows::version(alloc, elephant, index, row)
 }
 
 /// Copies the row of a name.
@@ -53,19 +32,7 @@ pub extern "C" fn elephant_row_name(
     ensures { Shows (λ store. name_at store index) (stored elephant.old) result
         (stored elephant.new) row.old row.new }
 {
-    if !elephant.is_open() {
-        return CLOSED;
-    }
-    let store = elephant.take(alloc).into_box();
-    let found = name_at(&store, index);
-    elephant.give(Parts::of(store));
-    match found {
-        Ok(found) => {
-            *row = found;
-            OK
-        }
-        Err(code) => code,
-    }
+    rows::name(alloc, elephant, index, row)
 }
 
 /// Copies a key.
@@ -79,19 +46,7 @@ pub extern "C" fn elephant_row_key(
     ensures { Shows (λ store. key_at store index) (stored elephant.old) result
         (stored elephant.new) key.old key.new }
 {
-    if !elephant.is_open() {
-        return CLOSED;
-    }
-    let store = elephant.take(alloc).into_box();
-    let found = key_at(&store, index);
-    elephant.give(Parts::of(store));
-    match found {
-        Ok(found) => {
-            *key = found;
-            OK
-        }
-        Err(code) => code,
-    }
+    rows::key(alloc, elephant, index, key)
 }
 
 /// Copies the row of what the files of a kind of policy use.
@@ -105,19 +60,7 @@ pub extern "C" fn elephant_row_usage(
     ensures { Shows (λ store. usage_at store index) (stored elephant.old) result
         (stored elephant.new) row.old row.new }
 {
-    if !elephant.is_open() {
-        return CLOSED;
-    }
-    let store = elephant.take(alloc).into_box();
-    let found = usage_at(&store, index);
-    elephant.give(Parts::of(store));
-    match found {
-        Ok(found) => {
-            *row = found;
-            OK
-        }
-        Err(code) => code,
-    }
+    rows::usage(alloc, elephant, index, row)
 }
 
 /// Copies the row of a group.
@@ -131,19 +74,7 @@ pub extern "C" fn elephant_row_group(
     ensures { Shows (λ store. group_at store index) (stored elephant.old) result
         (stored elephant.new) row.old row.new }
 {
-    if !elephant.is_open() {
-        return CLOSED;
-    }
-    let store = elephant.take(alloc).into_box();
-    let found = group_at(&store, index);
-    elephant.give(Parts::of(store));
-    match found {
-        Ok(found) => {
-            *row = found;
-            OK
-        }
-        Err(code) => code,
-    }
+    rows::group(alloc, elephant, index, row)
 }
 
 /// Copies the number of a member's file.
@@ -158,19 +89,7 @@ pub extern "C" fn elephant_row_member(
     ensures { Shows (λ store. member_at store index member) (stored elephant.old) result
         (stored elephant.new) file.old file.new }
 {
-    if !elephant.is_open() {
-        return CLOSED;
-    }
-    let store = elephant.take(alloc).into_box();
-    let found = member_at(&store, index, member);
-    elephant.give(Parts::of(store));
-    match found {
-        Ok(found) => {
-            *file = found;
-            OK
-        }
-        Err(code) => code,
-    }
+    rows::member(alloc, elephant, index, member, file)
 }
 
 /// Copies a mark of a group.
@@ -185,19 +104,7 @@ pub extern "C" fn elephant_row_mark(
     ensures { Shows (λ store. mark_at store index mark) (stored elephant.old) result
         (stored elephant.new) row.old row.new }
 {
-    if !elephant.is_open() {
-        return CLOSED;
-    }
-    let store = elephant.take(alloc).into_box();
-    let found = mark_at(&store, index, mark);
-    elephant.give(Parts::of(store));
-    match found {
-        Ok(found) => {
-            *row = found;
-            OK
-        }
-        Err(code) => code,
-    }
+    rows::mark(alloc, elephant, index, mark, row)
 }
 
 /// Copies the bytes of a row's name.
@@ -212,261 +119,5 @@ pub extern "C" fn elephant_row_bytes(
     ensures { ShowsName (λ store. bytes_at store index) (stored elephant.old) result
         (stored elephant.new) into.old into.new length.old length.new }
 {
-    if !elephant.is_open() {
-        return CLOSED;
-    }
-    let store = elephant.take(alloc).into_box();
-    let code = copy_found(bytes_in(store.reply(), index), into, length);
-    elephant.give(Parts::of(store));
-    code
-}
-
-/// Copies the bytes, or returns the code.
-pub(crate) fn copy_found(found: Result<&[u8], i32>, into: &mut [u8], length: &mut u64) -> i32
-    ensures { ShowsBytes (result_map_both (λ bytes. bytes.now) (λ code. code) found.entry) into.old into.new length.old length.new result }
-{
-    match found {
-        Ok(bytes) => copy_whole(bytes, into, length),
-        Err(code) => code,
-    }
-}
-
-/// Returns the item of the kept list, if there is one.
-pub(crate) fn item_at<T>(items: Option<&[T]>, index: u64) -> Result<&T, i32>
-    ensures { result_map_both (λ item. item.now) (λ code. code) result
-        ≡ item_at (option_map (λ items. items.now) items.entry) index }
-{
-    let Some(items) = items else {
-        return Err(NO_RESULT);
-    };
-    match items.get(index as usize) {
-        Some(item) => Ok(item),
-        None => Err(NO_ROW),
-    }
-}
-
-/// A moment in seconds, or `NEVER`.
-pub(crate) fn or_never(moment: Option<Moment>) -> u64
-    ensures { result ≡ or_never moment }
-{
-    match moment {
-        Some(moment) => moment.seconds(),
-        None => NEVER,
-    }
-}
-
-fn versions_in(reply: Option<&Reply>) -> Option<&[VersionInfo]>
-    ensures { option_map (λ rows. rows.now) result ≡ versions_in (option_copied reply.entry) }
-{
-    match reply {
-        Some(Reply::Rows(rows)) => Some(rows.as_slice()),
-        _ => None,
-    }
-}
-
-fn version_fields(info: &VersionInfo) -> VersionFields
-    ensures { result ≡ version_fields info.now }
-{
-    VersionFields {
-        number: info.number.0,
-        opened: info.opened.seconds(),
-        closed: info.closed.seconds(),
-        ended: or_never(info.ended),
-        length: info.length,
-    }
-}
-
-fn version_at(store: &Store, index: u64) -> Result<VersionFields, i32>
-    ensures { result ≡ version_at store.now index }
-{
-    match item_at(versions_in(store.reply()), index) {
-        Ok(info) => Ok(version_fields(info)),
-        Err(code) => Err(code),
-    }
-}
-
-fn due_in(reply: Option<&Reply>) -> Option<&[Key]>
-    ensures { option_map (λ keys. keys.now) result ≡ due_in (option_copied reply.entry) }
-{
-    match reply {
-        Some(Reply::DueList(keys)) => Some(keys.as_slice()),
-        _ => None,
-    }
-}
-
-fn keys_in(store: &Store) -> Option<&[Key]>
-    ensures { option_map (λ keys. keys.now) result
-        ≡ keys_in store.now.said (reply_of store.now) }
-{
-    match store.said() {
-        Said::Ahead(Ok(keys)) => Some(keys.as_slice()),
-        _ => due_in(store.reply()),
-    }
-}
-
-/// A key in numbers.
-pub(crate) fn key_fields(key: &Key) -> KeyFields
-    ensures { result ≡ key_fields key.now }
-{
-    KeyFields {
-        since: key.ripe.seconds(),
-        file: key.file.0,
-        number: key.number.0,
-    }
-}
-
-fn key_at(store: &Store, index: u64) -> Result<KeyFields, i32>
-    ensures { result ≡ key_at store.now index }
-{
-    match item_at(keys_in(store), index) {
-        Ok(key) => Ok(key_fields(key)),
-        Err(code) => Err(code),
-    }
-}
-
-fn usages_in(reply: Option<&Reply>) -> Option<&[Usage]>
-    ensures { option_map (λ usages. usages.now) result ≡ usages_in (option_copied reply.entry) }
-{
-    match reply {
-        Some(Reply::UsageList(usages)) => Some(usages.get().as_slice()),
-        _ => None,
-    }
-}
-
-fn usage_at(store: &Store, index: u64) -> Result<UsageFields, i32>
-    ensures { result ≡ usage_at store.now index }
-{
-    match item_at(usages_in(store.reply()), index) {
-        Ok(usage) => Ok(UsageFields {
-            files: usage.files,
-            versions: usage.versions,
-            bytes: usage.bytes,
-            blocks: usage.blocks,
-        }),
-        Err(code) => Err(code),
-    }
-}
-
-fn target_fields(directory: DirId, name: &Name, target: Target) -> NameFields
-    ensures { result ≡ target_fields directory name.now target }
-{
-    let name_length = name.bytes().len() as u64;
-    match target {
-        Target::File(file) => NameFields {
-            directory: directory.0,
-            is_directory: 0,
-            id: file.0,
-            name_length,
-        },
-        Target::Directory(id) => NameFields {
-            directory: directory.0,
-            is_directory: 1,
-            id: id.0,
-            name_length,
-        },
-    }
-}
-
-fn name_at(store: &Store, index: u64) -> Result<NameFields, i32>
-    ensures { result ≡ name_at store.now index }
-{
-    name_in(store.reply(), index)
-}
-
-fn name_in(reply: Option<&Reply>, index: u64) -> Result<NameFields, i32>
-    ensures { result ≡ name_in (option_copied reply.entry) index }
-{
-    match reply {
-        Some(Reply::NameList(names)) => match names.as_slice().get(index as usize) {
-            Some(named) => Ok(target_fields(DirId(0), &named.0, named.1)),
-            None => Err(NO_ROW),
-        },
-        Some(Reply::RestoreList(names)) => match names.as_slice().get(index as usize) {
-            Some(dead) => Ok(target_fields(dead.directory, &dead.name, dead.target)),
-            None => Err(NO_ROW),
-        },
-        _ => Err(NO_RESULT),
-    }
-}
-
-fn bytes_in(reply: Option<&Reply>, index: u64) -> Result<&[u8], i32>
-    ensures { result_map_both (λ bytes. bytes.now) (λ code. code) result ≡ bytes_in (option_copied reply.entry) index }
-{
-    match reply {
-        Some(Reply::NameList(names)) => match names.as_slice().get(index as usize) {
-            Some(named) => Ok(named.0.bytes()),
-            None => Err(NO_ROW),
-        },
-        Some(Reply::RestoreList(names)) => match names.as_slice().get(index as usize) {
-            Some(dead) => Ok(dead.name.bytes()),
-            None => Err(NO_ROW),
-        },
-        Some(Reply::GroupList(groups)) => match groups.as_slice().get(index as usize) {
-            Some(group) => Ok(group.name.bytes()),
-            None => Err(NO_ROW),
-        },
-        _ => Err(NO_RESULT),
-    }
-}
-
-fn groups_in(reply: Option<&Reply>) -> Option<&[GroupRow]>
-    ensures { option_map (λ groups. groups.now) result ≡ groups_in (option_copied reply.entry) }
-{
-    match reply {
-        Some(Reply::GroupList(groups)) => Some(groups.as_slice()),
-        _ => None,
-    }
-}
-
-fn group_in(store: &Store, index: u64) -> Result<&GroupRow, i32>
-    ensures { result_map_both (λ group. group.now) (λ code. code) result
-        ≡ group_in store.now index }
-{
-    item_at(groups_in(store.reply()), index)
-}
-
-fn group_at(store: &Store, index: u64) -> Result<GroupFields, i32>
-    ensures { result ≡ group_at store.now index }
-{
-    match group_in(store, index) {
-        Ok(group) => Ok(GroupFields {
-            name_length: group.name.bytes().len() as u64,
-            members: group.members.as_slice().len() as u64,
-            marks: group.marks.as_slice().len() as u64,
-        }),
-        Err(code) => Err(code),
-    }
-}
-
-fn member_at(store: &Store, index: u64, member: u64) -> Result<u64, i32>
-    ensures { result ≡ member_at store.now index member }
-{
-    match group_in(store, index) {
-        Ok(group) => match group.members.as_slice().get(member as usize) {
-            Some(file) => Ok(file.0),
-            None => Err(NO_ROW),
-        },
-        Err(code) => Err(code),
-    }
-}
-
-fn mark_fields(mark: &MarkRow) -> MarkFields
-    ensures { result ≡ mark_fields mark.now }
-{
-    MarkFields {
-        moment: mark.at.seconds(),
-        until: or_never(mark.until),
-    }
-}
-
-fn mark_at(store: &Store, index: u64, mark: u64) -> Result<MarkFields, i32>
-    ensures { result ≡ mark_at store.now index mark }
-{
-    match group_in(store, index) {
-        Ok(group) => match group.marks.as_slice().get(mark as usize) {
-            Some(mark) => Ok(mark_fields(mark)),
-            None => Err(NO_ROW),
-        },
-        Err(code) => Err(code),
-    }
+    rows::bytes(alloc, elephant, index, into, length)
 }

@@ -1,16 +1,15 @@
 //! Events of the clock, of writing and of policies.
-ghost use Rattle.ele_c.specs.Asks.{Asks, AsksClock, AsksPath, AsksPolicy};
-ghost use Rattle.ele_c.specs.Calls.{GivesNumber, RunsOn, Shows};
-ghost use Rattle.ele_c.specs.Fields.{now_of};
-ghost use Rattle.ele_c.specs.Stored.{stored};
+ghost use Rattle.ele_c_values.specs.Asks.{Asks, AsksBytes, AsksClock, AsksPath, AsksPolicy};
+ghost use Rattle.ele_c_calls.specs.Calls.{GivesNumber, RunsOn, Shows};
+ghost use Rattle.ele_c_values.specs.Fields.{now_of};
+ghost use Rattle.ele_c_calls.specs.Stored.{stored};
 ghost use Rattle.ele_model.specs.declared.event.Event.TheVariants as event;
 
-use crate::asks;
-use crate::codes::{CLOSED, OK};
-use crate::events::{run, run_for};
-use crate::handle::Elephant;
-use box_parts::Parts;
+use ele_c_calls::Elephant;
+use ele_c_calls::events::{self, run, run_for};
+use ele_c_values::asks;
 use ele_model::{Event, Handle};
+use ele_script::LineFault;
 use std::alloc::Global;
 
 /// Returns the current moment.
@@ -19,13 +18,7 @@ pub extern "C" fn elephant_now(alloc: Global, elephant: &mut Elephant, moment: &
     ensures { Shows now_of (stored elephant.old) result (stored elephant.new) moment.old
         moment.new }
 {
-    if !elephant.is_open() {
-        return CLOSED;
-    }
-    let store = elephant.take(alloc).into_box();
-    *moment = store.now().seconds();
-    elephant.give(Parts::of(store));
-    OK
+    events::now(alloc, elephant, moment)
 }
 
 /// Sets the clock.
@@ -75,7 +68,7 @@ pub extern "C" fn elephant_write(
     offset: u64,
     bytes: &[u8],
 ) -> i32
-    ensures { RunsOn (Asks (event.Write handle offset bytes.now))
+    ensures { RunsOn (AsksBytes (event.Write handle offset) bytes.now)
         (stored elephant.old) result (stored elephant.new) }
 {
     run(
@@ -141,11 +134,7 @@ pub extern "C" fn elephant_policy(
     ensures { RunsOn (AsksPolicy event.SetPolicy path.now policy.now)
         (stored elephant.old) result (stored elephant.new) }
 {
-    run(
-        alloc,
-        elephant,
-        asks::policy(alloc, path, policy).map(|(path, policy)| Event::SetPolicy(path, policy)),
-    )
+    run(alloc, elephant, policy_event(alloc, path, policy))
 }
 
 /// Sets the default policy of a directory.
@@ -159,9 +148,25 @@ pub extern "C" fn elephant_default(
     ensures { RunsOn (AsksPolicy event.SetDefault path.now policy.now)
         (stored elephant.old) result (stored elephant.new) }
 {
-    run(
-        alloc,
-        elephant,
-        asks::policy(alloc, path, policy).map(|(path, policy)| Event::SetDefault(path, policy)),
-    )
+    run(alloc, elephant, default_event(alloc, path, policy))
+}
+
+// To set the policy of a file.
+fn policy_event(alloc: Global, path: &[u8], policy: &[u8]) -> Result<Event, LineFault>
+    ensures { AsksPolicy event.SetPolicy path.now policy.now result }
+{
+    match asks::policy(alloc, path, policy) {
+        Ok(both) => Ok(Event::SetPolicy(both.0, both.1)),
+        Err(fault) => Err(fault),
+    }
+}
+
+// To set the default policy of a directory.
+fn default_event(alloc: Global, path: &[u8], policy: &[u8]) -> Result<Event, LineFault>
+    ensures { AsksPolicy event.SetDefault path.now policy.now result }
+{
+    match asks::policy(alloc, path, policy) {
+        Ok(both) => Ok(Event::SetDefault(both.0, both.1)),
+        Err(fault) => Err(fault),
+    }
 }

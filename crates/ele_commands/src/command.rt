@@ -9,7 +9,7 @@ use crate::kind::WordKind::{
 };
 
 /// What a line tells a world to do; its first word, or its first two, name it.
-#[derive(Clone, Copy, Debug, PartialEq, Eq)]
+#[derive(Clone, Copy, PartialEq, Eq)]
 pub enum Command {
     Ahead,
     Answers,
@@ -54,7 +54,7 @@ pub enum Command {
 }
 
 /// In which runs a command is one.
-#[derive(Clone, Copy, Debug, PartialEq, Eq)]
+#[derive(Clone, Copy, PartialEq, Eq)]
 pub enum When {
     /// In all.
     Always,
@@ -130,7 +130,7 @@ pub static ROWS: [Row; 40] = [
 ];
 
 /// What a command is about.
-#[derive(Clone, Copy, Debug, PartialEq, Eq)]
+#[derive(Clone, Copy, PartialEq, Eq)]
 pub enum Topic {
     /// The clock.
     Time,

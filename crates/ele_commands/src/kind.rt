@@ -1,7 +1,7 @@
 //! The kinds of words after a command. A contract sees a kind as itself.
 
 /// What a word after a command means.
-#[derive(Clone, Copy, Debug, PartialEq, Eq)]
+#[derive(Clone, Copy, PartialEq, Eq)]
 pub enum WordKind {
     /// A number.
     Number,

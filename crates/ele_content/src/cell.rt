@@ -5,7 +5,7 @@ use ele_moment::VersionNo;
 
 /// The bytes of one slot, 512 or in the last slot maybe fewer, and the version whose session last
 /// wrote it.
-#[derive(Debug, Drop, PartialEq, Eq)]
+#[derive(Drop, PartialEq, Eq)]
 pub struct Cell {
     pub writer: VersionNo,
     pub bytes: ByteList,

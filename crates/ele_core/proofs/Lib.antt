@@ -1,6 +1,4 @@
--- the version that a question or a revert means
-pub mod Meant
--- a handle that begins a draft
-pub mod Opened
+-- the world after a call is reached, as its contract says what the call does
+pub mod Reached
 -- how a pass ends
 pub mod Passes

@@ -1,5 +1,5 @@
 -- How a pass ends.
-use Rattle.ele_core.specs.Does.{removed}
+use Rattle.ele_events.specs.Does.{removed}
 use Rattle.ele_model.proofs.Basics.{◌≡◌, ◌<◌, ℕ, Option, None, Some, false, arith, nat_tests, refl, subst}
 use Rattle.ele_model.proofs.PassEnds.{pass_finishes}
 use Rattle.ele_model.proofs.Words.{HasParts, IsCleaned, IsFinished, Key, World, clean_step, first_due}

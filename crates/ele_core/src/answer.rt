@@ -1,8 +1,8 @@
 //! Events as values: `apply` finds the call of an event, and returns its reply.
 ghost use Rattle.std.specs.Prelude.{◌≡◌, ◌≢◌, Err, IfOk, OnErr, true};
-ghost use Rattle.ele_core.specs.Does.{Does, removed, revived, stat_told};
-ghost use Rattle.ele_core.specs.Reads.{IsRead};
-ghost use Rattle.ele_core.specs.declared.halt.Halt.TheVariants as halt;
+ghost use Rattle.ele_events.specs.Does.{Does, removed, revived, stat_told};
+ghost use Rattle.ele_events.specs.Reads.{IsRead};
+ghost use Rattle.ele_events.specs.declared.halt.Halt.TheVariants as halt;
 ghost use Rattle.ele_model.specs.declared.reply.Reply.{Reply};
 ghost use Rattle.ele_model.specs.declared.event.Event.TheVariants as event;
 ghost use Rattle.ele_model.specs.declared.reply.Reply.TheVariants.{Done, UsageList};
@@ -11,8 +11,7 @@ ghost use Rattle.ele_model.specs.Run.{IsEvent};
 ghost use Rattle.ele_model.specs.Usage.{usages};
 
 use crate::Core;
-use crate::halt::{Halt, check};
-use crate::question::Stat;
+use ele_events::{Halt, Stat};
 use ele_model::{
     Boxed, DirectoryRow, Event, FileStat, Key, NoMemory, Reply, TaggedPath, VersionNo,
 };
@@ -67,8 +66,10 @@ impl Core {
         ensures { Does (λ reply. reply)
             self.now.world (event.Stat tagged.now) result self.now.world }
     {
-        let stat = check!(self.stat(tagged));
-        Ok(stat_told(self.state.allocator(), stat)?)
+        match self.stat(tagged) {
+            Ok(stat) => Ok(stat_told(self.state.allocator(), stat)?),
+            Err(refusal) => Err(Halt::Refused(refusal)),
+        }
     }
 
     // Replies with the usage of each kind of policy. It is a function of its own, so that its proof

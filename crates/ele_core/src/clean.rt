@@ -1,8 +1,8 @@
 //! The events that remove due versions.
-ghost use Rattle.std.specs.Prelude.{◌≡◌, Some, false};
-ghost use Rattle.ele_core.specs.Does.{removed};
-ghost use Rattle.ele_core.specs.Reads.{CleanReads};
+ghost use Rattle.std.specs.Prelude.{◌≡◌, false};
 ghost use Rattle.ele_core.specs.Stopped.{is_stopped};
+ghost use Rattle.ele_events.specs.Does.{removed};
+ghost use Rattle.ele_events.specs.Reads.{CleanReads};
 ghost use Rattle.ele_model.specs.Pass.{EndsPass};
 ghost use Rattle.ele_model.specs.Step.{clean_step};
 
@@ -15,15 +15,11 @@ impl Core {
     /// Cost: the logarithms of queued keys, files and the file's versions, and the version's
     /// blocks; rarely the file's list of chunks moves. If the file is dropped with its last
     /// version, the time also grows with its dead names, its groups and the later files.
-    #[inline(never)]
     pub fn clean_one(&mut self) -> Option<Key>
         ensures step { (removed result, self.new.world) ≡ clean_step self.old.world }
         ensures read { CleanReads (removed result) self.new.rows_read }
     {
-        self.state.reset_rows_read();
-        let key = self.state.due_first()?;
-        self.state.remove(&key);
-        Some(key)
+        ele_events::clean_one(&mut self.state)
     }
 
     /// Repeats `clean_one` until nothing is due or as many versions are removed as the budget
@@ -35,8 +31,9 @@ impl Core {
         ensures end { EndsPass self.old.world budget result self.new.world }
         ensures unstopped { is_stopped result ≡ false }
     {
+        // For the proof: the world is well formed.
         laws::policies_are_lawful();
-        self.lemma_well_formed();
+        let _now = self.now();
         for removed in 0..budget {
             if self.clean_one().is_none() {
                 return PassEnd::Finished(removed);

@@ -3,7 +3,6 @@ ghost use Rattle.ele_core.specs.Copies.{Copies};
 ghost use Rattle.ele_model.specs.declared.event.Source.TheVariants as source;
 
 use crate::Core;
-use crate::halt::check;
 use ele_model::{Handle, Reads, Refusal, Source, TaggedPath};
 use ele_state::Copied;
 
@@ -12,7 +11,10 @@ impl Core {
     fn copy_handle(&self, handle: Handle, offset: u64, into: &mut [u8]) -> Result<Copied, Refusal>
         ensures { Copies self.now.world (source.Of handle) offset into.old into.new result }
     {
-        let reads = check!(self.state.reads_by(handle));
+        let reads = match self.state.reads_by(handle) {
+            Ok(reads) => reads,
+            Err(refusal) => return Err(refusal),
+        };
         Ok(self.state.copy_bytes(reads, offset, into))
     }
 
@@ -25,7 +27,10 @@ impl Core {
     ) -> Result<Copied, Refusal>
         ensures { Copies self.now.world (source.Tagged tagged.now) offset into.old into.new result }
     {
-        let (file, info) = check!(self.state.version_at(tagged));
+        let (file, info) = match self.state.version_at(tagged) {
+            Ok(found) => found,
+            Err(refusal) => return Err(refusal),
+        };
         let reads = Reads::Version(file, info.number);
         Ok(self.state.copy_bytes(reads, offset, into))
     }

@@ -1,45 +1,30 @@
 //! The events of groups: their files and their marks.
-ghost use Rattle.std.specs.Prelude.{◌≡◌, nat_le, false};
-ghost use Rattle.std.specs.Option.{option_map_or};
-ghost use Rattle.ele_core.specs.Does.{Does, done};
+ghost use Rattle.ele_events.specs.Does.{Does, done};
 ghost use Rattle.ele_model.specs.declared.event.Event.TheVariants as event;
 
 use crate::Core;
-use crate::halt::{Halt, check, refuse_if};
-use ele_model::{MarkRow, Moment, Name, Path, Refusal, Which};
-
-// Whether there is an end, and the clock has reached it.
-fn has_ended(until: &Option<Moment>, now: Moment) -> bool
-    ensures { result ≡ option_map_or (λ end. nat_le end now) until.now false }
-{
-    match until {
-        Some(end) => *end <= now,
-        None => false,
-    }
-}
+use ele_events::Halt;
+use ele_model::{Moment, Name, Path};
 
 impl Core {
     /// Makes a group of that name, without files and marks. Refused: `GroupExists`, `Full`.
     /// Cost: constant time, amortized, by one look-up of the name; takes memory for a group.
-    #[inline(never)]
+    #[tactic(auto, using(crate::proofs::Reached::does))]
     pub fn make_group(&mut self, name: &Name) -> Result<(), Halt>
         ensures { Does done self.old.world (event.GroupMake name.now) result self.new.world }
     {
-        check!(refuse_if(self.state.has_group(name), Refusal::GroupExists));
-        check!(self.room_for(Which::Groups));
-        Ok(self.state.make_group(name)?)
+        ele_events::make_group(&mut self.state, name)
     }
 
     /// Removes the group and its marks. Refused: `NoGroup`.
     /// Cost: grows with the group's files times its marks, each pair with the file's groups and the
     /// logarithms of files, its versions and queued keys; groups made later move. Its memory grows
     /// with the group's files and marks, and the keys that change.
-    #[inline(never)]
+    #[tactic(auto, using(crate::proofs::Reached::does))]
     pub fn drop_group(&mut self, name: &Name) -> Result<(), Halt>
         ensures { Does done self.old.world (event.GroupDrop name.now) result self.new.world }
     {
-        check!(refuse_if(!self.state.has_group(name), Refusal::NoGroup));
-        Ok(self.state.drop_group(name)?)
+        ele_events::drop_group(&mut self.state, name)
     }
 
     /// Adds the file at the path to the group. Refused: `NoGroup`, as `open_write`,
@@ -47,31 +32,24 @@ impl Core {
     /// Cost: grows with the path's names, and for each mark of the group with the file's groups and
     /// the logarithms of files, versions and queued keys. Its memory grows with the group's marks
     /// and the keys that change; a membership takes 88 bytes.
-    #[inline(never)]
+    #[tactic(auto, using(crate::proofs::Reached::does))]
     pub fn add_to_group(&mut self, name: &Name, path: &Path) -> Result<(), Halt>
         ensures { Does done
             self.old.world (event.GroupAdd name.now path.now) result self.new.world }
     {
-        check!(refuse_if(!self.state.has_group(name), Refusal::NoGroup));
-        let file = check!(self.state.file_now(path));
-        check!(refuse_if(self.state.is_member(name, file), Refusal::AlreadyMember));
-        check!(self.room_for(Which::Members));
-        Ok(self.state.add_member(name, file)?)
+        ele_events::add_to_group(&mut self.state, name, path)
     }
 
     /// Removes the file at the path from the group. Refused: `NoGroup`, `NoEntry`, `NotDirectory`,
     /// `IsDirectory`, `NotMember`.
     /// Cost: the time of `add_to_group`, and a search for the file among the group's files. Its
     /// memory grows with the group's marks and the keys that change.
-    #[inline(never)]
+    #[tactic(auto, using(crate::proofs::Reached::does))]
     pub fn remove_from_group(&mut self, name: &Name, path: &Path) -> Result<(), Halt>
         ensures { Does done
             self.old.world (event.GroupRemove name.now path.now) result self.new.world }
     {
-        check!(refuse_if(!self.state.has_group(name), Refusal::NoGroup));
-        let file = check!(self.state.file_now(path));
-        check!(refuse_if(!self.state.is_member(name, file), Refusal::NotMember));
-        Ok(self.state.remove_member(name, file)?)
+        ele_events::remove_from_group(&mut self.state, name, path)
     }
 
     /// Marks the group at a moment before now, for good or until a moment after now. Refused:
@@ -79,33 +57,21 @@ impl Core {
     /// Cost: grows with the group's files, for each with its groups and the logarithms of files,
     /// versions and queued keys. Its memory grows with the group's files and the keys that change;
     /// a mark takes some 60 bytes.
-    #[inline(never)]
+    #[tactic(auto, using(crate::proofs::Reached::does))]
     pub fn mark(&mut self, name: &Name, moment: Moment, until: &Option<Moment>) -> Result<(), Halt>
         ensures { Does done
             self.old.world (event.Mark name.now moment until.now) result self.new.world }
     {
-        check!(refuse_if(!self.state.has_group(name), Refusal::NoGroup));
-        let is_past = moment.seconds() < self.state.now().seconds();
-        check!(refuse_if(!is_past, Refusal::NotPast));
-        check!(refuse_if(has_ended(until, self.state.now()), Refusal::NotAhead));
-        check!(refuse_if(self.state.has_mark(name, moment), Refusal::MarkExists));
-        check!(self.room_for(Which::Marks));
-        let mark = MarkRow {
-            at: moment,
-            until: *until,
-        };
-        Ok(self.state.add_mark(name, &mark)?)
+        ele_events::mark(&mut self.state, name, moment, until)
     }
 
     /// Removes the group's mark at the moment. Refused: `NoGroup`, `NoMark`.
     /// Cost: the time of `mark`, and a search for the mark among the group's marks. Its memory
     /// grows with the group's files and the keys that change.
-    #[inline(never)]
+    #[tactic(auto, using(crate::proofs::Reached::does))]
     pub fn unmark(&mut self, name: &Name, moment: Moment) -> Result<(), Halt>
         ensures { Does done self.old.world (event.Unmark name.now moment) result self.new.world }
     {
-        check!(refuse_if(!self.state.has_group(name), Refusal::NoGroup));
-        check!(refuse_if(!self.state.has_mark(name, moment), Refusal::NoMark));
-        Ok(self.state.remove_mark(name, moment)?)
+        ele_events::unmark(&mut self.state, name, moment)
     }
 }

@@ -6,13 +6,14 @@ ghost use Rattle.std.specs.Prelude.{◌≡◌, IfOk, OnErr, IsOk, true, false};
 ghost use Rattle.ele_headline.specs.Headline.{KeepsHeadline};
 ghost use Rattle.ele_model.specs.Bounds.{AreBounds};
 ghost use Rattle.ele_model.specs.NoIdleStays.{HasNoIdle};
+ghost use Rattle.ele_model.specs.Reached.{IsReached};
 ghost use Rattle.ele_model.specs.Ready.{takes_no_memory};
 ghost use Rattle.ele_model.specs.Run.{IsEvent};
 ghost use Rattle.ele_model.specs.Step.{step};
 ghost use Rattle.ele_model.specs.WellFormed.{IsWellFormed};
 ghost use Rattle.ele_model.specs.World.{fresh_world};
-ghost use Rattle.ele_core.specs.Does.{refuses};
-ghost use Rattle.ele_core.specs.Reads.{IsRead};
+ghost use Rattle.ele_events.specs.Does.{refuses};
+ghost use Rattle.ele_events.specs.Reads.{IsRead};
 
 mod answer;
 mod clean;
@@ -22,16 +23,13 @@ mod directory;
 mod explaining;
 mod fate;
 mod group;
-mod halt;
 mod name;
-mod place;
 mod question;
 mod session;
 mod step;
 mod version;
 
-pub use crate::halt::Halt;
-pub use crate::question::Stat;
+pub use ele_events::{Halt, Stat};
 pub use ele_model::{
     Boxed, ByteList, Cause, Cell, Counts, DeadName, DeadNameList, DirId, DirectoryRow, DraftRow,
     Event, Fate, FileId, FileRow, FileStat, Flat, GroupList, GroupRow, Handle, HandleRow, Key,
@@ -47,7 +45,7 @@ use ele_state::State;
 use std::alloc::Global;
 use std::marker::Model;
 
-/// One world, which is well formed. Each event is a call. A call that changes the world takes `&mut
+/// One world, which events led to. Each event is a call. A call that changes the world takes `&mut
 /// self`, and a call that only asks takes `&self`. `apply` takes any event as a value.
 pub struct Core {
     state: State,
@@ -65,6 +63,10 @@ impl Model for Core {
     ghost Value = { Shown };
 
     ghost view = { λ core. core.state };
+
+    ghost use Rattle.ele_model.specs.Reached.{IsReached};
+
+    ghost invariant = { λ core. IsReached core.state.world };
 }
 
 impl Core {
@@ -75,6 +77,8 @@ impl Core {
     pub fn new(alloc: Global, limits: Limits) -> Result<Core, NoMemory>
         ensures { IfOk result (λ core. core.world ≡ fresh_world limits) }
     {
+        // For the proof: the limits are allowed.
+        limits.lemma_within();
         let state = State::new(alloc, limits)?;
         Ok(Core { state })
     }
@@ -84,7 +88,8 @@ impl Core {
     /// `NoMemory` if memory is refused. The world is then as it was, and it doesn't refuse the
     /// event, since `apply` checks refusals first. `takes_no_memory` says which events take none.
     ///
-    /// After any run, the reply and the next world are as the headline says.
+    /// The reply and the next world are as the headline says of each run that leads to the world,
+    /// and `now` says that there is one.
     /// Cost: that of the event's own call; a stat and a usage also take memory for their boxed
     /// replies.
     pub fn apply(&mut self, event: &Event) -> Result<Reply, NoMemory>
@@ -111,12 +116,14 @@ impl Core {
         }
     }
 
-    /// Returns the current moment. Its contract also says that the world is well formed, and that
-    /// its limits are allowed. Each file has a live name, a held version or a draft. So the laws of
-    /// `ele_world` hold.
+    /// Returns the current moment. Its contract also says that events led to the world, from the
+    /// fresh world of limits that are allowed. So the headline holds of its next event, and the laws
+    /// of `ele_world` hold. Three of them are clauses too: the world is well formed, its limits are
+    /// allowed, and each file has a live name, a held version or a draft.
     /// Cost: constant time.
     pub fn now(&self) -> Moment
         ensures value { result ≡ self.now.world.now }
+        ensures reached { IsReached self.now.world }
         ensures formed { IsWellFormed self.now.world }
         ensures bounds { AreBounds self.now.world.limits }
         ensures idle { HasNoIdle self.now.world }

@@ -1,96 +1,31 @@
 //! The events that ask, and other questions. None changes anything.
-ghost use Rattle.std.specs.Prelude.{◌≡◌, ◌<◌, Ok, Err, IfOk, IfErr, map};
-ghost use Rattle.ele_core.specs.Does.{Does, DoesAtOnce, stat_told};
+ghost use Rattle.std.specs.Prelude.{◌≡◌, IfOk, map};
+ghost use Rattle.ele_events.specs.Does.{Does, DoesAtOnce, stat_told};
 ghost use Rattle.ele_model.specs.Due.{is_due};
 ghost use Rattle.ele_model.specs.Restorable.{restorable, triple_of};
 ghost use Rattle.ele_model.specs.Scan.{scan, first_due};
 ghost use Rattle.ele_model.specs.Usage.{usages};
 ghost use Rattle.ele_model.specs.declared.event.Event.TheVariants as event;
-ghost use Rattle.ele_model.specs.declared.event.Source.TheVariants as source;
 ghost use Rattle.ele_model.specs.declared.reply.Reply.TheVariants.{Bytes, NameList, Rows};
-ghost use Rattle.ele_model.specs.declared.rows.Target.TheVariants.{File, Directory};
-ghost use Rattle.ele_model.specs.Told.{stat_of};
-ghost use Rattle.ele_model.specs.World.{next_of};
 
 use crate::Core;
-use crate::halt::{Halt, check};
+use ele_events::{Halt, Stat};
 use ele_model::{
-    ByteList, DeadNameList, DirId, DirectoryRow, FileId, FileStat, GroupList, Handle, Key, KeyList,
-    Name, NameList, NoMemory, PathAt, Reads, Refusal, Source, StampsList, Tag, TaggedPath, Target,
-    Usage, VersionNo, triples_of,
+    ByteList, DeadNameList, DirId, FileId, GroupList, Key, KeyList, Name, NameList, NoMemory,
+    PathAt, Refusal, Source, StampsList, TaggedPath, Target, Usage, VersionNo, triples_of,
 };
-use ele_state::{directory_in, file_in};
-
-/// A file or directory that a path and its tag mean.
-#[derive(Clone, Copy, Debug, PartialEq, Eq)]
-pub enum Stat {
-    /// A version, and the policy that governs its file.
-    File(FileStat),
-    /// A directory, with the default policy of its files.
-    Directory(DirectoryRow),
-}
 
 impl Core {
-    // The bytes that the handle reads.
-    fn read_handle(&self, handle: Handle) -> Result<ByteList, Halt>
-        ensures { Does Bytes
-            self.now.world (event.Read (source.Of handle)) result self.now.world }
-    {
-        let reads = check!(self.state.reads_by(handle));
-        Ok(self.state.bytes_of(reads)?)
-    }
-
-    // The bytes of the version that the path and its tag mean.
-    fn read_version(&self, tagged: &TaggedPath) -> Result<ByteList, Halt>
-        ensures { Does Bytes
-            self.now.world (event.Read (source.Tagged tagged.now)) result self.now.world }
-    {
-        let (file, info) = check!(self.state.version_at(tagged));
-        let reads = Reads::Version(file, info.number);
-        Ok(self.state.bytes_of(reads)?)
-    }
-
     /// Returns the bytes of the version that the path and its tag mean, or of the handle's version
     /// or draft. Refused: `Future`, `NoEntry`, `NotDirectory`, `IsDirectory`, `NoVersion`,
     /// `Forgotten`; `NoHandle`.
     /// Cost: grows with the bytes, which take memory, the path's names or the logarithm of the
     /// handles, and the logarithms of files, versions or drafts. At a moment each look-up of a name
     /// also grows with the logarithm of older name rows.
-    #[inline(never)]
     pub fn read(&self, source: &Source) -> Result<ByteList, Halt>
         ensures { Does Bytes self.now.world (event.Read source.now) result self.now.world }
     {
-        match source {
-            Source::Of(handle) => self.read_handle(*handle),
-            Source::Tagged(tagged) => self.read_version(tagged),
-        }
-    }
-
-    // The stat of the file's version that the tag means.
-    fn stat_file(&self, file: FileId, tag: Tag) -> Result<Stat, Refusal>
-        requires { 0 < next_of self.now.world.files file }
-        ensures ok { IfOk result
-            (λ stat. stat_of self.now.world (File file) tag ≡ Ok (stat_told stat)) }
-        ensures refused { IfErr result
-            (λ refusal. stat_of self.now.world (File file) tag ≡ Err refusal) }
-    {
-        let info = check!(self.state.version_meant(file, tag));
-        let policy = self.state.policy_for(file);
-        Ok(Stat::File(FileStat { file, info, policy }))
-    }
-
-    // The stat of the directory, which has no numbered versions.
-    fn stat_directory(&self, id: DirId, tag: Tag) -> Result<Stat, Refusal>
-        ensures ok { IfOk result
-            (λ stat. stat_of self.now.world (Directory id) tag ≡ Ok (stat_told stat)) }
-        ensures refused { IfErr result
-            (λ refusal. stat_of self.now.world (Directory id) tag ≡ Err refusal) }
-    {
-        if let Tag::Number(_) = tag {
-            return Err(Refusal::IsDirectory);
-        }
-        let default = self.state.default_of(id);
-        Ok(Stat::Directory(DirectoryRow { id, default }))
+        ele_events::read(&self.state, source)
     }
 
     /// Returns what the path and its tag mean, when it was made, how long it is, and its policy.
@@ -99,14 +34,10 @@ impl Core {
     /// Cost: grows with the path's names, each hashed, and the logarithms of the files and the
     /// file's versions. At a moment each look-up of a name also grows with the logarithm of older
     /// name rows.
-    #[inline(never)]
     pub fn stat(&self, tagged: &TaggedPath) -> Result<Stat, Refusal>
         ensures { DoesAtOnce stat_told self.now.world (event.Stat tagged.now) result self.now.world }
     {
-        match check!(self.state.walk_meant(tagged.path(), tagged.tag())) {
-            Target::File(file) => self.stat_file(file, tagged.tag()),
-            Target::Directory(id) => self.stat_directory(id, tagged.tag()),
-        }
+        ele_events::stat_at(&self.state, tagged)
     }
 
     /// Returns the held versions of the file that the path names, or named at its moment. Refused:
@@ -114,13 +45,10 @@ impl Core {
     /// Cost: grows with the file's versions, which take memory in the answer, the path's names, and
     /// the logarithm of the files. At a moment each look-up of a name also grows with the logarithm
     /// of older name rows.
-    #[inline(never)]
     pub fn versions(&self, at: &PathAt) -> Result<StampsList, Halt>
         ensures { Does Rows self.now.world (event.Versions at.now) result self.now.world }
     {
-        let target = check!(self.state.walk_then(at));
-        let file = check!(file_in(target));
-        Ok(self.state.versions(file)?)
+        ele_events::versions(&self.state, at)
     }
 
     /// Returns the names in the directory that the path names, or named at its moment. Refused:
@@ -128,14 +56,10 @@ impl Core {
     /// Cost: grows with all names that the directory ever had, a sort of those in the answer, which
     /// take memory, and the path's names. At a moment each look-up of a name also grows with the
     /// logarithm of older name rows.
-    #[inline(never)]
     pub fn list(&self, at: &PathAt) -> Result<NameList, Halt>
         ensures { Does NameList self.now.world (event.List at.now) result self.now.world }
     {
-        let target = check!(self.state.walk_then(at));
-        let directory = check!(directory_in(target));
-        let moment = at.moment.unwrap_or(self.state.now());
-        Ok(self.state.names_in(directory, moment)?)
+        ele_events::list(&self.state, at)
     }
 
     /// Returns all groups with their files and marks, in order of making.

@@ -8,7 +8,7 @@ use std::fmt;
 
 /// A version and the first moment at which it is due. Keys are ordered by that moment, then by
 /// file, then by number, which is the order of removal. A key is displayed as the three numbers.
-#[derive(Clone, Copy, Debug, PartialEq, Eq, PartialOrd, Ord, Hash)]
+#[derive(Clone, Copy, PartialEq, Eq, PartialOrd, Ord)]
 pub struct Key {
     /// The first moment at which the version is due.
     pub ripe: Moment,

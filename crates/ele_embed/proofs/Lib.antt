@@ -1,2 +1,3 @@
+pub mod DueKeys
 pub mod Faults
 pub mod Lines

@@ -14,7 +14,7 @@ use Rattle.ele_script.specs.declared.reading.Question.TheVariants as question
 
 pub hears_event : (before after : World) (last : Option Reply) (line : List ℕ) (event : Event) (said : Said) → Asks true line (asks.Event event) → Steps before event said after last → Answers before line said after last
 hears_event before after last line event Replied asked steps = (event, asked, steps)
-hears_event before after last line event (Stopped stop) asked steps = (steps.0, as_taken event asked steps.2, steps.1)
+hears_event before after last line event (Stopped stop) asked steps = (steps.stop_is, as_taken event asked steps.takes steps.accepted, steps.world)
 hears_event before after last line event said asked steps = absurd steps
 
 pub hears_question : (w : World) (last : Option Reply) (line : List ℕ) (question : Question) (said : Said) → Asks true line (asks.Question question) → ExplainsPlain w question said → Answers w line said w last

@@ -1,8 +1,9 @@
 -- What a store answers to a line of the script language, and the state after it.
-use Rattle.std.specs.Prelude.{◌≡◌, ◌⊎◌, ◌≤◌, ℕ, true, false, List, [], ◌∷◌, Option, Some, None}
+use Rattle.std.specs.Prelude.{◌≡◌, ◌⊎◌, ℕ, true, false, List, [], ◌∷◌, Option, Some, None}
 use Rattle.ele_core.specs.Stopped.{is_stopped}
 use Rattle.ele_embed.specs.Embedding.{State, Plain, Recorded}
-use Rattle.ele_embed.specs.Takes.{Steps}
+use Rattle.ele_embed.specs.Takes.{SaysKeys, Steps, TakesKeys}
+use Rattle.ele_events.specs.Does.{refuses}
 use Rattle.ele_history.specs.Past.{Past}
 use Rattle.ele_model.specs.Pass.{EndsPass}
 use Rattle.ele_model.specs.World.{World}
@@ -12,8 +13,8 @@ use Rattle.ele_model.specs.declared.reply.Reply.{Reply}
 use Rattle.ele_printer.specs.declared.fault.LineFault.{LineFault}
 use Rattle.ele_printer.specs.declared.fault.LineFault.TheVariants.{Syntax, LineTooLong}
 use Rattle.ele_runs.specs.LineLength.{line_unless_long}
-use Rattle.ele_runs.specs.Said.{HearsKept, SaysAhead}
-use Rattle.ele_runs.specs.declared.options.RunOptions.{RunOptions}
+use Rattle.ele_runs.specs.Said.{HearsKept}
+use Rattle.ele_run_options.specs.declared.options.RunOptions.{RunOptions}
 use Rattle.ele_runs.specs.declared.said.Said.{Said}
 use Rattle.ele_runs.specs.declared.said.Said.TheVariants.{Nothing, Bad, Stopped, Replied, Passed, Why, Ahead}
 use Rattle.ele_script.specs.FirstFault.{IsFirstFault}
@@ -45,16 +46,16 @@ IsPlainFault line fault = IsFirstFault true line fault ⊎ ((fault ≡ Syntax) �
 abbrev pub ExplainsPlain : World → Question → Said → Type 0
 ExplainsPlain w (question.Why tagged) (Why told) = IsWhy w tagged told
 ExplainsPlain w (question.Why tagged) said = ⊥
-ExplainsPlain w (question.Ahead moment) said = SaysAhead w moment said
+ExplainsPlain w (question.Ahead moment) said = SaysKeys w moment said
 ExplainsPlain w question.Gone said = said ≡ Bad Syntax
 ExplainsPlain w question.Handles said = said ≡ Bad Syntax
 ExplainsPlain w question.Answers said = said ≡ Bad Syntax
 
--- without a history a line may take memory: to be read, for its event, or for the keys that will be due at a moment that hasn't passed
+-- without a history a line may take memory: to be read, for an event that isn't refused, or for the keys that will be due
 pub data LineTakesMemory (before : World) (line : List ℕ) : Type 0 where
   as_read : TakesMemory true (words_of line) → LineTakesMemory before line
-  as_taken : (event : Event) → Asks true line (asks.Event event) → takes_no_memory event ≡ false → LineTakesMemory before line
-  as_told : (moment : ℕ) → Asks true line (asks.Question (question.Ahead moment)) → before.now ≤ moment → LineTakesMemory before line
+  as_taken : (event : Event) → Asks true line (asks.Event event) → takes_no_memory event ≡ false → refuses before event ≡ false → LineTakesMemory before line
+  as_told : (moment : ℕ) → Asks true line (asks.Question (question.Ahead moment)) → TakesKeys before moment → LineTakesMemory before line
 
 -- without a history the answer to a line is its fault, the step's answer to its event, the end of its pass, or its explanation,
 -- which changes nothing; memory may stop it if it takes memory

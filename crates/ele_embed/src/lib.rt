@@ -2,7 +2,7 @@
 //! A contract sees the world or the history, the last answer, and the last text.
 #![tactic(auto)]
 
-ghost use Rattle.std.specs.Prelude.{◌≡◌, [], Some, None, true, false, IfOk, OnOk, OnErr};
+ghost use Rattle.std.specs.Prelude.{◌≡◌, ◌≢◌, [], Some, None, true, false, IfOk, OnOk, OnErr};
 ghost use Rattle.std.specs.Option.{option_copied};
 ghost use Rattle.ele_embed.specs.Embedding.{Plain, Recorded, fresh_plain, fresh_recorded, reply_of, world_in, past_in};
 ghost use Rattle.ele_embed.specs.Hears.{Hears};
@@ -11,9 +11,11 @@ ghost use Rattle.ele_embed.specs.Takes.{CopiesRead, Runs, Passes, FoldsOrNot, Te
 ghost use Rattle.ele_embed.specs.Text.{IsTold, IsRunBlock};
 ghost use Rattle.ele_runs.specs.declared.said.Said.TheVariants as said;
 
+mod ahead;
 mod keeper;
 mod plain;
 
+use crate::ahead::keys_ahead;
 use crate::keeper::Keeper;
 use crate::plain::Plain;
 pub use ele_core::Copied;
@@ -22,7 +24,6 @@ use ele_history::History;
 use ele_model::{Event, Limits, Moment, NoMemory, PassEnd, Refusal, Reply, Source, TaggedPath};
 use ele_output::{Printer, WriteFault};
 pub use ele_runs::Said;
-use ele_runs::hear_ahead;
 use ele_script::LineFault;
 use std::alloc::Global;
 use std::marker::Model;
@@ -124,14 +125,15 @@ impl Store {
         }
     }
 
-    /// Answers which versions will be due at a moment, or with the fault in its place. The store stays.
+    /// Answers which versions will be due at a moment, or with the fault in its place. The store stays. It
+    /// takes no memory if the moment is now and nothing is due.
     pub fn ahead(&mut self, asked: Result<Moment, LineFault>)
         ensures ahead { TellsAhead (world_in self.old.state) asked self.new.said }
         ensures state { self.new.state ≡ self.old.state }
         ensures answer { self.new.answer ≡ self.old.answer }
     {
         match asked {
-            Ok(moment) => self.said = hear_ahead(moment, self.keeper.core()),
+            Ok(moment) => self.said = keys_ahead(self.alloc, moment, self.keeper.core()),
             Err(fault) => self.said = Said::Bad(fault),
         }
     }
@@ -147,13 +149,15 @@ impl Store {
 
     /// Runs a line of the script language, without its line feed, and makes the text of its answer.
     ///
-    /// `WriteFault` if memory for the text is refused. Then the text is empty, but the line was run.
+    /// `WriteFault` if memory for the text is refused. Then the text is empty, but the line was run. An
+    /// empty line has no answer, and so no fault.
     pub fn line(&mut self, line: &[u8]) -> Result<(), WriteFault>
         ensures hears { Hears self.old.state line.now self.new.said self.new.state }
         ensures told { OnOk result (IsTold self.new.state self.new.said self.new.answer) }
         ensures block { OnOk result
             (IsRunBlock self.old.state line.now self.new.state self.new.answer) }
         ensures err { OnErr result (self.new.answer ≡ []) }
+        ensures untold { OnErr result (self.new.said ≢ said.Nothing) }
     {
         self.hear(line);
         self.tell()
@@ -168,14 +172,19 @@ impl Store {
 
     /// Makes the text of the last answer.
     ///
-    /// `WriteFault` if memory for it is refused. Then the text is empty.
+    /// `WriteFault` if memory for it is refused. Then the text is empty. If there was no answer, there is
+    /// no fault.
     pub fn tell(&mut self) -> Result<(), WriteFault>
         ensures told { OnOk result (IsTold self.old.state self.old.said self.new.answer) }
         ensures err { OnErr result (self.new.answer ≡ []) }
+        ensures untold { OnErr result (self.old.said ≢ said.Nothing) }
         ensures state { self.new.state ≡ self.old.state }
         ensures said { self.new.said ≡ self.old.said }
     {
         self.answer.clear();
+        if matches!(self.said, Said::Nothing) {
+            return Ok(());
+        }
         match write_said(&self.said, &self.keeper, &mut self.answer) {
             Ok(()) => Ok(()),
             Err(fault) => {

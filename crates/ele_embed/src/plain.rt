@@ -8,9 +8,10 @@ ghost use Rattle.ele_model.specs.Pass.{EndsPass};
 ghost use Rattle.ele_model.specs.World.{fresh_world};
 ghost use Rattle.ele_runs.specs.LineLength.{line_unless_long};
 
+use crate::ahead::keys_ahead;
 use ele_core::Core;
 use ele_model::{Event, Limits, NoMemory, PassEnd, Reply, Stop};
-use ele_runs::{Said, hear_ahead, kept_line};
+use ele_runs::{Said, kept_line};
 use ele_script::{Line, LineFault, Question, read_line_in};
 use std::alloc::Global;
 
@@ -76,7 +77,7 @@ impl Plain {
             Ok(Line::Pass(budget)) => Said::Passed(self.pass(budget)),
             Ok(Line::History) => Said::Bad(LineFault::Syntax),
             Ok(Line::Trim) => Said::Bad(LineFault::Syntax),
-            Ok(Line::Question(question)) => explain(&question, &self.core),
+            Ok(Line::Question(question)) => explain(alloc, &question, &self.core),
             Err(fault) => match fault {
                 LineFault::NoMemory => Said::Stopped(Stop::NoMemory),
                 _ => Said::Bad(fault),
@@ -100,12 +101,12 @@ impl Plain {
 }
 
 // Answers a question without a history.
-fn explain(question: &Question, core: &Core) -> Said
+fn explain(alloc: Global, question: &Question, core: &Core) -> Said
     ensures { ExplainsPlain core.now.world question.now result }
 {
     match question {
         Question::Why(tagged) => Said::Why(core.fate_at(tagged)),
-        Question::Ahead(moment) => hear_ahead(*moment, core),
+        Question::Ahead(moment) => keys_ahead(alloc, *moment, core),
         Question::Gone | Question::Handles | Question::Answers => Said::Bad(LineFault::Syntax),
     }
 }

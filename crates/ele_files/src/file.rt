@@ -11,7 +11,7 @@ use ele_moment::{FileId, Moment, VersionNo};
 use ele_policy::Policy;
 
 /// A new version of a file: its number, and its length in bytes.
-#[derive(Clone, Copy, Debug)]
+#[derive(Clone, Copy)]
 pub struct NewVersion {
     pub number: VersionNo,
     pub length: u64,

@@ -40,7 +40,7 @@ use std::alloc::Global;
 use std::marker::Model;
 
 /// What a removed version leaves.
-#[derive(Clone, Copy, Debug)]
+#[derive(Clone, Copy)]
 pub struct RemovedVersion {
     /// The kind of the file's policy.
     pub kind: Kind,

@@ -2,6 +2,8 @@
 mod Words
 -- a version with a next one
 mod Followed
+-- why a version without a ripe moment stays, by its age
+mod Ages
 -- the version of a closing
 mod Lives
 -- closings that never fall

@@ -4,7 +4,7 @@ pub use Rattle.ele_model.proofs.Basics.{all-weaker, all-both, later-push, filter
 pub use Rattle.ele_lists.proofs.Cuts.{find-at}
 pub use Rattle.ele_policy.specs.Rule.{meets_floor}
 pub use Rattle.ele_policy.specs.RipeCase.{counts_newer}
-pub use Rattle.ele_policy.specs.Ripe.{Beside, candidates, earliest_of, is_due_by}
+pub use Rattle.ele_policy.specs.Ripe.{Beside, candidates, earliest_of, is_due_by, lets_go}
 pub use Rattle.ele_policy.specs.RipeCase.{IsBeside, IsRipe, alone, case_of, ripe_case}
 pub use Rattle.ele_policy.specs.declared.policy.Policy.{Policy}
 pub use Rattle.ele_policy.specs.declared.rule.Case.{Case}
@@ -12,7 +12,7 @@ pub use Rattle.ele_policy.specs.declared.policy.Policy.TheVariants.{One, All, Sa
 pub use Rattle.ele_model.specs.declared.rows.VersionRow.{VersionRow}
 pub use Rattle.ele_model.specs.FileView.{FileView, beside, closings, due_in, is_newer, ripe_in}
 pub use Rattle.ele_model.specs.RipeRows.{is_numbered}
-pub use Rattle.ele_forecast.specs.Followed.{IsFollowed}
+pub use Rattle.ele_forecast.specs.Followed.{GoesAtSome, IsFollowed, StaysAtAll, StaysFor}
 pub use Rattle.ele_forecast.specs.FileOf.{IsFileOf, Life, life_of, lives_from}
 pub use Rattle.ele_forecast.specs.ForecastOf.{IsReasonOf, IsForecastOf, TellsOf}
 pub use Rattle.ele_forecast.specs.declared.forecast.Forecast.{Forecast}
@@ -28,3 +28,4 @@ pub use Rattle.ele_model.specs.Due.{is_due_at, kept_rows}
 pub use Rattle.ele_forecast.specs.Stays.{AreKept, come_by, numbers_of}
 pub use Rattle.ele_forecast.specs.StaysBehind.{goes, kept_from}
 pub use Rattle.ele_forecast.specs.declared.forecast.Why.{Why}
+pub use Rattle.ele_forecast.specs.declared.forecast.Why.TheVariants.{Current, Never, AfterLast, Goes}

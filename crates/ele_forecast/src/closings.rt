@@ -27,7 +27,7 @@ pub enum NotClosed {
 
 /// The moments at which a file closed, in order: version 1 closed at the first. Several may be one
 /// moment.
-#[derive(Debug, Drop)]
+#[derive(Drop)]
 pub struct Closings {
     moments: Vec<Moment>,
 }

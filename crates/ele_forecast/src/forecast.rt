@@ -4,11 +4,11 @@ ghost use Rattle.std.specs.Prelude.{◌≡◌, ◌≤◌, ℕ, ◌<◌, ◌+◌,
 ghost use Rattle.ele_lists.specs.Lists.{AllLater};
 ghost use Rattle.ele_policy.specs.Cause.{IsCause};
 ghost use Rattle.ele_policy.specs.Rule.{meets_floor};
-ghost use Rattle.ele_policy.specs.RipeCase.{alone, ripe_by};
+ghost use Rattle.ele_policy.specs.RipeCase.{alone, case_of, ripe_by};
 ghost use Rattle.ele_policy.specs.declared.cause.Newer.{Newer};
 ghost use Rattle.ele_model.specs.FileView.{FileView};
 ghost use Rattle.ele_model.specs.declared.rows.VersionRow.{VersionRow};
-ghost use Rattle.ele_forecast.specs.Followed.{IsFollowed};
+ghost use Rattle.ele_forecast.specs.Followed.{IsFollowed, StaysFor};
 ghost use Rattle.ele_forecast.specs.StaysBehind.{goes};
 ghost use Rattle.ele_forecast.specs.ForecastOf.{TellsOf};
 
@@ -16,18 +16,20 @@ use ele_moment::{Moment, NoMemory, VersionNo};
 use ele_policy::{Cause, Newer, Policy, cause_of, ripe};
 
 /// Why a version is due from a moment on, or why it never is.
-#[derive(Clone, Copy, Debug, PartialEq, Eq)]
+#[derive(Clone, Copy, PartialEq, Eq)]
 pub enum Why {
     /// It has no end.
     Current,
-    /// Its policy never lets it go, not before the last moment, or not with so few newer ones.
+    /// Its policy keeps it beside these newer ones, however long ago it ended.
     Never,
+    /// Its policy lets it go at an age that it reaches only after the last moment.
+    AfterLast,
     /// Its policy lets it go from its ripe moment on.
     Goes(Cause),
 }
 
 /// A version of a file: when it closed and ended, and the moment from which it is due.
-#[derive(Clone, Copy, Debug, PartialEq, Eq)]
+#[derive(Clone, Copy, PartialEq, Eq)]
 pub struct Forecast {
     pub number: VersionNo,
     pub closed: Moment,
@@ -115,6 +117,20 @@ fn meets_floor(policy: &Policy, newer: usize) -> bool
     policy.floor().number() <= newer as u64
 }
 
+// Why a version without a ripe moment stays. A version that ended at the first moment reaches every
+// age by the last one.
+fn why_never(policy: &Policy, closed: Moment, next_closed: Moment, floor_met: bool) -> Why
+    ensures { StaysFor (case_of policy.now closed (Some next_closed) floor_met) result }
+{
+    match ripe(policy, closed, Moment::START, Some(next_closed), floor_met) {
+        Some(age) => {
+            age.lemma_in_range();
+            Why::AfterLast
+        }
+        None => Why::Never,
+    }
+}
+
 /// The forecast of a version that ended as the next one closed. That one is the first of so many
 /// newer ones.
 pub(crate) fn followed(
@@ -139,7 +155,10 @@ pub(crate) fn followed(
             let cause = cause(policy, closed, ended, moment, number.after());
             told(number, closed, Some(ended), Some(moment), Why::Goes(cause))
         }
-        None => told(number, closed, Some(ended), None, Why::Never),
+        None => {
+            let why = why_never(policy, closed, ended, floor_met);
+            told(number, closed, Some(ended), None, why)
+        }
     }
 }
 

@@ -1,5 +1,5 @@
 -- The bytes of the words of a line.
-use Rattle.std.proofs.Common.{◌≡◌, ℕ, List, [], ◌∷◌, ◌++◌, length, Option, refl, sym, ap, ◌∙◌, append_assoc}
+use Rattle.std.proofs.Common.{◌≡◌, ℕ, List, [], ◌∷◌, ◌++◌, length, refl, sym, ap, ◌∙◌, append_assoc}
 use Rattle.std.proofs.lemmas.List.{append-nil}
 use Rattle.std.specs.List.{IsFirstAndRest, flat_map, join_with_byte}
 use Rattle.std.specs.Prelude.{codes, decimal}
@@ -15,7 +15,7 @@ use Rattle.ele_policy.specs.declared.cause.Cause.TheVariants.{AtOnce, Age, Displ
 use Rattle.ele_policy.specs.declared.policy.Policy.{Policy}
 use Rattle.ele_forecast.specs.declared.forecast.Forecast.{Forecast}
 use Rattle.ele_forecast.specs.declared.forecast.Why.{Why}
-use Rattle.ele_forecast.specs.declared.forecast.Why.TheVariants.{Current, Never, Goes}
+use Rattle.ele_forecast.specs.declared.forecast.Why.TheVariants.{Current, Never, AfterLast, Goes}
 use Rattle.ele_forecast_text.specs.declared.details.Details.{Details}
 
 -- joined words are the first, and then a space and the word for each other
@@ -33,12 +33,13 @@ pub displaced : (by width : ℕ) → codes "version" ++ spaced (decimal by ∷ c
 displaced by width = sym (joined (codes "version") (decimal by ∷ codes "closed in the same" ∷ span_words width))
 
 -- a reason has a word, so it is a space and its words
-pub why_spaced : (policy : Policy) (ended : Option ℕ) (why : Why) → spaced (why_words policy ended why) ≡ 32 ∷ join_with_byte 32 (why_words policy ended why)
-why_spaced policy ended Current = refl
-why_spaced policy ended Never = sym (ap (λ (rest : List ℕ). 32 ∷ rest) (joined (never_word policy ended) []))
-why_spaced policy ended (Goes AtOnce) = refl
-why_spaced policy ended (Goes (Age seconds)) = sym (ap (λ (rest : List ℕ). 32 ∷ rest) (joined (codes "ended for") (length_words seconds)))
-why_spaced policy ended (Goes (Displaced level by)) =
+pub why_spaced : (policy : Policy) (why : Why) → spaced (why_words policy why) ≡ 32 ∷ join_with_byte 32 (why_words policy why)
+why_spaced policy Current = refl
+why_spaced policy Never = sym (ap (λ (rest : List ℕ). 32 ∷ rest) (joined (never_word policy) []))
+why_spaced policy AfterLast = refl
+why_spaced policy (Goes AtOnce) = refl
+why_spaced policy (Goes (Age seconds)) = sym (ap (λ (rest : List ℕ). 32 ∷ rest) (joined (codes "ended for") (length_words seconds)))
+why_spaced policy (Goes (Displaced level by)) =
     sym (ap (λ (rest : List ℕ). 32 ∷ rest) (joined (codes "version") (decimal by ∷ codes "closed in the same" ∷ span_words (width_at policy level))))
 
 -- words after others
@@ -57,10 +58,10 @@ line_parts first words = ap (λ (line : List ℕ). line ++ 10 ∷ []) (joined fi
 
 -- the moments and the reason of a version, in parts
 pub told_parts : (policy : Policy) (told : Forecast) → spaced (told_words policy told) ++ 10 ∷ []
-    ≡ spaced (stamp_of told.closed ∷ stamp_or told.ended ∷ stamp_or told.ripe ∷ []) ++ (spaced (why_words policy told.ended told.why) ++ 10 ∷ [])
+    ≡ spaced (stamp_of told.closed ∷ stamp_or told.ended ∷ stamp_or told.ripe ∷ []) ++ (spaced (why_words policy told.why) ++ 10 ∷ [])
 told_parts policy told =
     let moments = stamp_of told.closed ∷ stamp_or told.ended ∷ stamp_or told.ripe ∷ [] in
-    let why = why_words policy told.ended told.why in
+    let why = why_words policy told.why in
     ap (λ (r : List ℕ). r ++ 10 ∷ []) (spaced_both moments why) ∙ append_assoc (spaced moments) (spaced why) (10 ∷ [])
 
 -- the line of a version in its parts

@@ -6,3 +6,5 @@ mod Dates
 mod Marks
 -- plans, one after another
 mod Plans
+-- what is folded of the items of a list that are left
+pub mod Folds

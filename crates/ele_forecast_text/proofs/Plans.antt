@@ -1,6 +1,5 @@
 -- Plans, one after another.
 use Rattle.std.proofs.Common.{◌≡◌, ℕ, zero, suc, ◌+◌, ◌<◌, List, [], ◌∷◌, ◌++◌, length, take, get_or, subst, arith}
-use Rattle.std.specs.List.{AllZip}
 use Rattle.ele_policy.specs.declared.policy.Policy.{Policy}
 use Rattle.ele_forecast_text.specs.Plan.{ArePlans, IsPlanOf}
 use Rattle.ele_forecast_text.specs.declared.plan.Plan.{Plan}

@@ -5,3 +5,4 @@ pub mod Labels
 pub mod Details
 pub mod Marked
 pub mod Plan
+pub mod Reach

@@ -1,8 +1,9 @@
 -- The fates of a file's versions under policies.
-use Rattle.std.specs.Prelude.{◌≡◌, ℕ, List}
+use Rattle.std.specs.Prelude.{◌≡◌, ℕ, List, [], ◌∷◌}
 use Rattle.std.specs.List.{AllZip}
 use Rattle.ele_policy.specs.declared.policy.Policy.{Policy}
 use Rattle.ele_forecast.specs.ForecastOf.{AreForecasts}
+use Rattle.ele_forecast.specs.declared.forecast.Forecast.{Forecast}
 use Rattle.ele_forecast_text.specs.Table.{AreStayings}
 use Rattle.ele_forecast_text.specs.declared.plan.Plan.{Plan}
 
@@ -15,3 +16,8 @@ pub record IsPlanOf (policy : Policy) (closings moments : List ℕ) (plan : Plan
 -- a plan for each of the policies, in their order
 abbrev pub ArePlans : List Policy → List ℕ → List ℕ → List Plan → Type 0
 ArePlans policies closings moments plans = AllZip (λ policy plan. IsPlanOf policy closings moments plan) policies plans
+
+-- the versions, as the first of the plans has them; all plans are of the same versions
+abbrev pub versions_of : List Plan → List Forecast
+versions_of [] = []
+versions_of (plan ∷ plans) = plan.forecasts.items

@@ -18,7 +18,7 @@ heading details = line_text (codes "version" ∷ (detail_headings details ++ cod
 -- the words of a version: when it closed, ended and becomes due, and why
 abbrev pub told_words : Policy → Forecast → List (List ℕ)
 told_words policy told =
-    stamp_of told.closed ∷ stamp_or told.ended ∷ stamp_or told.ripe ∷ why_words policy told.ended told.why
+    stamp_of told.closed ∷ stamp_or told.ended ∷ stamp_or told.ripe ∷ why_words policy told.why
 
 -- the line of a version: its number, its moments and the reason
 abbrev pub table_line : Policy → Forecast → List ℕ

@@ -1,15 +1,14 @@
 -- Why a version becomes due or stays, in words.
-use Rattle.std.specs.Prelude.{ℕ, ◌+◌, ◌/◌, ◌%◌, ◌==◌, nat_le, Bool, false, List, [], ◌∷◌, codes, decimal, Option, if◌then◌else◌}
+use Rattle.std.specs.Prelude.{ℕ, ◌/◌, ◌%◌, ◌==◌, List, [], ◌∷◌, codes, decimal, if◌then◌else◌}
 use Rattle.std.specs.List.{flat_map}
 use Rattle.std.specs.Option.{option_map_or}
-use Rattle.ele_moment.specs.Last.{last_moment}
 use Rattle.ele_policy.specs.Ladder.{Rung, rung_at}
 use Rattle.ele_policy.specs.declared.cause.Cause.{Cause}
 use Rattle.ele_policy.specs.declared.cause.Cause.TheVariants.{AtOnce, Age, Displaced}
 use Rattle.ele_policy.specs.declared.policy.Policy.{Policy}
 use Rattle.ele_policy.specs.declared.policy.Policy.TheVariants as policy
 use Rattle.ele_forecast.specs.declared.forecast.Why.{Why}
-use Rattle.ele_forecast.specs.declared.forecast.Why.TheVariants.{Current, Never, Goes}
+use Rattle.ele_forecast.specs.declared.forecast.Why.TheVariants.{Current, Never, AfterLast, Goes}
 use Rattle.ele_forecast_text.specs.declared.unit.TimeUnit.{TimeUnit}
 use Rattle.ele_forecast_text.specs.declared.unit.TimeUnit.TheVariants.{Day, Hour, Minute, Second}
 
@@ -58,16 +57,12 @@ abbrev pub width_at : Policy → ℕ → ℕ
 width_at (policy.Landmarks rungs) level = width_of rungs level
 width_at other level = 0
 
--- there is an end, and the end plus the seconds is at most the last moment
-abbrev pub is_in_time : Option ℕ → ℕ → Bool
-is_in_time ended seconds = option_map_or (λ e. nat_le (e + seconds) last_moment) ended false
-
--- why a version that ended then never becomes due
-abbrev pub never_word : Policy → Option ℕ → List ℕ
-never_word policy.All ended = codes "all are kept"
-never_word (policy.Landmarks rungs) ended = codes "kept as a landmark"
-never_word (policy.Safe seconds floor) ended = if is_in_time ended seconds then codes "kept by the floor" else codes "not before the year 10000"
-never_word policy.One ended = codes "not before the year 10000"
+-- why the policy keeps a version at each age; Keep One keeps none that has ended
+abbrev pub never_word : Policy → List ℕ
+never_word policy.One = codes "kept"
+never_word policy.All = codes "all are kept"
+never_word (policy.Safe seconds floor) = codes "kept by the floor"
+never_word (policy.Landmarks rungs) = codes "kept as a landmark"
 
 -- why a version becomes due
 abbrev pub cause_words : Policy → Cause → List (List ℕ)
@@ -76,10 +71,11 @@ cause_words policy (Age seconds) = codes "ended for" ∷ length_words seconds
 cause_words policy (Displaced level by) =
     codes "version" ∷ decimal by ∷ codes "closed in the same" ∷ span_words (width_at policy level)
 
-abbrev pub why_words : Policy → Option ℕ → Why → List (List ℕ)
-why_words policy ended Current = codes "current" ∷ []
-why_words policy ended Never = never_word policy ended ∷ []
-why_words policy ended (Goes cause) = cause_words policy cause
+abbrev pub why_words : Policy → Why → List (List ℕ)
+why_words policy Current = codes "current" ∷ []
+why_words policy Never = never_word policy ∷ []
+why_words policy AfterLast = codes "not before the year 10000" ∷ []
+why_words policy (Goes cause) = cause_words policy cause
 
 -- a space (32) and the word, for each word
 abbrev pub spaced : List (List ℕ) → List ℕ

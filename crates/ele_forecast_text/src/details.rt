@@ -13,14 +13,14 @@ use itoa::Buffer;
 use std::io::Write;
 
 /// Which columns the lines of the input have besides their moments.
-#[derive(Clone, Copy, Debug, PartialEq, Eq)]
+#[derive(Clone, Copy, PartialEq, Eq)]
 pub struct Columns {
     pub labels: bool,
     pub sizes: bool,
 }
 
 /// What the input says of versions besides their moments. A column that it lacks has no elements.
-#[derive(Debug, Drop)]
+#[derive(Drop)]
 pub struct Details {
     pub columns: Columns,
     /// The label of each version.

@@ -10,7 +10,7 @@ use itoa::Buffer;
 use std::io::Write;
 
 /// The name that another tool gives a version.
-#[derive(Debug, Drop)]
+#[derive(Drop)]
 pub struct Label {
     pub text: Vec<u8>,
 }

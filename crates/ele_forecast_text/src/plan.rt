@@ -1,6 +1,6 @@
 //! Plans: the fates of a file's versions under a policy. A contract sees a plan as itself.
-ghost use Rattle.std.specs.Prelude.{◌≢◌, ◌⊎◌, [], IfOk, OnErr};
-ghost use Rattle.ele_forecast_text.specs.Plan.{ArePlans, IsPlanOf};
+ghost use Rattle.std.specs.Prelude.{◌≡◌, ◌≢◌, ◌⊎◌, [], IfOk, OnErr};
+ghost use Rattle.ele_forecast_text.specs.Plan.{ArePlans, IsPlanOf, versions_of};
 
 use crate::staying::{Staying, staying_at};
 use ele_forecast::{Closings, Forecast};
@@ -9,13 +9,23 @@ use ele_policy::Policy;
 use std::alloc::Global;
 
 /// The fates of a file's versions under a policy.
-#[derive(Debug, Drop)]
+#[derive(Drop)]
 pub struct Plan {
     pub policy: Policy,
     /// A forecast of each version.
     pub forecasts: Vec<Forecast>,
     /// The versions that stay, for each of some moments.
     pub stayings: Vec<Staying>,
+}
+
+/// Returns the versions of plans, as the first of them has them.
+pub fn versions_of(plans: &[Plan]) -> &[Forecast]
+    ensures { result.now ≡ versions_of plans.now }
+{
+    match plans.first() {
+        Some(plan) => plan.forecasts.as_slice(),
+        None => &[],
+    }
 }
 
 /// Returns the plan of the versions with these closings under a policy, and of the versions that stay

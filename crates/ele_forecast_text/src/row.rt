@@ -71,7 +71,7 @@ fn put_told<W: Write>(policy: &Policy, forecast: &Forecast, printer: &mut Printe
         (spaced (told_words policy.now forecast.now) ++ 10 ∷ []) }
 {
     put_moments(forecast, printer);
-    put_why(policy, forecast.ended, forecast.why, printer);
+    put_why(policy, forecast.why, printer);
     printer.put(b"\n");
 }
 

@@ -8,7 +8,7 @@ use ele_policy::Policy;
 use std::alloc::Global;
 
 /// The versions that stay at a moment.
-#[derive(Debug, Drop)]
+#[derive(Drop)]
 pub struct Staying {
     pub at: Moment,
     pub numbers: Vec<VersionNo>,

@@ -3,7 +3,7 @@ ghost use Rattle.std.specs.Prelude.{◌≡◌, ◌<◌};
 ghost use Rattle.ele_forecast_text.specs.Why.{count_of, many_word, one_word, unit_of, unit_seconds};
 
 /// A unit of time. A span of a week or a year is printed in days.
-#[derive(Clone, Copy, Debug, PartialEq, Eq)]
+#[derive(Clone, Copy, PartialEq, Eq)]
 pub(crate) enum TimeUnit {
     Day,
     Hour,

@@ -3,42 +3,32 @@
 ghost use Rattle.std.specs.Prelude.{◌≡◌, ◌∷◌, ◌++◌, codes, decimal};
 ghost use Rattle.std.specs.List.{join_with_byte};
 ghost use Rattle.ele_output.specs.Prints.{Prints};
-ghost use Rattle.ele_forecast_text.specs.Why.{cause_words, is_in_time, length_words, never_word, spaced, span_words, width_at, width_of, why_words};
+ghost use Rattle.ele_forecast_text.specs.Why.{cause_words, length_words, never_word, spaced, span_words, width_at, width_of, why_words};
 
 use crate::unit::{count_of, unit_of};
 use ele_forecast::Why;
-use ele_moment::Moment;
 use ele_output::{Printer, put_words};
 use ele_policy::{Cause, Policy};
 use itoa::Buffer;
 use std::io::Write;
 
 /// Prints a space and the reason.
-pub(crate) fn put_why<W: Write>(
-    policy: &Policy,
-    ended: Option<Moment>,
-    why: Why,
-    printer: &mut Printer<'_, W>,
-)
-    ensures { Prints W.contents printer.old printer.new (spaced (why_words policy.now ended why)) }
+pub(crate) fn put_why<W: Write>(policy: &Policy, why: Why, printer: &mut Printer<'_, W>)
+    ensures { Prints W.contents printer.old printer.new (spaced (why_words policy.now why)) }
 {
     printer.put_byte(b' ');
-    put_reason(policy, ended, why, printer);
+    put_reason(policy, why, printer);
 }
 
 /// Prints why a version becomes due or stays, in words with a space between each two.
-pub fn put_reason<W: Write>(
-    policy: &Policy,
-    ended: Option<Moment>,
-    why: Why,
-    printer: &mut Printer<'_, W>,
-)
+pub fn put_reason<W: Write>(policy: &Policy, why: Why, printer: &mut Printer<'_, W>)
     ensures { Prints W.contents printer.old printer.new
-        (join_with_byte 32 (why_words policy.now ended why)) }
+        (join_with_byte 32 (why_words policy.now why)) }
 {
     match why {
         Why::Current => printer.put(b"current"),
-        Why::Never => printer.put(never_word(policy, ended)),
+        Why::Never => printer.put(never_word(policy)),
+        Why::AfterLast => printer.put(b"not before the year 10000"),
         Why::Goes(cause) => put_cause(policy, cause, printer),
     }
 }
@@ -55,25 +45,15 @@ fn put_cause<W: Write>(policy: &Policy, cause: Cause, printer: &mut Printer<'_, 
     }
 }
 
-// Returns why a version that ended then never becomes due.
-fn never_word(policy: &Policy, ended: Option<Moment>) -> &'static [u8]
-    ensures { result.now ≡ never_word policy.now ended }
+// Returns why the policy keeps a version at each age. `One` keeps none that has ended.
+fn never_word(policy: &Policy) -> &'static [u8]
+    ensures { result.now ≡ never_word policy.now }
 {
     match policy {
+        Policy::One => b"kept",
         Policy::All => b"all are kept",
+        Policy::Safe(_, _) => b"kept by the floor",
         Policy::Landmarks(_) => b"kept as a landmark",
-        Policy::Safe(interval, _) if is_in_time(ended, interval.seconds()) => b"kept by the floor",
-        Policy::One | Policy::Safe(_, _) => b"not before the year 10000",
-    }
-}
-
-// Whether the end plus the seconds is at most the last moment. False if there is no end.
-fn is_in_time(ended: Option<Moment>, seconds: u64) -> bool
-    ensures { result ≡ is_in_time ended seconds }
-{
-    match ended {
-        Some(ended) => ended.plus(seconds).is_some(),
-        None => false,
     }
 }
 

@@ -11,7 +11,7 @@ use std::collections::HashMap;
 
 /// A group that has a file: its name, and its place when it got the file. The place changes only
 /// after an earlier group was dropped.
-#[derive(Clone, Copy, Debug)]
+#[derive(Clone, Copy)]
 pub struct Membership {
     pub name: Name,
     pub place: usize,

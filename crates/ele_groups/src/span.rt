@@ -2,7 +2,7 @@
 use ele_moment::{Moment, Name};
 
 /// A mark of one group, or all its marks, to leave out.
-#[derive(Clone, Copy, Debug)]
+#[derive(Clone, Copy)]
 pub struct Except {
     pub name: Name,
     pub mark: Option<Moment>,
@@ -10,7 +10,7 @@ pub struct Except {
 
 /// The time in which a version was current, from `closed` until `ended` or until now, and which
 /// marks of that time to leave out.
-#[derive(Clone, Copy, Debug)]
+#[derive(Clone, Copy)]
 pub struct Span {
     pub closed: Moment,
     pub ended: Option<Moment>,

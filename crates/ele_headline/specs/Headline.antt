@@ -35,7 +35,6 @@ pub record GivesRow (now : World) (event : Event) (reply : Reply) (row : Version
 
 -- A run from the fresh world of any limits. Any events, with cleans anywhere among them, lead to the past world, and any later events to
 -- the present world.
--- present one.
 module _ (limits : Bounds) (events later : List Event) where
   abbrev pub past : World
   past = run_of (fresh_world limits) events

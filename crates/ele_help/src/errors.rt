@@ -4,8 +4,8 @@
 use crate::script::pad;
 use ele_model::{Refusal, Stop, Which};
 use ele_printer::LineFault;
-use ele_runs::ShellFault;
-use ele_storm::{AuditFault, StormFault};
+use ele_run_options::ShellFault;
+use ele_storm_plan::{AuditFault, StormFault};
 use std::alloc::{AllocError, Global};
 
 static LINE_FAULTS: [(LineFault, &str); 6] = [

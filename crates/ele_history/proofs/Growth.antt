@@ -5,16 +5,14 @@ use Rattle.ele_lists.proofs.Alls.{all-append}
 use Rattle.ele_model.specs.declared.entry.Entry.{Entry}
 use Rattle.ele_model.specs.declared.event.Event.{Event}
 use Rattle.ele_model.specs.declared.reply.Reply.{Reply}
+use Rattle.ele_model.proofs.Reached.{run_of-append}
+use Rattle.ele_model.specs.Bounds.{Bounds, AreBounds}
 use Rattle.ele_model.specs.Run.{run_of, IsEvent}
 use Rattle.ele_model.specs.Step.{step}
-use Rattle.ele_model.specs.World.{World}
+use Rattle.ele_model.specs.World.{World, fresh_world}
 use Rattle.ele_history.specs.Legal.{IsLegal}
-use Rattle.ele_history.specs.Past.{Past, HasRoom, events_of, extended, world_of}
+use Rattle.ele_history.specs.Past.{Past, HasRoom, events_of, extended, fresh, world_of}
 use Rattle.ele_history.specs.Sound.{IsSound}
-
-pub run_of-append : (w : World) (xs ys : List Event) → run_of w (xs ++ ys) ≡ run_of (run_of w xs) ys
-run_of-append w [] ys = refl
-run_of-append w (x ∷ xs) ys = run_of-append ((step w x).1) xs ys
 
 pub events_of-append : (xs ys : List Entry) → events_of (xs ++ ys) ≡ events_of xs ++ events_of ys
 events_of-append xs ys = map-append (λ (entry : Entry). entry.event) xs ys
@@ -27,6 +25,19 @@ world_of-extended past entry =
 pub legal-append : (w : World) (xs : List Entry) (entry : Entry) → IsLegal w xs → entry.reply ≡ (step (run_of w (events_of xs)) entry.event).0 → IsLegal w (xs ++ entry ∷ [])
 legal-append w [] entry legal is = (is, tt)
 legal-append w (x ∷ xs) entry legal is = (legal.0, legal-append ((step w x.event).1) xs entry legal.1 is)
+
+-- no entry yet
+pub begun : (limits : Bounds) → AreBounds limits → IsSound (fresh limits) (fresh_world limits)
+begun limits bounds = record {
+  reached = record {
+    reached = record { limits = limits; events = []; bounds = bounds; are = tt; world = refl };
+    long = refl;
+  };
+  events = tt;
+  legal = tt;
+  world = refl;
+  counted = omega arith;
+}
 
 -- the step's own reply and world
 pub grown : (past : Past) (event : Event) (reply : Reply) (before after : World) → IsSound past before → IsEvent event → ◌≡◌ {A = Reply × World} (reply, after) (step before event) → HasRoom past → IsSound (extended past (record { event = event; reply = reply })) after

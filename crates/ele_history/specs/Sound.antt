@@ -5,11 +5,11 @@ use Rattle.ele_model.specs.Run.{IsEvent}
 use Rattle.ele_model.specs.World.{World}
 use Rattle.ele_history.specs.Legal.{IsLegal}
 use Rattle.ele_history.specs.Past.{Past, events_of, world_of, count_of}
-use Rattle.ele_history.specs.Reached.{IsReached}
+use Rattle.ele_history.specs.Reached.{IsReachedBy}
 
 -- the history, and the world of the core
 pub record IsSound (past : Past) (w : World) : Type 0 where
-  pub reached : IsReached past.folded past.base
+  pub reached : IsReachedBy past.folded past.base
   pub events : AllByRecursion IsEvent (events_of past.entries)
   pub legal : IsLegal past.base past.entries
   pub world : w ≡ world_of past

@@ -9,7 +9,7 @@ ghost use Rattle.ele_model.specs.Run.{IsEvent};
 ghost use Rattle.ele_model.specs.Step.{step};
 ghost use Rattle.ele_history.specs.Legal.{IsLegal, KeepHeadline};
 ghost use Rattle.ele_history.specs.Past.{HasRoom, IsFull, count_of, events_of, fresh, trimmed, world_of};
-ghost use Rattle.ele_history.specs.Reached.{IsReached};
+ghost use Rattle.ele_history.specs.Reached.{IsReachedBy};
 ghost use Rattle.ele_history.specs.Reply.{MayRecord, MayReply};
 
 pub mod laws;
@@ -52,6 +52,8 @@ impl<C: Step> History<C> {
     pub fn new(alloc: Global, limits: Limits) -> Result<History<C>, NoMemory>
         ensures { IfOk result (λ history. history ≡ fresh limits) }
     {
+        // For the proof: the limits are allowed.
+        limits.lemma_within();
         let core = C::fresh(alloc, limits)?;
         let base = core.flat()?;
         Ok(History {
@@ -138,11 +140,12 @@ impl<C: Step> History<C> {
         Ok(count)
     }
 
-    /// Returns the base: the world before the first entry, which events led to.
+    /// Returns the base: the world before the first entry. The folded events led to it, from the
+    /// fresh world of limits that are allowed, so the headline holds of each entry.
     /// Cost: constant time.
     pub fn base(&self) -> &Flat
         ensures value { result.now ≡ self.now.base }
-        ensures reached { IsReached self.now.folded self.now.base }
+        ensures reached { IsReachedBy self.now.folded self.now.base }
     {
         &self.base
     }

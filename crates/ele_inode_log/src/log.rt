@@ -17,8 +17,7 @@ use std::marker::Model;
 /// and only the last may have no end. Each row that a call reads or removes adds one to the call's
 /// meter; `rows` reads all rows without a meter. A meter doesn't count the rows whose number or
 /// closing a search compares.
-/// closings of rows, which no meter counts.
-#[derive(Debug, Drop)]
+#[derive(Drop)]
 pub struct InodeLog {
     rows: Chunks<VersionRow>,
 }

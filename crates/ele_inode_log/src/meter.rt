@@ -5,7 +5,7 @@ ghost use Rattle.std.specs.Prelude.{◌≡◌, ◌<◌, ◌+◌, ◌^◌};
 use std::marker::Model;
 
 /// How many rows were read or removed by the calls that got this meter.
-#[derive(Debug, Drop)]
+#[derive(Drop)]
 pub struct Meter {
     rows: u64,
 }

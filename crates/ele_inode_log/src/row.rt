@@ -8,7 +8,7 @@ use ele_rows::{Change, Cut};
 /// A version of a file: its number, the moments at which it was opened, closed and ended, if it has
 /// ended, and its content. A store holds the content's blocks, and the row owns a share of them.
 /// Who takes the row out of a log has to give up its cells there.
-#[derive(Debug, Drop)]
+#[derive(Drop)]
 pub struct VersionRow {
     pub number: VersionNo,
     pub opened: Moment,
@@ -26,7 +26,7 @@ impl Keyed for VersionRow {
 }
 
 /// The cut after a moment: rows of versions that had closed by then are before it.
-#[derive(Clone, Copy, Debug)]
+#[derive(Clone, Copy)]
 pub struct ClosedBy(pub Moment);
 
 impl Cut<VersionRow> for ClosedBy {
@@ -40,7 +40,7 @@ impl Cut<VersionRow> for ClosedBy {
 }
 
 /// The end of a version, at the moment.
-#[derive(Clone, Copy, Debug)]
+#[derive(Clone, Copy)]
 pub struct EndsAt(pub Moment);
 
 impl Change<VersionRow> for EndsAt {

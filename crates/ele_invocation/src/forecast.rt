@@ -6,8 +6,7 @@ use clap::{Arg, ArgAction, ArgMatches, Command};
 use ele_forecast_text::Columns;
 use ele_outlook::{ForecastOptions, Form, MOST_POLICIES};
 use ele_policy::Policy;
-use ele_tool_policy::{read_length, read_policy};
-use ele_tool_time::read_time;
+use ele_tool_words::{read_length, read_policy, read_time};
 use std::alloc::{AllocError, Global};
 
 const FORECAST: &str = "Print when each version of a file becomes due, and why";
@@ -182,7 +181,7 @@ fn title_in(alloc: Global, forecast: &ArgMatches) -> Option<Vec<u8>> {
 }
 
 // What a forecast has besides policies, moments and a form.
-#[derive(Debug, Drop)]
+#[derive(Drop)]
 struct Extras {
     columns: Columns,
     title: Vec<u8>,

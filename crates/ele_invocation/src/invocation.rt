@@ -10,13 +10,13 @@ use clap::error::ErrorKind;
 use clap::{Arg, ArgAction, ArgMatches, Command, Error};
 use ele_model::Limits;
 use ele_outlook::ForecastOptions;
-use ele_runs::RunOptions;
-use ele_storm::StormPlan;
+use ele_run_options::RunOptions;
+use ele_storm_plan::StormPlan;
 use std::alloc::{AllocError, Global};
 use std::{io, mem};
 
 /// What the arguments ask for.
-#[derive(Debug, Drop)]
+#[derive(Drop)]
 pub enum Invocation {
     /// A run of the script on standard input, with from 1 to 1,000,000,000 events and otherwise
     /// the largest limits.

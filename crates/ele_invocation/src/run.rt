@@ -7,7 +7,7 @@ use crate::invocation::{Invocation, flag, not_understood};
 use clap::{Arg, ArgMatches, Command};
 use ele_model::Limits;
 use ele_moment::read_number;
-use ele_runs::RunOptions;
+use ele_run_options::RunOptions;
 use std::alloc::{AllocError, Global};
 
 const RUN: &str = "Run a script, and answer each of its lines";

@@ -4,7 +4,7 @@ ghost use Rattle.ele_invocation.specs.Invocation.{IsAsked};
 use crate::invocation::{Invocation, not_understood};
 use clap::{Arg, ArgMatches, Command};
 use ele_moment::read_number;
-use ele_storm::StormPlan;
+use ele_storm_plan::StormPlan;
 use std::alloc::{AllocError, Global};
 
 const STORM: &str = "Call one file system from many threads, and audit its answers";

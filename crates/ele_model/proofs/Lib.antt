@@ -39,6 +39,7 @@ pub mod PolicyUsage
 pub mod Meant
 pub mod Allowed
 pub mod StepKeeps
+pub mod Reached
 pub mod NextVersion
 pub mod PlanOutcomes
 pub mod Cleans

@@ -24,6 +24,7 @@ pub mod NumbersRise
 pub mod Parts
 pub mod Pass
 pub mod Plan
+pub mod Reached
 pub mod ReadersStay
 pub mod Ready
 pub mod RemovalOrder

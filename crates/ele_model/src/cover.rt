@@ -5,7 +5,7 @@ ghost use Rattle.ele_model.specs.Cover.{cover_until, lasts, longer, ripe_past};
 use ele_moment::Moment;
 
 /// How long the marks that cover a version hold it.
-#[derive(Clone, Copy, Debug, PartialEq, Eq)]
+#[derive(Clone, Copy, PartialEq, Eq)]
 pub enum Cover {
     /// Not at all: no mark covers it.
     Free,

@@ -3,7 +3,7 @@ use crate::event::Event;
 use crate::reply::Reply;
 
 /// An answered event and its reply.
-#[derive(Debug, Drop, PartialEq, Eq)]
+#[derive(Drop)]
 pub struct Entry {
     pub event: Event,
     pub reply: Reply,

@@ -7,7 +7,7 @@ use ele_path::{Path, PathAt, TaggedPath};
 use ele_policy::Policy;
 
 /// What a read returns.
-#[derive(Debug, Drop, PartialEq, Eq)]
+#[derive(Drop)]
 pub enum Source {
     /// The version that the path and its tag mean.
     Tagged(TaggedPath),
@@ -16,7 +16,7 @@ pub enum Source {
 }
 
 /// A command.
-#[derive(Debug, Drop, PartialEq, Eq)]
+#[derive(Drop)]
 pub enum Event {
     /// Moves the clock to the moment.
     Clock(Moment),

@@ -11,7 +11,7 @@ use std::fmt;
 /// What becomes of a held version: why it stays, or since when a clean may remove it. The first
 /// variant that fits is the answer. It displays as the words of
 /// `why`, such as `kept until 60 level 1` or `due 60 by age 55`.
-#[derive(Clone, Copy, Debug, PartialEq, Eq)]
+#[derive(Clone, Copy, PartialEq, Eq)]
 pub enum Fate {
     /// It has no end.
     Current,

@@ -21,7 +21,7 @@ use ele_usage::Usage;
 /// All rows and counts of a world. Directories and files are in order of ids, names and groups in
 /// order of making. Versions are in order of files and then of numbers, drafts in order of files,
 /// and handles in order of numbers.
-#[derive(Debug, Drop, PartialEq, Eq)]
+#[derive(Drop, PartialEq, Eq)]
 pub struct Flat {
     pub now: Moment,
     pub directories: ListOf<DirectoryRow>,

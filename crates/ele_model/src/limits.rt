@@ -9,7 +9,7 @@ use std::marker::Model;
 
 /// The numbers of limits by their names; `Limits::of` makes limits of them. A removal lowers no
 /// count.
-#[derive(Clone, Copy, Debug, PartialEq, Eq)]
+#[derive(Clone, Copy, PartialEq, Eq)]
 pub struct LimitNumbers {
     /// Replies ever given, each of which a history keeps: at most 1,000,000,000.
     pub events: u64,
@@ -64,7 +64,7 @@ impl LimitNumbers {
 }
 
 /// The limits of a world, each at most its largest.
-#[derive(Clone, Copy, Debug, PartialEq, Eq)]
+#[derive(Clone, Copy, PartialEq, Eq)]
 pub struct Limits {
     numbers: LimitNumbers,
 }
@@ -83,7 +83,7 @@ impl Model for Limits {
 }
 
 /// How many of each kind were ever made.
-#[derive(Clone, Copy, Debug, PartialEq, Eq)]
+#[derive(Clone, Copy, PartialEq, Eq)]
 pub struct Counts {
     pub files: u64,
     pub directories: u64,

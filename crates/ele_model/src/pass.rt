@@ -7,7 +7,7 @@ use std::fmt;
 
 /// How a pass over the due versions ended, and how many it removed. It is displayed as scripts
 /// print it: `ok pass finished 4`, `ok pass budget 2`, `stop 1 NoMemory removed 3`.
-#[derive(Clone, Copy, Debug, PartialEq, Eq)]
+#[derive(Clone, Copy, PartialEq, Eq)]
 pub enum PassEnd {
     /// Nothing is due any more.
     Finished(u64),

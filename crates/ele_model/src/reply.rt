@@ -9,7 +9,7 @@ use ele_moment::{DirId, FileId, Handle, Moment, VersionNo};
 use ele_usage::Usage;
 
 /// The reply to a command.
-#[derive(Debug, Drop, PartialEq, Eq)]
+#[derive(Drop, PartialEq, Eq)]
 pub enum Reply {
     Done,
     /// Nothing was due.

@@ -9,7 +9,7 @@ use ele_policy::Policy;
 use std::fmt;
 
 /// A file: its policy, and the number that its next version gets.
-#[derive(Clone, Copy, Debug, PartialEq, Eq)]
+#[derive(Clone, Copy, PartialEq, Eq)]
 pub struct FileRow {
     pub id: FileId,
     pub policy: Policy,
@@ -17,7 +17,7 @@ pub struct FileRow {
 }
 
 /// A directory, and the default policy of files that are made in it.
-#[derive(Clone, Copy, Debug, PartialEq, Eq)]
+#[derive(Clone, Copy, PartialEq, Eq)]
 pub struct DirectoryRow {
     pub id: DirId,
     pub default: Policy,
@@ -32,14 +32,14 @@ impl Keyed for DirectoryRow {
 }
 
 /// The file or directory of a name.
-#[derive(Clone, Copy, Debug, PartialEq, Eq, PartialOrd, Ord, Hash)]
+#[derive(Clone, Copy, PartialEq, Eq)]
 pub enum Target {
     File(FileId),
     Directory(DirId),
 }
 
 /// A name in a directory, from its birth until its death; without a death it is live.
-#[derive(Clone, Copy, Debug, PartialEq, Eq)]
+#[derive(Clone, Copy, PartialEq, Eq)]
 pub struct NameRow {
     pub directory: DirId,
     pub name: Name,
@@ -49,7 +49,7 @@ pub struct NameRow {
 }
 
 /// A name whose newest row is dead, and the target of that row.
-#[derive(Clone, Copy, Debug, PartialEq, Eq)]
+#[derive(Clone, Copy, PartialEq, Eq)]
 pub struct DeadName {
     pub directory: DirId,
     pub name: Name,
@@ -58,7 +58,7 @@ pub struct DeadName {
 
 /// A held version of a file: the moments at which it was opened, closed and, if it has an end,
 /// ended.
-#[derive(Debug, Drop, PartialEq, Eq)]
+#[derive(Drop, PartialEq, Eq)]
 pub struct VersionRow {
     pub file: FileId,
     pub number: VersionNo,
@@ -69,7 +69,7 @@ pub struct VersionRow {
 }
 
 /// A version's number, its moments, and its length in bytes.
-#[derive(Clone, Copy, Debug, PartialEq, Eq)]
+#[derive(Clone, Copy, PartialEq, Eq)]
 pub struct VersionInfo {
     pub number: VersionNo,
     pub opened: Moment,
@@ -79,7 +79,7 @@ pub struct VersionInfo {
 }
 
 /// A file's version, and the policy that governs the file.
-#[derive(Clone, Copy, Debug, PartialEq, Eq)]
+#[derive(Clone, Copy, PartialEq, Eq)]
 pub struct FileStat {
     pub file: FileId,
     pub info: VersionInfo,
@@ -87,7 +87,7 @@ pub struct FileStat {
 }
 
 /// The draft of a file.
-#[derive(Debug, Drop, PartialEq, Eq)]
+#[derive(Drop, PartialEq, Eq)]
 pub struct DraftRow {
     pub file: FileId,
     pub opened: Moment,
@@ -96,7 +96,7 @@ pub struct DraftRow {
 }
 
 /// What a handle reads.
-#[derive(Clone, Copy, Debug, PartialEq, Eq, Hash)]
+#[derive(Clone, Copy, PartialEq, Eq, Hash)]
 pub enum Reads {
     /// The file's draft, which the handle also writes.
     Draft(FileId),
@@ -105,7 +105,7 @@ pub enum Reads {
 }
 
 /// An open handle, and what it reads.
-#[derive(Clone, Copy, Debug, PartialEq, Eq)]
+#[derive(Clone, Copy, PartialEq, Eq)]
 pub struct HandleRow {
     pub number: Handle,
     pub reads: Reads,
@@ -121,7 +121,7 @@ impl Keyed for HandleRow {
 
 /// A mark of a group: the moment that it marks, and its end, if it has one. It is in force before
 /// its end, and stays listed after it. It displays as scripts print it, `5` or `5/60`.
-#[derive(Clone, Copy, Debug, PartialEq, Eq)]
+#[derive(Clone, Copy, PartialEq, Eq)]
 pub struct MarkRow {
     pub at: Moment,
     pub until: Option<Moment>,
@@ -140,7 +140,7 @@ impl fmt::Display for MarkRow {
 }
 
 /// A group: its files in order of adding, and its marks in order of making.
-#[derive(Debug, Drop, PartialEq, Eq)]
+#[derive(Drop, PartialEq, Eq)]
 pub struct GroupRow {
     pub name: Name,
     pub members: ListOf<FileId>,

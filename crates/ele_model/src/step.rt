@@ -15,6 +15,7 @@ pub trait Step: Drop {
     ghost use Rattle.ele_model.specs.WellFormed.{IsWellFormed};
     ghost use Rattle.ele_model.specs.Bounds.{AreBounds};
     ghost use Rattle.ele_model.specs.NoIdleStays.{HasNoIdle};
+    ghost use Rattle.ele_model.specs.Reached.{IsReached};
     ghost use Rattle.ele_model.specs.Step.{step};
     ghost use Rattle.ele_model.specs.Run.{IsEvent};
     ghost use Rattle.ele_model.specs.Ready.{takes_no_memory};
@@ -44,11 +45,13 @@ pub trait Step: Drop {
     fn flat(&self) -> Result<Flat, NoMemory>
         ensures { IfOk result (λ flat. flat ≡ world self.now) };
 
-    /// Returns the current moment. Its contract also says that the world is well formed, and that
-    /// its limits are allowed. Each file has a live name, a held version or a draft. So the laws of
-    /// this crate hold.
+    /// Returns the current moment. Its contract also says that events led to the world, from the
+    /// fresh world of limits that are allowed. So the headline holds of its next event, and the laws
+    /// of this crate hold. Three of them are clauses too: the world is well formed, its limits are
+    /// allowed, and each file has a live name, a held version or a draft.
     fn now(&self) -> Moment
         ensures value { result ≡ (world self.now).now }
+        ensures reached { IsReached (world self.now) }
         ensures formed { IsWellFormed (world self.now) }
         ensures bounds { AreBounds (world self.now).limits }
         ensures idle { HasNoIdle (world self.now) };

@@ -13,13 +13,13 @@ use thiserror::Error;
 const SECONDS_PER_DAY: u64 = 86400;
 
 /// The word spells no moment.
-#[derive(Clone, Copy, Debug, PartialEq, Eq, Hash, Error)]
+#[derive(Clone, Copy, Debug, PartialEq, Eq, Error)]
 #[error("not a moment")]
 pub struct BadMoment;
 
 /// A whole number of seconds since 1970-01-01T00:00:00Z, from 0 to 253402300799, which is
 /// 9999-12-31T23:59:59Z. It is displayed as that number; `text` returns the date.
-#[derive(Clone, Copy, Debug, PartialEq, Eq, PartialOrd, Ord, Hash)]
+#[derive(Clone, Copy, PartialEq, Eq, PartialOrd, Ord)]
 pub struct Moment {
     seconds: u64,
 }

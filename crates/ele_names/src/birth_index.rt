@@ -11,7 +11,7 @@ use ele_rows::Index;
 use std::alloc::Global;
 
 /// The birth of a row, in seconds, and its serial number.
-#[derive(Clone, Copy, Debug)]
+#[derive(Clone, Copy)]
 pub struct Born {
     pub birth: u64,
     pub serial: u64,

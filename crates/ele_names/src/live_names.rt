@@ -19,7 +19,7 @@ use indexmap::IndexMap;
 use std::alloc::Global;
 
 /// A live row: its serial number, and the name's target.
-#[derive(Clone, Copy, Debug)]
+#[derive(Clone, Copy)]
 pub struct Live<T> {
     pub serial: u64,
     pub target: T,

@@ -9,7 +9,7 @@ use ele_moment::NoMemory;
 use std::alloc::Global;
 
 /// A group's newest member, by number, and how many of its members are live.
-#[derive(Clone, Copy, Debug)]
+#[derive(Clone, Copy)]
 pub struct Members {
     pub newest: Option<u64>,
     pub live: u64,

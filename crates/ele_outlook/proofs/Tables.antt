@@ -1,17 +1,17 @@
 -- The tables of plans, and their moments.
 use Rattle.std.proofs.Common.{◌≡◌, ◌≢◌, ℕ, ◌<◌, ◌⊎◌, inl, inr, Bool, true, false, List, [], ◌∷◌, length, map, refl, ap, ◌∙◌, arith}
 use Rattle.ele_policy.specs.declared.policy.Policy.{Policy}
-use Rattle.ele_forecast_plans.specs.Compared.{compared_text, forecasts_of}
+use Rattle.ele_forecast_forms.specs.Compared.{compared_text}
 use Rattle.ele_forecast.specs.FileOf.{lives_from}
 use Rattle.ele_forecast.specs.ForecastOf.{told_life}
 use Rattle.ele_forecast.specs.declared.forecast.Forecast.{Forecast}
-use Rattle.ele_forecast_text.specs.Plan.{ArePlans}
+use Rattle.ele_forecast_text.specs.Plan.{ArePlans, versions_of}
 use Rattle.ele_forecast_text.specs.declared.details.Details.{Details}
 use Rattle.ele_forecast_text.specs.declared.plan.Plan.{Plan}
 use Rattle.ele_forecast_text.specs.declared.staying.Staying.{Staying}
 use Rattle.std.specs.Prelude.{decimal, nat_lt}
 use Rattle.ele_svg.specs.Drawing.{has_curves}
-use Rattle.ele_forecast_plans.specs.declared.counts.Counts.{Counts}
+use Rattle.ele_forecast_forms.specs.declared.counts.Counts.{Counts}
 use Rattle.ele_outlook.specs.declared.options.ForecastOptions.{ForecastOptions}
 use Rattle.ele_outlook.specs.Told.{AreRows, IsForecastText, is_over, line_form, listed_numbers, stayings_of, texts_of, told_of, told_table}
 
@@ -36,7 +36,7 @@ no_forecasts [] closings lives none = refl
 no_forecasts (told ∷ forecasts) closings lives none = absurd (let e : map told_life (told ∷ forecasts) ≡ [] = lives ∙ ap (lives_from 1) none in cc)
 
 -- if there is a forecast, there is a closing
-pub closed_some : (policies : List Policy) (closings moments : List ℕ) (plans : List Plan) → ArePlans policies closings moments plans → forecasts_of plans ≢ [] → closings ≢ []
+pub closed_some : (policies : List Policy) (closings moments : List ℕ) (plans : List Plan) → ArePlans policies closings moments plans → versions_of plans ≢ [] → closings ≢ []
 closed_some policies closings moments [] are some none = some refl
 closed_some [] closings moments (plan ∷ plans) are some none = are
 closed_some (policy ∷ policies) closings moments (plan ∷ plans) are some none = some (no_forecasts plan.forecasts.items closings are.0.told.lives none)
@@ -59,7 +59,7 @@ drawn_some [] closings moments (plan ∷ other ∷ plans) are drawn = absurd are
 drawn_some (policy ∷ []) closings moments (plan ∷ other ∷ plans) are drawn = absurd are.1
 
 -- there was no memory for the counts
-pub uncounted : (policies : List Policy) (closings moments : List ℕ) (plans : List Plan) → ArePlans policies closings moments plans → (forecasts_of plans ≢ []) ⊎ (has_curves plans ≡ true)
+pub uncounted : (policies : List Policy) (closings moments : List ℕ) (plans : List Plan) → ArePlans policies closings moments plans → (versions_of plans ≢ []) ⊎ (has_curves plans ≡ true)
     → (closings ≢ []) ⊎ (moments ≢ []) ⊎ (1 < length policies)
 uncounted policies closings moments plans are (inl some) = inl (closed_some policies closings moments plans are some)
 uncounted policies closings moments plans are (inr drawn) = uncurved closings moments policies (drawn_some policies closings moments plans are drawn)

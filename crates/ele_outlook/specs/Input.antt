@@ -4,7 +4,7 @@ use Rattle.std.specs.List.{AllZip, after_first, before_first, slice_split}
 use Rattle.std.specs.Str.{IsUtf8}
 use Rattle.ele_lists.specs.Lists.{AllLater}
 use Rattle.ele_moment.specs.Number.{SpellsNumber}
-use Rattle.ele_tool_time.specs.Time.{SpellsTime}
+use Rattle.ele_tool_words.specs.Time.{SpellsTime}
 use Rattle.ele_output.specs.Line.{line_text}
 use Rattle.ele_outlook.specs.declared.fault.BadLine.{BadLine}
 use Rattle.ele_outlook.specs.declared.fault.BadLine.TheVariants.{NotMoment, NoSize, NoLabel, NotUtf8, OutOfOrder}

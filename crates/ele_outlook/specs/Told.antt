@@ -3,11 +3,11 @@ use Rattle.std.specs.Prelude.{◌≡◌, ℕ, Bool, true, false, List, [], ◌�
 use Rattle.ele_forecast.specs.declared.forecast.Forecast.{Forecast}
 use Rattle.ele_svg.specs.Drawing.{drawing_text, drawn_moments}
 use Rattle.ele_policy.specs.PolicyText.{policy_word}
-use Rattle.ele_forecast_plans.specs.Compared.{compared_text}
-use Rattle.ele_forecast_plans.specs.OverTime.{AreCountsAt, AreCountsEvery, is_too_long, over_time_text}
-use Rattle.ele_forecast_plans.specs.declared.counts.Counts.{Counts}
-use Rattle.ele_forecast_data.specs.Csv.{csv_text}
-use Rattle.ele_forecast_data.specs.Json.{json_text}
+use Rattle.ele_forecast_forms.specs.Compared.{compared_text}
+use Rattle.ele_forecast_forms.specs.OverTime.{AreCountsAt, AreCountsEvery, is_too_long, over_time_text}
+use Rattle.ele_forecast_forms.specs.declared.counts.Counts.{Counts}
+use Rattle.ele_forecast_forms.specs.Csv.{csv_text}
+use Rattle.ele_forecast_forms.specs.Json.{json_text}
 use Rattle.ele_forecast_text.specs.Labels.{listed_at, names_text}
 use Rattle.ele_forecast_text.specs.Plan.{ArePlans}
 use Rattle.ele_forecast_text.specs.Table.{table_text}

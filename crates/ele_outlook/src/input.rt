@@ -9,7 +9,7 @@ use crate::fault::{BadLine, ForecastFault};
 use crate::fields::{lacking, time_of};
 use crate::options::LineForm;
 use ele_forecast::{Closings, NotClosed};
-use ele_tool_time::read_time;
+use ele_tool_words::read_time;
 use memchr::memchr;
 use std::alloc::Global;
 use std::io::{ErrorKind, Read};

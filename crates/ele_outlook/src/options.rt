@@ -7,7 +7,7 @@ use ele_moment::Moment;
 use ele_policy::Policy;
 
 /// The form of a forecast.
-#[derive(Clone, Copy, Debug, PartialEq, Eq)]
+#[derive(Clone, Copy, PartialEq, Eq)]
 pub enum Form {
     /// A line for each version, and one for each given moment.
     Table,
@@ -32,7 +32,7 @@ pub const MOST_POLICIES: usize = 16;
 
 /// The options of a forecast: the policies that it compares, the moments at which it lists the
 /// versions that stay, the fields of its input and the form of its output.
-#[derive(Debug, Drop)]
+#[derive(Drop)]
 pub struct ForecastOptions {
     pub policies: Vec<Policy>,
     /// Whether the table of one policy begins with a line with its name.
@@ -49,7 +49,7 @@ pub struct ForecastOptions {
 }
 
 /// The fields that a line has besides its time.
-#[derive(Clone, Copy, Debug, PartialEq, Eq)]
+#[derive(Clone, Copy, PartialEq, Eq)]
 pub struct LineForm {
     pub columns: Columns,
     /// Whether a label must be UTF-8.

@@ -4,8 +4,8 @@ ghost use Rattle.std.specs.Io.KnownBytes.{Keeps};
 ghost use Rattle.ele_policy.specs.PolicyText.{policy_word};
 ghost use Rattle.ele_output.specs.Front.{WritesText};
 ghost use Rattle.ele_output.specs.Prints.{Prints};
-ghost use Rattle.ele_forecast_text.specs.Plan.{ArePlans};
-ghost use Rattle.ele_forecast_plans.specs.Compared.{compared_text, forecasts_of};
+ghost use Rattle.ele_forecast_text.specs.Plan.{ArePlans, versions_of};
+ghost use Rattle.ele_forecast_forms.specs.Compared.{compared_text};
 ghost use Rattle.ele_svg.specs.Drawing.{has_curves};
 ghost use Rattle.ele_outlook.specs.Foretold.{Foretells, TellsForecast};
 ghost use Rattle.ele_outlook.specs.Input.{SpellClosings, labels_of, lines_of, size_words_of};
@@ -18,8 +18,9 @@ use crate::labels::read_labels;
 use crate::options::{ForecastOptions, Form, LineForm, line_form};
 use crate::sizes::read_sizes;
 use ele_forecast::{Closings, Forecast};
-use ele_forecast_data::{put_csv, put_json};
-use ele_forecast_plans::{Counts, counts_every, is_too_long, put_compared, put_over_time};
+use ele_forecast_forms::{
+    Counts, counts_every, is_too_long, put_compared, put_csv, put_json, put_over_time,
+};
 use ele_forecast_text::{
     Details, Plan, Staying, listed_at, plan_of, plans_of, put_names, put_policy, put_table,
 };
@@ -181,7 +182,7 @@ fn counted(
     plans: &[Plan],
 ) -> Result<Vec<Counts>, NoMemory>
     ensures ok { IfOk result (λ rows. AreRows form closings.now plans.now rows.items) }
-    ensures err { OnErr result ((forecasts_of plans.now ≢ []) ⊎ (has_curves plans.now ≡ true)) }
+    ensures err { OnErr result ((versions_of plans.now ≢ []) ⊎ (has_curves plans.now ≡ true)) }
 {
     match form {
         Form::Every(step) => counts_every(alloc, step, closings, plans),

@@ -15,7 +15,7 @@ use std::marker::Model;
 
 /// A path from the root: at most 32 names; the root itself has none. It is displayed as `/`, or as
 /// its names with a slash before each.
-#[derive(Debug, Drop)]
+#[derive(Drop)]
 pub struct Path {
     names: Vec<Name>,
 }

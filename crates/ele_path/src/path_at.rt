@@ -16,7 +16,7 @@ use std::fmt;
 
 /// A path, and the moment at which it is meant, or none for now. It displays as its word,
 /// `/f` or `/f@12`.
-#[derive(Debug, Drop, PartialEq, Eq)]
+#[derive(Drop)]
 pub struct PathAt {
     pub path: Path,
     pub moment: Option<Moment>,

@@ -15,7 +15,7 @@ use std::alloc::Global;
 use std::fmt;
 
 /// Which version is meant. It is displayed as in a word, after the path: nothing, `@12` or `#3`.
-#[derive(Clone, Copy, Debug, PartialEq, Eq)]
+#[derive(Clone, Copy, PartialEq, Eq)]
 pub enum Tag {
     /// The current one.
     Now,
@@ -26,7 +26,7 @@ pub enum Tag {
 }
 
 /// A path, and which version of its target is meant. It is displayed as both, `/f@12`.
-#[derive(Debug, Drop, PartialEq, Eq)]
+#[derive(Drop)]
 pub struct TaggedPath {
     path: Path,
     tag: Tag,

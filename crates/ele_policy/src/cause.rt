@@ -12,7 +12,7 @@ use ele_moment::{Moment, VersionNo};
 use std::fmt;
 
 /// Why a policy lets a version go. It is displayed in the words of `why`: `at once`, `by age 60` or `by 3 level 1`.
-#[derive(Clone, Copy, Debug, PartialEq, Eq)]
+#[derive(Clone, Copy, PartialEq, Eq)]
 pub enum Cause {
     /// It keeps no version that has ended.
     AtOnce,
@@ -25,7 +25,7 @@ pub enum Cause {
 }
 
 /// A newer held version of the same file: its number, and when it closed.
-#[derive(Clone, Copy, Debug, PartialEq, Eq)]
+#[derive(Clone, Copy, PartialEq, Eq)]
 pub struct Newer {
     pub number: VersionNo,
     pub closed: Moment,

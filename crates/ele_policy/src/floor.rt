@@ -7,7 +7,7 @@ use crate::interval::BadLadder;
 use std::marker::Model;
 
 /// A number of versions, from none to 16.
-#[derive(Clone, Copy, Debug, PartialEq, Eq, PartialOrd, Ord, Hash)]
+#[derive(Clone, Copy, PartialEq, Eq, PartialOrd, Ord)]
 pub struct Floor {
     versions: u64,
 }

@@ -7,12 +7,12 @@ use std::marker::Model;
 use thiserror::Error;
 
 /// Numbers that no policy may have.
-#[derive(Clone, Copy, Debug, PartialEq, Eq, Hash, Error)]
+#[derive(Clone, Copy, Debug, PartialEq, Eq, Error)]
 #[error("not the numbers of a policy")]
 pub struct BadLadder;
 
 /// A length of time, from 1 second to 253402300799, the seconds from the first moment to the last.
-#[derive(Clone, Copy, Debug, PartialEq, Eq, PartialOrd, Ord, Hash)]
+#[derive(Clone, Copy, PartialEq, Eq, PartialOrd, Ord)]
 pub struct Interval {
     seconds: u64,
 }

@@ -17,7 +17,7 @@ use std::marker::Model;
 /// is at least 1 and divides the next, and no number exceeds 253402300799. From an age on, the
 /// ladder keeps one version of each span of that pair's width. It is stored inline, so it takes no
 /// memory of its own, and is displayed as its pairs, `A/W,A/W`.
-#[derive(Clone, Copy, Debug)]
+#[derive(Clone, Copy)]
 pub struct Ladder {
     rungs: [(u64, u64); Ladder::MOST_PAIRS],
     count: usize,

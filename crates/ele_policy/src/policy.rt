@@ -13,7 +13,7 @@ use std::fmt;
 
 /// The four kinds of policy, in the order of the sums of usage. Each is displayed as its word in
 /// scripts.
-#[derive(Clone, Copy, Debug, PartialEq, Eq, Hash)]
+#[derive(Clone, Copy, PartialEq, Eq)]
 pub enum Kind {
     /// Keep the current version alone.
     One,
@@ -26,7 +26,7 @@ pub enum Kind {
 }
 
 /// Which ended versions of a file are due, and since when. It is displayed as its word in scripts.
-#[derive(Clone, Copy, Debug, PartialEq, Eq)]
+#[derive(Clone, Copy, PartialEq, Eq)]
 pub enum Policy {
     /// An ended version is due at once.
     One,

@@ -10,7 +10,7 @@ use crate::ripening::ripe_beside;
 use ele_moment::Moment;
 
 /// A file's policy in force now.
-#[derive(Clone, Copy, Debug, PartialEq, Eq)]
+#[derive(Clone, Copy, PartialEq, Eq)]
 pub struct Rule {
     pub policy: Policy,
     /// How many newer versions the file must hold before one goes.
@@ -32,7 +32,7 @@ impl Policy {
 }
 
 /// What the rule of a file sees of one of its ended versions.
-#[derive(Clone, Copy, Debug, PartialEq, Eq)]
+#[derive(Clone, Copy, PartialEq, Eq)]
 pub struct Case {
     pub policy: Policy,
     pub closed: Moment,

@@ -8,7 +8,7 @@ use ele_printer::LineFault;
 use std::fmt;
 
 /// What exactly is wrong with a word that isn't of its kind.
-#[derive(Clone, Copy, Debug, PartialEq, Eq)]
+#[derive(Clone, Copy, PartialEq, Eq)]
 pub enum Detail {
     /// Only digits, with a leading zero.
     LeadingZero,
@@ -37,7 +37,7 @@ pub enum Detail {
 }
 
 /// What an unknown command probably means.
-#[derive(Clone, Copy, Debug, PartialEq, Eq)]
+#[derive(Clone, Copy, PartialEq, Eq)]
 pub enum Hint {
     /// A command that only a run that explains has.
     Explaining,
@@ -63,7 +63,7 @@ pub enum Hint {
 
 /// Why a line is no command: its first fault, and the number of the word that has it, from 1. It is
 /// displayed as the place and the reason, as `word 2: a moment has no leading zero`.
-#[derive(Clone, Copy, Debug, PartialEq, Eq)]
+#[derive(Clone, Copy, PartialEq, Eq)]
 pub enum Reason {
     /// The line has more than 8,192 bytes.
     TooLong,

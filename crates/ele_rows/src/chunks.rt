@@ -34,7 +34,7 @@ fn next_room(count: usize) -> usize
 
 /// Rows in chunks, each chunk in an allocation of its own, so that a removal moves the rows of one
 /// chunk only. An empty chunk is kept as a spare for later rows.
-#[derive(Debug, Drop)]
+#[derive(Drop)]
 pub struct Chunks<T> {
     chunks: Vec<Vec<T>>,
     fresh: Option<Vec<T>>,

@@ -56,11 +56,11 @@ pub(crate) fn place_if_dense_behind<T: Keyed>(rows: &[T], key: u64) -> Option<us
 }
 
 /// The cut before a key: rows with lesser keys are before it.
-#[derive(Clone, Copy, Debug)]
+#[derive(Clone, Copy)]
 pub struct BeforeKey(pub u64);
 
 /// The cut after a key: rows with that key or a lesser one are before it.
-#[derive(Clone, Copy, Debug)]
+#[derive(Clone, Copy)]
 pub struct BehindKey(pub u64);
 
 impl<T: Keyed> Cut<T> for BeforeKey {

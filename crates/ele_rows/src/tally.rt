@@ -1,6 +1,6 @@
 //! Counts by key.
 //! A contract sees a tally as the count of each key.
-ghost use Rattle.std.specs.Prelude.{◌≡◌, ◌<◌, ◌+◌, ◌-◌, ◌^◌, OnOk, if◌then◌else◌};
+ghost use Rattle.std.specs.Prelude.{◌≡◌, ◌<◌, ◌+◌, ◌-◌, ◌^◌, OnOk, IsOk, if◌then◌else◌};
 ghost use Rattle.ele_rows.specs.Tally.{counted, room};
 
 use std::alloc::{AllocError, Global};
@@ -23,10 +23,12 @@ impl<K: Eq + Hash + Copy> Tally<K> {
         }
     }
 
-    /// Reserves memory to count one more key. `AllocError` if memory is refused; no count changes.
+    /// Reserves memory to count one more key, if there is none yet. `AllocError` if memory is
+    /// refused; no count changes.
     pub fn reserve(&mut self) -> Result<(), AllocError>
         ensures same { (k : K) → counted K.eq self.new k ≡ counted K.eq self.old k }
         ensures ok { OnOk result (0 < room self.new) }
+        ensures ready { 0 < room self.old → IsOk result }
     {
         self.counts.reserve(1)?;
         Ok(())

@@ -17,7 +17,7 @@ use Rattle.ele_runs.specs.Answer.{Answer}
 use Rattle.ele_runs.specs.Answer as answer
 use Rattle.ele_runs.specs.Block.{IsText, cut_count}
 use Rattle.ele_runs.specs.Said.{Explains, Hears, HearsKept, HearsNext, Records, Trims, answer_of, has_no_reply, reply_of, said_front}
-use Rattle.ele_runs.specs.declared.options.RunOptions.{RunOptions}
+use Rattle.ele_run_options.specs.declared.options.RunOptions.{RunOptions}
 use Rattle.ele_runs.specs.Tally.{outcome_of, tallied}
 use Rattle.ele_runs.specs.declared.said.Said.{Said}
 use Rattle.ele_runs.specs.declared.said.Said.TheVariants.{Nothing, Bad, Stopped, Replied, Trimmed, Why, WhyRemoved, Ahead, Gone, Handles, Answers}
@@ -57,20 +57,20 @@ hears_trim before after line said asked trims = absurd trims
 pub hears_question : {explains : Bool} (past : Past) (line : List ℕ) (question : Question) (said : Said) → Asks explains line (asks.Question question) → Explains past question said → Hears explains past line said past
 hears_question past line (question.Why tagged) (Why told) asked says = (tagged, asked, says, refl)
 hears_question past line (question.Why tagged) (WhyRemoved row) asked says = (tagged, asked, says, refl)
-hears_question past line (question.Why tagged) (Stopped NoMemory) asked says = (as_why tagged asked, refl)
-hears_question past line (question.Why tagged) (Stopped HistoryFull) asked says = absurd cc
+hears_question past line (question.Why tagged) (Stopped NoMemory) asked says = (as_why tagged asked says.1, refl)
+hears_question past line (question.Why tagged) (Stopped HistoryFull) asked says = absurd (let never = says.0 in cc)
 hears_question past line (question.Why tagged) said asked says = absurd says
 hears_question past line (question.Ahead moment) (Ahead told) asked says = (moment, asked, says, refl)
 hears_question past line (question.Ahead moment) (Stopped NoMemory) asked says = (as_told moment asked says.1, refl)
 hears_question past line (question.Ahead moment) (Stopped HistoryFull) asked says = absurd (let never = says.0 in cc)
 hears_question past line (question.Ahead moment) said asked says = absurd says
 hears_question past line question.Gone (Gone rows) asked says = (asked, refl, says, refl)
-hears_question past line question.Gone (Stopped NoMemory) asked says = (as_gone asked, refl)
-hears_question past line question.Gone (Stopped HistoryFull) asked says = absurd cc
+hears_question past line question.Gone (Stopped NoMemory) asked says = (as_gone asked says.1, refl)
+hears_question past line question.Gone (Stopped HistoryFull) asked says = absurd (let never = says.0 in cc)
 hears_question past line question.Gone said asked says = absurd says
 hears_question past line question.Handles (Handles handles) asked says = (asked, says, refl)
-hears_question past line question.Handles (Stopped NoMemory) asked says = (as_handles asked, refl)
-hears_question past line question.Handles (Stopped HistoryFull) asked says = absurd cc
+hears_question past line question.Handles (Stopped NoMemory) asked says = (as_handles asked says.1, refl)
+hears_question past line question.Handles (Stopped HistoryFull) asked says = absurd (let never = says.0 in cc)
 hears_question past line question.Handles said asked says = absurd says
 hears_question past line question.Answers said asked says = rw says (asked, refl, refl, refl)
 

@@ -2,7 +2,7 @@
 use Rattle.ele_runs.proofs.Basics.{◌≡◌, inl, inr, Bool, true, false, ℕ, List, [], ◌∷◌, Option, refl, sym, ap, ◌∙◌}
 use Rattle.ele_runs.proofs.Words.{AreTold, RunState, IsTold, is_well, line_unless_long}
 use Rattle.std.specs.Prelude.{not, ◌&&◌}
-use Rattle.ele_runs.specs.declared.options.RunOptions.{RunOptions}
+use Rattle.ele_run_options.specs.declared.options.RunOptions.{RunOptions}
 use Rattle.std.proofs.lemmas.Bool.{cases_Bool}
 
 manner_after : (before after : RunState) (line : Option (List ℕ)) (told : List ℕ) → IsTold before line told after → after.options ≡ before.options

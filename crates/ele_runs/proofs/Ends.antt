@@ -2,8 +2,8 @@
 use Rattle.ele_runs.proofs.Basics.{◌≡◌, ◌≢◌, true, length-append, ℕ, ◌+◌, ◌≤◌, List, [], ◌∷◌, ◌++◌, length, take, get_or, min, ◌-◌, Option, Some, None, Result, Ok, Err, refl, sym, ap, subst, ◌∙◌, arith, append_assoc, inl, inr, append-nil, length-take, ◌⊎◌, nat_tests, flat_map-append, cases_order, AllByRecursion, Consumes, Keeps, IsAtEnd, Consumes-trans, Consumes-kept}
 use Rattle.ele_runs.proofs.Words.{AppendsFront, Outlet, cut_note, cut_count, cut_told, end_by, most_lines, line_unless_long, IsUnbroken, whole_line, whole_lines, line_count, AreTold, AnswersLast, AnswersSome, RunState}
 use Rattle.ele_lists.proofs.Alls.{all-append}
-use Rattle.ele_runs.specs.declared.fault.ShellFault.{ShellFault}
-use Rattle.ele_runs.specs.declared.fault.ShellFault.TheVariants.{ReadFault}
+use Rattle.ele_run_options.specs.declared.fault.ShellFault.{ShellFault}
+use Rattle.ele_run_options.specs.declared.fault.ShellFault.TheVariants.{ReadFault}
 use Rattle.ele_runs.specs.declared.end.EndLine.{EndLine}
 use Rattle.ele_runs.specs.declared.end.RunEnd.{RunEnd}
 use Rattle.ele_runs.specs.declared.tally.Tally.{Tally}
@@ -15,7 +15,7 @@ use Rattle.ele_runs.proofs.Courses.{clash, manner_stays, strict_run}
 use Rattle.std.proofs.KnownBytes.{Keeps-refl}
 use Rattle.ele_runs.proofs.Notes.{strict_cut}
 use Rattle.ele_runs.proofs.Joins.{told_append}
-use Rattle.ele_runs.specs.declared.options.RunOptions.{RunOptions}
+use Rattle.ele_run_options.specs.declared.options.RunOptions.{RunOptions}
 use Rattle.ele_runs.proofs.Ran.{RanSoFar}
 use Rattle.ele_output.specs.Outlet.{IsHandedOver, Puts}
 use Rattle.ele_output.proofs.Known.{all_written, front_written}

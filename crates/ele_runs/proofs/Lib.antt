@@ -7,6 +7,7 @@ pub mod Ends
 pub mod FrontOfOutput
 pub mod InTime
 pub mod Joins
+mod Led
 pub mod Limits
 pub mod Notes
 pub mod OneAnswer
@@ -15,6 +16,7 @@ pub mod OnePass
 pub mod Pieces
 pub mod PlainOutput
 pub mod Ran
+pub mod RepliesKeepHeadline
 pub mod SomeAnswer
 pub mod SomeOutput
 pub mod SomePass

@@ -6,7 +6,7 @@ use Rattle.ele_printer.specs.declared.fault.LineFault.{LineFault}
 use Rattle.ele_printer.specs.Printed.{bad_text}
 use Rattle.ele_runs.specs.Note as note
 use Rattle.ele_runs.specs.WhyBad.{IsToldReason, cut_reason, why_line}
-use Rattle.ele_runs.specs.declared.options.RunOptions.{RunOptions}
+use Rattle.ele_run_options.specs.declared.options.RunOptions.{RunOptions}
 use Rattle.ele_reasons.specs.declared.reasons.Reason.{Reason}
 
 -- nothing begins only with nothing

@@ -4,7 +4,7 @@ use Rattle.ele_runs.proofs.Words.{AreBlocks, AreTold, RunState, IsBlock, IsNoted
 use Rattle.ele_runs.specs.Note as note
 use Rattle.ele_runs.specs.PlainOutput.{IsPlain, PlainOutput}
 use Rattle.ele_runs.specs.RunState.{advance}
-use Rattle.ele_runs.specs.declared.options.RunOptions.{RunOptions}
+use Rattle.ele_run_options.specs.declared.options.RunOptions.{RunOptions}
 use Rattle.std.proofs.KnownBytes.{Keeps-refl, Keeps-trans}
 use Rattle.std.specs.Prelude.{not, ◌&&◌}
 

@@ -1,8 +1,8 @@
 -- The block of one line: the answer that is written for it.
-use Rattle.std.specs.Prelude.{◌≡◌, ℕ, ◌≤◌, Bool, List, [], ◌∷◌, length, Option, Some, None, Result, Ok, Err}
+use Rattle.std.specs.Prelude.{◌≡◌, ◌≢◌, ℕ, ◌≤◌, Bool, List, [], ◌∷◌, length, Option, Some, None, Result, Ok, Err}
 use Rattle.ele_audit.specs.AuditText.{IsAnswersText, gone_text, handles_text, why_gone_text}
 use Rattle.ele_audit.specs.Open.{AreOpen}
-use Rattle.ele_audit.specs.Removals.{AreRemoved, IsRemovedVersion}
+use Rattle.ele_audit.specs.Removals.{AreRemoved, HasRemovals, IsRemovedVersion, MayBeRemoved}
 use Rattle.ele_audit.specs.declared.row.Removed.{Removed}
 use Rattle.ele_model.specs.Why.{IsAhead, IsWhy}
 use Rattle.ele_model.specs.declared.event.Event.{Event}
@@ -28,15 +28,15 @@ use Rattle.ele_history.specs.Past.{Past, HasRoom, trimmed, world_of}
 use Rattle.ele_history.specs.Reply.{MayReply}
 
 -- a line may need memory: its command takes a path or bytes, its event makes an entry, it is a trim, an `ahead` of a moment that
--- hasn't passed, a `why`, a `gone` or a `handles`
+-- hasn't passed, a `why` of a version that a stored entry may have removed, a `gone` after a removal, or a `handles` while one is open
 pub data LineTakesMemory (explains : Bool) (before : Past) (line : List ℕ) : Type 0 where
   as_read : TakesMemory explains (words_of line) → LineTakesMemory explains before line
   as_entry : (event : Event) → Asks explains line (asks.Event event) → HasRoom before → LineTakesMemory explains before line
   as_trim : Asks explains line asks.Trim → LineTakesMemory explains before line
   as_told : (moment : ℕ) → Asks explains line (asks.Question (question.Ahead moment)) → (world_of before).now ≤ moment → LineTakesMemory explains before line
-  as_why : (tagged : TaggedPath) → Asks explains line (asks.Question (question.Why tagged)) → LineTakesMemory explains before line
-  as_gone : Asks explains line (asks.Question question.Gone) → LineTakesMemory explains before line
-  as_handles : Asks explains line (asks.Question question.Handles) → LineTakesMemory explains before line
+  as_why : (tagged : TaggedPath) → Asks explains line (asks.Question (question.Why tagged)) → MayBeRemoved before tagged.tag → LineTakesMemory explains before line
+  as_gone : Asks explains line (asks.Question question.Gone) → HasRemovals before → LineTakesMemory explains before line
+  as_handles : Asks explains line (asks.Question question.Handles) → (world_of before).handles ≢ [] → LineTakesMemory explains before line
 
 -- if the refusal is Forgotten, no stored entry removed the version
 abbrev pub NoneRemoved : Past → TaggedPath → Result Fate Refusal → Type 0

@@ -3,7 +3,7 @@ use Rattle.std.specs.Prelude.{ℕ, List, Option, Some}
 use Rattle.std.specs.Io.KnownBytes.{Keeps}
 use Rattle.ele_runs.specs.Lines.{AreLines}
 use Rattle.ele_runs.specs.Output.{IsOutput}
-use Rattle.ele_runs.specs.RunOptions.{plain}
+use Rattle.ele_run_options.specs.RunOptions.{plain}
 use Rattle.ele_runs.specs.RunState.{begun}
 use Rattle.ele_runs.specs.Telling.{ToldToAWriteFault, WritesFront}
 use Rattle.ele_history.specs.Past.{Past}

@@ -5,9 +5,9 @@ use Rattle.ele_output.specs.Front.{AppendsFront}
 use Rattle.ele_printer.specs.Printed.{bad_text}
 use Rattle.ele_printer.specs.declared.fault.LineFault.{LineFault}
 use Rattle.ele_runs.specs.RunState.{RunState}
-use Rattle.ele_runs.specs.RunOptions.{tells_reasons}
+use Rattle.ele_run_options.specs.RunOptions.{tells_reasons}
 use Rattle.ele_runs.specs.WhyBad.{IsToldReason, cut_reason, why_line}
-use Rattle.ele_runs.specs.declared.options.RunOptions.{RunOptions}
+use Rattle.ele_run_options.specs.declared.options.RunOptions.{RunOptions}
 use Rattle.ele_reasons.specs.declared.reasons.Reason.{Reason}
 
 -- nothing, or the reason for the line with this number, if reasons are written and its block is that of a bad line; a writer

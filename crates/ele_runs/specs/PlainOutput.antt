@@ -4,7 +4,7 @@ use Rattle.std.specs.Io.KnownBytes.{Keeps}
 use Rattle.ele_history.specs.Past.{Past}
 use Rattle.ele_runs.specs.Block.{cut_block}
 use Rattle.ele_runs.specs.Output.{AreBlocks}
-use Rattle.ele_runs.specs.RunOptions.{plain}
+use Rattle.ele_run_options.specs.RunOptions.{plain}
 use Rattle.ele_runs.specs.RunState.{RunState, begun}
 use Rattle.ele_runs.specs.Told.{AreTold, cut_told}
 

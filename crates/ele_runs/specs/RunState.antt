@@ -1,9 +1,9 @@
 -- The state of a run.
 use Rattle.std.specs.Prelude.{ℕ, ◌+◌, Bool, false, not, ◌&&◌, List, Option}
 use Rattle.ele_history.specs.Past.{Past}
-use Rattle.ele_runs.specs.RunOptions.{is_well}
+use Rattle.ele_run_options.specs.RunOptions.{is_well}
 use Rattle.ele_runs.specs.Tally.{fresh_tally, outcome_of, tallied}
-use Rattle.ele_runs.specs.declared.options.RunOptions.{RunOptions}
+use Rattle.ele_run_options.specs.declared.options.RunOptions.{RunOptions}
 use Rattle.ele_runs.specs.declared.tally.Tally.{Tally}
 
 -- its options, its history, the number of lines that were run, whether one of them has ended it, the tally, and the bytes

@@ -1,7 +1,7 @@
 -- The answer to a line, before it is printed.
-use Rattle.std.specs.Prelude.{◌≡◌, ℕ, ◌+◌, ◌-◌, ◌≤◌, ◌==◌, Bool, true, ◌&&◌, List, [], ◌∷◌, ◌++◌, decimal, length, Option, Some, None, Ok, Err, slice_get, if◌then◌else◌}
+use Rattle.std.specs.Prelude.{◌≡◌, ◌≢◌, ℕ, ◌+◌, ◌-◌, ◌≤◌, ◌==◌, Bool, true, ◌&&◌, List, [], ◌∷◌, ◌++◌, decimal, length, Option, Some, None, Ok, Err, slice_get, if◌then◌else◌}
 use Rattle.ele_audit.specs.Open.{AreOpen}
-use Rattle.ele_audit.specs.Removals.{AreRemoved}
+use Rattle.ele_audit.specs.Removals.{AreRemoved, HasRemovals, MayBeRemoved}
 use Rattle.ele_audit.specs.declared.row.Removed.{Removed}
 use Rattle.ele_history.specs.Past.{HasRoom, Past, recorded, trimmed, world_of}
 use Rattle.ele_history.specs.Reply.{MayStop}
@@ -10,8 +10,8 @@ use Rattle.ele_runs.specs.Answer as answer
 use Rattle.ele_path.specs.declared.tagged.TaggedPath.{TaggedPath}
 use Rattle.ele_runs.specs.Block.{IsText, IsWhyNow, IsWhyRemoved, MayAnswer, MayMean}
 use Rattle.ele_runs.specs.RunState.{RunState, advance}
-use Rattle.ele_runs.specs.RunOptions.{front_of, heard}
-use Rattle.ele_runs.specs.declared.options.RunOptions.{RunOptions}
+use Rattle.ele_run_options.specs.RunOptions.{front_of, heard}
+use Rattle.ele_run_options.specs.declared.options.RunOptions.{RunOptions}
 use Rattle.ele_runs.specs.declared.said.Said.{Said}
 use Rattle.ele_runs.specs.declared.said.Said.TheVariants.{Nothing, Bad, Stopped, Replied, Passed, History, Trimmed, Why, WhyRemoved, Ahead, Gone, Handles, Answers}
 use Rattle.ele_script.specs.declared.reading.Question.{Question}
@@ -106,23 +106,23 @@ SaysAhead w moment (Ahead told) = IsAhead w moment told
 SaysAhead w moment (Stopped stop) = (stop ≡ NoMemory) × (w.now ≤ moment)
 SaysAhead w moment said = ⊥
 
--- the answer to `why`, or a stop for memory
+-- the answer to `why`; it is stopped for memory only if a stored entry removed a version with the number of its tag
 abbrev pub SaysWhy : Past → TaggedPath → Said → Type 0
 SaysWhy past tagged (Why told) = IsWhyNow past tagged told
 SaysWhy past tagged (WhyRemoved row) = IsWhyRemoved past tagged row
-SaysWhy past tagged (Stopped stop) = stop ≡ NoMemory
+SaysWhy past tagged (Stopped stop) = (stop ≡ NoMemory) × MayBeRemoved past tagged.tag
 SaysWhy past tagged said = ⊥
 
--- the answer to `gone`, or a stop for memory
+-- the answer to `gone`; it is stopped for memory only if a stored entry removed a version
 abbrev pub SaysGone : Past → Said → Type 0
 SaysGone past (Gone rows) = AreRemoved past rows.items
-SaysGone past (Stopped stop) = stop ≡ NoMemory
+SaysGone past (Stopped stop) = (stop ≡ NoMemory) × HasRemovals past
 SaysGone past said = ⊥
 
--- the answer to `handles`, or a stop for memory
+-- the answer to `handles`; it is stopped for memory only if a handle is open
 abbrev pub SaysHandles : Past → Said → Type 0
 SaysHandles past (Handles handles) = AreOpen past handles.items
-SaysHandles past (Stopped stop) = stop ≡ NoMemory
+SaysHandles past (Stopped stop) = (stop ≡ NoMemory) × ((world_of past).handles ≢ [])
 SaysHandles past said = ⊥
 
 -- the answer to a question, from the world as it is and the history

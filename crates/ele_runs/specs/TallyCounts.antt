@@ -10,7 +10,7 @@ use Rattle.ele_runs.specs.LineLength.{line_unless_long}
 use Rattle.ele_runs.specs.RunState.{RunState, begun}
 use Rattle.ele_runs.specs.Tally.{whole_bad}
 use Rattle.ele_runs.specs.Told.{AreTold}
-use Rattle.ele_runs.specs.declared.options.RunOptions.{RunOptions}
+use Rattle.ele_run_options.specs.declared.options.RunOptions.{RunOptions}
 use Rattle.ele_runs.specs.declared.tally.BadLine.{BadLine}
 use Rattle.ele_runs.specs.declared.tally.Outcome.{Outcome}
 use Rattle.ele_runs.specs.declared.tally.Outcome.TheVariants.{Well, Bad, Refused, Stopped}

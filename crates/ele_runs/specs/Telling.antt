@@ -6,9 +6,9 @@ use Rattle.std.specs.Io.KnownBytes.{Appends, Consumes, Keeps, IsAtEnd}
 use Rattle.ele_output.specs.Front.{AppendsFront}
 use Rattle.ele_runs.specs.declared.end.EndLine.{EndLine}
 use Rattle.ele_runs.specs.declared.end.RunEnd.{RunEnd}
-use Rattle.ele_runs.specs.declared.fault.ShellFault.{ShellFault}
+use Rattle.ele_run_options.specs.declared.fault.ShellFault.{ShellFault}
 use Rattle.ele_runs.specs.declared.tally.Tally.{Tally}
-use Rattle.ele_runs.specs.declared.fault.ShellFault.TheVariants.{ReadFault, WriteFault, TooManyLines, NoMemory}
+use Rattle.ele_run_options.specs.declared.fault.ShellFault.TheVariants.{ReadFault, WriteFault, TooManyLines, NoMemory}
 use Rattle.ele_runs.specs.Bounds.{most_lines, most_bytes}
 use Rattle.ele_runs.specs.RunState.{RunState}
 use Rattle.ele_runs.specs.LineLength.{line_unless_long}

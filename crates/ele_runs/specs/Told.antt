@@ -4,7 +4,7 @@ use Rattle.ele_history.specs.Past.{Past}
 use Rattle.ele_runs.specs.Block.{IsBlock, cut_block}
 use Rattle.ele_runs.specs.RunState.{RunState, advance}
 use Rattle.ele_runs.specs.LineLength.{line_unless_long}
-use Rattle.ele_runs.specs.RunOptions.{front_of, heard}
+use Rattle.ele_run_options.specs.RunOptions.{front_of, heard}
 use Rattle.ele_runs.specs.Note.{IsNoted}
 
 -- the text for the next line: its block, with the line's number before it if lines are numbered, and in the other writer the

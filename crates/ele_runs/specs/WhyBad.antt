@@ -1,7 +1,7 @@
 -- Why a line is not a command under the options of the run, and the text of that.
 use Rattle.std.specs.Prelude.{◌≡◌, ℕ, List, [], ◌∷◌, ◌++◌, codes, decimal, Option, Some, None, ◌⊎◌}
 use Rattle.ele_printer.specs.declared.fault.LineFault.{LineFault}
-use Rattle.ele_runs.specs.declared.options.RunOptions.{RunOptions}
+use Rattle.ele_run_options.specs.declared.options.RunOptions.{RunOptions}
 use Rattle.ele_script.specs.FirstFault.{IsFirstFault}
 use Rattle.ele_script.specs.Memory.{WordTakesMemory}
 use Rattle.ele_reasons.specs.Reason.{IsReason}

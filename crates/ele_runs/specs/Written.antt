@@ -7,8 +7,8 @@ use Rattle.ele_runs.specs.Telling.{IsTallyOf, Tells}
 use Rattle.ele_runs.specs.Told.{IsTold, cut_told}
 use Rattle.ele_runs.specs.declared.end.EndLine.{EndLine}
 use Rattle.ele_runs.specs.declared.end.RunEnd.{RunEnd}
-use Rattle.ele_runs.specs.declared.fault.ShellFault.{ShellFault}
-use Rattle.ele_runs.specs.declared.fault.ShellFault.TheVariants.{NoMemory}
+use Rattle.ele_run_options.specs.declared.fault.ShellFault.{ShellFault}
+use Rattle.ele_run_options.specs.declared.fault.ShellFault.TheVariants.{NoMemory}
 
 -- the text of the line was printed
 pub record PutsBlock (before : RunState) (line : Option (List ℕ)) (after : RunState) (old new : Outlet) : Type 0 where

@@ -3,6 +3,7 @@ ghost use Rattle.ele_runs.specs.FrontOfOutput.{FrontOfOutput};
 ghost use Rattle.ele_runs.specs.OneAnswer.{OneAnswer};
 ghost use Rattle.ele_runs.specs.OneOutput.{OneOutput};
 ghost use Rattle.ele_runs.specs.PlainOutput.{PlainOutput};
+ghost use Rattle.ele_runs.specs.RepliesKeepHeadline.{RepliesKeepHeadline};
 ghost use Rattle.ele_runs.specs.SomeAnswer.{SomeAnswer};
 ghost use Rattle.ele_runs.specs.SomeOutput.{SomeOutput};
 ghost use Rattle.ele_runs.specs.TallyCounts.{TallyCounts};
@@ -60,3 +61,12 @@ pub fn front_of_output()
 pub fn tally_counts()
     ensures { TallyCounts }
 {}
+
+/// Events led to the world before each line of a run, from the fresh world of its limits. So each
+/// reply to an event is as the headline says.
+pub fn replies_keep_headline()
+    ensures { RepliesKeepHeadline }
+{
+    // A fact for the proof: the reply of the step keeps the headline.
+    ele_headline::headline();
+}

@@ -5,9 +5,9 @@ ghost use Rattle.std.specs.Option.{option_map};
 ghost use Rattle.ele_output.specs.Front.{AppendsFront};
 ghost use Rattle.ele_runs.specs.WhyBad.{IsToldReason, IsUntold, cut_reason, why_line};
 
-use crate::options::RunOptions;
 use ele_output::write_all;
 use ele_reasons::{Reason, reason};
+use ele_run_options::RunOptions;
 use std::alloc::Global;
 use std::io::Write;
 

@@ -3,7 +3,7 @@
 ghost use Rattle.std.specs.Prelude.{◌<◌, ◌≤◌, length};
 ghost use Rattle.ele_runs.specs.Taken.{TakesPiece};
 
-use crate::fault::ShellFault;
+use ele_run_options::ShellFault;
 use std::io::{ErrorKind, Read};
 
 /// Reads at most `most` bytes into the start of the piece. Returns their number, which is 0 only at the

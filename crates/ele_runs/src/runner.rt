@@ -12,13 +12,13 @@ ghost use Rattle.ele_runs.specs.Said.{HearsNext, answer_of};
 ghost use Rattle.ele_runs.specs.Written.{PutsBlock};
 
 use crate::note::{tell_why, why_bad, why_cut};
-use crate::options::RunOptions;
 use crate::said::{Said, hear_kept, last_reply};
 use crate::tally::Tally;
 use ele_history::History;
 use ele_model::{Explain, Limits};
 use ele_moment::NoMemory;
 use ele_output::Printer;
+use ele_run_options::RunOptions;
 use std::alloc::Global;
 use std::io::Write;
 use std::marker::Model;

@@ -6,12 +6,11 @@ ghost use Rattle.ele_history.specs.Past.{world_of};
 ghost use Rattle.ele_model.specs.Why.{IsWhy};
 ghost use Rattle.ele_model.specs.declared.refusal.Refusal.TheVariants.{Forgotten};
 ghost use Rattle.ele_output.specs.Prints.{Prints};
-ghost use Rattle.ele_runs.specs.RunOptions.{is_well};
+ghost use Rattle.ele_run_options.specs.RunOptions.{is_well};
 ghost use Rattle.ele_runs.specs.Tally.{outcome_of};
 ghost use Rattle.ele_runs.specs.Block.{IsText};
 ghost use Rattle.ele_runs.specs.Said.{Explains, Hears, HearsKept, Records, SaysAhead, SaysGone, SaysHandles, SaysWhy, Trims, answer_by, answer_of, answers_of, gone_of, has_no_reply, history_of, last_reply, reply_of, said_front};
 
-use crate::options::RunOptions;
 use crate::tally::Outcome;
 use ele_audit::{
     OpenHandle, Removed, open_handles, put_answers, put_gone, put_handles, put_why_gone, removed,
@@ -22,6 +21,7 @@ use ele_model::{Event, Explain, Fate, KeyList, Moment, PassEnd, Refusal, Reply, 
 use ele_output::Printer;
 use ele_path::TaggedPath;
 use ele_printer::{put_history, put_in_front, put_trimmed};
+use ele_run_options::RunOptions;
 use ele_script::{
     Line, LineFault, Question, put_ahead, put_answer, put_fault, put_pass, put_stop, put_why,
     read_line_in,

@@ -3,20 +3,19 @@
 ghost use Rattle.std.specs.Prelude.{◌≡◌, ◌≤◌, ◌-◌, [], false, None, Some, min, IfErr, IfOk, IsErrOf, length};
 ghost use Rattle.ele_history.specs.Past.{fresh};
 ghost use Rattle.ele_output.specs.Prints.{outlet};
-ghost use Rattle.ele_runs.specs.RunOptions.{plain};
+ghost use Rattle.ele_run_options.specs.RunOptions.{plain};
 ghost use Rattle.ele_runs.specs.RunState.{begun, noting};
 ghost use Rattle.ele_runs.specs.Telling.{HasFailed, Tells, ToldToTheEnd, Writes};
 ghost use Rattle.ele_runs.specs.Written.{HadMemory, RunsAt};
 
 use crate::end::{EndLine, RunEnd};
-use crate::fault::ShellFault;
 use crate::line_buffer::LineBuffer;
 use crate::lines::{answer_piece, finish};
-use crate::options::RunOptions;
 use crate::piece::read_piece;
 use crate::runner::Runner;
 use ele_model::{Explain, Limits};
 use ele_output::Printer;
+use ele_run_options::{RunOptions, ShellFault};
 use std::alloc::Global;
 use std::io;
 use std::io::{Read, Sink, Write};

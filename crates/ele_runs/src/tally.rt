@@ -7,7 +7,7 @@ ghost use Rattle.ele_runs.specs.Tally.{cut_tallied, fresh_tally, tallied, whole_
 use crate::line_buffer::LineBuffer;
 
 /// The kind of the answer to a line.
-#[derive(Clone, Copy, Debug, PartialEq, Eq)]
+#[derive(Clone, Copy, PartialEq, Eq)]
 pub enum Outcome {
     /// `ok`, or no answer.
     Well,

@@ -1,9 +1,9 @@
 //! The command that the words of a line begin with, and the kinds of the words after it.
-ghost use Rattle.std.specs.Prelude.{◌≡◌, ◌==◌, ◌∷◌, [], length, map};
+ghost use Rattle.std.specs.Prelude.{◌≡◌, ◌≤◌, ◌==◌, ◌∷◌, [], drop, length, map};
 ghost use Rattle.std.specs.Option.{option_map};
 ghost use Rattle.ele_commands.specs.Command.{kinds_of, name_of};
 ghost use Rattle.ele_script.specs.Command.{kinds_if};
-ghost use Rattle.ele_script.specs.CommandOf.{behind, command_in, command_of, entry, FindsAll, find_command, first_letter};
+ghost use Rattle.ele_script.specs.CommandOf.{behind, command_in, command_of, commands, entry, FindsAll, find_command, first_letter, named};
 
 use ele_commands::{Command, ROWS, Row, WordKind};
 
@@ -11,23 +11,32 @@ use ele_commands::{Command, ROWS, Row, WordKind};
 fn rows_from(letter: u8) -> &'static [Row]
     ensures { FindsAll letter (map entry result.now) }
 {
+    let rows: &[Row] = &ROWS;
+    rows.split_at(first_row(letter)).1
+}
+
+// The place of the first row whose name begins with the letter, or the end of the rows.
+fn first_row(letter: u8) -> usize
+    ensures within { result ≤ length commands }
+    ensures finds { FindsAll letter (drop result (map named commands)) }
+{
     match letter {
-        b'a' => &ROWS[Command::Ahead as usize..],
-        b'c' => &ROWS[Command::Clock as usize..],
-        b'd' => &ROWS[Command::Due as usize..],
-        b'g' => &ROWS[Command::GroupMake as usize..],
-        b'h' => &ROWS[Command::History as usize..],
-        b'l' => &ROWS[Command::Link as usize..],
-        b'm' => &ROWS[Command::Mark as usize..],
-        b'o' => &ROWS[Command::OpenWrite as usize..],
-        b'p' => &ROWS[Command::Pass as usize..],
-        b'r' => &ROWS[Command::Read as usize..],
-        b's' => &ROWS[Command::Stat as usize..],
-        b't' => &ROWS[Command::Tick as usize..],
-        b'u' => &ROWS[Command::Unlink as usize..],
-        b'v' => &ROWS[Command::Versions as usize..],
-        b'w' => &ROWS[Command::Write as usize..],
-        _ => &[],
+        b'a' => Command::Ahead as usize,
+        b'c' => Command::Clock as usize,
+        b'd' => Command::Due as usize,
+        b'g' => Command::GroupMake as usize,
+        b'h' => Command::History as usize,
+        b'l' => Command::Link as usize,
+        b'm' => Command::Mark as usize,
+        b'o' => Command::OpenWrite as usize,
+        b'p' => Command::Pass as usize,
+        b'r' => Command::Read as usize,
+        b's' => Command::Stat as usize,
+        b't' => Command::Tick as usize,
+        b'u' => Command::Unlink as usize,
+        b'v' => Command::Versions as usize,
+        b'w' => Command::Write as usize,
+        _ => ROWS.len(),
     }
 }
 

@@ -24,7 +24,7 @@ use ele_printer::LineFault;
 use std::alloc::Global;
 
 /// What a line of a script asks for.
-#[derive(Debug, Drop, PartialEq, Eq)]
+#[derive(Drop)]
 pub enum Line {
     /// Run an event.
     Event(Event),
@@ -39,7 +39,7 @@ pub enum Line {
 }
 
 /// What a line asks to be explained.
-#[derive(Debug, Drop, PartialEq, Eq)]
+#[derive(Drop)]
 pub enum Question {
     /// Why the version that the path with its tag names is held, or may be removed.
     Why(TaggedPath),

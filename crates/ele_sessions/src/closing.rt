@@ -3,7 +3,7 @@
 use ele_moment::{FileId, Moment, VersionNo};
 
 /// What closing a handle does.
-#[derive(Clone, Copy, Debug, PartialEq, Eq)]
+#[derive(Clone, Copy, PartialEq, Eq)]
 pub enum Closing {
     /// Another handle writes the file, and its draft stays.
     StillOpen,

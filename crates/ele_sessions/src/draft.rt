@@ -9,7 +9,7 @@ use ele_blocks::{BlockMap, BlockStore};
 use ele_moment::{Moment, NoMemory, VersionNo};
 
 /// The unsaved content of a file.
-#[derive(Debug, Drop)]
+#[derive(Drop)]
 pub struct Draft {
     pub number: VersionNo,
     pub opened: Moment,

@@ -21,7 +21,7 @@ use ele_moment::{FileId, Handle};
 use ele_rows::Tally;
 
 /// A file's draft, boxed, so that few bytes move when another draft is added or removed.
-#[derive(Debug, Drop)]
+#[derive(Drop)]
 pub struct Entry {
     pub file: FileId,
     pub draft: Box<Draft>,

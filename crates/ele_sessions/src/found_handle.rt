@@ -4,7 +4,7 @@ use ele_model::HandleRow;
 
 /// An open handle, and its place among the open handles. The place holds until one of them is
 /// closed.
-#[derive(Clone, Copy, Debug)]
+#[derive(Clone, Copy)]
 pub struct FoundHandle {
     pub row: HandleRow,
     pub place: usize,

@@ -17,7 +17,7 @@ use ele_rows::put_at;
 use std::alloc::Global;
 
 /// The version that a draft would make, and when the draft is opened.
-#[derive(Clone, Copy, Debug)]
+#[derive(Clone, Copy)]
 pub struct DraftSpec {
     pub file: FileId,
     pub number: VersionNo,

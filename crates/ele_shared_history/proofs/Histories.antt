@@ -10,7 +10,8 @@ use Rattle.ele_model.specs.Step.{step}
 use Rattle.ele_model.specs.World.{World}
 use Rattle.ele_history.specs.Legal.{IsLegal}
 use Rattle.ele_history.specs.Past.{Past, events_of, reply_to, world_of}
-use Rattle.ele_history.proofs.Growth.{legal-append, run_of-append}
+use Rattle.ele_history.proofs.Growth.{legal-append}
+use Rattle.ele_model.proofs.Reached.{run_of-append}
 use Rattle.ele_shared_history.specs.declared.ledger.Call.{Call}
 use Rattle.ele_shared_history.specs.Running.{continued, entries_of, has, own_of, StartsWith}
 

@@ -1,7 +1,7 @@
 //! Why a call of a shared history fails.
 
 /// Why an attempt fails. The event is in no history, and nothing has changed.
-#[derive(Clone, Copy, Debug, PartialEq, Eq)]
+#[derive(Clone, Copy, PartialEq, Eq)]
 pub enum TryStop {
     NoMemory,
     HistoryFull,
@@ -10,5 +10,5 @@ pub enum TryStop {
 }
 
 /// A call took the turn and never gave it back, so no slot has the history.
-#[derive(Clone, Copy, Debug, PartialEq, Eq)]
+#[derive(Clone, Copy, PartialEq, Eq)]
 pub struct TurnHeld;

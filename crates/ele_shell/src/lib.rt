@@ -5,7 +5,7 @@
 
 ghost use Rattle.std.specs.Prelude.{◌≡◌, None, IfErr, IfOk, IsErrOf};
 ghost use Rattle.ele_history.specs.Past.{fresh};
-ghost use Rattle.ele_runs.specs.RunOptions.{plain};
+ghost use Rattle.ele_run_options.specs.RunOptions.{plain};
 ghost use Rattle.ele_runs.specs.RunState.{begun};
 ghost use Rattle.ele_runs.specs.Telling.{HasFailed, ToldToTheEnd, Writes};
 

@@ -9,7 +9,7 @@ use ele_usage::UsageBook;
 use std::alloc::Global;
 
 // How many of each kind were ever made; the files count the handles.
-#[derive(Clone, Copy, Debug)]
+#[derive(Clone, Copy)]
 pub struct Made {
     pub files: u64,
     pub directories: u64,

@@ -8,10 +8,10 @@ use Rattle.ele_shared_history.specs.declared.ledger.Call.{Call}
 use Rattle.ele_shared_history.specs.Running.{continued, entries_of}
 use Rattle.ele_shared_history.specs.Seats.{AreNew, IsNew}
 use Rattle.ele_model.specs.Bounds.{Bounds}
-use Rattle.ele_storm.specs.declared.plan.StormPlan.{StormPlan}
+use Rattle.ele_storm_plan.specs.declared.plan.StormPlan.{StormPlan}
 use Rattle.ele_model.specs.declared.entry.Entry.{Entry}
 use Rattle.ele_storm.specs.Audited.{IsAudited, IsBegun}
-use Rattle.ele_storm.specs.Plan.{storm_events}
+use Rattle.ele_storm_plan.specs.Plan.{storm_events}
 use Rattle.ele_storm.specs.Storm.{AddsStorm, IsWoven}
 use Rattle.ele_storm.proofs.Weaving.{own_is_woven}
 use Rattle.ele_shared_history.proofs.Histories.{length-entries_of, own_is_short}

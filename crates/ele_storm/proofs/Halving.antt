@@ -8,13 +8,14 @@ use Rattle.ele_model.specs.declared.event.Event.{Event}
 use Rattle.ele_shared_history.specs.Seats.{Joined}
 use Rattle.ele_shared_history.proofs.Histories.{entries_of-append, length-entries_of}
 use Rattle.ele_model.specs.declared.entry.Entry.{Entry}
-use Rattle.ele_storm.specs.declared.fault.StormFault.{StormFault}
-use Rattle.ele_storm.specs.declared.plan.StormPlan.{StormPlan}
+use Rattle.ele_storm_plan.specs.declared.fault.StormFault.{StormFault}
+use Rattle.ele_storm_plan.specs.declared.plan.StormPlan.{StormPlan}
 use Rattle.ele_storm.specs.Halves.{RunsWorkers, size_before}
-use Rattle.ele_storm.specs.Plan.{AreRounds, round_size, storm_events, task_of, workers_of}
+use Rattle.ele_storm_plan.specs.Plan.{storm_events, task_of, workers_of}
+use Rattle.ele_storm.specs.Rounds.{AreRounds, round_size}
 use Rattle.ele_storm.specs.Storm.{AddsStorm, AreOfWorkers, IsWoven, prepared}
 use Rattle.ele_storm.specs.Work.{AddsCalls, Makes, SeesMore, MakesOne, RunsRounds, Works}
-use Rattle.ele_storm.specs.declared.plan.Task.{Task}
+use Rattle.ele_storm_plan.specs.declared.plan.Task.{Task}
 use Rattle.ele_storm.proofs.Counts.{calls_of_both}
 use Rattle.ele_storm.proofs.Sizes.{events_next, events_of_all, length-rounds, none_before}
 use Rattle.ele_storm.proofs.Weaving.{calls_are_woven, weaves_out, woven_alone, woven_none}

@@ -11,7 +11,7 @@ use Rattle.ele_moment.specs.Name.{IsName, is_name_byte}
 use Rattle.ele_path.specs.Path.{SpellsPath}
 use Rattle.ele_path.specs.Tagged.{SpellsTaggedPath}
 use Rattle.ele_path.specs.declared.tagged.Tag.TheVariants.{Now, Number}
-use Rattle.ele_storm.specs.Plan.{file_of, tagged}
+use Rattle.ele_storm.specs.Rounds.{file_of, tagged}
 
 digit_is_plain : (n : ℕ) → n < 10 → is_name_byte (48 + n) ≡ true
 digit_is_plain n small = grind (arith, nat_tests)

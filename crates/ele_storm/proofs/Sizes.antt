@@ -3,12 +3,13 @@ use Rattle.std.proofs.Common.{◌≡◌, ℕ, zero, suc, ◌+◌, ◌*◌, ◌<�
 use Rattle.std.proofs.lemmas.List.{length-map}
 use Rattle.std.proofs.Math.Nat.{mul-suc}
 use Rattle.std.proofs.lemmas.Bool.Decides.{nat_tests}
-use Rattle.ele_storm.specs.declared.plan.StormPlan.{StormPlan}
+use Rattle.ele_storm_plan.specs.declared.plan.StormPlan.{StormPlan}
 use Rattle.ele_storm.specs.Halves.{size_before}
 use Rattle.ele_model.specs.declared.entry.Entry.{Entry}
-use Rattle.ele_storm.specs.declared.plan.Task.{Task}
-use Rattle.ele_storm.specs.declared.plan.Task.TheVariants.{Writer, Historian, Cleaner}
-use Rattle.ele_storm.specs.Plan.{AreRounds, handle_of, round_events, round_size, storm_events, task_of, workers_of}
+use Rattle.ele_storm_plan.specs.declared.plan.Task.{Task}
+use Rattle.ele_storm_plan.specs.declared.plan.Task.TheVariants.{Writer, Historian, Cleaner}
+use Rattle.ele_storm_plan.specs.Plan.{storm_events, task_of, workers_of}
+use Rattle.ele_storm.specs.Rounds.{AreRounds, handle_of, round_events, round_size}
 
 pub add-mul : (a b n : ℕ) → (a + b) * n ≡ a * n + b * n
 add-mul a b zero = omega arith

@@ -15,10 +15,10 @@ use Rattle.ele_storm.specs.Storm.{creates, storm_policy}
 use Rattle.std.proofs.lemmas.List.{map-append}
 use Rattle.ele_model.specs.declared.event.Source.TheVariants.{Tagged}
 use Rattle.std.specs.Prelude.{OnOk}
-use Rattle.ele_storm.specs.declared.fault.StormFault.{StormFault}
-use Rattle.ele_storm.specs.declared.plan.Task.{Task}
-use Rattle.ele_storm.specs.declared.plan.Task.TheVariants.{Cleaner}
-use Rattle.ele_storm.specs.Plan.{file_of, handle_in, looks, tagged, writes}
+use Rattle.ele_storm_plan.specs.declared.fault.StormFault.{StormFault}
+use Rattle.ele_storm_plan.specs.declared.plan.Task.{Task}
+use Rattle.ele_storm_plan.specs.declared.plan.Task.TheVariants.{Cleaner}
+use Rattle.ele_storm.specs.Rounds.{file_of, handle_in, looks, tagged, writes}
 use Rattle.ele_storm.specs.Work.{AddsCalls, SeesMore, Makes, MakesOne, RunsRound, RunsRounds}
 use Rattle.ele_shared_history.proofs.Histories.{entries_of-append}
 

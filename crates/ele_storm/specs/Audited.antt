@@ -7,8 +7,8 @@ use Rattle.ele_shared_history.specs.Running.{continued}
 use Rattle.ele_model.specs.Bounds.{Bounds}
 use Rattle.ele_model.specs.declared.entry.Entry.{Entry}
 use Rattle.ele_model.specs.World.{fresh_world}
-use Rattle.ele_storm.specs.declared.plan.StormPlan.{StormPlan}
-use Rattle.ele_storm.specs.Plan.{storm_events}
+use Rattle.ele_storm_plan.specs.declared.plan.StormPlan.{StormPlan}
+use Rattle.ele_storm_plan.specs.Plan.{storm_events}
 use Rattle.ele_storm.specs.Storm.{AddsStorm, IsWoven}
 
 -- the closed history is legal from the fresh world on, and has all calls of the plan's storm, each worker's in their order; the core's

@@ -2,8 +2,8 @@
 use Rattle.std.specs.Prelude.{◌≡◌, ℕ, ◌+◌, ◌-◌, ◌*◌, min, [], length, Result, OnOk}
 use Rattle.ele_shared_history.specs.Knowledge.{Knowledge}
 use Rattle.ele_shared_history.specs.Running.{StartsWith, entries_of}
-use Rattle.ele_storm.specs.declared.fault.StormFault.{StormFault}
-use Rattle.ele_storm.specs.declared.plan.StormPlan.{StormPlan}
+use Rattle.ele_storm_plan.specs.declared.fault.StormFault.{StormFault}
+use Rattle.ele_storm_plan.specs.declared.plan.StormPlan.{StormPlan}
 use Rattle.ele_storm.specs.Storm.{AreOfWorkers}
 
 -- how many events the workers before this one make in a round

@@ -1,6 +1,5 @@
 pub mod Audited
-pub mod Fault
 pub mod Halves
-pub mod Plan
+pub mod Rounds
 pub mod Storm
 pub mod Work

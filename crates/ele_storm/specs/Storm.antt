@@ -6,8 +6,9 @@ use Rattle.ele_model.specs.declared.event.Event.{Event}
 use Rattle.ele_model.specs.declared.event.Event.TheVariants.{Create, SetDefault}
 use Rattle.ele_policy.specs.declared.policy.Policy.{Policy}
 use Rattle.ele_policy.specs.declared.policy.Policy.TheVariants.{Landmarks}
-use Rattle.ele_storm.specs.declared.plan.StormPlan.{StormPlan}
-use Rattle.ele_storm.specs.Plan.{AreRounds, file_of, task_of, workers_of}
+use Rattle.ele_storm_plan.specs.declared.plan.StormPlan.{StormPlan}
+use Rattle.ele_storm_plan.specs.Plan.{task_of, workers_of}
+use Rattle.ele_storm.specs.Rounds.{AreRounds, file_of}
 
 -- this policy lets versions come and go within a few rounds
 abbrev pub storm_policy : Policy

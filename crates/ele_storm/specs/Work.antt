@@ -5,13 +5,14 @@ use Rattle.ele_shared_history.specs.Knowledge.{Knowledge}
 use Rattle.ele_shared_history.specs.Running.{entries_of, entry, StartsWith}
 use Rattle.ele_model.specs.declared.entry.Entry.{Entry}
 use Rattle.ele_shared_history.specs.Calling.{SeesFull}
-use Rattle.ele_storm.specs.declared.fault.StormFault.{StormFault}
-use Rattle.ele_storm.specs.declared.fault.StormFault.TheVariants as fault
-use Rattle.ele_storm.specs.declared.plan.StormPlan.{StormPlan}
+use Rattle.ele_storm_plan.specs.declared.fault.StormFault.{StormFault}
+use Rattle.ele_storm_plan.specs.declared.fault.StormFault.TheVariants as fault
+use Rattle.ele_storm_plan.specs.declared.plan.StormPlan.{StormPlan}
 use Rattle.ele_model.specs.declared.event.Event.{Event}
 use Rattle.ele_model.specs.declared.reply.Reply.{Reply}
-use Rattle.ele_storm.specs.declared.plan.Task.{Task}
-use Rattle.ele_storm.specs.Plan.{AreOf, AreRounds, round_events, task_of}
+use Rattle.ele_storm_plan.specs.declared.plan.Task.{Task}
+use Rattle.ele_storm_plan.specs.Plan.{task_of}
+use Rattle.ele_storm.specs.Rounds.{AreOf, AreRounds, round_events}
 
 -- the seat has seen no less, and is the same seat
 pub record SeesMore (before after : Knowledge) : Type 0 where

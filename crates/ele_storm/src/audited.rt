@@ -3,13 +3,12 @@ ghost use Rattle.std.specs.Prelude.{◌≡◌, IfOk, IsTrue};
 ghost use Rattle.ele_shared_history.specs.Closing.{Closes};
 ghost use Rattle.ele_storm.specs.Audited.{IsAudited, IsBegun};
 
-use crate::fault::AuditFault;
 use crate::meet::Meet;
-use crate::plan::StormPlan;
 use crate::storms::storm;
 use ele_history::History;
 use ele_model::{Audit, Limits, NoMemory, Step, audit, laws};
 use ele_shared_history::{Seat, Shared};
+use ele_storm_plan::{AuditFault, StormPlan};
 use std::alloc::Global;
 use std::sync::Wait;
 use std::thread::Threads;
@@ -63,7 +62,9 @@ pub fn close_and_audit<C: Audit>(
     ensures closes { IfOk result (λ closed. Closes shared.opening seat closed.0) }
     ensures equal { IfOk result (λ closed. IsTrue closed.1) }
 {
-    let history = shared.close(seat)?;
+    let Ok(history) = shared.close(seat) else {
+        return Err(AuditFault::TurnHeld);
+    };
     let equal = is_equal(history.core())?;
     Ok((history, equal))
 }

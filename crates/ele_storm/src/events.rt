@@ -2,7 +2,7 @@
 ghost use Rattle.std.specs.Prelude.{◌≡◌, ◌<◌, IfOk};
 ghost use Rattle.std.specs.Int.{to_be_bytes, w64};
 ghost use Rattle.ele_path.specs.declared.tagged.Tag.TheVariants as tag;
-ghost use Rattle.ele_storm.specs.Plan.{file_of, handle_in, tagged};
+ghost use Rattle.ele_storm.specs.Rounds.{file_of, handle_in, tagged};
 
 use ele_model::{ByteList, Handle, NoMemory, Path, Reply, TaggedPath};
 use std::alloc::Global;

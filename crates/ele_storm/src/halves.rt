@@ -1,15 +1,14 @@
 //! The workers of a storm, each in a thread of its own.
 ghost use Rattle.std.specs.Prelude.{◌≡◌, ◌+◌, ◌<◌, ◌≤◌, ◌/◌, ◌-◌, []};
 ghost use Rattle.std.specs.Thread.{IsSync};
-ghost use Rattle.ele_storm.specs.Plan.{workers_of};
+ghost use Rattle.ele_storm_plan.specs.Plan.{workers_of};
 ghost use Rattle.ele_storm.specs.Halves.{RunsWorkers};
 
-use crate::fault::StormFault;
 use crate::meet::Meet;
-use crate::plan::StormPlan;
 use crate::worker::work;
 use ele_model::Step;
 use ele_shared_history::{Seat, Shared};
+use ele_storm_plan::{StormFault, StormPlan};
 use std::alloc::Global;
 use std::snapshot::Snapshot;
 use std::sync::Wait;

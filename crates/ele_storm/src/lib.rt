@@ -5,18 +5,15 @@
 
 mod audited;
 mod events;
-mod fault;
 mod flags;
 mod halves;
 mod meet;
-mod plan;
 mod storms;
 mod worker;
 
 pub use audited::{close_and_audit, share_fresh, storm_and_audit};
-pub use fault::{AuditFault, StormFault};
+pub use ele_storm_plan::{AuditFault, StormFault, StormPlan, Task};
 pub use flags::Flags;
 pub use meet::{Meet, MeetEnd};
-pub use plan::{StormPlan, Task};
 pub use storms::storm;
 pub use worker::work;

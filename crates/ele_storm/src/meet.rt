@@ -1,7 +1,7 @@
 //! Where the workers of a storm arrive, to show that they run at once.
 
 /// How an arrival ends.
-#[derive(Clone, Copy, Debug, PartialEq, Eq)]
+#[derive(Clone, Copy, PartialEq, Eq)]
 pub enum MeetEnd {
     /// Another worker has arrived too.
     Met,

@@ -1,18 +1,17 @@
 //! A storm of workers.
 ghost use Rattle.std.specs.Prelude.{◌≡◌, ◌+◌, [], IfOk, OnOk, length};
 ghost use Rattle.ele_shared_history.specs.Running.{StartsWith, entries_of};
-ghost use Rattle.ele_storm.specs.Plan.{storm_events};
+ghost use Rattle.ele_storm_plan.specs.Plan.{storm_events};
 ghost use Rattle.ele_storm.specs.Storm.{AddsStorm, prepared, storm_policy};
 ghost use Rattle.ele_storm.specs.Work.{Makes, SeesMore};
 
 use crate::events::file_of;
-use crate::fault::StormFault;
 use crate::halves::run;
 use crate::meet::Meet;
-use crate::plan::StormPlan;
 use crate::worker::make;
 use ele_model::{Boxed, Event, Ladder, Path, Policy, Step};
 use ele_shared_history::{Seat, Shared};
+use ele_storm_plan::{StormFault, StormPlan};
 use std::alloc::Global;
 use std::sync::Wait;
 use std::thread::Threads;

@@ -2,16 +2,16 @@
 ghost use Rattle.std.specs.Prelude.{◌≡◌, ◌*◌, ◌<◌, IfOk, IfErr, [], ◌∷◌, OnOk};
 ghost use Rattle.ele_shared_history.specs.Calling.{SeesRoom};
 ghost use Rattle.ele_shared_history.specs.Running.{entry};
-ghost use Rattle.ele_storm.specs.declared.fault.StormFault.TheVariants as storm;
-ghost use Rattle.ele_storm.specs.Plan.{looks, round_size, task_of, workers_of, writes};
+ghost use Rattle.ele_storm_plan.specs.declared.fault.StormFault.TheVariants as storm;
+ghost use Rattle.ele_storm_plan.specs.Plan.{task_of, workers_of};
+ghost use Rattle.ele_storm.specs.Rounds.{looks, round_size, writes};
 ghost use Rattle.ele_storm.specs.Work.{AddsCalls, FailsWorker, SeesMore, Makes, MakesOne, RunsRound, RunsRounds, StopsWorker, Works};
 
 use crate::events::{bytes_of, file_now, file_of, first_version, handle_in};
-use crate::fault::StormFault;
 use crate::meet::{Meet, MeetEnd};
-use crate::plan::{StormPlan, Task};
 use ele_model::{Event, Reply, Source, Step};
 use ele_shared_history::{Seat, Shared};
+use ele_storm_plan::{StormFault, StormPlan, Task};
 use std::alloc::Global;
 use std::sync::Wait;
 

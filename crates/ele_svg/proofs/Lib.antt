@@ -1,1 +1,3 @@
 mod Ranges
+-- a version that is tied to none
+mod Ties

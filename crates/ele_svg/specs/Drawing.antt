@@ -1,8 +1,8 @@
 -- What becomes of a file's versions under some policies, as a drawing.
 use Rattle.std.specs.Prelude.{ℕ, nat_le, nat_lt, Bool, true, false, List, [], ◌∷◌, length, Option, Some, None, slice_get, if◌then◌else◌}
-use Rattle.ele_forecast_plans.specs.declared.counts.Counts.{Counts}
+use Rattle.ele_forecast_forms.specs.declared.counts.Counts.{Counts}
 use Rattle.ele_forecast_text.specs.declared.plan.Plan.{Plan}
-use Rattle.ele_svg_rows.specs.Drawing.{rows_text}
+use Rattle.ele_svg.specs.Rows.{rows_text}
 use Rattle.ele_svg.specs.Summary.{column_moments, summary_text}
 
 -- a summary has a curve for each policy, and it is drawn of several policies, or of one with more than 200 versions

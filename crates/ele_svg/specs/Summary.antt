@@ -8,14 +8,16 @@ use Rattle.ele_policy.specs.declared.cause.Cause.TheVariants as cause
 use Rattle.ele_forecast.specs.declared.forecast.Forecast.{Forecast}
 use Rattle.ele_forecast.specs.declared.forecast.Why.{Why}
 use Rattle.ele_forecast.specs.declared.forecast.Why.TheVariants as why
-use Rattle.ele_forecast_plans.specs.declared.counts.Counts.{Counts}
+use Rattle.ele_forecast_forms.specs.declared.counts.Counts.{Counts}
+use Rattle.ele_forecast_text.specs.Plan.{versions_of}
+use Rattle.ele_forecast_text.specs.Reach.{first_of}
 use Rattle.ele_forecast_text.specs.declared.plan.Plan.{Plan}
 use Rattle.ele_forecast_text.specs.declared.staying.Staying.{Staying}
-use Rattle.ele_svg_rows.specs.Drawing.{foot_drawn, moment_drawn}
+use Rattle.ele_svg.specs.Rows.{foot_drawn, moment_drawn}
 use Rattle.ele_svg_marks.specs.Head.{head_drawn, policy_name}
 use Rattle.ele_svg_marks.specs.Labels.{labels_drawn}
 use Rattle.ele_svg_marks.specs.Mark.{glued, mark_text, stroke_words}
-use Rattle.ele_svg_marks.specs.Page.{first_of, label_rows, last_of, rungs_of, span_of, x_of}
+use Rattle.ele_svg_marks.specs.Page.{label_rows, last_drawn, rungs_of, span_of, x_of}
 use Rattle.ele_svg_marks.specs.Walk.{walked}
 use Rattle.ele_svg_marks.specs.declared.mark.Fill.TheVariants as fill
 use Rattle.ele_svg_marks.specs.declared.mark.Mark.{Mark}
@@ -134,10 +136,7 @@ level_strip page rungs forecasts rung = strip_drawn page (level_of rungs rung.0)
 abbrev pub strips_drawn : Page → List Rung → List Forecast → List ℕ
 strips_drawn page rungs forecasts = strip_drawn page 0 words.Closings forecasts ++ flat_map (level_strip page rungs forecasts) rungs
 
--- the versions and the moments are those of the first policy, and the ladder that of a policy alone
-abbrev pub versions_of : List Plan → List Forecast
-versions_of plans = option_map_or (λ plan. plan.forecasts.items) (slice_get plans 0) []
-
+-- the moments are those of the first policy, and the ladder that of a policy alone
 abbrev pub moments_of : List Plan → List Staying
 moments_of plans = option_map_or (λ plan. plan.stayings.items) (slice_get plans 0) []
 
@@ -149,7 +148,7 @@ ladder_of plans = if nat_lt 1 (length plans) then [] else first_ladder plans
 
 -- the last moment of a plan, and of the one before it
 abbrev pub last_of_plan : ℕ → Plan → ℕ
-last_of_plan first plan = last_of first plan.forecasts.items plan.stayings.items
+last_of_plan first plan = last_drawn first plan.forecasts.items plan.stayings.items
 
 abbrev pub summary_page : List Plan → Page
 summary_page plans =

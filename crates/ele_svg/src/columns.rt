@@ -1,12 +1,12 @@
 //! The moments of a curve's points, and how many versions stay at each. A contract sees them as the definitions tell it.
 ghost use Rattle.std.specs.Prelude.{◌≡◌, ◌<◌, ◌≤◌, true, IfOk, OnErr};
-ghost use Rattle.ele_forecast_plans.specs.OverTime.{AreCountsAt};
+ghost use Rattle.ele_forecast_forms.specs.OverTime.{AreCountsAt};
 ghost use Rattle.ele_svg.specs.Drawing.{drawn_moments, has_curves};
 ghost use Rattle.ele_svg.specs.Summary.{column_moment, column_moments, moments_until};
 
 use crate::summary::summary_page;
 use ele_forecast::Closings;
-use ele_forecast_plans::{Counts, counts_at_moments};
+use ele_forecast_forms::{Counts, counts_at_moments};
 use ele_forecast_text::Plan;
 use ele_moment::{Moment, NoMemory};
 use ele_svg_marks::Page;

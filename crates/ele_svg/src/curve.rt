@@ -6,7 +6,7 @@ ghost use Rattle.ele_output.specs.Prints.{Prints};
 ghost use Rattle.ele_svg_marks.specs.Mark.{glued, mark_text, stroke_words};
 ghost use Rattle.ele_svg.specs.Summary.{axis_line, axis_marks, count_of, curve_drawn, curve_stroke, curve_y, curves_drawn, highest_at, highest_of, point_text, points_drawn};
 
-use ele_forecast_plans::Counts;
+use ele_forecast_forms::Counts;
 use ele_output::Printer;
 use ele_svg_marks::{Mark, Page, Side, Stroke, Words, put_marks, put_parts};
 use itoa::Buffer;

@@ -3,6 +3,8 @@
 
 mod columns;
 mod curve;
+mod marks;
+mod rows;
 mod strip;
 mod summary;
 

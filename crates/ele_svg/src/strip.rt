@@ -7,11 +7,11 @@ ghost use Rattle.ele_svg_marks.specs.Mark.{mark_text};
 ghost use Rattle.ele_svg.specs.Summary.{is_seen, last_if, last_seen, level_strip, passes, passes_by, strip_drawn, strip_marks, strip_tick, strip_top, strips_drawn, tick_if};
 ghost use Rattle.ele_svg_marks.specs.Walk.{walked};
 
+use crate::rows::level_of;
 use ele_forecast::{Forecast, Why};
 use ele_output::Printer;
 use ele_policy::Cause;
 use ele_svg_marks::{Fill, Mark, Page, Side, Stroke, Words, put_marks};
-use ele_svg_rows::level_of;
 use std::io::Write;
 
 /// Puts a strip of all versions, and one for each level of a ladder.
@@ -164,6 +164,6 @@ fn passes(level: usize, why: Why) -> bool
 {
     match why {
         Why::Goes(cause) => passes_by(level, cause),
-        Why::Current | Why::Never => true,
+        Why::Current | Why::Never | Why::AfterLast => true,
     }
 }

@@ -4,23 +4,22 @@ ghost use Rattle.std.specs.Prelude.{◌≡◌, ◌<◌, ◌≤◌, ◌^◌, ◌+
 ghost use Rattle.std.specs.List.{fold};
 ghost use Rattle.ele_output.specs.Prints.{Prints};
 ghost use Rattle.ele_svg_marks.specs.Mark.{glued};
-ghost use Rattle.ele_svg_rows.specs.Drawing.{rows_text};
+ghost use Rattle.ele_svg.specs.Rows.{rows_text};
 ghost use Rattle.ele_svg.specs.Drawing.{drawing_text, single_text};
-ghost use Rattle.ele_svg.specs.Summary.{axis_drawn, first_ladder, key_drawn, key_y, keys_drawn, ladder_of, last_of_plan, moments_of, summary_body, summary_frame, summary_heading, summary_page, summary_text, versions_of};
+ghost use Rattle.ele_svg.specs.Summary.{axis_drawn, first_ladder, key_drawn, key_y, keys_drawn, ladder_of, last_of_plan, moments_of, summary_body, summary_frame, summary_heading, summary_page, summary_text};
 
 use crate::curve::{curve_stroke, highest_of, put_axis_line, put_curves};
+use crate::rows::{put_foot, put_moments, put_rows_drawing};
 use crate::strip::put_strips;
-use ele_forecast::Forecast;
-use ele_forecast_plans::Counts;
-use ele_forecast_text::{Plan, Staying};
+use ele_forecast_forms::Counts;
+use ele_forecast_text::{Plan, Staying, first_of, versions_of};
 use ele_moment::Moment;
 use ele_output::Printer;
 use ele_policy::Policy;
 use ele_svg_marks::{
-    Mark, Page, first_of, label_rows, last_of, put_head, put_labels, put_marks, put_name,
-    put_parts, rungs_of,
+    Mark, Page, label_rows, last_drawn, put_head, put_labels, put_marks, put_name, put_parts,
+    rungs_of,
 };
-use ele_svg_rows::{put_foot, put_moments, put_rows_drawing};
 use itoa::Buffer;
 use std::io::Write;
 
@@ -218,16 +217,6 @@ fn put_key_opening<W: Write>(y: u64, printer: &mut Printer<'_, W>)
     );
 }
 
-// The versions: those of the first policy.
-fn versions_of(plans: &[Plan]) -> &[Forecast]
-    ensures { result.now ≡ versions_of plans.now }
-{
-    match plans.first() {
-        Some(plan) => plan.forecasts.as_slice(),
-        None => &[],
-    }
-}
-
 // The moments that are asked about, of the first policy.
 fn moments_of(plans: &[Plan]) -> &[Staying]
     ensures { result.now ≡ moments_of plans.now }
@@ -265,7 +254,7 @@ fn ladder_of(plans: &[Plan]) -> &[(u64, u64)]
 fn last_of_plan(first: Moment, plan: &Plan) -> Moment
     ensures { result ≡ last_of_plan first plan.now }
 {
-    last_of(first, plan.forecasts.as_slice(), plan.stayings.as_slice())
+    last_drawn(first, plan.forecasts.as_slice(), plan.stayings.as_slice())
 }
 
 // The last moment of plans, and of the one before them.

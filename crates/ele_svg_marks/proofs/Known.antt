@@ -1,6 +1,5 @@
 -- What the numbers of a scale and the words of a floor come to.
-use Rattle.std.proofs.Common.{◌≡◌, ℕ, zero, suc, ◌+◌, ◌-◌, ◌<◌, ◌≤◌, List, [], ◌∷◌, ◌++◌, length, drop, get_or, refl, sym, ap, ◌∙◌, arith}
-use Rattle.std.proofs.lemmas.List.{at_drop_all, drop_more}
+use Rattle.std.proofs.Common.{◌≡◌, ℕ, zero, suc, ◌+◌, ◌-◌, ◌<◌, ◌≤◌, List, [], ◌∷◌, ◌++◌, length, refl, sym, ap, ◌∙◌, arith}
 use Rattle.std.specs.List.{flat_map, fold, join_with_byte, range_with_len}
 use Rattle.std.specs.Prelude.{codes, decimal}
 use Rattle.ele_forecast_text.proofs.Known.{fronted}
@@ -23,14 +22,6 @@ pub each_between : (line : ℕ → List ℕ) (a b first behind : ℕ) → first 
 each_between line a b first behind e f =
     let n : b - a ≡ behind - first = omega (arith, e, f) in
     ap (λ (m : ℕ). flat_map line (range_with_len (a + 1) m)) n ∙ ap (λ (k : ℕ). flat_map line (range_with_len k (behind - first))) (sym e)
-
--- at an item of a list, it is taken in
-pub fold_more : {A B : Type 0} (f : B → A → B) (b : B) (xs : List A) (i : ℕ) (x : A) → i < length xs → x ≡ get_or xs i x → fold f b (drop i xs) ≡ fold f (f b x) (drop (i + 1) xs)
-fold_more {A} {B} f b xs i x lt is = ap (λ (ys : List A). fold f b ys) (drop_more xs i x lt) ∙ ap (λ (y : A). fold f (f b y) (drop (i + 1) xs)) (sym is)
-
--- at the end of a list, nothing is
-pub fold_end : {A B : Type 0} (f : B → A → B) (b : B) (xs : List A) (i : ℕ) → length xs ≤ i → fold f b (drop i xs) ≡ b
-fold_end {A} f b xs i le = at_drop_all (λ (ys : List A). fold f b ys) xs i le
 
 -- the name of a floor, with a space in front
 pub floor_parts : (n : ℕ) → 0 < n → join_with_byte 32 (codes " with a floor of" ∷ decimal n ∷ []) ≡ spaced (floor_words n)

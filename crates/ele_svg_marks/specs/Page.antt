@@ -1,11 +1,11 @@
 -- Where a drawing has its moments and its rows, in pixels from the left and from above.
-use Rattle.std.specs.Prelude.{ℕ, ◌+◌, ◌-◌, ◌*◌, ◌/◌, max, min, nat_le, nat_lt, List, [], length, Option, Some, None, slice_get, if◌then◌else◌}
+use Rattle.std.specs.Prelude.{ℕ, ◌+◌, ◌-◌, ◌*◌, ◌/◌, max, min, nat_le, nat_lt, List, [], length, Option, Some, None, if◌then◌else◌}
 use Rattle.std.specs.List.{fold}
-use Rattle.std.specs.Option.{option_map_or}
 use Rattle.ele_policy.specs.Ladder.{Rung}
 use Rattle.ele_policy.specs.declared.policy.Policy.{Policy}
 use Rattle.ele_policy.specs.declared.policy.Policy.TheVariants as policy
 use Rattle.ele_forecast.specs.declared.forecast.Forecast.{Forecast}
+use Rattle.ele_forecast_text.specs.Reach.{first_of, last_of}
 use Rattle.ele_forecast_text.specs.declared.staying.Staying.{Staying}
 use Rattle.ele_svg_marks.specs.Calendar.{step_for}
 use Rattle.ele_svg_marks.specs.declared.calendar.Step.{Step}
@@ -49,18 +49,9 @@ abbrev pub rungs_of : Policy → List Rung
 rungs_of (policy.Landmarks rungs) = rungs
 rungs_of other = []
 
--- how far the row of a version reaches
-abbrev pub reach_of : Forecast → ℕ
-reach_of told = option_map_or (λ ripe. ripe) told.ripe told.closed
-
--- from the first closing on
-abbrev pub first_of : List Forecast → ℕ
-first_of forecasts = option_map_or (λ told. told.closed) (slice_get forecasts 0) 0
-
--- the last moment of these, and of the one before them
-abbrev pub last_of : ℕ → List Forecast → List Staying → ℕ
-last_of first forecasts stayings =
-    fold (λ last staying. max last staying.at) (fold (λ last told. max last (reach_of told)) first forecasts) stayings
+-- the last moment of these, or the one before them if that is later
+abbrev pub last_drawn : ℕ → List Forecast → List Staying → ℕ
+last_drawn first forecasts stayings = fold (λ last staying. max last staying.at) (last_of first forecasts) stayings
 
 -- there are three rows of labels at most
 abbrev pub label_rows : List Staying → ℕ
@@ -74,7 +65,7 @@ page_of policy forecasts stayings =
     let top = 66 + 22 * length (rungs_of policy) in
     record {
       first = first;
-      last = last_of first forecasts stayings;
+      last = last_drawn first forecasts stayings;
       top = top;
       foot = top + row * (min (length forecasts) 2000 + 1);
       row = row;

@@ -8,7 +8,7 @@ use ele_forecast_text::stamp_of;
 use ele_moment::Moment;
 
 /// The moments at which a drawing has its ticks.
-#[derive(Clone, Copy, Debug)]
+#[derive(Clone, Copy)]
 pub enum Step {
     /// Each multiple of so many seconds.
     Seconds(u64),

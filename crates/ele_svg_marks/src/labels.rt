@@ -14,14 +14,14 @@ use ele_output::Printer;
 use std::io::Write;
 
 /// A row of labels: the middles of the first and the last of them, from the left.
-#[derive(Clone, Copy, Debug)]
+#[derive(Clone, Copy)]
 pub(crate) struct Shelf {
     pub(crate) first: u64,
     pub(crate) last: u64,
 }
 
 /// The rows of labels.
-#[derive(Clone, Copy, Debug)]
+#[derive(Clone, Copy)]
 pub(crate) struct Shelves {
     pub(crate) upper: Shelf,
     pub(crate) middle: Shelf,

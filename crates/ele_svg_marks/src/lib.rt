@@ -12,4 +12,4 @@ pub use calendar::Step;
 pub use head::{put_head, put_heading, put_legend, put_name};
 pub use labels::put_labels;
 pub use mark::{Fill, Mark, Place, Side, Stroke, Words, put_marks, put_parts};
-pub use page::{Page, first_of, label_rows, last_of, page_of, rungs_of};
+pub use page::{Page, label_rows, last_drawn, page_of, rungs_of};

@@ -17,7 +17,7 @@ use std::io::Write;
 pub type Place = (u64, u64);
 
 /// The colour of a rectangle.
-#[derive(Clone, Copy, Debug)]
+#[derive(Clone, Copy)]
 pub enum Fill {
     Paper,
     Current,
@@ -28,7 +28,7 @@ pub enum Fill {
 }
 
 /// How a line is drawn.
-#[derive(Clone, Copy, Debug)]
+#[derive(Clone, Copy)]
 pub enum Stroke {
     Grid,
     Thin,
@@ -43,7 +43,7 @@ pub enum Stroke {
 }
 
 /// Where a text stands: it ends at its place, has it in its middle, or begins there.
-#[derive(Clone, Copy, Debug)]
+#[derive(Clone, Copy)]
 pub enum Side {
     Before,
     Around,
@@ -51,7 +51,7 @@ pub enum Side {
 }
 
 /// What a text says.
-#[derive(Clone, Copy, Debug)]
+#[derive(Clone, Copy)]
 pub enum Words {
     Number(VersionNo),
     DueBy(VersionNo),
@@ -71,7 +71,7 @@ pub enum Words {
 }
 
 /// A rectangle, a line, or a text of that size.
-#[derive(Clone, Copy, Debug)]
+#[derive(Clone, Copy)]
 pub enum Mark {
     Rect {
         x: u64,

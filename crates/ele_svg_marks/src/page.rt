@@ -2,12 +2,12 @@
 //! as pixels.
 ghost use Rattle.std.specs.Prelude.{◌≡◌, ◌+◌, ◌*◌, ◌/◌, ◌<◌, ◌≤◌, ◌^◌, length, max, min};
 ghost use Rattle.std.specs.List.{fold};
-ghost use Rattle.ele_svg_marks.specs.Page.{first_of, height_of, in_seconds, label_rows, last_of, page_of, reach_of, row_height, rungs_of, span_of, step_of, x_of, x_or, y_of};
+ghost use Rattle.ele_svg_marks.specs.Page.{height_of, in_seconds, label_rows, last_drawn, page_of, row_height, rungs_of, span_of, step_of, x_of, x_or, y_of};
 
 use crate::calendar::{Step, step_for};
 use crate::mark::Words;
 use ele_forecast::Forecast;
-use ele_forecast_text::Staying;
+use ele_forecast_text::{Staying, first_of, last_of, later};
 use ele_moment::{Moment, VersionNo};
 use ele_policy::Policy;
 
@@ -16,7 +16,7 @@ const MOST: u64 = 2000;
 
 /// The moments from the first to the last stand from left to right, and the rows from above to
 /// below, of that height in pixels. Below these are rows of labels.
-#[derive(Clone, Copy, Debug)]
+#[derive(Clone, Copy)]
 pub struct Page {
     pub first: Moment,
     pub last: Moment,
@@ -106,34 +106,6 @@ fn row_height(count: usize) -> u16
     if count <= 60 { 18 } else { 10 }
 }
 
-// The later of two moments.
-fn later(a: Moment, b: Moment) -> Moment
-    ensures { result ≡ max a b }
-{
-    if a.seconds() < b.seconds() { b } else { a }
-}
-
-// How far the row of a version reaches.
-fn reach_of(forecast: &Forecast) -> Moment
-    ensures { result ≡ reach_of forecast.now }
-{
-    match forecast.ripe {
-        Some(ripe) => ripe,
-        None => forecast.closed,
-    }
-}
-
-// The last moment of these, and of the one before them.
-fn last_reached(first: Moment, forecasts: &[Forecast]) -> Moment
-    ensures { result ≡ fold (λ last told. max last (reach_of told)) first forecasts.now }
-{
-    let mut last = first;
-    for forecast in forecasts {
-        last = later(last, reach_of(forecast));
-    }
-    last
-}
-
 // The last of these moments, and of the one before them.
 fn last_asked(first: Moment, stayings: &[Staying]) -> Moment
     ensures { result ≡ fold (λ last staying. max last staying.at) first stayings.now }
@@ -156,21 +128,11 @@ pub fn rungs_of(policy: &Policy) -> &[(u64, u64)]
     }
 }
 
-/// The first moment of a drawing of these.
-pub fn first_of(forecasts: &[Forecast]) -> Moment
-    ensures { result ≡ first_of forecasts.now }
+/// The last moment of these, or `first` if that is later.
+pub fn last_drawn(first: Moment, forecasts: &[Forecast], stayings: &[Staying]) -> Moment
+    ensures { result ≡ last_drawn first forecasts.now stayings.now }
 {
-    match forecasts.first() {
-        Some(forecast) => forecast.closed,
-        None => Moment::START,
-    }
-}
-
-/// The last moment of these, and of the one before them.
-pub fn last_of(first: Moment, forecasts: &[Forecast], stayings: &[Staying]) -> Moment
-    ensures { result ≡ last_of first forecasts.now stayings.now }
-{
-    last_asked(last_reached(first, forecasts), stayings)
+    last_asked(last_of(first, forecasts), stayings)
 }
 
 /// How many rows of labels there are.
@@ -190,7 +152,7 @@ pub fn page_of(policy: &Policy, forecasts: &[Forecast], stayings: &[Staying]) ->
     let top = 66 + 22 * rungs_of(policy).len() as u16;
     Page {
         first,
-        last: last_of(first, forecasts, stayings),
+        last: last_drawn(first, forecasts, stayings),
         top,
         foot: top + row * (forecasts.len().min(MOST as usize) as u16 + 1),
         row,

@@ -14,7 +14,7 @@ use std::marker::Model;
 
 /// For each kind of policy, what the files with a policy of that kind use. The calls take no
 /// memory.
-#[derive(Clone, Copy, Debug, Default, PartialEq, Eq)]
+#[derive(Clone, Copy, Default, PartialEq, Eq)]
 pub struct UsageBook {
     one: Usage,
     all: Usage,

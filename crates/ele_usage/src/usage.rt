@@ -5,7 +5,7 @@ ghost use Rattle.ele_usage.specs.Sums.{Fits};
 ghost use Rattle.ele_usage.specs.Adding.{plus, IsWithin};
 
 /// What some files and their versions use. The default is nothing.
-#[derive(Clone, Copy, Debug, Default, PartialEq, Eq, Hash)]
+#[derive(Clone, Copy, Default, PartialEq, Eq)]
 pub struct Usage {
     /// How many files are held.
     pub files: u64,

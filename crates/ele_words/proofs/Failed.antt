@@ -3,8 +3,8 @@ use Rattle.std.proofs.Common.{◌≡◌, ℕ, List, [], ◌∷◌, Option, Some,
 use Rattle.ele_output.specs.Front.{AppendsFront, WritesText}
 use Rattle.ele_output.proofs.Known.{front_behind, front_of_more, text_front, text_whole}
 use Rattle.ele_output.specs.Line.{line_text}
-use Rattle.ele_runs.specs.Fault.{number_of, name_of}
-use Rattle.ele_runs.specs.declared.fault.ShellFault.{ShellFault}
+use Rattle.ele_run_options.specs.Fault.{number_of, name_of}
+use Rattle.ele_run_options.specs.declared.fault.ShellFault.{ShellFault}
 use Rattle.ele_words.specs.Status.{fault_line}
 use Rattle.ele_words.specs.SystemReason.{failed_text, reason_line}
 use Rattle.ele_words.specs.declared.system_reason.SystemReason.{SystemReason}

@@ -8,15 +8,15 @@ use Rattle.std.proofs.lemmas.List.{append-nil}
 use Rattle.ele_output.specs.Front.{AppendsFront, WritesText}
 use Rattle.ele_output.proofs.Known.{front_flushed, front_kept, whole_front}
 use Rattle.ele_output.specs.Line.{line_text}
-use Rattle.ele_runs.specs.Fault.{number_of, name_of}
+use Rattle.ele_run_options.specs.Fault.{number_of, name_of}
 use Rattle.ele_runs.specs.RunState.{RunState}
 use Rattle.ele_runs.specs.Lines.{whole_lines}
 use Rattle.ele_runs.specs.Telling.{EndsAtLine, HasTold, IsToldOf, Tells, ToldToAWriteFault, Writes, WritesFront}
 use Rattle.ele_runs.specs.declared.end.EndLine.{EndLine}
 use Rattle.ele_runs.specs.declared.end.RunEnd.{RunEnd}
-use Rattle.ele_runs.specs.declared.fault.ShellFault.{ShellFault}
+use Rattle.ele_run_options.specs.declared.fault.ShellFault.{ShellFault}
 use Rattle.ele_runs.specs.declared.tally.Tally.{Tally}
-use Rattle.ele_runs.specs.declared.fault.ShellFault.TheVariants.{ReadFault, WriteFault, TooManyLines, NoMemory}
+use Rattle.ele_run_options.specs.declared.fault.ShellFault.TheVariants.{ReadFault, WriteFault, TooManyLines, NoMemory}
 use Rattle.ele_words.specs.Ends.{HasWritten, fault_line}
 
 -- a flush keeps what was written

@@ -8,8 +8,8 @@ use Rattle.ele_shared_history.specs.Knowledge.{Knowledge, count_seen}
 use Rattle.ele_shared_history.specs.Running.{continued, entries_of}
 use Rattle.ele_shared_history.specs.Seats.{Joined}
 use Rattle.ele_shared_history.proofs.Histories.{length-entries_of}
-use Rattle.ele_storm.specs.declared.plan.StormPlan.{StormPlan}
-use Rattle.ele_storm.specs.Plan.{storm_events}
+use Rattle.ele_storm_plan.specs.declared.plan.StormPlan.{StormPlan}
+use Rattle.ele_storm_plan.specs.Plan.{storm_events}
 use Rattle.ele_storm.specs.Storm.{AddsStorm, IsWoven}
 use Rattle.ele_storm.proofs.Weaving.{calls_are_woven, length-woven, own_is_woven, weaves_out}
 use Rattle.ele_model.specs.Bounds.{largest_bounds}

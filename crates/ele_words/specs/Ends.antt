@@ -4,8 +4,8 @@ use Rattle.std.specs.Io.KnownBytes.{Appends, Keeps}
 use Rattle.ele_output.specs.Front.{AppendsFront}
 use Rattle.ele_history.specs.Past.{fresh}
 use Rattle.ele_runs.specs.RunState.{begun}
-use Rattle.ele_runs.specs.declared.fault.ShellFault.{ShellFault}
-use Rattle.ele_runs.specs.declared.fault.ShellFault.TheVariants.{ReadFault, WriteFault, TooManyLines, NoMemory}
+use Rattle.ele_run_options.specs.declared.fault.ShellFault.{ShellFault}
+use Rattle.ele_run_options.specs.declared.fault.ShellFault.TheVariants.{ReadFault, WriteFault, TooManyLines, NoMemory}
 pub use Rattle.ele_words.specs.Status.{fault_line, TellsFault}
 use Rattle.ele_words.specs.Status.{status_of}
 use Rattle.ele_words.specs.Forecasts.{ForecastEnds}

@@ -2,7 +2,7 @@
 use Rattle.std.specs.Prelude.{◌≡◌, ℕ, List, Option, Result, Ok, Err, codes}
 use Rattle.std.specs.Io.KnownBytes.{Keeps}
 use Rattle.ele_output.specs.Front.{AppendsFront}
-use Rattle.ele_runs.specs.declared.fault.ShellFault.TheVariants as shell
+use Rattle.ele_run_options.specs.declared.fault.ShellFault.TheVariants as shell
 use Rattle.ele_outlook.specs.Foretold.{Foretells}
 use Rattle.ele_outlook.specs.Input.{bad_line_text}
 use Rattle.ele_outlook.specs.declared.options.ForecastOptions.{ForecastOptions}

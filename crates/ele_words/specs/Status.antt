@@ -3,12 +3,12 @@ use Rattle.std.specs.Prelude.{ℕ, List, [], ◌∷◌, codes, decimal, Option, 
 use Rattle.std.specs.Io.KnownBytes.{Keeps}
 use Rattle.ele_output.specs.Front.{AppendsFront}
 use Rattle.ele_output.specs.Line.{line_text}
-use Rattle.ele_runs.specs.Fault.{number_of, name_of}
-use Rattle.ele_runs.specs.declared.fault.ShellFault.{ShellFault}
-use Rattle.ele_runs.specs.declared.fault.ShellFault.TheVariants.{ReadFault, WriteFault, TooManyLines, NoMemory}
-use Rattle.ele_storm.specs.declared.fault.AuditFault.{AuditFault}
-use Rattle.ele_storm.specs.declared.fault.AuditFault.TheVariants as audited
-use Rattle.ele_storm.specs.declared.fault.StormFault.TheVariants as storm
+use Rattle.ele_run_options.specs.Fault.{number_of, name_of}
+use Rattle.ele_run_options.specs.declared.fault.ShellFault.{ShellFault}
+use Rattle.ele_run_options.specs.declared.fault.ShellFault.TheVariants.{ReadFault, WriteFault, TooManyLines, NoMemory}
+use Rattle.ele_storm_plan.specs.declared.fault.AuditFault.{AuditFault}
+use Rattle.ele_storm_plan.specs.declared.fault.AuditFault.TheVariants as audited
+use Rattle.ele_storm_plan.specs.declared.fault.StormFault.TheVariants as storm
 use Rattle.ele_words.specs.declared.failure.Failure.{Failure}
 use Rattle.ele_words.specs.declared.failure.Failure.TheVariants.{Fault, Storm, Unequal, NotUnderstood, BadInput, StrictLine}
 

@@ -3,13 +3,13 @@ use Rattle.std.specs.Prelude.{◌≡◌, ℕ, Bool, true, false, if◌then◌els
 use Rattle.std.specs.Io.KnownBytes.{Appends, Keeps}
 use Rattle.ele_output.specs.Front.{AppendsFront}
 use Rattle.ele_output.specs.Line.{line_text}
-use Rattle.ele_runs.specs.declared.fault.ShellFault.{ShellFault}
-use Rattle.ele_runs.specs.declared.fault.ShellFault.TheVariants as shell
+use Rattle.ele_run_options.specs.declared.fault.ShellFault.{ShellFault}
+use Rattle.ele_run_options.specs.declared.fault.ShellFault.TheVariants as shell
 use Rattle.ele_history.specs.Past.{Past}
 use Rattle.ele_storm.specs.Audited.{IsAudited}
-use Rattle.ele_storm.specs.Fault.{name_of, number_of}
-use Rattle.ele_storm.specs.declared.fault.AuditFault.{AuditFault}
-use Rattle.ele_storm.specs.declared.plan.StormPlan.{StormPlan}
+use Rattle.ele_storm_plan.specs.Fault.{name_of, number_of}
+use Rattle.ele_storm_plan.specs.declared.fault.AuditFault.{AuditFault}
+use Rattle.ele_storm_plan.specs.declared.plan.StormPlan.{StormPlan}
 use Rattle.ele_model.specs.Bounds.{largest_bounds}
 use Rattle.ele_words.specs.Status.{fault_status, storm_status, TellsFault}
 

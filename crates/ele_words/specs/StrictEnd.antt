@@ -4,7 +4,7 @@ use Rattle.ele_output.specs.Front.{AppendsFront}
 use Rattle.ele_output.specs.Line.{line_text}
 use Rattle.ele_runs.specs.WhyBad.{IsBadReason, cut_reason, why_line}
 use Rattle.ele_runs.specs.declared.end.EndLine.{EndLine}
-use Rattle.ele_runs.specs.declared.options.RunOptions.{RunOptions}
+use Rattle.ele_run_options.specs.declared.options.RunOptions.{RunOptions}
 use Rattle.ele_reasons.specs.declared.reasons.Reason.{Reason}
 
 -- 0 if all lines were answered, 5 if one ended a strict run

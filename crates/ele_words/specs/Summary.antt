@@ -2,7 +2,7 @@
 use Rattle.std.specs.Prelude.{◌≡◌, ℕ, Bool, true, false, List, ◌++◌, codes, decimal, Option, Some, None}
 use Rattle.std.specs.Io.KnownBytes.{Keeps}
 use Rattle.ele_output.specs.Front.{AppendsFront}
-use Rattle.ele_runs.specs.declared.options.RunOptions.{RunOptions}
+use Rattle.ele_run_options.specs.declared.options.RunOptions.{RunOptions}
 use Rattle.ele_runs.specs.declared.tally.BadLine.{BadLine}
 use Rattle.ele_runs.specs.declared.tally.Tally.{Tally}
 use Rattle.ele_reasons.specs.ReasonText.{reason_text}

@@ -1,7 +1,7 @@
 -- The report of a fault, and of why the system failed to read or to write.
 use Rattle.std.specs.Prelude.{◌≡◌, List, ℕ, ◌++◌, codes, Option, Some, None}
-use Rattle.ele_runs.specs.declared.fault.ShellFault.{ShellFault}
-use Rattle.ele_runs.specs.declared.fault.ShellFault.TheVariants.{ReadFault, WriteFault, TooManyLines, NoMemory}
+use Rattle.ele_run_options.specs.declared.fault.ShellFault.{ShellFault}
+use Rattle.ele_run_options.specs.declared.fault.ShellFault.TheVariants.{ReadFault, WriteFault, TooManyLines, NoMemory}
 use Rattle.ele_words.specs.Status.{fault_line}
 use Rattle.ele_words.specs.declared.system_reason.SystemReason.{SystemReason}
 use Rattle.ele_words.specs.declared.system_reason.SystemReason.TheVariants.{IsDirectory, NoSpace, BrokenPipe, NotPermitted, Device, NotOpen}

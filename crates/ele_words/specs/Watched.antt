@@ -2,11 +2,11 @@
 use Rattle.std.specs.Prelude.{◌≡◌, ℕ, ◌+◌, Bool, List, length, Option, Result, IfOk, OnOk}
 use Rattle.ele_shared_history.specs.Knowledge.{Knowledge}
 use Rattle.ele_shared_history.specs.Running.{entries_of}
-use Rattle.ele_storm.specs.Plan.{storm_events}
+use Rattle.ele_storm_plan.specs.Plan.{storm_events}
 use Rattle.ele_storm.specs.Storm.{AddsStorm}
-use Rattle.ele_storm.specs.declared.fault.AuditFault.{AuditFault}
-use Rattle.ele_storm.specs.declared.fault.StormFault.{StormFault}
-use Rattle.ele_storm.specs.declared.plan.StormPlan.{StormPlan}
+use Rattle.ele_storm_plan.specs.declared.fault.AuditFault.{AuditFault}
+use Rattle.ele_storm_plan.specs.declared.fault.StormFault.{StormFault}
+use Rattle.ele_storm_plan.specs.declared.plan.StormPlan.{StormPlan}
 use Rattle.ele_words.specs.Progress.{ShowsProgress, StandBehind}
 use Rattle.ele_words.specs.Storms.{HasStormed}
 

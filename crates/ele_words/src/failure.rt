@@ -7,7 +7,7 @@ use ele_runs::ShellFault;
 use ele_storm::{AuditFault, StormFault};
 
 /// Why the program exits with a status other than 0.
-#[derive(Clone, Copy, Debug, PartialEq, Eq)]
+#[derive(Clone, Copy, PartialEq, Eq)]
 pub enum Failure {
     /// A reader or a writer failed, memory ran out, or a script was too long.
     Fault(ShellFault),

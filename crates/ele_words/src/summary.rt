@@ -18,7 +18,7 @@ use std::io::Write;
 const ROOM: usize = 1024;
 
 /// The first line that was not answered by `ok`, by its number.
-#[derive(Clone, Copy, Debug, PartialEq, Eq)]
+#[derive(Clone, Copy, PartialEq, Eq)]
 pub(crate) enum First {
     /// It was answered by `no` or `stop`. No line was bad.
     Answered(u64),

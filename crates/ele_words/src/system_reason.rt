@@ -14,7 +14,7 @@ use std::io;
 use std::io::{ErrorKind, Write};
 
 /// Why the system failed to read or to write.
-#[derive(Clone, Copy, Debug, PartialEq, Eq)]
+#[derive(Clone, Copy, PartialEq, Eq)]
 pub enum SystemReason {
     /// It is a directory.
     IsDirectory,

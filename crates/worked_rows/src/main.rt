@@ -69,11 +69,15 @@ const LIMITED: [(&str, [u64; 9]); 24] = [
 ];
 
 /// Scripts under the largest limits whose run explains.
-const EXPLAINED: [&str; 4] = [
+const EXPLAINED: [&str; 8] = [
     "explained_landmarks",
     "explained_policies",
     "explained_floors",
     "explained_removals",
+    "explained_names",
+    "explained_marks",
+    "explained_end_of_time",
+    "explained_forgotten_moments",
 ];
 
 /// What the script prints.

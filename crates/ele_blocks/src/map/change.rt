@@ -21,7 +21,7 @@ use ele_moment::{NoMemory, VersionNo};
 
 /// New bytes for slots: how many slots before are kept, the first new slot, and the bytes of each
 /// new one.
-#[derive(Debug, Drop)]
+#[derive(Drop)]
 struct Change {
     writer: VersionNo,
     kept: usize,
@@ -31,7 +31,7 @@ struct Change {
 
 /// A run of leaves to replace. The change meets the slots of the leaves from the first to before
 /// the second number.
-#[derive(Clone, Copy, Debug)]
+#[derive(Clone, Copy)]
 struct Run {
     from: usize,
     met: usize,

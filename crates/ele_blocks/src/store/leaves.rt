@@ -23,7 +23,7 @@ use std::alloc::Global;
 const MOST: usize = 1 << 32;
 
 /// New slots for a run of leaves: their bytes, from this place on.
-#[derive(Debug, Drop)]
+#[derive(Drop)]
 pub(crate) struct Stage {
     pub window: Vec<Slot>,
     pub first: usize,

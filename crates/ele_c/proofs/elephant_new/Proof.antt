@@ -30,10 +30,10 @@ use Rattle.std.proofs.raw_atomic.Walks.{proved_at, leaves}
 use Rattle.std.proofs.alloc.Calls.{handle_tells}
 use Rattle.std.specs.contracts.alloc.Global as heap
 use Rattle.ele_c.proofs.AsHandle.{E}
-use Rattle.ele_c.specs.contracts.handle.fresh.Grip.{the_row as G}
-use Rattle.ele_c.proofs.handle.fresh.Grip.TheLaws.{lowers}
-use Rattle.ele_c.specs.contracts.handle.fresh.fresh as g
-use Rattle.ele_c.proofs.handle.fresh.fresh.Met.{met}
+use Rattle.ele_c.specs.contracts.fresh.Grip.{the_row as G}
+use Rattle.ele_c.proofs.fresh.Grip.TheLaws.{lowers}
+use Rattle.ele_c.specs.contracts.fresh.fresh as g
+use Rattle.ele_c.proofs.fresh.fresh.Met.{met}
 use Rattle.ele_c.specs.contracts.elephant_new as f
 use Rattle.ele_c.proofs.elephant_new.Statement.{statement}
 use Rattle.ele_c.proofs.elephant_new.Code as code
@@ -62,7 +62,7 @@ elephant_new_spec 𝓤 𝓛 𝓜 𝓡 wired =
     enter ! 𝓣.C 𝓣.Λ fn (hv ∷ vptr b o ∷ []) Post $ alloc_all ! (λ l. pass_all ! refl (fa, ((tt, tt), tt)) $
     let k = triple_of 𝓛 g.signature (g.spec 𝓛 𝓜.mem 𝓡.returns) in let y : k.Ghost = ((tt, tt, tt, (a, tt), (hv ∷ [], tt)), tt) in
     nothing ! $ move ! (1 ∷ 0 ∷ []) $ fjoin ! $ nothing ! $ join ! $ nothing ! $ move ! (1 ∷ 0 ∷ []) $ use2 𝓛 (raw (k.pre y)) (id⊢ 𝓤 _) $
-    calls_at ! (framed 𝓤 H 𝓜 𝓣) k (met 𝓤 𝓛 𝓜 𝓡 (code.calls-ele_c::handle::fresh::fresh 𝓡.env wired)) y (and_then ! (get ! refl) (no_more !)) (λ v.
+    calls_at ! (framed 𝓤 H 𝓜 𝓣) k (met 𝓤 𝓛 𝓜 𝓡 (code.calls-ele_c::fresh::fresh 𝓡.env wired)) y (and_then ! (get ! refl) (no_more !)) (λ v.
     use1 𝓛 (later (some (λ (d : G.Denot). (‵ ftrue ⊛ ‵ (G.own_val d (v ∷ []))) ⊛
     some (λ (ws : Lasts g.ended tt y.0.3). ‵ (lasts g.ended tt y.0.3 ws) ⊛ raw ((g.clauses 𝓛 𝓜.mem 𝓡.returns tt y.0.3).ensures tt d (at_exit g.ended tt y.0.3 ws)))))) (id⊢ 𝓤 _) $
     await ! tt $ pick ! (λ d. split ! $ split ! $ drop ! $ peeks ! G _ (shows 𝓛 G) d (v ∷ []) (λ is. fsplit ! $ drop ! $ move ! (1 ∷ []) $ drop ! $

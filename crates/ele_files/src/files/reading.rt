@@ -17,7 +17,7 @@ use ele_moment::{FileId, VersionNo};
 const SLOT: usize = 512;
 
 /// The result of a copy.
-#[derive(Clone, Copy, Debug)]
+#[derive(Clone, Copy)]
 pub struct Copied {
     /// How many bytes the content has.
     pub length: u64,

@@ -1,7 +1,8 @@
 use Rattle.std.proofs.Common.{ℕ, Bool, Option, Some, None, sym, subst, ◌∙◌}
 use Rattle.ele_policy.specs.RipeCase.{IsRipe, case_of}
-use Rattle.ele_forecast.specs.declared.forecast.Why.TheVariants.{Goes, Never}
-use Rattle.ele_forecast.proofs.Followed.{goes_for, has_ended, tells_of, told_alone}
+use Rattle.ele_forecast.specs.declared.forecast.Why.TheVariants.{Goes}
+use Rattle.ele_forecast.proofs.Followed.{goes_for, tells_of, told_alone}
+use Rattle.ele_forecast.proofs.Ages.{reason_of}
 use Rattle.ele_forecast.proofs.forecast.followed.Goals as goal
 
 pub cause-cause-requires : goal.cause-cause-requires
@@ -18,4 +19,6 @@ pub returns-in-None-clause-tells : goal.returns-in-None-clause-tells
 returns-in-None-clause-tells c v row next is closes ends numbered =
     let answer = subst (λ (x : Option ℕ). IsRipe (case_of c.args.policy.now c.args.closed (Some c.args.ended) c.meets_floor-floor_met.result) c.args.ended x) c.in-None.is c.ripe.ensures.value in
     let ripe = subst (λ (met : Bool). IsRipe (case_of c.args.policy.now c.args.closed (Some c.args.ended) met) c.args.ended None) c.meets_floor-floor_met.ensures answer in
-    tells_of c.args.policy.now v row next c.args.newer is c.args.closed c.args.ended None closes ends c.args.number Never c.told-in-None.result c.told-in-None.ensures ripe (λ ripens. (has_ended c.args.policy.now v row next c.args.newer is, ripens))
+    let never = c.in-None.ensures.never in
+    tells_of c.args.policy.now v row next c.args.newer is c.args.closed c.args.ended None closes ends c.args.number c.why_never-why.result c.told-in-None.result c.told-in-None.ensures ripe
+    (reason_of c.args.policy.now v row next c.args.newer is c.args.closed c.args.ended closes ends c.meets_floor-floor_met.result c.meets_floor-floor_met.ensures c.why_never-why.result c.why_never-why.ensures never)

@@ -4,4 +4,4 @@ use Rattle.std.proofs.Common.{sym}
 use Rattle.ele_forecast_text.proofs.why.put_why.Goals as goal
 
 pub returns : goal.returns
-returns g c = puts_as (sym (why_spaced c.args.policy.now c.args.ended c.args.why)) (puts_then c.put_byte.ensures c.put_reason.ensures)
+returns g c = puts_as (sym (why_spaced c.args.policy.now c.args.why)) (puts_then c.put_byte.ensures c.put_reason.ensures)

@@ -1,5 +1,5 @@
 use Rattle.std.proofs.Common.{ℕ, List, sym, subst}
-use Rattle.ele_tool_time.specs.Time.{SpellsTime}
+use Rattle.ele_tool_words.specs.Time.{SpellsTime}
 use Rattle.ele_outlook.proofs.input.add_line.Goals as goal
 
 pub returns-in_default-read_time : goal.returns-in_default-read_time

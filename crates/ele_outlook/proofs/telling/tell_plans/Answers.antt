@@ -1,7 +1,7 @@
 use Rattle.std.proofs.Common.{◌∙◌, List, inl, inr, sym, subst}
 use Rattle.std.proofs.KnownBytes.{Keeps-refl}
 use Rattle.std.proofs.lemmas.Result.{err_from_is_err_and}
-use Rattle.ele_forecast_plans.specs.declared.counts.Counts.{Counts}
+use Rattle.ele_forecast_forms.specs.declared.counts.Counts.{Counts}
 use Rattle.ele_outlook.specs.Told.{AreRows, told_of}
 use Rattle.ele_outlook.proofs.Tables.{asked, is_text, uncounted}
 use Rattle.ele_outlook.proofs.telling.tell_plans.Goals as goal

@@ -1,6 +1,6 @@
 use Rattle.ele_runs.proofs.Basics.{◌≡◌, ◌≤◌, ◌⊎◌, false, inl, inr, sym, ap, ◌∙◌, arith}
 use Rattle.ele_runs.proofs.Words.{cut_count, outlet}
-use Rattle.ele_runs.specs.declared.options.RunOptions.{RunOptions}
+use Rattle.ele_run_options.specs.declared.options.RunOptions.{RunOptions}
 use Rattle.ele_output.proofs.Known.{puts_no_more}
 use Rattle.ele_runs.proofs.Blocks.{ends_at_cut, finishes_err, no_end_at}
 use Rattle.ele_runs.proofs.lines.finish.Goals.{else-options-via-else-options, else-options-via-then-options+else-cut-gt0}

@@ -1,7 +1,7 @@
 use Rattle.std.proofs.Common.{arith}
 use Rattle.ele_path.specs.declared.tagged.Tag.TheVariants.{Now}
 use Rattle.ele_path.specs.declared.fault.PathFault.TheVariants.{NoMemory}
-use Rattle.ele_storm.specs.Plan.{file_of, tagged}
+use Rattle.ele_storm.specs.Rounds.{file_of, tagged}
 use Rattle.ele_storm.proofs.Paths.{read_is, spells_file_now}
 use Rattle.ele_storm.proofs.events.file_now.Goals as goal
 

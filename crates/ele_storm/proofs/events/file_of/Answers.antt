@@ -1,6 +1,6 @@
 use Rattle.std.proofs.Common.{arith}
 use Rattle.ele_path.specs.declared.fault.PathFault.TheVariants.{NoMemory}
-use Rattle.ele_storm.specs.Plan.{file_of}
+use Rattle.ele_storm.specs.Rounds.{file_of}
 use Rattle.ele_storm.proofs.Paths.{read_is, spells_file}
 use Rattle.ele_storm.proofs.events.file_of.Goals as goal
 

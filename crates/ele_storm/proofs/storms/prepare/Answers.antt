@@ -1,5 +1,5 @@
 use Rattle.std.proofs.Common.{ℕ, ◌+◌, ◌∙◌, ap, arith}
-use Rattle.ele_storm.specs.Plan.{file_of}
+use Rattle.ele_storm.specs.Rounds.{file_of}
 use Rattle.ele_storm.proofs.Halving.{length-made}
 use Rattle.ele_storm.proofs.Works.{created, first_made, goes_further}
 use Rattle.ele_storm.proofs.storms.prepare.Goals as goal

@@ -1,5 +1,5 @@
 use Rattle.std.proofs.Common.{ap, ◌∙◌}
-use Rattle.ele_storm.specs.Plan.{file_of}
+use Rattle.ele_storm.specs.Rounds.{file_of}
 use Rattle.ele_storm.proofs.Works.{written}
 use Rattle.ele_storm.proofs.worker.write.Goals as goal
 

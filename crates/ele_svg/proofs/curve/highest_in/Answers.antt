@@ -1,7 +1,7 @@
 use Rattle.std.proofs.Common.{arith, sym, ◌∙◌}
 use Rattle.std.specs.Prelude.{max}
 use Rattle.ele_svg.proofs.Ranges.{fold_here}
-use Rattle.ele_svg_marks.proofs.Known.{fold_end}
+use Rattle.ele_forecast_text.proofs.Folds.{fold_end}
 use Rattle.ele_svg.proofs.curve.highest_in.Goals as goal
 
 pub loop-count-preserved : goal.loop-count-preserved

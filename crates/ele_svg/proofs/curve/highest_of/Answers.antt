@@ -1,7 +1,7 @@
 use Rattle.std.proofs.Common.{sym, ◌∙◌}
 use Rattle.ele_svg.specs.Summary.{highest_at}
 use Rattle.ele_svg.proofs.Ranges.{still_some}
-use Rattle.ele_svg_marks.proofs.Known.{fold_end, fold_more}
+use Rattle.ele_forecast_text.proofs.Folds.{fold_end, fold_more}
 use Rattle.ele_svg.proofs.curve.highest_of.Goals as goal
 
 pub loop-row-preserved : goal.loop-row-preserved

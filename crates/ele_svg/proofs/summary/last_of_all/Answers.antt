@@ -1,6 +1,6 @@
 use Rattle.std.proofs.Common.{arith, sym, ◌∙◌}
 use Rattle.ele_svg.specs.Summary.{last_of_plan}
-use Rattle.ele_svg_marks.proofs.Known.{fold_end, fold_more}
+use Rattle.ele_forecast_text.proofs.Folds.{fold_end, fold_more}
 use Rattle.ele_svg.proofs.summary.last_of_all.Goals as goal
 
 pub loop-plan-preserved : goal.loop-plan-preserved

@@ -1,7 +1,7 @@
 use Rattle.std.proofs.Common.{ℕ, arith, sym, ◌∙◌}
 use Rattle.std.specs.Prelude.{max}
 use Rattle.ele_forecast_text.specs.declared.staying.Staying.{Staying}
-use Rattle.ele_svg_marks.proofs.Known.{fold_end, fold_more}
+use Rattle.ele_forecast_text.proofs.Folds.{fold_end, fold_more}
 use Rattle.ele_svg_marks.proofs.page.last_asked.Goals as goal
 
 pub loop-staying-preserved : goal.loop-staying-preserved

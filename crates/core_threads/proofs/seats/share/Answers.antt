@@ -1,7 +1,0 @@
-use Rattle.core_threads.proofs.Popped.{last_is_of}
-use Rattle.core_threads.proofs.seats.share.Goals as goal
-
-pub returns : goal.returns
-returns g c =
-    let all = c.in-Ok.ensures.ok.2 in
-    last_is_of c.in-Ok.shared all.0 c.pop.new.self.items c.in-Some.seat (rw c.in-Some.ensures.items at all.1)

@@ -1,0 +1,5 @@
+pub mod Held
+pub mod Given
+pub mod Stored
+pub mod Calls
+pub mod Straight

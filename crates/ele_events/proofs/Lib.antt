@@ -1,0 +1,4 @@
+-- the version that a question or a revert means
+pub mod Meant
+-- a handle that begins a draft
+pub mod Opened

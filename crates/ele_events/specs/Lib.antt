@@ -1,0 +1,4 @@
+pub mod Does
+pub mod Reads
+pub mod Place
+pub mod HaltText

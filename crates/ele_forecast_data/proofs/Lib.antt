@@ -1,2 +1,0 @@
--- joined texts, and what a list is put by
-mod Commas

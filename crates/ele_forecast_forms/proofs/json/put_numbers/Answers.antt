@@ -1,0 +1,16 @@
+use Rattle.std.proofs.Common.{◌∷◌, arith}
+use Rattle.std.specs.Prelude.{ℕ, decimal}
+use Rattle.ele_output.proofs.Known.{put_first, puts_then}
+use Rattle.ele_output.proofs.Lists.{list_done, list_more}
+use Rattle.ele_forecast_forms.proofs.Commas.{commas_are}
+use Rattle.ele_forecast_forms.proofs.json.put_numbers.Goals as goal
+
+pub loop-number-init : goal.loop-number-init
+loop-number-init g c = put_first (commas_are (λ (number : ℕ). decimal number) _ _ _ c.in-Some.ensures.cases) c.put_version_number.ensures
+
+pub loop-number-preserved : goal.loop-number-preserved
+loop-number-preserved g c =
+    list_more (λ (number : ℕ). 44 ∷ decimal number) c.in-Some.rest.now c.loop-number.number-index c.number-item.result (omega arith) c.number-item.is c.loop-number.invariant (puts_then c.put_byte.ensures c.put_version_number-in-loop-number.ensures)
+
+pub returns : goal.returns
+returns g c = list_done (λ (number : ℕ). 44 ∷ decimal number) c.in-Some.rest.now c.loop-number.number-index c.loop-number-test.false c.loop-number.invariant

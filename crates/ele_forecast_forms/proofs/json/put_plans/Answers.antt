@@ -1,0 +1,17 @@
+use Rattle.std.proofs.Common.{◌∷◌, arith}
+use Rattle.ele_forecast_text.specs.declared.plan.Plan.{Plan}
+use Rattle.ele_forecast_forms.specs.Json.{plan_text}
+use Rattle.ele_output.proofs.Known.{put_first, puts_then}
+use Rattle.ele_output.proofs.Lists.{list_done, list_more}
+use Rattle.ele_forecast_forms.proofs.Commas.{commas_are}
+use Rattle.ele_forecast_forms.proofs.json.put_plans.Goals as goal
+
+pub loop-plan-init : goal.loop-plan-init
+loop-plan-init g c = put_first (commas_are (λ (plan : Plan). plan_text c.args.details.now plan) _ _ _ c.in-Some.ensures.cases) c.put_plan.ensures
+
+pub loop-plan-preserved : goal.loop-plan-preserved
+loop-plan-preserved g c =
+    list_more (λ (plan : Plan). 44 ∷ plan_text c.args.details.now plan) c.in-Some.rest.now c.loop-plan.plan-index c.plan-item.result (omega arith) c.plan-item.is c.loop-plan.invariant (puts_then c.put_byte.ensures c.put_plan-in-loop-plan.ensures)
+
+pub returns : goal.returns
+returns g c = list_done (λ (plan : Plan). 44 ∷ plan_text c.args.details.now plan) c.in-Some.rest.now c.loop-plan.plan-index c.loop-plan-test.false c.loop-plan.invariant

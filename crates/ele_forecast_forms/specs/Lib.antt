@@ -1,0 +1,5 @@
+pub mod Compared
+pub mod OverTime
+pub mod Parts
+pub mod Json
+pub mod Csv

@@ -1,0 +1,143 @@
+//! The versions of a file under several policies. A contract sees their text, and a printer as its outlet.
+ghost use Rattle.std.specs.Prelude.{◌≡◌, ◌∷◌, decimal};
+ghost use Rattle.std.specs.List.{flat_map};
+ghost use Rattle.ele_output.specs.Prints.{Prints};
+ghost use Rattle.ele_forecast_forms.specs.Compared.{compared_heading, compared_line, compared_text, due_column, due_word, policy_column, version_columns};
+ghost use Rattle.ele_forecast_text.specs.Stamp.{stamp_of, stamp_or};
+
+use crate::stayings::put_stayings;
+use ele_forecast::Forecast;
+use ele_forecast_text::{
+    Details, Plan, put_details, put_headings, put_policy, stamp_of, versions_of,
+};
+use ele_moment::{Moment, VersionNo};
+use ele_output::{Printer, put_number, put_word};
+use std::io::Write;
+
+/// Puts the table of versions under several policies, with a line for each of so many moments and each policy. Each
+/// version has its details.
+pub fn put_compared<W: Write>(
+    details: &Details,
+    plans: &[Plan],
+    moments: usize,
+    printer: &mut Printer<'_, W>,
+)
+    ensures { Prints W.contents printer.old printer.new
+        (compared_text details.now plans.now moments) }
+{
+    put_heading(details, plans, printer);
+    put_versions(details, plans, versions_of(plans), printer);
+    put_stayings(details, plans, moments, printer);
+}
+
+// Puts the heading.
+fn put_heading<W: Write>(details: &Details, plans: &[Plan], printer: &mut Printer<'_, W>)
+    ensures { Prints W.contents printer.old printer.new (compared_heading details.now plans.now) }
+{
+    printer.put(b"version");
+    put_headings(details, printer);
+    printer.put(b" closed ended");
+    put_policies(plans, printer);
+    printer.put(b"\n");
+}
+
+// Puts a space and the word of each policy.
+pub(crate) fn put_policies<W: Write>(plans: &[Plan], printer: &mut Printer<'_, W>)
+    ensures { Prints W.contents printer.old printer.new (flat_map policy_column plans.now) }
+{
+    for plan in plans {
+        put_policy_column(plan, printer);
+    }
+}
+
+// Puts a space and the word of a plan's policy.
+fn put_policy_column<W: Write>(plan: &Plan, printer: &mut Printer<'_, W>)
+    ensures { Prints W.contents printer.old printer.new (policy_column plan.now) }
+{
+    printer.put(b" ");
+    put_policy(&plan.policy, printer);
+}
+
+// Puts the line of each version.
+fn put_versions<W: Write>(
+    details: &Details,
+    plans: &[Plan],
+    forecasts: &[Forecast],
+    printer: &mut Printer<'_, W>,
+)
+    ensures { Prints W.contents printer.old printer.new
+        (flat_map (compared_line details.now plans.now) forecasts.now) }
+{
+    for forecast in forecasts {
+        put_version(details, plans, forecast, printer);
+    }
+}
+
+// Puts the line of a version.
+fn put_version<W: Write>(
+    details: &Details,
+    plans: &[Plan],
+    forecast: &Forecast,
+    printer: &mut Printer<'_, W>,
+)
+    ensures { Prints W.contents printer.old printer.new
+        (compared_line details.now plans.now forecast.now) }
+{
+    put_columns(details, forecast, printer);
+    put_dues(forecast.number, plans, printer);
+    printer.put(b"\n");
+}
+
+// Puts the number of a version, its details, and when it closed and ended.
+fn put_columns<W: Write>(details: &Details, forecast: &Forecast, printer: &mut Printer<'_, W>)
+    ensures { Prints W.contents printer.old printer.new
+        (version_columns details.now forecast.now) }
+{
+    put_version_number(forecast.number, printer);
+    put_details(details, forecast.number, printer);
+    put_word(&stamp_of(forecast.closed), printer);
+    put_moment(forecast.ended, printer);
+}
+
+// Puts the number of a version.
+fn put_version_number<W: Write>(number: VersionNo, printer: &mut Printer<'_, W>)
+    ensures { Prints W.contents printer.old printer.new (decimal number) }
+{
+    put_number(number.0, printer);
+}
+
+// Puts a space and a moment, or `-` for none.
+fn put_moment<W: Write>(moment: Option<Moment>, printer: &mut Printer<'_, W>)
+    ensures { Prints W.contents printer.old printer.new (32 ∷ stamp_or moment) }
+{
+    match moment {
+        Some(moment) => put_word(&stamp_of(moment), printer),
+        None => printer.put(b" -"),
+    }
+}
+
+// Puts a space and the moment from which the version of that number may be forgotten, under each policy.
+fn put_dues<W: Write>(number: VersionNo, plans: &[Plan], printer: &mut Printer<'_, W>)
+    ensures { Prints W.contents printer.old printer.new (flat_map (due_column number) plans.now) }
+{
+    for plan in plans {
+        put_due(number, plan, printer);
+    }
+}
+
+// Puts a space and the moment from which the version of that number may be forgotten.
+fn put_due<W: Write>(number: VersionNo, plan: &Plan, printer: &mut Printer<'_, W>)
+    ensures { Prints W.contents printer.old printer.new (due_column number plan.now) }
+{
+    put_moment(due(number, plan.forecasts.as_slice()), printer);
+}
+
+// The moment from which the version of that number may be forgotten.
+fn due(number: VersionNo, forecasts: &[Forecast]) -> Option<Moment>
+    ensures { stamp_or result ≡ due_word forecasts.now number }
+{
+    match forecasts.get(number.before().0 as usize) {
+        Some(forecast) => forecast.ripe,
+        None => None,
+    }
+}

@@ -1,0 +1,194 @@
+//! A forecast as CSV. A contract sees its text, and a printer as its outlet.
+ghost use Rattle.std.specs.Prelude.{◌∷◌, Some, decimal};
+ghost use Rattle.std.specs.List.{flat_map};
+ghost use Rattle.ele_output.specs.Prints.{Prints};
+ghost use Rattle.ele_forecast_text.specs.Details.{size_of};
+ghost use Rattle.ele_forecast_text.specs.Labels.{name_of};
+ghost use Rattle.ele_forecast_forms.specs.Csv.{csv_text, doubled, fate_fields, fates_fields, heading_row, moment_field, policy_headings, quoted, version_fields, version_row};
+ghost use Rattle.ele_forecast_forms.specs.Parts.{forecast_of, part_if};
+
+use crate::parts::{put_part, put_version_number};
+use ele_forecast::Forecast;
+use ele_forecast_text::{
+    Details, Plan, name_of, put_policy, put_reason, size_of, stamp_of, versions_of,
+};
+use ele_moment::{Moment, VersionNo};
+use ele_output::{Printer, put_with_number};
+use ele_policy::Policy;
+use itoa::Buffer;
+use std::io::Write;
+
+/// Puts a forecast as CSV: a heading, and a row for each version of the plans, which are of the same
+/// versions.
+pub fn put_csv<W: Write>(details: &Details, plans: &[Plan], printer: &mut Printer<'_, W>)
+    ensures { Prints W.contents printer.old printer.new (csv_text details.now plans.now) }
+{
+    put_heading(details, plans, printer);
+    put_rows(details, plans, versions_of(plans), printer);
+}
+
+// Puts the heading.
+fn put_heading<W: Write>(details: &Details, plans: &[Plan], printer: &mut Printer<'_, W>)
+    ensures { Prints W.contents printer.old printer.new (heading_row details.now plans.now) }
+{
+    printer.put(b"version");
+    put_part(details.columns.labels, b",label", printer);
+    put_part(details.columns.sizes, b",bytes", printer);
+    printer.put(b",closed,ended");
+    put_headings(plans, printer);
+    printer.put(b"\n");
+}
+
+// Puts the headings of each policy.
+fn put_headings<W: Write>(plans: &[Plan], printer: &mut Printer<'_, W>)
+    ensures { Prints W.contents printer.old printer.new
+        (flat_map (λ plan. policy_headings plan.policy) plans.now) }
+{
+    for plan in plans {
+        put_policy_headings(&plan.policy, printer);
+    }
+}
+
+// Puts the headings of a policy's two columns.
+fn put_policy_headings<W: Write>(policy: &Policy, printer: &mut Printer<'_, W>)
+    ensures { Prints W.contents printer.old printer.new (policy_headings policy.now) }
+{
+    printer.put(b",\"due ");
+    put_policy(policy, printer);
+    printer.put(b"\",\"why ");
+    put_policy(policy, printer);
+    printer.put(b"\"");
+}
+
+// Puts the row of each version.
+fn put_rows<W: Write>(
+    details: &Details,
+    plans: &[Plan],
+    versions: &[Forecast],
+    printer: &mut Printer<'_, W>,
+)
+    ensures { Prints W.contents printer.old printer.new
+        (flat_map (version_row details.now plans.now) versions.now) }
+{
+    for version in versions {
+        put_row(details, plans, version, printer);
+    }
+}
+
+// Puts the row of a version.
+fn put_row<W: Write>(
+    details: &Details,
+    plans: &[Plan],
+    version: &Forecast,
+    printer: &mut Printer<'_, W>,
+)
+    ensures { Prints W.contents printer.old printer.new
+        (version_row details.now plans.now version.now) }
+{
+    put_version(details, version.number, printer);
+    put_moment(Some(version.closed), printer);
+    put_moment(version.ended, printer);
+    put_fates(plans, version.number, printer);
+    printer.put(b"\n");
+}
+
+// Puts the number of a version, its label and its size.
+fn put_version<W: Write>(details: &Details, number: VersionNo, printer: &mut Printer<'_, W>)
+    ensures { Prints W.contents printer.old printer.new (version_fields details.now number) }
+{
+    put_version_number(number, printer);
+    put_label(details, number, printer);
+    put_size(details, number, printer);
+}
+
+// Puts the label of a version, if versions have labels.
+fn put_label<W: Write>(details: &Details, number: VersionNo, printer: &mut Printer<'_, W>)
+    ensures { Prints W.contents printer.old printer.new (part_if details.now.columns.labels
+        (44 ∷ quoted (name_of details.now.labels.items number))) }
+{
+    if details.columns.labels {
+        let mut digits = Buffer::new();
+        put_quoted(
+            name_of(details.labels.as_slice(), number, &mut digits),
+            printer,
+        );
+    }
+}
+
+// Puts a comma, and a field within quotation marks.
+fn put_quoted<W: Write>(text: &[u8], printer: &mut Printer<'_, W>)
+    ensures { Prints W.contents printer.old printer.new (44 ∷ quoted text.now) }
+{
+    printer.put(b",\"");
+    put_doubled(text, printer);
+    printer.put(b"\"");
+}
+
+// Puts each byte, and each quotation mark twice.
+fn put_doubled<W: Write>(text: &[u8], printer: &mut Printer<'_, W>)
+    ensures { Prints W.contents printer.old printer.new (flat_map doubled text.now) }
+{
+    for byte in text {
+        put_byte(*byte, printer);
+    }
+}
+
+// Puts a byte, twice if it is a quotation mark.
+fn put_byte<W: Write>(byte: u8, printer: &mut Printer<'_, W>)
+    ensures { Prints W.contents printer.old printer.new (doubled byte) }
+{
+    match byte {
+        b'"' => printer.put(b"\"\""),
+        _ => printer.put_byte(byte),
+    }
+}
+
+// Puts the size of a version, if versions have sizes.
+fn put_size<W: Write>(details: &Details, number: VersionNo, printer: &mut Printer<'_, W>)
+    ensures { Prints W.contents printer.old printer.new (part_if details.now.columns.sizes
+        (44 ∷ decimal (size_of details.now.sizes.items number))) }
+{
+    if details.columns.sizes {
+        let size = size_of(details.sizes.as_slice(), number);
+        put_with_number(b",", size, printer);
+    }
+}
+
+// Puts a comma and a moment, or nothing more for none.
+fn put_moment<W: Write>(moment: Option<Moment>, printer: &mut Printer<'_, W>)
+    ensures { Prints W.contents printer.old printer.new (moment_field moment) }
+{
+    printer.put_byte(b',');
+    if let Some(moment) = moment {
+        printer.put(&stamp_of(moment));
+    }
+}
+
+// Puts what each plan says of the version of that number.
+fn put_fates<W: Write>(plans: &[Plan], number: VersionNo, printer: &mut Printer<'_, W>)
+    ensures { Prints W.contents printer.old printer.new (fates_fields plans.now number) }
+{
+    for plan in plans {
+        put_fate(plan, number, printer);
+    }
+}
+
+// Puts what a plan says of the version of that number, and two empty fields if it says nothing.
+fn put_fate<W: Write>(plan: &Plan, number: VersionNo, printer: &mut Printer<'_, W>)
+    ensures { Prints W.contents printer.old printer.new
+        (fate_fields plan.now.policy (forecast_of plan.now number)) }
+{
+    match plan.forecasts.get(number.before().0 as usize) {
+        Some(forecast) => put_forecast(&plan.policy, forecast, printer),
+        None => printer.put(b",,"),
+    }
+}
+
+// Puts when a version becomes due, and why.
+fn put_forecast<W: Write>(policy: &Policy, forecast: &Forecast, printer: &mut Printer<'_, W>)
+    ensures { Prints W.contents printer.old printer.new (fate_fields policy.now (Some forecast.now)) }
+{
+    put_moment(forecast.ripe, printer);
+    printer.put_byte(b',');
+    put_reason(policy, forecast.why, printer);
+}

@@ -1,0 +1,18 @@
+//! Further forms of a forecast: several policies side by side, how many versions each keeps as time goes on, JSON
+//! and CSV. A contract sees a text as its bytes, and a printer as its outlet.
+#![tactic(auto)]
+
+mod compared;
+mod counts;
+mod csv;
+mod json;
+mod json_parts;
+mod over_time;
+mod parts;
+mod stayings;
+
+pub use compared::put_compared;
+pub use counts::{Counts, counts_at_moments, counts_every, is_too_long};
+pub use csv::put_csv;
+pub use json::put_json;
+pub use over_time::put_over_time;

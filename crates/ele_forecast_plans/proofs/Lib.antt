@@ -1,4 +1,0 @@
--- numbers one after another, and a line that isn't put
-pub mod Words
--- moments in equal steps, and what is counted at each
-pub mod Steps

@@ -1,6 +1,0 @@
-use Rattle.ele_forecast_plans.proofs.Steps.{counts_more}
-use Rattle.ele_forecast_plans.proofs.counts.counts_at_moments.Goals as goal
-
-pub loop-moment-preserved : goal.loop-moment-preserved
-loop-moment-preserved c =
-    rw c.in_ok-push.ensures.items (counts_more c.args.moments.now c.loop-moment.moment-index c.args.closings.now c.args.plans.now c.loop-moment.rows.items _ c.loop-moment.invariant c.loop-moment-test.true c.moment-item.is c.in_ok-counts.ensures)

@@ -1,0 +1,10 @@
+use Rattle.std.proofs.Common.{arith}
+use Rattle.ele_svg.specs.Rows.{kept_drawn}
+use Rattle.ele_output.proofs.Lists.{list_done, list_more}
+use Rattle.ele_svg.proofs.rows.put_kept.Goals as goal
+
+pub loop-staying-preserved : goal.loop-staying-preserved
+loop-staying-preserved g c = list_more (kept_drawn c.args.page.now) c.args.stayings.now c.loop-staying.staying-index c.staying-item.result (omega arith) c.staying-item.is c.loop-staying.invariant (rw c.as_slice.ensures.value at c.put_kept_at.ensures)
+
+pub returns : goal.returns
+returns g c = list_done (kept_drawn c.args.page.now) c.args.stayings.now c.loop-staying.staying-index c.loop-staying-test.false c.loop-staying.invariant

@@ -1,2 +1,0 @@
--- a version that is tied to none
-mod Ties

@@ -1,9 +1,0 @@
-use Rattle.ele_output.proofs.Known.{puts_then}
-use Rattle.ele_svg_rows.proofs.drawing.put_rows.Goals as goal
-
-pub returns : goal.returns
-returns g c =
-    puts_then c.put_ties.ensures (
-    puts_then c.put_moments.ensures (
-    puts_then c.put_versions.ensures (
-    puts_then c.put_kept.ensures c.put_labels.ensures)))

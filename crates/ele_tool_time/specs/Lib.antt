@@ -1,4 +1,0 @@
-pub mod Zone
-pub mod Time
-pub mod OneTime
-pub mod ReadParts

@@ -1,0 +1,7 @@
+pub mod Zone
+pub mod Time
+pub mod OneTime
+pub mod ReadParts
+pub mod Length
+pub mod PolicyWord
+pub mod Parts

@@ -1,2 +1,0 @@
-mod Popped
-mod Stocked
