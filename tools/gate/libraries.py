@@ -1,0 +1,147 @@
+"""The C library: how its two files are made from the crate `ele_c`, and where `./elephant install` puts them.
+
+The kit's `rattle build` writes one position-independent object file. It calls the C library, and three functions of the kit that
+allocate memory. This module links these into the same object, makes every name but `elephant_*` local, and builds libelephant.a and
+libelephant.so from it. It uses the kit's own LLVM tools, so building needs no C compiler.
+"""
+
+import os
+import re
+import subprocess
+import tempfile
+from collections.abc import Callable
+from pathlib import Path
+from typing import NamedTuple
+
+from gate import building
+from gate.building import OUT, ROOT, Unavailable
+
+CRATE = "ele_c"
+HEADER = ROOT / "include" / "elephant.h"
+STATIC, SHARED = OUT / "libelephant.a", OUT / "libelephant.so"
+# The number goes up when a program that was linked with an earlier library can't run with this one.
+SONAME = "libelephant.so.1"
+EXPORTED = "elephant_*"
+CONFIG = """prefix={prefix}
+libdir=${{prefix}}/lib
+includedir=${{prefix}}/include
+
+Name: elephant
+Description: The core of a file system that keeps earlier versions of files, in memory
+Version: {version}
+Libs: -L${{libdir}} -lelephant
+Cflags: -I${{includedir}}
+"""
+BUILT_LIBRARY = building.Product("library", CRATE, OUT / "library.stamp", {STATIC: 0o644, SHARED: 0o755}, "./elephant library")
+
+
+class LaidFile(NamedTuple):
+    """A file of an installation."""
+
+    mode: int
+    data: bytes
+
+
+class LaidLink(NamedTuple):
+    """A link of an installation."""
+
+    target: str
+
+
+def version() -> str:
+    """Returns the version that the header defines."""
+    return building.match_in(r'(?m)^#define ELEPHANT_LIBRARY_VERSION "([\d.]+)"$', HEADER.read_text(encoding="utf-8"))[1]
+
+
+def run_kit(tool: str, *words: str | Path) -> None:
+    """Runs a tool of the kit's LLVM. All of them are one file, which looks at the name of its call."""
+    llvm = building.kit_file("toolchain/bin/clang")
+    ran = subprocess.run([tool, *map(str, words)], executable=llvm, capture_output=True, encoding="utf-8", errors="replace", check=False)
+    if ran.returncode:
+        raise Unavailable(f"{tool} of the kit failed: {' '.join(ran.stderr.split())[:300]}")
+
+
+def _unsaid(text: str) -> None:
+    """Says nothing."""
+
+
+def build(top: Path, say: Callable[[str], None] = _unsaid) -> tuple[Path, str]:
+    """Builds the crate's archive in a repository, `top`, whose crates below it `rt ci` has proved. Returns its path, and what was printed.
+
+    `rt ci` checks a static library and leaves no archive, and `rt lib` takes nothing that `rt ci` built below the crate. So the crate
+    is proved as it is built, over the very libraries over which `rt ci` proves it. `say` hears how far that is."""
+    folder = top / "crates" / CRATE
+    archive = folder / "out" / f"lib{CRATE}.a"
+    if not folder.is_dir():
+        raise Unavailable(f"there is no crate {CRATE} here")
+    archive.parent.mkdir(exist_ok=True)
+    uses, jobs = building.read_uses()[CRATE], len(os.sched_getaffinity(0))
+    with tempfile.TemporaryDirectory() as room:
+        checked = Path(room) / "checked"
+        proved, said = building.prove_above(folder, CRATE, uses, top, jobs, checked, Progress(say).hear)
+        if proved:
+            said += building.build_static(folder, CRATE, uses, checked, archive, top)
+    if not proved or not archive.is_file():
+        raise Unavailable(f"{CRATE} isn't built over what `rt ci` proved: {' '.join(said.split())[-300:]}")
+    return archive, said
+
+
+class Progress:
+    """Tells how many functions of the crate are proved, for each tenth of them."""
+
+    def __init__(self, say: Callable[[str], None]) -> None:
+        self._say, self._tenth = say, 0
+
+    def hear(self, line: str) -> None:
+        found = re.match(r"checked .*, (\d+) of (\d+)$", line)
+        if found and 10 * int(found[1]) // int(found[2]) > self._tenth:
+            self._tenth = 10 * int(found[1]) // int(found[2])
+            self._say(f"{CRATE}: {found[1]} of {found[2]} functions proved")
+
+
+def pack(archive: Path) -> dict[Path, bytes]:
+    """Returns the bytes of the static and the shared library, made from the crate's archive."""
+    libc = [building.kit_file(f"toolchain/lib/{it}") for it in ("libc.so.6", "ld-linux-x86-64.so.2")]
+    with tempfile.TemporaryDirectory() as folder:
+        whole, local, static, shared = (Path(folder, it) for it in ("whole.o", "elephant.o", STATIC.name, SHARED.name))
+        run_kit("ld.lld", "-r", "-o", whole, "--whole-archive", archive, "--no-whole-archive", building.kit_file("c/liblibc_c.a"))
+        run_kit("llvm-objcopy", "--wildcard", f"--keep-global-symbol={EXPORTED}", whole, local)
+        run_kit("llvm-ar", "rcsD", static, local)
+        secured = ["-z", "defs", "-z", "relro", "-z", "now", "--build-id", "--gc-sections"]
+        run_kit("ld.lld", "-shared", *secured, "-soname", SONAME, "-o", shared, local, "--as-needed", *libc)
+        return {STATIC: static.read_bytes(), SHARED: shared.read_bytes()}
+
+
+def build_and_install(sums: building.Sums) -> None:
+    """Builds the library in this tree, whose crates `rt ci` has proved from sources with these sums, and puts it into out/."""
+    archive, _ = build(ROOT)
+    BUILT_LIBRARY.install(pack(archive), sums)
+
+
+def installed(prefix: Path, folder: Path = OUT) -> dict[str, LaidFile | LaidLink]:
+    """Returns the installed files and links of the libraries, by their paths below the prefix."""
+    return {
+        "include/elephant.h": LaidFile(0o644, HEADER.read_bytes()),
+        f"lib/{STATIC.name}": LaidFile(0o644, (folder / STATIC.name).read_bytes()),
+        f"lib/{SONAME}": LaidFile(0o755, (folder / SHARED.name).read_bytes()),
+        f"lib/{SHARED.name}": LaidLink(SONAME),
+        "lib/pkgconfig/elephant.pc": LaidFile(0o644, CONFIG.format(prefix=prefix, version=version()).encode()),
+    }
+
+
+def lay(path: Path, laid: LaidFile | LaidLink) -> None:
+    """Writes a file or a link of an installation, so that no reader ever finds half of it."""
+    path.parent.mkdir(parents=True, exist_ok=True)
+    if isinstance(laid, LaidFile):
+        building.write_whole(path, laid.data, laid.mode)
+        return
+    link = path.with_name(f".{path.name}-{os.getpid()}")
+    link.symlink_to(laid.target)
+    os.replace(link, path)
+
+
+def examples_in_page(word: str) -> list[str]:
+    """Returns the programs in the code blocks of docs/EMBED.md that have this language."""
+    pages = sorted((ROOT / "docs").glob("EMBED.md"))
+    text = "".join(it.read_text(encoding="utf-8") for it in pages)
+    return [it for it in re.findall(rf"^```{word}\n(.*?)^```$", text, re.M | re.S) if " main(" in it]
