@@ -23,7 +23,10 @@
  *
  * CODES. Each call that returns int32_t returns one of enum elephant_code. ELEPHANT_OK: the call succeeded, and its results are
  * at its pointers. Any other code: nothing has changed, neither the store nor what the pointers point to. The exceptions are the
- * kept result, and what elephant_pass and elephant_line say below. The comment of a call lists its codes without ELEPHANT_.
+ * kept result, the history, and what elephant_pass and elephant_line say below. A history keeps a call that the store refused as
+ * an entry, which takes memory and counts towards the limit of events. The comment of a call, and that of its section, list its
+ * codes without ELEPHANT_. They leave out three: CLOSED, NO_MEMORY, and HISTORY_FULL if the store has a history.
+ * If two arguments are bad, the code is that of the first.
  *
  * THE KEPT RESULT. The handle keeps the content or the list of the last call. elephant_take, elephant_row_.. and the like copy it
  * out, as often as you want. The next call that runs or asks something replaces it, even if that call is refused. Calls that only
@@ -60,7 +63,7 @@ typedef struct elephant elephant;
 enum elephant_code {
     ELEPHANT_OK = 0,
 
-    /* The command was not run. */
+    /* The command was not run. Without a history elephant_clock, elephant_tick, elephant_clean and elephant_pass never stop. */
     ELEPHANT_NO_MEMORY = 1,
     ELEPHANT_HISTORY_FULL = 2,     /* as many events as the limits allow; only with a history */
 
@@ -92,7 +95,7 @@ enum elephant_code {
     ELEPHANT_FULL = 27,            /* a limit is reached; detail: which, an enum elephant_limit */
     ELEPHANT_NOT_AHEAD = 41,       /* a mark would end now or before, or the moment of elephant_ahead is before now */
 
-    /* An argument is not valid. */
+    /* An argument is not valid. If several are not, the code is that of the first one. */
     ELEPHANT_BAD_NAME = 28,
     ELEPHANT_BAD_PATH = 29,
     ELEPHANT_BAD_MOMENT = 30,      /* past 253402300799 */
@@ -188,12 +191,12 @@ int32_t elephant_clock(elephant *e, uint64_t moment);
 int32_t elephant_tick(elephant *e, uint64_t seconds);
 
 /* ---- Names ----
- * Each call may return a code for its path: NO_ENTRY, NOT_DIRECTORY; BAD_PATH, BAD_NAME. */
+ * Each call may return a code for its path: NO_ENTRY, NOT_DIRECTORY, IS_ROOT; BAD_PATH, BAD_NAME. */
 
 /* Makes a directory. *directory: its number. EXISTS, FULL. */
 int32_t elephant_mkdir(elephant *e, const void *path, size_t len, uint64_t *directory);
 
-/* Removes the name of an empty directory. NOT_EMPTY; IS_ROOT. */
+/* Removes the name of an empty directory. NOT_EMPTY. */
 int32_t elephant_rmdir(elephant *e, const void *path, size_t len);
 
 /* Makes a file with an empty version 1. *file: its number. EXISTS, FULL. */
@@ -205,16 +208,17 @@ int32_t elephant_link(elephant *e, const void *from, size_t from_len, const void
 /* Removes the name of a file; with the last name the current version ends. IS_DIRECTORY. */
 int32_t elephant_unlink(elephant *e, const void *path, size_t len);
 
-/* Moves the file or directory at `from` to `to`. EXISTS, INTO_ITSELF, IS_ROOT, FULL. */
+/* Moves the file or directory at `from` to `to`. EXISTS, INTO_ITSELF, FULL. */
 int32_t elephant_rename(elephant *e, const void *from, size_t from_len, const void *to, size_t to_len);
 
-/* Restores a dead name. A file without a live name gets a version: its number at *version, else 0. NOT_RESTORABLE, EXISTS, FULL. */
+/* Restores a dead name. A file without a live name gets a version: its number at *version, else 0. NOT_RESTORABLE, EXISTS,
+ * DRAFTING, FULL. */
 int32_t elephant_undelete(elephant *e, const void *path, size_t len, uint64_t *version);
 
 /* ---- Writing ---- */
 
 /* Opens a handle that writes the file. All writers of a file share one draft, which becomes a version when the last of them
- * closes, if it was changed. FULL, IS_DIRECTORY. */
+ * closes, if it was changed. NO_ENTRY, NOT_DIRECTORY, IS_DIRECTORY, FULL; BAD_PATH, BAD_NAME. */
 int32_t elephant_open_write(elephant *e, const void *path, size_t len, uint64_t *handle);
 
 /* Writes bytes at the offset into the draft; zeros fill a gap before them. NO_HANDLE, NOT_WRITER, TOO_BIG. */
@@ -227,11 +231,12 @@ int32_t elephant_truncate(elephant *e, uint64_t handle, uint64_t size);
 int32_t elephant_close_handle(elephant *e, uint64_t handle, uint64_t *version);
 
 /* Makes a new version of the file with the content of the version of that number. *version: the new number.
- * DRAFTING, NO_VERSION, FORGOTTEN, FULL. */
+ * NO_ENTRY, NOT_DIRECTORY, IS_DIRECTORY, NO_VERSION, FORGOTTEN, DRAFTING, FULL; BAD_PATH, BAD_NAME. */
 int32_t elephant_revert(elephant *e, const void *path, size_t len, uint64_t number, uint64_t *version);
 
 /* ---- Reading ----
- * A path and a tag mean a version: the current one, the one at a past moment, or one by its number. */
+ * A path and a tag mean a version: the current one, the one at a past moment, or one by its number. Each call with a tag may return
+ * NO_ENTRY, NOT_DIRECTORY, IS_DIRECTORY, FUTURE, NO_VERSION, FORGOTTEN; BAD_PATH, BAD_NAME, BAD_MOMENT, SYNTAX. */
 
 enum elephant_tag {
     ELEPHANT_NOW = 0,      /* number is 0, or anything */
@@ -239,7 +244,7 @@ enum elephant_tag {
     ELEPHANT_VERSION = 2   /* number is a version of the file that the path names now: NO_VERSION, FORGOTTEN */
 };
 
-/* Opens a handle that reads that version; while it is open, the version is not removed. */
+/* Opens a handle that reads that version; while it is open, the version is not removed. FULL. */
 int32_t elephant_open_read(elephant *e, const void *path, size_t len, uint32_t tag, uint64_t number, uint64_t *handle);
 
 /* Keeps the bytes of that version. *length: how many. */
@@ -284,7 +289,7 @@ typedef struct elephant_stat_row {
     uint64_t rungs;          /* how many of KEEP_LANDMARKS, else 0 */
 } elephant_stat_row;
 
-/* Returns what the path and its tag mean, and keeps it for elephant_rung. */
+/* Returns what the path and its tag mean, and keeps it for elephant_rung. A directory is IS_DIRECTORY only with the tag VERSION. */
 int32_t elephant_stat(elephant *e, const void *path, size_t len, uint32_t tag, uint64_t number, elephant_stat_row *row);
 
 /* Returns rung `index` of the ladder of the last elephant_stat: from that age on one version stays in each span of that width, both
@@ -292,9 +297,11 @@ int32_t elephant_stat(elephant *e, const void *path, size_t len, uint32_t tag, u
 int32_t elephant_rung(elephant *e, uint64_t index, uint64_t *age, uint64_t *width);
 
 /* ---- Lists ----
- * Each of these calls keeps a list. *rows: how many rows it has. elephant_row_.. copies a row by its index, from 0 on. */
+ * Each of these calls keeps a list. *rows: how many rows it has. elephant_row_.. copies a row by its index, from 0 on: NO_RESULT,
+ * NO_ROW. */
 
-/* Lists the held versions of a file, by number. Tags NOW and AT: the file that the path names, or named at that moment. */
+/* Lists the held versions of a file, by number. Tags NOW and AT: the file that the path names, or named at that moment. NO_ENTRY,
+ * NOT_DIRECTORY, IS_DIRECTORY, FUTURE; BAD_PATH, BAD_NAME, BAD_MOMENT, SYNTAX. */
 int32_t elephant_versions(elephant *e, const void *path, size_t len, uint32_t tag, uint64_t number, uint64_t *rows);
 
 typedef struct elephant_version_row {
@@ -305,7 +312,8 @@ typedef struct elephant_version_row {
 
 int32_t elephant_row_version(elephant *e, uint64_t index, elephant_version_row *row);
 
-/* Lists the names in a directory, in order. Tags NOW and AT. */
+/* Lists the names in a directory, in order. Tags NOW and AT. NO_ENTRY, NOT_DIRECTORY, FUTURE; BAD_PATH, BAD_NAME, BAD_MOMENT,
+ * SYNTAX. */
 int32_t elephant_list(elephant *e, const void *path, size_t len, uint32_t tag, uint64_t number, uint64_t *rows);
 
 /* Lists the dead names that elephant_undelete can restore, by directory and name. */
@@ -348,27 +356,32 @@ typedef struct elephant_usage_row {
 
 int32_t elephant_row_usage(elephant *e, uint64_t index, elephant_usage_row *row);
 
-/* ---- Policies ---- */
+/* ---- Policies ----
+ * NO_ENTRY, NOT_DIRECTORY; BAD_PATH, BAD_NAME, BAD_LADDER, SYNTAX. */
 
 /* Sets the file's policy, a word of the script language: "one", "all", "safe:604800", "safe:604800/3",
- * "landmarks:86400/3600,604800/86400". BAD_LADDER, SYNTAX. */
+ * "landmarks:86400/3600,604800/86400". IS_DIRECTORY. */
 int32_t elephant_policy(elephant *e, const void *path, size_t len, const void *policy, size_t policy_len);
 
 /* Sets the policy that later files in the directory get. */
 int32_t elephant_default(elephant *e, const void *path, size_t len, const void *policy, size_t policy_len);
 
 /* ---- Groups and marks ----
- * BAD_NAME; NO_GROUP. */
+ * BAD_NAME; NO_GROUP, but for elephant_group_make. */
 
 int32_t elephant_group_make(elephant *e, const void *group, size_t group_len);   /* GROUP_EXISTS, FULL */
 int32_t elephant_group_drop(elephant *e, const void *group, size_t group_len);   /* also removes its marks */
+
+/* Adds a file to the group. NO_ENTRY, NOT_DIRECTORY, IS_DIRECTORY, ALREADY_MEMBER, FULL; BAD_PATH. */
 int32_t elephant_group_add(elephant *e, const void *group, size_t group_len, const void *path, size_t len);
+
+/* Removes a file from the group. NO_ENTRY, NOT_DIRECTORY, IS_DIRECTORY, NOT_MEMBER; BAD_PATH. */
 int32_t elephant_group_remove(elephant *e, const void *group, size_t group_len, const void *path, size_t len);
 
 /* Marks the group: no version that was current in its files at that past moment is removed before `until`, which may be
  * ELEPHANT_NEVER. NOT_PAST, NOT_AHEAD, MARK_EXISTS, FULL, BAD_MOMENT. */
 int32_t elephant_mark(elephant *e, const void *group, size_t group_len, uint64_t moment, uint64_t until);
-int32_t elephant_unmark(elephant *e, const void *group, size_t group_len, uint64_t moment);   /* NO_MARK */
+int32_t elephant_unmark(elephant *e, const void *group, size_t group_len, uint64_t moment);   /* NO_MARK; BAD_MOMENT */
 
 /* Lists the groups, in order of making. */
 int32_t elephant_groups(elephant *e, uint64_t *rows);
@@ -415,7 +428,8 @@ typedef struct elephant_why_row {
     uint64_t by;               /* of DISPLACED, else 0 */
 } elephant_why_row;
 
-/* Returns why the version is held, or due. It is no event. */
+/* Returns why the version is held, or due. It is no event. NO_ENTRY, NOT_DIRECTORY, IS_DIRECTORY, FUTURE, NO_VERSION, FORGOTTEN;
+ * BAD_PATH, BAD_NAME, BAD_MOMENT, SYNTAX. */
 int32_t elephant_why(elephant *e, const void *path, size_t len, uint32_t tag, uint64_t number, elephant_why_row *row);
 
 /* Copies the name of the group of the last elephant_why, if its fate was MARKED. *length: how many bytes. NO_RESULT, NO_ROOM. */

@@ -252,6 +252,26 @@ static void names_are_refused_for_the_reason_that_holds(void) {
     elephant_delete(e);
 }
 
+static void the_first_of_two_bad_arguments_is_told(void) {
+    elephant *e = fresh(0);
+    const uint64_t late = 253402300800;
+    uint64_t number;
+    OK(elephant_group_make(e, TEXT("g")));
+    CODE(ELEPHANT_BAD_PATH, elephant_link(e, TEXT("f"), TEXT("/a b")));
+    CODE(ELEPHANT_BAD_NAME, elephant_link(e, TEXT("/a b"), TEXT("f")));
+    CODE(ELEPHANT_BAD_PATH, elephant_rename(e, TEXT("f"), TEXT("/a b")));
+    CODE(ELEPHANT_BAD_NAME, elephant_rename(e, TEXT("/a b"), TEXT("f")));
+    CODE(ELEPHANT_BAD_PATH, elephant_read(e, TEXT("f"), ELEPHANT_AT, late, &number));
+    CODE(ELEPHANT_BAD_NAME, elephant_versions(e, TEXT("/a b"), 7, 0, &number));
+    CODE(ELEPHANT_BAD_PATH, elephant_policy(e, TEXT("f"), TEXT("never")));
+    CODE(ELEPHANT_BAD_NAME, elephant_default(e, TEXT("/a b"), TEXT("safe:0")));
+    CODE(ELEPHANT_BAD_NAME, elephant_group_add(e, TEXT("a b"), TEXT("f")));
+    CODE(ELEPHANT_BAD_PATH, elephant_group_remove(e, TEXT("g"), TEXT("f")));
+    CODE(ELEPHANT_BAD_NAME, elephant_mark(e, TEXT("a b"), late, ELEPHANT_NEVER));
+    CODE(ELEPHANT_BAD_NAME, elephant_unmark(e, TEXT("a b"), late));
+    elephant_delete(e);
+}
+
 static void some_names_do_not_come_back(void) {
     elephant *e = fresh(0);
     uint64_t number, finished;
@@ -843,6 +863,7 @@ int main(void) {
     the_clock_never_goes_back();
     names_are_made_moved_ended_and_brought_back();
     names_are_refused_for_the_reason_that_holds();
+    the_first_of_two_bad_arguments_is_told();
     some_names_do_not_come_back();
     a_session_makes_one_version();
     a_content_has_a_mebibyte_at_most();

@@ -1,5 +1,5 @@
-/* A store without a history doesn't grow, however many calls it answers: `lives_long ROUNDS`. It is linked so that malloc, realloc
- * and free call the functions here. */
+/* A store without a history doesn't grow, however many calls it answers: `lives_long ROUNDS`. Nor does one whose history is trimmed. A
+ * closed handle keeps nothing of its store. The program is linked so that malloc, realloc and free call the functions here. */
 
 #include "want.h"
 #include <malloc.h>
@@ -89,10 +89,59 @@ static elephant *with_files(void) {
     return e;
 }
 
+/* After a trim a store holds as much as after the trim before. */
+static void trims(uint64_t rounds) {
+    size_t trimmed = 0;
+    uint64_t number, folded;
+    elephant *e = fresh(1);
+    OK(elephant_mkdir(e, TEXT("/d"), &number));
+    OK(elephant_default(e, TEXT("/d"), TEXT("one")));
+    OK(elephant_create(e, TEXT("/d/short"), &number));
+    for (uint64_t round = 0; round < rounds; round++) {
+        for (uint64_t at = 0; at < 10; at++) work(e, round);
+        OK(elephant_trim(e, &folded));
+        WANT(folded > 0);
+        if (round == rounds / 10) trimmed = held;
+    }
+    printf("%llu trims: %zu bytes after a tenth of them, %zu at the end\n", (unsigned long long)rounds, trimmed, held);
+    WANT(held <= trimmed + 4096);
+    elephant_delete(e);
+    WANT(held == 0);
+}
+
+/* What a handle holds after elephant_close is what it held before it was opened, and nothing after elephant_delete. */
+static void closes(uint32_t history) {
+    elephant *e;
+    size_t empty;
+    uint64_t number;
+    elephant_new(&e);
+    WANT(e);
+    empty = held;
+    for (int round = 0; round < 3; round++) {
+        OK(elephant_open_largest(e, history));
+        OK(elephant_create(e, TEXT("/f"), &number));
+        save(e, "/f", "one", 3);
+        OK(elephant_open_write(e, TEXT("/f"), &number));
+        OK(elephant_write(e, number, 0, "draft", 5));
+        OK(elephant_open_read(e, TEXT("/f"), ELEPHANT_NOW, 0, &number));
+        OK(elephant_line(e, TEXT("versions /f"), &number));
+        elephant_close(e);
+        WANT(held == empty);
+    }
+    OK(elephant_open_largest(e, history));
+    OK(elephant_create(e, TEXT("/f"), &number));
+    elephant_delete(e);
+    WANT(held == 0);
+}
+
 int main(int count, char **words) {
     uint64_t rounds = count > 1 ? strtoull(words[1], NULL, 10) : 1000;
     size_t asked, worked;
-    elephant *e = with_files();
+    elephant *e;
+    closes(0);
+    closes(1);
+    trims(1000);
+    e = with_files();
     ask(e);
     ask(e);
     asked = held;

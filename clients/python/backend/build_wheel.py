@@ -3,17 +3,31 @@
 The wheel has the shared library beside the package, if `./elephant library` has built it.
 """
 
+from __future__ import annotations
+
 import base64
 import hashlib
 import re
 import zipfile
+from collections.abc import Mapping
 from pathlib import Path
+from typing import Any, NoReturn, Optional
 
 HERE = Path(__file__).resolve().parent.parent
 SOURCE = HERE / "src"
 LIBRARY = HERE.parent.parent / "out" / "libelephant.so"
 NAME = "elephant_store"
-VERSION = re.search(r'^version = "(.*)"$', (HERE / "pyproject.toml").read_text(encoding="utf-8"), re.M)[1]
+Settings = Optional[Mapping[str, Any]]
+
+
+def _version() -> str:
+    found = re.search(r'^version = "(.*)"$', (HERE / "pyproject.toml").read_text(encoding="utf-8"), re.M)
+    if found is None:
+        raise ValueError("pyproject.toml has no version")
+    return found[1]
+
+
+VERSION = _version()
 INFO = f"{NAME}-{VERSION}.dist-info"
 METADATA = f"""Metadata-Version: 2.1
 Name: elephant-store
@@ -27,7 +41,7 @@ Description-Content-Type: text/markdown
 {(HERE / "README.md").read_text(encoding="utf-8")}"""
 
 
-def _write(folder, files, is_pure):
+def _write(folder: str, files: dict[str, bytes], is_pure: bool) -> str:
     """Writes the wheel of these files, and returns its name."""
     tag = "py3-none-any" if is_pure else "py3-none-linux_x86_64"
     files = {
@@ -46,7 +60,7 @@ def _write(folder, files, is_pure):
     return wheel
 
 
-def build_wheel(wheel_directory, config_settings=None, metadata_directory=None):
+def build_wheel(wheel_directory: str, config_settings: Settings = None, metadata_directory: Optional[str] = None) -> str:
     sources = sorted([*SOURCE.rglob("*.py"), *SOURCE.rglob("py.typed")])
     files = {str(it.relative_to(SOURCE)): it.read_bytes() for it in sources}
     if LIBRARY.is_file():
@@ -54,9 +68,9 @@ def build_wheel(wheel_directory, config_settings=None, metadata_directory=None):
     return _write(wheel_directory, files, not LIBRARY.is_file())
 
 
-def build_editable(wheel_directory, config_settings=None, metadata_directory=None):
+def build_editable(wheel_directory: str, config_settings: Settings = None, metadata_directory: Optional[str] = None) -> str:
     return _write(wheel_directory, {f"{NAME}.pth": f"{SOURCE}\n".encode()}, is_pure=True)
 
 
-def build_sdist(sdist_directory, config_settings=None):
+def build_sdist(sdist_directory: str, config_settings: Settings = None) -> NoReturn:
     raise NotImplementedError("install it from the repository")

@@ -1,5 +1,7 @@
 """A store in a journal: what is there after it is opened again, cut off, damaged, killed, or held by another process."""
 
+from __future__ import annotations
+
 import errno
 import multiprocessing
 import os
@@ -11,36 +13,43 @@ import tempfile
 import threading
 import time
 import unittest
+from collections.abc import Iterator, Sequence
+from contextlib import AbstractContextManager
+from multiprocessing.synchronize import Event
 from pathlib import Path
+from typing import Any, Callable, Optional, Union
 from unittest import mock
 
 import elephant
+from clocks import clock_at
 from elephant import JournalDamaged, JournalError, JournalLocked, KeepOne, Limits, NoMemory, Recovered, Store
+from stats import file_stat
 
 # Where no sync waits for a disk.
 MEMORY = "/dev/shm" if os.path.isdir("/dev/shm") else None
 SOURCE = str(Path(elephant.__file__).parent.parent)
-QUICK = {"clock": "manual", "fsync": "sync"}
+QUICK: dict[str, Any] = {"clock": "manual", "fsync": "sync"}
 
 
-def state(store):
+def state(store: Store) -> list[str]:
     """Everything that a store tells of what it holds, as text."""
     told = [repr(store.now), store.line("restorable"), store.line("due"), store.line("usage"), store.line("groups"), store.line("stat /")]
 
-    def below(directory):
+    def below(directory: str) -> None:
         for entry in store.list(directory or "/"):
             path = f"{directory}/{entry.name}"
             told.append(f"{path} {entry} {store.stat(path)}")
             if entry.is_directory:
                 below(path)
             else:
-                told.extend(f"{it} {store.read(path, version=it.number)!r} {store.why(path, version=it.number)}" for it in store.versions(path))
+                numbers = [it.number for it in store.versions(path)]
+                told.extend(f"{it} {store.read(path, version=it)!r} {store.why(path, version=it)}" for it in numbers)
 
     below("")
     return told
 
 
-def fill(store):
+def fill(store: Store) -> Iterator[None]:
     """Makes some of every change, and yields after each."""
     store.set_default("/", KeepOne())
     yield
@@ -99,16 +108,16 @@ def fill(store):
 
 
 class Journals(unittest.TestCase):
-    def setUp(self):
+    def setUp(self) -> None:
         folder = tempfile.TemporaryDirectory(dir=MEMORY)
         self.addCleanup(folder.cleanup)
         self.folder = Path(folder.name)
         self.path = self.folder / "journal"
 
-    def open(self, **options):
+    def open(self, **options: Any) -> Store:
         return Store(journal=self.path, **{**QUICK, **options})
 
-    def test_a_store_is_there_again(self):
+    def test_a_store_is_there_again(self) -> None:
         with self.open() as store:
             for _ in fill(store):
                 pass
@@ -117,7 +126,7 @@ class Journals(unittest.TestCase):
             with self.open() as store:
                 self.assertEqual((state(store), store.recovered, bool(store.recovered)), (before, Recovered(), False))
 
-    def test_a_script_makes_the_same_store(self):
+    def test_a_script_makes_the_same_store(self) -> None:
         """The lines of a journal, without what stands before them, are a script."""
         with self.open() as store:
             for _ in fill(store):
@@ -129,7 +138,7 @@ class Journals(unittest.TestCase):
                 self.assertRegex(script.line(line[11:]), "^ok ")
             self.assertEqual(state(script), before)
 
-    def test_a_journal_cut_at_each_byte(self):
+    def test_a_journal_cut_at_each_byte(self) -> None:
         """What is there is each whole change before the cut. The rest is cut off and told, and the store goes on."""
         with self.open() as store:
             ends, states = [os.path.getsize(self.path)], [state(store)]
@@ -137,7 +146,8 @@ class Journals(unittest.TestCase):
                 ends.append(os.path.getsize(self.path))
                 states.append(state(store))
         data = self.path.read_bytes()
-        steps = [it for it in range(1, len(ends)) if data[ends[it - 1]:ends[it]].count(b" = ") + data[ends[it - 1]:ends[it]].count(b" > ") == 1]
+        parts = [data[start:end] for start, end in zip(ends, ends[1:])]
+        steps = [at for at, part in enumerate(parts, 1) if part.count(b" = ") + part.count(b" > ") == 1]
         self.assertGreater(len(steps), 12)
         checked = 0
         for step in steps:
@@ -152,25 +162,27 @@ class Journals(unittest.TestCase):
                 checked += 1
         self.assertGreater(checked, 400)
 
-    def without_handles(self, store, states, step, is_whole):
+    def without_handles(self, store: Store, states: list[list[str]], step: int, is_whole: bool) -> list[tuple[str, str]]:
         """Returns in what the store differs from that of a step. A reader that the journal left open is closed, so its version is due."""
         wanted, told = states[step if is_whole else step - 1], state(store)
-        return [pair for pair in zip(wanted, told) if pair[0] != pair[1] and " open" not in str(pair[0]) and not pair[0].startswith("ok due")]
+        return [pair for pair in zip(wanted, told) if pair[0] != pair[1] and " open" not in pair[0] and not pair[0].startswith("ok due")]
 
-    def test_a_header_cut_at_each_byte(self):
+    def test_a_header_cut_at_each_byte(self) -> None:
         with self.open():
             pass
         header = self.path.read_bytes()
+        first = header.index(b"\n") + 1  # the line of the first policy follows
         for cut in range(len(header) + 1):
             self.path.write_bytes(header[:cut])
+            torn = cut if cut < first else (cut - first) % (len(header) - first)
             with self.open() as store:
-                self.assertEqual((store.recovered.cut, store.list()), (cut if cut < len(header) else 0, []))
+                self.assertEqual((store.recovered.cut, store.list()), (torn, []))
                 store.create("/f")
             with self.open() as store:
                 self.assertEqual(len(store.list()), 1)
 
-    def test_a_byte_damaged_anywhere(self):
-        """A damaged byte is told as damage, or, in the last change, cut off with it: never passed over."""
+    def test_a_byte_damaged_anywhere(self) -> None:
+        """A damaged byte is told as damage, and the journal stays as it is. A repair keeps what is before the change, and all the bytes."""
         with self.open() as store:
             store.create("/f")
             store.save("/f", b"one")
@@ -182,22 +194,23 @@ class Journals(unittest.TestCase):
             for damage in (data[at] ^ 1, data[at] ^ 4, 0, 10, 255):
                 if damage == data[at]:
                     continue
-                self.path.write_bytes(data[:at] + bytes([damage]) + data[at + 1:])
-                if at < last:
-                    with self.assertRaises(JournalDamaged) as told:
-                        self.open()
-                    self.assertLessEqual(told.exception.offset, at)
-                    self.assertEqual(self.path.read_bytes()[:at], data[:at])
-                    self.assertEqual(os.path.getsize(self.path), len(data))
-                    continue
-                try:
-                    with self.open() as store:
+                damaged = data[:at] + bytes([damage]) + data[at + 1:]
+                self.path.write_bytes(damaged)
+                with self.assertRaises(JournalDamaged) as told:
+                    self.open()
+                self.assertLessEqual(told.exception.offset, at)
+                self.assertEqual(self.path.read_bytes(), damaged)
+                if at >= last:
+                    self.assertEqual(told.exception.offset, last)
+                    with self.open(repair=True) as store:
                         self.assertEqual((store.read("/f"), store.recovered.cut), (b"one", len(data) - last))
-                except JournalDamaged as told:
-                    self.assertEqual(told.offset, last)
+                        copy = Path(store.recovered.copy)
+                    self.assertEqual((copy.read_bytes(), self.path.read_bytes()), (damaged[last:], data[:last]))
+                    copy.unlink()
 
-    def test_a_tail_that_the_disk_never_got(self):
-        """After a power failure the last change may be zeros, anything, or end in them."""
+    def test_a_tail_that_the_disk_never_got(self) -> None:
+        """After a power failure the last change may be zeros, anything, or end in them. That is no end that a write leaves: the store isn't
+        opened, unless for reading what is before it, or after a copy of the rest."""
         with self.open() as store:
             store.save("/f", b"one")
             last = os.path.getsize(self.path)
@@ -208,11 +221,23 @@ class Journals(unittest.TestCase):
                 if (at, tail) == (len(data) - 1, b"\n"):
                     continue  # that is the whole journal
                 self.path.write_bytes(data[:at] + tail)
-                with self.open() as store:
-                    self.assertEqual((store.read("/f"), store.recovered), (b"one", Recovered(cut=at + len(tail) - last)))
-                self.assertEqual(self.path.read_bytes(), data[:last])
+                cut = at + len(tail) - last
+                kinds: list[dict[str, bool]] = [{}, {"read_only": True}]
+                for options in kinds:
+                    with self.assertRaises(JournalDamaged) as told:
+                        self.open(**options)
+                    self.assertEqual(told.exception.offset, last)
+                with self.open(read_only=True, repair=True) as store:
+                    self.assertEqual((store.read("/f"), store.recovered), (b"one", Recovered(cut=cut)))
+                self.assertEqual(self.path.read_bytes(), data[:at] + tail)
+                with self.open(repair=True) as store:
+                    self.assertEqual((store.read("/f"), store.recovered.cut), (b"one", cut))
+                    copy = Path(store.recovered.copy)
+                self.assertEqual((self.path.read_bytes(), copy.read_bytes()), (data[:last], (data[:at] + tail)[last:]))
+                self.assertEqual(copy.stat().st_mode & 0o777, 0o600)
+                copy.unlink()
 
-    def test_lines_left_out_doubled_or_moved(self):
+    def test_lines_left_out_doubled_or_moved(self) -> None:
         with self.open() as store:
             for name in "abcde":
                 store.create(f"/{name}")
@@ -221,13 +246,13 @@ class Journals(unittest.TestCase):
             self.path.write_bytes(b"".join(wrong))
             self.assertRaises(JournalDamaged, self.open)
 
-    def test_a_file_that_is_no_journal_is_left_alone(self):
+    def test_a_file_that_is_no_journal_is_left_alone(self) -> None:
         for data in (b"A letter.\n", b"\0" * 100, b"00000000 = # elephant journal 1\n"):
             self.path.write_bytes(data)
             self.assertRaises(JournalDamaged, self.open)
             self.assertEqual(self.path.read_bytes(), data)
 
-    def test_an_open_session_becomes_a_version_if_it_was_synced(self):
+    def test_an_open_session_becomes_a_version_if_it_was_synced(self) -> None:
         store = self.open()
         store.save("/f", b"old")
         session = store.session("/f")
@@ -247,7 +272,7 @@ class Journals(unittest.TestCase):
         with self.open() as store:
             self.assertEqual((store.read("/f"), len(store.versions("/f")), store.recovered), (b"newer", 3, Recovered()))
 
-    def test_a_draft_is_kept_with_its_last_session(self):
+    def test_a_draft_is_kept_with_its_last_session(self) -> None:
         """What the first of two sessions wrote is no version as long as the second is open, so a copy of the journal has none."""
         with self.open() as store:
             store.save("/f", b"old")
@@ -263,7 +288,7 @@ class Journals(unittest.TestCase):
             with self.open() as store:
                 self.assertEqual((store.read("/f"), store.recovered.closed), (content, closed))
 
-    def test_sessions_of_lines_in_a_store_with_a_history(self):
+    def test_sessions_of_lines_in_a_store_with_a_history(self) -> None:
         """Their files aren't known, so what all sessions write is kept in the order in which they wrote it."""
         with self.open(history=True) as store:
             store.save("/f", b"abc")
@@ -281,13 +306,12 @@ class Journals(unittest.TestCase):
         with self.open() as store:
             self.assertEqual((state(store), store.recovered), (before, Recovered()))
 
-    def test_an_exclusive_file_is_one_change(self):
-        with self.open() as store:
-            with store.open("/f", "xb") as file:
-                file.write(b"one")
-        self.assertEqual([line[9:10] for line in self.path.read_text().splitlines()], list("=<--->"))
+    def test_an_exclusive_file_is_one_change(self) -> None:
+        with self.open() as store, store.open("/f", "xb") as file:
+            file.write(b"one")
+        self.assertEqual([line[9:10] for line in self.path.read_text().splitlines()], list("==<--->"))
 
-    def test_a_close_of_the_store_closes_its_sessions(self):
+    def test_a_close_of_the_store_closes_its_sessions(self) -> None:
         with self.open() as store:
             store.create("/f")
             one, two = store.session("/f"), store.session("/f")
@@ -298,23 +322,22 @@ class Journals(unittest.TestCase):
         with self.open() as store:
             self.assertEqual((store.read("/f"), store.read("/g"), store.recovered), (b"onetwo", b"between", Recovered()))
 
-    def test_the_clock_is_kept_with_what_changes(self):
-        with mock.patch("time.time", lambda: moment):
-            moment = 1000.5
-            with self.open(clock="system") as store:
-                store.save("/f", b"one")
-                moment = 2000.9
-                store.read("/f")
-                moment = 2001.2
-                store.save("/f", b"two")
-                moment = 900.0
-                store.save("/f", b"three")
-                before = state(store)
+    def test_the_clock_is_kept_with_what_changes(self) -> None:
+        moment = 1000.5
+        with clock_at(lambda: moment), self.open(clock="system") as store:
+            store.save("/f", b"one")
+            moment = 2000.9
+            store.read("/f")
+            moment = 2001.2
+            store.save("/f", b"two")
+            moment = 900.0
+            store.save("/f", b"three")
+            before = state(store)
         with self.open() as store:
             self.assertEqual((state(store), store.now), (before, 2001))
             self.assertEqual([it.closed for it in store.versions("/f")], [1000, 1000, 2001, 2001])
 
-    def test_one_store_at_a_time_has_a_journal(self):
+    def test_one_store_at_a_time_has_a_journal(self) -> None:
         with self.open() as store:
             with self.assertRaises(JournalLocked) as told:
                 self.open()
@@ -326,28 +349,31 @@ class Journals(unittest.TestCase):
         with self.open(wait=0.3) as store:
             self.assertEqual(len(store.list()), 1)
 
-    def test_two_processes_on_one_journal(self):
+    def test_two_processes_on_one_journal(self) -> None:
         """The second waits until the first is done, and finds what it saved."""
-        ready = "import sys; from elephant import Store; store = Store(journal=sys.argv[1]); store.save('/f', b'first'); print(1, flush=True)"
-        first = self.process(ready + "; sys.stdin.readline(); store.save('/f', b'second')", stdin=subprocess.PIPE)
+        opened = "import sys; from elephant import Store; store = Store(journal=sys.argv[1], wait=30); "
+        saves = "store.save('/f', b'first'); print(1, flush=True); sys.stdin.readline(); store.save('/f', b'second')"
+        first = self.process(opened + saves, stdin=subprocess.PIPE)
+        assert first.stdout is not None
         first.stdout.readline()
         self.assertRaises(JournalLocked, self.open)
-        second = self.process("import sys; from elephant import Store; print(Store(journal=sys.argv[1], wait=30).read('/f'))")
+        second = self.process(opened + "print(store.read('/f'))")
         time.sleep(0.5)
         self.assertIsNone(second.poll())
         first.communicate(b"\n", timeout=30)
         self.assertEqual(second.communicate(timeout=30)[0], b"b'second'\n")
 
-    def process(self, program, *words, **pipes):
+    def process(self, program: str, *words: str, stdin: Optional[int] = None) -> subprocess.Popen[bytes]:
         environment = {**os.environ, "PYTHONPATH": SOURCE}
-        words = [sys.executable, "-c", program, str(self.path), *words]
-        process = subprocess.Popen(words, env=environment, stdout=subprocess.PIPE, **pipes)
+        command = [sys.executable, "-c", program, str(self.path), *words]
+        process = subprocess.Popen(command, env=environment, stdin=stdin, stdout=subprocess.PIPE)
+        assert process.stdout is not None
         self.addCleanup(process.wait)
         self.addCleanup(process.stdout.close)
         self.addCleanup(process.kill)
         return process
 
-    def test_a_killed_process_loses_at_most_the_save_it_was_in(self):
+    def test_a_killed_process_loses_at_most_the_save_it_was_in(self) -> None:
         program = """
 import sys
 from elephant import Store
@@ -362,16 +388,17 @@ while True:
         told = 0
         for size in (1, 500, 100_000, 100_000, 100_000):
             process = self.process(program, str(size))
+            assert process.stdout is not None
             for line in process.stdout:
                 told = int(line)
                 if told % 7 == 5:
                     break
             time.sleep(0.003)
             process.send_signal(signal.SIGKILL)
-            told = max(told, *(int(line) for line in process.stdout.read().split(b"\n")[:-1] or [told]))
+            told = max([told, *(int(line) for line in process.stdout.read().split(b"\n")[:-1])])
             process.wait()
             with self.open() as store:
-                newest = store.stat("/f").version
+                newest = file_stat(store, "/f").version
                 self.assertIn(newest, (told, told + 1))
                 for version in store.versions("/f")[1:]:
                     content = store.read("/f", version=version.number)
@@ -379,7 +406,7 @@ while True:
                     self.assertIn(len(content) // 9, (1, 500, 100_000))
             told = newest
 
-    def test_a_process_that_runs_out_of_memory(self):
+    def test_a_process_that_runs_out_of_memory(self) -> None:
         """Whichever part runs out, the library or Python: what was saved before is there, and the last save is whole or not there."""
         program = """
 import random, resource, sys
@@ -393,7 +420,7 @@ resource.setrlimit(resource.RLIMIT_AS, (used + 6_000_000 + int(sys.argv[3]), res
 try:
     for at in range(1, 60):
         store.save(f"/{at}", content[at])
-except MemoryError as fault:
+except (MemoryError, JournalError) as fault:
     print(type(fault).__name__)
 resource.setrlimit(resource.RLIMIT_AS, (resource.RLIM_INFINITY, resource.RLIM_INFINITY))
 print(at)
@@ -405,7 +432,8 @@ except JournalError:
         for more in (0, 700_000, 1_400_000):
             process = self.process(program, "kept", str(more))
             kind, at, rest = process.communicate(timeout=60)[0].decode().splitlines()
-            self.assertIn((kind, rest), (("NoMemory", f"{at} 3"), ("MemoryError", f"{at} 3"), ("MemoryError", "ended")))
+            ends = ("NoMemory", f"{at} 3"), ("MemoryError", f"{at} 3"), ("MemoryError", "ended"), ("JournalError", "ended")
+            self.assertIn((kind, rest), ends)
             with self.open() as store:
                 for it in range(1, int(at)):
                     self.assertEqual(store.read(f"/{it}"), random.Random(it).randbytes(400_000))
@@ -416,81 +444,86 @@ except JournalError:
         kind, at, rest = process.communicate(timeout=60)[0].decode().splitlines()
         self.assertEqual((kind, rest), ("NoMemory", f"{at} 3"))
 
-    def test_a_journal_that_cannot_be_written(self):
-        """Then nothing is answered any more, and what is there after an opening is what was there before."""
-        real = os.write
-        for broken in ("none", "half", "fsync"):
+    def test_a_journal_that_cannot_be_written(self) -> None:
+        """Then nothing is changed any more. What is read, and what is there after an opening, is what was there before."""
+        write = os.write
+
+        def refuse(file: int, data: bytes) -> int:
+            raise OSError(errno.ENOSPC, "no space")
+
+        def write_half(file: int, data: bytes) -> int:
+            return write(file, data[:10]) if len(data) > 10 else refuse(file, data)
+
+        def lose(file: int) -> None:
+            raise OSError(errno.EIO, "lost")
+
+        faults: list[tuple[str, Callable[..., Any]]] = [("os.write", refuse), ("os.write", write_half), ("os.fdatasync", lose)]
+        for name, fault in faults:
             self.path.unlink(missing_ok=True)
             with self.open() as store:
                 store.save("/f", b"old")
                 size = os.path.getsize(self.path)
-
-            def write(file, data):
-                if broken == "half" and len(data) > 10:
-                    return real(file, data[:10])
-                raise OSError(errno.ENOSPC, "no space")
-
             store = self.open(fsync="always")
-            patch = mock.patch("os.fdatasync", side_effect=OSError(5, "lost")) if broken == "fsync" else mock.patch("os.write", write)
-            with patch:
+            with mock.patch(name, fault):
                 self.assertRaises(JournalError, store.save, "/f", b"new")
-                self.assertRaises(JournalError, store.read, "/f")
+                self.assertEqual((store.read("/f"), len(store.versions("/f"))), (b"old", 2))
             self.assertRaises(JournalError, store.save, "/f", b"new")
+            self.assertRaises(JournalError, store.open, "/f", "wb")
+            self.assertEqual((store.read("/f"), len(store.versions("/f"))), (b"old", 2))
             store.close()
             self.assertEqual(os.path.getsize(self.path), size)
             with self.open() as store:
                 self.assertEqual((store.read("/f"), len(store.versions("/f"))), (b"old", 2))
 
-    def test_an_interrupted_change_ends_the_store(self):
+    def test_an_interrupted_change_ends_the_store(self) -> None:
         for at in ("elephant_write", "elephant_close_handle"):
             self.path.unlink(missing_ok=True)
             store = self.open()
             store.save("/f", b"old")
-            core = store._core
-            with mock.patch.object(core, "library", Wrapped(core.library, at, KeyboardInterrupt)):
+            with with_fault(store, at, KeyboardInterrupt):
                 self.assertRaises(KeyboardInterrupt, store.save, "/f", b"new")
-            self.assertRaises(JournalError, store.read, "/f")
+            self.assertRaises(JournalError, store.save, "/f", b"newer")
+            self.assertEqual((store.read("/f"), len(store.versions("/f"))), (b"old", 2))
             store.close()
             with self.open() as store:
                 self.assertEqual((store.read("/f"), len(store.versions("/f"))), (b"old", 2))
 
-    def test_a_save_without_memory_makes_no_version(self):
-        """Each of its calls fails in turn, as if there were no memory. Refused alone it is undone; the store goes on, and so does its journal."""
+    def test_a_save_without_memory_makes_no_version(self) -> None:
+        """Each of its calls fails in turn, as if there were no memory. It is undone; the store goes on, and so does its journal."""
         for call in ("elephant_open_write", "elephant_write", "elephant_truncate", "elephant_close_handle"):
             self.path.unlink(missing_ok=True)
             with self.open() as store:
                 store.save("/f", b"old and long")
-                core = store._core
-                with mock.patch.object(core, "library", Wrapped(core.library, call, NoMemory.number)):
+                with with_fault(store, call, NoMemory.number):
                     self.assertRaises(NoMemory, store.save, "/f", b"new")
                 contents = {store.read("/f", version=it.number) for it in store.versions("/f")}
                 self.assertEqual((store.read("/f"), contents), (b"old and long", {b"", b"old and long"}))
-                self.assertEqual(store.save("/f", b"newer"), store.stat("/f").version)
+                self.assertEqual(store.save("/f", b"newer"), file_stat(store, "/f").version)
                 before = state(store)
             with self.open() as store:
                 self.assertEqual(state(store), before)
 
-    def test_a_save_that_cannot_be_undone(self):
-        """With a journal the store ends, and is there again without the save. In memory the file can't be saved any more."""
+    def test_a_save_that_cannot_be_undone(self) -> None:
+        """With a journal nothing is changed any more, and the save isn't there. In memory the file can't be saved any more."""
         for path in (self.path, None):
             store = Store(journal=path, **QUICK)
             store.save("/f", b"old and long")
-            core = store._core
-            with mock.patch.object(core, "library", Wrapped(core.library, "elephant_truncate", NoMemory.number, "elephant_read")):
+            with with_fault(store, "elephant_truncate", NoMemory.number, "elephant_read"):
                 self.assertRaises(NoMemory, store.save, "/f", b"new")
             if path is None:
                 self.assertEqual((store.read("/f"), store.save("/g", b"x")), (b"old and long", 2))
                 self.assertRaisesRegex(elephant.Drafting, "^18 Drafting: /f$", store.save, "/f", b"new")
                 continue
-            self.assertRaises(JournalError, store.read, "/f")
+            self.assertRaises(JournalError, store.save, "/f", b"new")
+            self.assertEqual((store.read("/f"), len(store.versions("/f"))), (b"old and long", 2))
             store.close()
             with self.open() as store:
                 self.assertEqual((store.read("/f"), len(store.versions("/f"))), (b"old and long", 2))
 
-    def test_many_threads_share_a_journal(self):
-        faults = []
+    def test_many_threads_share_a_journal(self) -> None:
+        faults: list[BaseException] = []
 
-        def work(thread):
+        def work(thread: int) -> None:
             try:
                 for at in range(100):
                     store.save(f"/{thread}", b"%d" % at)
@@ -511,11 +544,11 @@ except JournalError:
         self.assertEqual(faults, [])
         with self.open() as store:
             self.assertEqual((state(store), store.recovered), (before, Recovered()))
-            self.assertEqual([store.stat(f"/{thread}").version for thread in range(6)], [201] * 6)
+            self.assertEqual([file_stat(store, f"/{thread}").version for thread in range(6)], [201] * 6)
 
-    def test_a_forked_child_has_no_store(self):
+    def test_a_forked_child_has_no_store(self) -> None:
         """It can't use the store, and does not hold the journal when its parent has let go of it."""
-        def work(answers, done):
+        def work(answers: multiprocessing.Queue[Union[bytes, str]], done: Event) -> None:
             try:
                 answers.put(store.read("/f"))
             except JournalError as fault:
@@ -523,7 +556,8 @@ except JournalError:
             done.wait(30)
 
         context = multiprocessing.get_context("fork")
-        answers, done = context.Queue(), context.Event()
+        answers: multiprocessing.Queue[Union[bytes, str]] = context.Queue()
+        done = context.Event()
         with self.open() as store:
             store.save("/f", b"old")
             child = context.Process(target=work, args=(answers, done))
@@ -535,7 +569,7 @@ except JournalError:
         done.set()
         child.join()
 
-    def test_a_journal_of_larger_limits(self):
+    def test_a_journal_of_larger_limits(self) -> None:
         with self.open() as store:
             store.create("/f")
             store.create("/g")
@@ -546,9 +580,10 @@ except JournalError:
             self.assertRaises(elephant.Full, store.create, "/h")
             self.assertEqual(len(store.list()), 2)
 
-    def test_each_change_is_synced_or_only_a_sync(self):
+    def test_each_change_is_synced_or_only_a_sync(self) -> None:
         with mock.patch("os.fdatasync") as synced:
             with self.open(fsync="always") as store:
+                synced.reset_mock()
                 store.save("/f", b"one")
                 self.assertEqual(synced.call_count, 1)
             self.path.unlink()
@@ -563,20 +598,20 @@ except JournalError:
 class Wrapped:
     """A library one call of which raises or answers a code once, after it was made if it raises; and others always."""
 
-    def __init__(self, library, name, fault, *always):
+    def __init__(self, library: object, name: str, fault: Union[int, type[BaseException]], *always: str) -> None:
         self._library, self._name, self._fault, self._always = library, name, fault, always
 
-    def __getattr__(self, name):
-        call = getattr(self._library, name)
+    def __getattr__(self, name: str) -> Callable[..., Any]:
+        call: Callable[..., Any] = getattr(self._library, name)
         if name in self._always:
             return lambda *_: self._fault
         if name != self._name:
             return call
-        self._name = None
+        self._name = ""
         return self._wrapped(call)
 
-    def _wrapped(self, call):
-        def wrapped(*words):
+    def _wrapped(self, call: Callable[..., Any]) -> Callable[..., Any]:
+        def wrapped(*words: object) -> int:
             if isinstance(self._fault, int):
                 return self._fault
             call(*words)
@@ -585,7 +620,14 @@ class Wrapped:
         return wrapped
 
 
-def cuts(start, end):
+def with_fault(store: Store, *words: Any) -> AbstractContextManager[object]:
+    """Gives a store such a library."""
+    core = store._core
+    assert core is not None
+    return mock.patch.object(core, "library", Wrapped(core.library, *words))
+
+
+def cuts(start: int, end: int) -> Sequence[int]:
     """The places of a change at which a journal is cut: each, or of a long change its first and last and some between."""
     places = range(start, end + 1)
     return places if len(places) < 400 else [*places[:150], *places[150:-150:97], *places[-150:]]

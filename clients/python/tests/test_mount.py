@@ -1,5 +1,7 @@
 """The parts of a mount that need no kernel: names, attributes, drafts, renames, the past, limits, and journals that are made anew."""
 
+from __future__ import annotations
+
 import errno
 import os
 import random
@@ -8,12 +10,15 @@ import sys
 import tempfile
 import unittest
 from pathlib import Path
+from typing import Callable, Optional
 from unittest import mock
 from zlib import crc32
 
 import elephant
+from clocks import clock_at
 from elephant import Full, JournalLocked, Limits, Store
 from elephant._journal import HEADER, PREFIX
+from elephant._turns import Clock
 from elephant.mount import store as stores
 from elephant.mount.contents import MOST_BYTES, Contents, Limited, TooBig
 from elephant.mount.names import TooLong, name_in, spelled
@@ -22,7 +27,7 @@ from elephant.mount.past import Past, moment_of
 from elephant.mount.records import Attributes, Records, file_key, made, names_changed, saved, whole
 from elephant.mount.shorter import changes_in, shorten
 from elephant.mount.store import MountStore, NoSpace, changed_parts
-from elephant.mount.tree import Tree
+from elephant.mount.tree import Directory, File, Tree
 
 SOURCE = str(Path(elephant.__file__).parent.parent)
 MEMORY = "/dev/shm" if os.path.isdir("/dev/shm") else None
@@ -32,26 +37,31 @@ FILE, FOLDER = 0o100644, 0o755
 class Mounted:
     """A mount without a kernel: what its requests would do."""
 
-    def __init__(self, journal, limits=None):
-        self.store = MountStore(str(journal), limits)
+    def __init__(self, journal: Path, limits: Optional[Limits] = None, read_only: bool = False, clock: Clock = "system") -> None:
+        self.store = MountStore(str(journal), limits, read_only, clock)
         self.tree = Tree(self.store)
         self.contents = Contents(self.store, self.tree)
         self.naming = Naming(self.store, self.tree, self.contents)
         self.past = Past(self.store, self.tree, b"")
         self.top = self.tree.root
 
-    def make(self, name, mode=FILE, parent=None):
+    def make(self, name: bytes, mode: int = FILE, parent: Optional[Directory] = None) -> File:
         return self.naming.create(parent or self.top, name, mode, 1, 2)
 
-    def open(self, node, writes=True):
+    def file(self, name: bytes, parent: Optional[Directory] = None) -> File:
+        node = (parent or self.top).children[name]
+        assert isinstance(node, File)
+        return node
+
+    def open(self, node: File, writes: bool = True) -> File:
         node.opens += 1
         node.writers += writes
         return node
 
-    def save(self, name, data, parent=None):
+    def save(self, name: bytes, data: bytes, parent: Optional[Directory] = None) -> File:
         """Saves as a program does that opens, cuts off, writes and closes."""
         parent = parent or self.top
-        node = self.open(parent.children.get(name) or self.make(name, parent=parent))
+        node = self.open(self.file(name, parent) if name in parent.children else self.make(name, parent=parent))
         if node.size:
             self.contents.truncate(node, 0)
         self.contents.write(node, 0, data)
@@ -59,29 +69,29 @@ class Mounted:
         self.contents.closed(node, True)
         return node
 
-    def rename(self, old, new, flags=0):
+    def rename(self, old: bytes, new: bytes, flags: int = 0) -> None:
         self.naming.rename(self.top, old, self.top, new, flags)
 
-    def read(self, name):
-        return self.contents.whole(self.top.children[name])
+    def read(self, name: bytes) -> bytes:
+        return self.contents.whole(self.file(name))
 
-    def versions(self, name):
+    def versions(self, name: bytes) -> list[bytes]:
         path = self.top.path_of(name)
         return [self.store.read(path, version=it.number) for it in self.store.versions(path)]
 
-    def close(self):
+    def close(self) -> None:
         self.contents.settle_all()
         self.store.close()
 
-    def all(self):
+    def all(self) -> list[tuple[object, ...]]:
         """Everything that it shows of the present."""
-        rows = []
+        rows: list[tuple[object, ...]] = []
 
-        def below(folder, path):
+        def below(folder: Directory, path: bytes) -> None:
             it = folder.attributes
             rows.append((path, it.mode, it.owner, it.group, it.mtime))
             for name, node in sorted(folder.children.items()):
-                if hasattr(node, "children"):
+                if isinstance(node, Directory):
                     below(node, path + b"/" + name)
                     continue
                 it = node.attributes
@@ -93,28 +103,32 @@ class Mounted:
 
 
 class Case(unittest.TestCase):
-    def setUp(self):
+    def setUp(self) -> None:
         room = tempfile.TemporaryDirectory(dir=MEMORY)
         self.addCleanup(room.cleanup)
         self.journal = Path(room.name, "journal")
-        self.mounted = None
+        self.mounted: Optional[Mounted] = None
 
-    def mount(self, limits=None):
-        if self.mounted is not None:
-            self.mounted.close()
+    def mount(self, limits: Optional[Limits] = None) -> Mounted:
+        self.unmount()
         self.mounted = Mounted(self.journal, limits)
         self.addCleanup(self.mounted.store.close)
         return self.mounted
 
+    def unmount(self) -> None:
+        if self.mounted is not None:
+            self.mounted.close()
+        self.mounted = None
+
 
 class Names(unittest.TestCase):
-    def test_every_byte_is_spelled_and_read_back(self):
+    def test_every_byte_is_spelled_and_read_back(self) -> None:
         for byte in set(range(1, 256)) - {0x2F}:
             for name in (bytes([byte]), b"a" + bytes([byte, byte])):
-                self.assertEqual(name_in(spelled(name)), name)
+                self.assertEqual(name_in(spelled(name)), name if name != b"." else b"%2E")
                 self.assertTrue(all(0x21 <= it <= 0x7E and it not in b"/@#" for it in spelled(name)))
 
-    def test_sixty_four_bytes_fit_and_one_more_is_refused(self):
+    def test_sixty_four_bytes_fit_and_one_more_is_refused(self) -> None:
         self.assertEqual(spelled(b"n" * 64), b"n" * 64)
         self.assertEqual(spelled("\u00e4".encode() * 10), b"%C3%A4" * 10)
         for name in (b"n" * 65, b"@" * 22, "\u00e4".encode() * 11):
@@ -122,9 +136,9 @@ class Names(unittest.TestCase):
                 spelled(name)
             self.assertEqual(caught.exception.errno, errno.ENAMETOOLONG)
 
-    def test_moments(self):
+    def test_moments(self) -> None:
         self.assertEqual(moment_of(b"1970-01-02T00:00:00Z"), 86_400)
-        self.assertEqual(moment_of(b"86400"), 86_400)
+        self.assertEqual(moment_of(b"@86400"), 86_400)
         self.assertEqual(moment_of(b"1970-01-01T01:00:00+01:00"), 0)
         for word in (b"", b"x", b"-1", b"1970-13-01T00:00:00Z", b"99999999999999"):
             with self.assertRaises(FileNotFoundError):
@@ -132,19 +146,21 @@ class Names(unittest.TestCase):
 
 
 class Attribute(unittest.TestCase):
-    def test_remarks_are_read_as_they_are_written(self):
+    def test_remarks_are_read_as_they_are_written(self) -> None:
         records, it = Records(), Attributes(0o100640, 5, 6, 7, 7, 7)
         for line in (made(file_key(3), 1, it), saved(file_key(3), 11), names_changed(13, 1, file_key(3))):
             records.apply(line[2:])
-        found = records.of(file_key(3))
+        found, top = records.of(file_key(3)), records.of(1)
+        assert found is not None and top is not None
         self.assertEqual((found.mode, found.owner, found.group, found.atime, found.mtime, found.ctime), (0o100640, 5, 6, 7, 11, 13))
-        self.assertEqual((records.of(1).mtime, records.of(1).ctime), (13, 13))
+        self.assertEqual((top.mtime, top.ctime), (13, 13))
         records.apply(whole(file_key(3), Attributes(0o120777, 1, 2, 3, 4, 5))[2:])
-        self.assertTrue(records.of(file_key(3)).is_link)
+        link = records.of(file_key(3))
+        self.assertTrue(link is not None and link.is_link)
         for remark in (b"of another program", b"saved by me", b"names", b"made f1", b"attr f1 x 1 2 3", b"xattr f1 1 zz =zz"):
             records.apply(remark)
 
-    def test_parts(self):
+    def test_parts(self) -> None:
         block = stores.BLOCK
         self.assertEqual(changed_parts(b"", b"", True), [])
         self.assertEqual(changed_parts(b"abc", b"abc", True), [(0, 1)])
@@ -156,13 +172,13 @@ class Attribute(unittest.TestCase):
 
 
 class Saving(Case):
-    def test_a_save_over_the_file_is_a_version(self):
+    def test_a_save_over_the_file_is_a_version(self) -> None:
         it = self.mount()
         for text in (b"one", b"two", b"three"):
             it.save(b"f", text)
         self.assertEqual(it.versions(b"f"), [b"", b"one", b"two", b"three"])
 
-    def test_a_file_renamed_over_one_is_its_next_version(self):
+    def test_a_file_renamed_over_one_is_its_next_version(self) -> None:
         it = self.mount()
         it.save(b"f", b"one")
         number = it.top.children[b"f"].number
@@ -173,7 +189,7 @@ class Saving(Case):
         self.assertEqual(list(it.top.children), [b"f"])
         self.assertEqual(it.read(b"f"), b"two")
 
-    def test_a_file_moved_away_and_made_anew_goes_on(self):
+    def test_a_file_moved_away_and_made_anew_goes_on(self) -> None:
         it = self.mount()
         it.save(b"f", b"one").born -= 10
         it.rename(b"f", b"f~")
@@ -181,7 +197,7 @@ class Saving(Case):
         self.assertEqual(it.versions(b"f"), [b"", b"one", b"two"])
         self.assertEqual((it.read(b"f~"), it.versions(b"f~")), (b"one", [b"", b"one"]))
 
-    def test_a_file_moved_away_long_ago_keeps_its_past(self):
+    def test_a_file_moved_away_long_ago_keeps_its_past(self) -> None:
         it = self.mount()
         it.save(b"f", b"one").born -= 10
         it.rename(b"f", b"g")
@@ -189,7 +205,7 @@ class Saving(Case):
             it.save(b"f", b"two")
         self.assertEqual((it.versions(b"f"), it.versions(b"g")), ([b"", b"two"], [b"", b"one"]))
 
-    def test_a_file_moved_over_its_last_backup_goes_on(self):
+    def test_a_file_moved_over_its_last_backup_goes_on(self) -> None:
         it = self.mount()
         for text in (b"one", b"two", b"three"):
             it.save(b"f", text)
@@ -203,7 +219,7 @@ class Saving(Case):
             pass
         self.assertEqual(len(it.versions(b"f")), 6)
 
-    def test_a_file_deleted_and_made_anew_goes_on(self):
+    def test_a_file_deleted_and_made_anew_goes_on(self) -> None:
         it = self.mount()
         it.save(b"f", b"one")
         it.naming.unlink(it.top, b"f")
@@ -212,7 +228,7 @@ class Saving(Case):
         before = it.all()
         self.assertEqual(self.mount().all(), before)
 
-    def test_a_new_name_does_not_take_the_past_of_a_file_that_was_saved_by_it(self):
+    def test_a_new_name_does_not_take_the_past_of_a_file_that_was_saved_by_it(self) -> None:
         it = self.mount()
         it.save(b"f", b"one")
         for text in (b"two", b"three"):
@@ -225,7 +241,7 @@ class Saving(Case):
         it.save(b"new", b"y")
         self.assertEqual((it.versions(b"new"), it.versions(b"g")), ([b"", b"y"], [b"", b"x"]))
 
-    def test_other_names_keep_what_they_had(self):
+    def test_other_names_keep_what_they_had(self) -> None:
         it = self.mount()
         node = it.save(b"f", b"one")
         it.naming.link(node, it.top, b"other")
@@ -233,7 +249,7 @@ class Saving(Case):
         it.rename(b"new", b"f")
         self.assertEqual((it.read(b"f"), it.read(b"other")), (b"two", b"one"))
 
-    def test_an_open_file_keeps_what_it_had(self):
+    def test_an_open_file_keeps_what_it_had(self) -> None:
         it = self.mount()
         node = it.open(it.save(b"f", b"one"), writes=False)
         it.save(b"new", b"two")
@@ -242,7 +258,7 @@ class Saving(Case):
         it.contents.closed(node, False)
         self.assertEqual(it.contents.drafts, set())
 
-    def test_readers_see_a_draft_and_its_version_is_made_at_the_last_close(self):
+    def test_readers_see_a_draft_and_its_version_is_made_at_the_last_close(self) -> None:
         it = self.mount()
         node = it.save(b"f", b"one")
         for _ in range(2):
@@ -254,16 +270,19 @@ class Saving(Case):
         it.contents.closed(node, True)
         self.assertEqual(it.versions(b"f"), [b"", b"one", b"oXYZ"])
 
-    def test_renames_that_are_refused(self):
+    def test_renames_that_are_refused(self) -> None:
         it = self.mount()
         it.save(b"f", b"one")
         it.save(b"g", b"two")
         folder = it.naming.mkdir(it.top, b"d", FOLDER, 0, 0)
         it.save(b"x", b"", folder)
-        for words, number in (((b"f", b"g", NO_REPLACE), errno.EEXIST), ((b"f", b"d"), errno.EISDIR), ((b"d", b"f"), errno.ENOTDIR),
-                              ((b"none", b"f"), errno.ENOENT), ((b"f", b"g", 4), errno.EINVAL)):
+        renames = (
+            (b"f", b"g", NO_REPLACE, errno.EEXIST), (b"f", b"d", 0, errno.EISDIR), (b"d", b"f", 0, errno.ENOTDIR),
+            (b"none", b"f", 0, errno.ENOENT), (b"f", b"g", 4, errno.EINVAL),
+        )
+        for old, new, flags, number in renames:
             with self.assertRaises(OSError) as caught:
-                it.rename(*words)
+                it.rename(old, new, flags)
             self.assertEqual(caught.exception.errno, number)
         with self.assertRaises(OSError) as caught:
             it.naming.rename(it.top, b"d", folder, b"itself", 0)
@@ -272,7 +291,7 @@ class Saving(Case):
             it.naming.rmdir(it.top, b"d")
         self.assertEqual((it.read(b"f"), it.read(b"g")), (b"one", b"two"))
 
-    def test_a_folder_can_not_be_moved_deeper_than_a_path_may_be(self):
+    def test_a_folder_can_not_be_moved_deeper_than_a_path_may_be(self) -> None:
         it = self.mount()
         folder = it.top
         for _ in range(31):
@@ -286,22 +305,25 @@ class Saving(Case):
 
 
 class Limits_(Case):
-    def test_a_content_has_at_most_a_mebibyte(self):
+    def test_a_content_has_at_most_a_mebibyte(self) -> None:
         it = self.mount()
         node = it.open(it.make(b"f"))
         it.contents.write(node, MOST_BYTES - 1, b"x")
-        for call in (lambda: it.contents.write(node, MOST_BYTES, b"x"), lambda: it.contents.truncate(node, MOST_BYTES + 1)):
+        calls: list[Callable[[], object]] = [
+            lambda: it.contents.write(node, MOST_BYTES, b"x"), lambda: it.contents.truncate(node, MOST_BYTES + 1),
+        ]
+        for call in calls:
             with self.assertRaises(TooBig) as caught:
                 call()
             self.assertEqual(caught.exception.errno, errno.EFBIG)
         self.assertEqual(it.contents.size(node), MOST_BYTES)
 
-    def test_a_limit_is_reached_before_anything_is_lost(self):
+    def test_a_limit_is_reached_before_anything_is_lost(self) -> None:
         it = self.mount(Limits(versions=5))
         it.save(b"f", b"one")
         it.save(b"f", b"two")
         it.save(b"f", b"three")
-        node = it.open(it.top.children[b"f"])
+        node = it.open(it.file(b"f"))
         it.contents.write(node, 0, b"four")
         it.contents.closed(node, True)
         with self.assertRaises(Limited) as caught:
@@ -311,7 +333,7 @@ class Limits_(Case):
         with self.assertRaises(Full):
             it.make(b"g")
 
-    def test_counts_are_the_same_after_another_mount(self):
+    def test_counts_are_the_same_after_another_mount(self) -> None:
         it = self.mount()
         folder = it.naming.mkdir(it.top, b"d", FOLDER, 0, 0)
         it.save(b"f", b"one", folder)
@@ -324,17 +346,16 @@ class Limits_(Case):
         self.assertEqual(it.store.counts.used, wanted)
         self.assertEqual(self.mount().store.counts.used, {**wanted, "groups": 1})
 
-    def test_a_full_disk_refuses_before_it_changes_anything(self):
+    def test_a_full_disk_refuses_before_it_changes_anything(self) -> None:
         it = self.mount()
         node = it.open(it.save(b"f", b"one"))
-        with mock.patch.object(stores, "_allocate", lambda *_: errno.ENOSPC):
-            with self.assertRaises(NoSpace):
-                it.contents.write(node, 0, bytes(MOST_BYTES))
+        with mock.patch.object(stores, "_allocate", lambda *_: errno.ENOSPC), self.assertRaises(NoSpace):
+            it.contents.write(node, 0, bytes(MOST_BYTES))
         it.contents.closed(node, True)
         self.assertEqual(it.read(b"f"), b"one")
         self.assertEqual(self.mount().read(b"f"), b"one")
 
-    def test_what_the_journal_lacks_is_written_when_that_works_again(self):
+    def test_what_the_journal_lacks_is_written_when_that_works_again(self) -> None:
         it = self.mount()
         it.save(b"f", b"one")
         with mock.patch("os.write", side_effect=OSError(errno.EIO, "a fault")), self.assertRaises(elephant.JournalError):
@@ -346,7 +367,7 @@ class Limits_(Case):
 
 
 class Again(Case):
-    def fill(self, it):
+    def fill(self, it: Mounted) -> None:
         folder = it.naming.mkdir(it.top, b"d \xff", 0o2750, 3, 4)
         it.save(b"f@", b"one", folder)
         it.save(b"f@", b"two", folder)
@@ -363,27 +384,26 @@ class Again(Case):
         it.rename(b"hard2", b"moved")
         it.save(b"hard2", b"five")
 
-    def test_everything_is_there_after_another_mount(self):
+    def test_everything_is_there_after_another_mount(self) -> None:
         it = self.mount()
         self.fill(it)
         before = it.all()
         self.assertEqual(self.mount().all(), before)
 
-    def test_a_plain_store_opens_the_journal(self):
+    def test_a_plain_store_opens_the_journal(self) -> None:
         self.fill(self.mount())
-        self.mounted.close()
+        self.unmount()
         with Store(journal=self.journal, clock="manual") as store:
             self.assertEqual(store.read("/d \udcff/f@"), b"two")
             self.assertEqual(store.read("/link"), b"d/nowhere")
-        self.mounted = None
         self.assertEqual(self.mount().read(b"hard"), b"two")
 
-    def test_a_second_mount_of_a_journal_is_refused(self):
+    def test_a_second_mount_of_a_journal_is_refused(self) -> None:
         self.mount()
         with self.assertRaises(JournalLocked):
             MountStore(str(self.journal))
 
-    def test_what_was_saved_of_a_draft_survives_and_the_rest_does_not(self):
+    def test_what_was_saved_of_a_draft_survives_and_the_rest_does_not(self) -> None:
         it = self.mount()
         node = it.open(it.save(b"f", b"one"))
         it.contents.write(node, 0, b"two")
@@ -395,11 +415,11 @@ class Again(Case):
         self.assertEqual((again.read(b"f"), again.versions(b"f")), (b"two", [b"", b"one", b"two"]))
         again.close()
 
-    def test_deleted_files_come_back(self):
+    def test_deleted_files_come_back(self) -> None:
         it = self.mount()
-        with mock.patch("time.time", lambda: 2_000_000_000):
+        with clock_at(2_000_000_000):
             it.save(b"f", b"one")
-        with mock.patch("time.time", lambda: 2_000_000_005):
+        with clock_at(2_000_000_005):
             it.naming.unlink(it.top, b"f")
         for again in (False, True):
             it = self.mount() if again else it
@@ -413,12 +433,12 @@ class Again(Case):
 
 
 class Anew(Case):
-    def shortened(self):
-        new, size = self.journal.with_name("new"), self.mounted.store.journal_size
-        shorten(str(self.journal), size, str(new))
+    def shortened(self, it: Mounted) -> Path:
+        new = self.journal.with_name("new")
+        shorten(str(self.journal), it.store.journal_size, str(new))
         return new
 
-    def test_contents_that_nobody_needs_are_left_out(self):
+    def test_contents_that_nobody_needs_are_left_out(self) -> None:
         it = self.mount()
         it.store.line("default / one")
         for number in range(20):
@@ -426,7 +446,7 @@ class Anew(Case):
         while it.store.clean():
             pass
         before, size = it.all(), it.store.journal_size
-        new = self.shortened()
+        new = self.shortened(it)
         # Of 20 contents of 100,000 digits one is left.
         self.assertGreater(size, 2_000_000)
         self.assertLess(new.stat().st_size, 120_000)
@@ -436,29 +456,29 @@ class Anew(Case):
             again.store.read("/f", version=5)
         again.close()
 
-    def test_random_saves_reverts_and_removals(self):
+    def test_random_saves_reverts_and_removals(self) -> None:
         for seed in range(8):
             with self.subTest(seed=seed):
                 self.journal.unlink(missing_ok=True)
                 self.mounted = None
-                self.random_changes(random.Random(seed), self.mount())
-                before = self.mounted.all()
-                again = Mounted(self.shortened())
+                it = self.mount()
+                self.random_changes(random.Random(seed), it)
+                before = it.all()
+                again = Mounted(self.shortened(it))
                 self.assertEqual(again.all(), before)
                 again.close()
                 self.journal.with_name("new").unlink()
-                self.mounted.close()
-                self.mounted = None
+                self.unmount()
 
-    def random_changes(self, drawn, it):
+    def random_changes(self, drawn: random.Random, it: Mounted) -> None:
         clock = 2_000_000_000
         it.store.line("default / safe:3/2")
         for _ in range(150):
             clock += drawn.randrange(3)
-            with mock.patch("time.time", lambda: clock):
+            with clock_at(clock):
                 self.random_change(drawn, it, drawn.choice([b"a", b"b", b"c"]))
 
-    def random_change(self, drawn, it, name):
+    def random_change(self, drawn: random.Random, it: Mounted, name: bytes) -> None:
         node, word = it.top.children.get(name), drawn.randrange(8)
         if word < 4 or node is None:
             it.save(name, drawn.randbytes(drawn.choice([0, 1, 5000, 20_000])))
@@ -476,16 +496,16 @@ class Anew(Case):
         else:
             it.store.pass_(drawn.randrange(4))
 
-    def test_a_damaged_journal_is_not_made_anew(self):
+    def test_a_damaged_journal_is_not_made_anew(self) -> None:
         it = self.mount()
         it.save(b"f", b"one" * 1000)
         data = bytearray(self.journal.read_bytes())
         data[len(HEADER) + 40] ^= 1
         self.journal.write_bytes(data)
         with self.assertRaises(elephant.JournalError):
-            self.shortened()
+            self.shortened(it)
 
-    def test_changes_from_the_middle_of_a_journal(self):
+    def test_changes_from_the_middle_of_a_journal(self) -> None:
         it = self.mount()
         it.save(b"f", b"one")
         size = it.store.journal_size
@@ -498,18 +518,20 @@ class Anew(Case):
 
 
 class Command(Case):
-    def run_command(self, *words):
+    def run_command(self, *words: str) -> subprocess.CompletedProcess[str]:
         environment = {**os.environ, "PYTHONPATH": SOURCE}
-        return subprocess.run([sys.executable, "-m", "elephant.mount", *words], env=environment, capture_output=True, text=True, check=False)
+        command = [sys.executable, "-m", "elephant.mount", *words]
+        return subprocess.run(command, env=environment, capture_output=True, text=True, check=False)
 
-    def test_words_that_are_refused(self):
-        for words, status in (([], 2), (["--at", "/"], 2), (["/nowhere", "--journal", str(self.journal)], 1)):
+    def test_words_that_are_refused(self) -> None:
+        commands: list[tuple[list[str], int]] = [([], 2), (["--at", "/"], 2), (["/nowhere", "--journal", str(self.journal)], 1)]
+        for words, status in commands:
             ran = self.run_command(*words)
             self.assertEqual((ran.returncode, ran.stdout), (status, ""))
             self.assertIn("elephant-mount", ran.stderr)
         self.assertFalse(self.journal.exists())
 
-    def test_a_line_to_a_folder_that_is_no_mount(self):
+    def test_a_line_to_a_folder_that_is_no_mount(self) -> None:
         ran = self.run_command("--at", str(self.journal.parent), "due")
         self.assertEqual((ran.returncode, ran.stdout), (2, ""))
         self.assertIn("no mounted folder", ran.stderr)

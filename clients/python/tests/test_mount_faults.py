@@ -1,33 +1,41 @@
 """What the parts of a mount do when something fails, and what an ordinary folder does that its store doesn't."""
 
+from __future__ import annotations
+
 import errno
 import os
 import random
 import unittest
+from pathlib import Path
+from typing import Any, Union
 from unittest import mock
 
 import elephant
+from clocks import clock_at
 from elephant.mount import store as stores
 from elephant.mount.contents import MOST_BYTES, Limited
 from elephant.mount.naming import EXCHANGE, MOST_EXTENDED, TooMuch
+from elephant.mount.past import PastNode
 from elephant.mount.shorter import changes_in, shorten
 from elephant.mount.store import NoSpace
+from elephant.mount.tree import Directory
 from test_mount import FOLDER, Case, Mounted
 
 
-def fails(number):
+def fails(number: int) -> mock.Mock:
     return mock.Mock(side_effect=OSError(number, os.strerror(number)))
 
 
-class Journals(Case):
-    def changes_since(self, it, size):
-        return list(changes_in(str(self.journal), size, it.store.journal_size, it.store.checksum_at(size)))
+def changes_since(journal: Path, it: Mounted, size: int) -> list[object]:
+    return list(changes_in(str(journal), size, it.store.journal_size, it.store.checksum_at(size)))
 
-    def test_only_its_owner_may_read_a_new_journal(self):
+
+class Journals(Case):
+    def test_only_its_owner_may_read_a_new_journal(self) -> None:
         self.mount()
         self.assertEqual(self.journal.stat().st_mode & 0o777, 0o600)
 
-    def test_a_sync_that_fails_stops_the_changes_for_good(self):
+    def test_a_sync_that_fails_stops_the_changes_for_good(self) -> None:
         it = self.mount()
         it.save(b"f", b"one")
         for sync in (it.store.sync_journal_aside, it.store.sync_journal):
@@ -40,32 +48,32 @@ class Journals(Case):
                 it.store.sync_journal()
             self.assertFalse(it.store.retry())
 
-    def test_what_a_failed_write_left_is_cut_off_before_the_next(self):
+    def test_what_a_failed_write_left_is_cut_off_before_the_next(self) -> None:
         it = self.mount()
         it.save(b"f", b"one")
         write, cut = os.write, os.ftruncate
-        with mock.patch("os.write", lambda file, data: write(file, data[:9]) if len(data) > 9 else fails(errno.EIO)()):
-            with mock.patch("os.ftruncate", fails(errno.EIO)), self.assertRaises(elephant.JournalError):
-                it.make(b"g")
+        half = mock.patch("os.write", lambda file, data: write(file, data[:9]) if len(data) > 9 else fails(errno.EIO)())
+        with half, mock.patch("os.ftruncate", fails(errno.EIO)), self.assertRaises(elephant.JournalError):
+            it.make(b"g")
         with mock.patch("os.ftruncate", fails(errno.EIO)):
             self.assertFalse(it.store.retry())
         self.assertIs(os.ftruncate, cut)
         self.assertTrue(it.store.retry())
         self.assertEqual(sorted(self.mount().top.children), [b"f", b"g"])
 
-    def test_a_full_quota_refuses_before_anything_changes(self):
+    def test_a_full_quota_refuses_before_anything_changes(self) -> None:
         it = self.mount()
         node = it.open(it.save(b"f", b"one"))
         with mock.patch.object(stores, "_allocate", lambda *_: errno.EDQUOT), self.assertRaises(NoSpace):
             it.contents.write(node, 0, bytes(MOST_BYTES))
 
-    def test_a_draft_that_can_not_be_saved_keeps_no_other_back(self):
+    def test_a_draft_that_can_not_be_saved_keeps_no_other_back(self) -> None:
         it = self.mount()
         for name in (b"a", b"b", b"c"):
             it.contents.write(it.open(it.make(name)), 0, name)
         write = it.store.write_draft
 
-        def refuses(path, *words):
+        def refuses(path: bytes, *words: Any) -> int:
             if path == b"/b":
                 raise elephant.NoMemory("/b")
             return write(path, *words)
@@ -78,7 +86,7 @@ class Journals(Case):
         it.contents.settle_all()
         self.assertEqual(self.mount().read(b"b"), b"b")
 
-    def test_a_draft_whose_close_is_refused_stays(self):
+    def test_a_draft_whose_close_is_refused_stays(self) -> None:
         it = self.mount()
         node = it.open(it.make(b"f"))
         it.contents.write(node, 0, b"one")
@@ -88,23 +96,23 @@ class Journals(Case):
         it.contents.settle_all(is_every=False)
         self.assertEqual(it.versions(b"f"), [b"", b"one"])
 
-    def test_what_goes_on_with_a_past_is_one_change(self):
+    def test_what_goes_on_with_a_past_is_one_change(self) -> None:
         it = self.mount()
         it.save(b"f", b"one").born -= 10
         it.rename(b"f", b"f~")
         size = it.store.journal_size
         it.make(b"f")
-        self.assertEqual(len(self.changes_since(it, size)), 1)
+        self.assertEqual(len(changes_since(self.journal, it, size)), 1)
         it.contents.settle_all()
         it.naming.unlink(it.top, b"f")
         size = it.store.journal_size
         it.make(b"f")
-        self.assertEqual(len(self.changes_since(it, size)), 1)
+        self.assertEqual(len(changes_since(self.journal, it, size)), 1)
         size = it.store.journal_size
         it.naming.symlink(it.top, b"link", b"to", 0, 0)
-        self.assertEqual(len(self.changes_since(it, size)), 1)
+        self.assertEqual(len(changes_since(self.journal, it, size)), 1)
 
-    def test_an_undo_and_an_undelete_count_their_versions(self):
+    def test_an_undo_and_an_undelete_count_their_versions(self) -> None:
         it = self.mount()
         it.save(b"f", b"one")
         self.assertEqual(it.store.revert(b"/f", 1), 3)
@@ -113,16 +121,16 @@ class Journals(Case):
         self.assertEqual(it.naming._revive(b"/f", 1), True)
         used = dict(it.store.counts.used)
         self.assertEqual(used["versions"], 4)
-        self.mounted.store.close()
+        it.store.close()
         self.mounted = None
         self.assertEqual(self.mount().store.counts.used, used)
 
-    def test_a_new_journal_has_the_past_too(self):
+    def test_a_new_journal_has_the_past_too(self) -> None:
         it, drawn, clock = self.mount(), random.Random(7), 2_000_000_000
         it.store.line("default / safe:40")
         for _ in range(120):
             clock += 1
-            with mock.patch("time.time", lambda: clock):
+            with clock_at(clock):
                 name = drawn.choice([b"a", b"b", b"c"])
                 if drawn.random() < 0.2 and name in it.top.children:
                     it.naming.unlink(it.top, name)
@@ -139,7 +147,7 @@ class Journals(Case):
         self.assertEqual({type(answer) for answer in found}, {bytes, type})
 
     @staticmethod
-    def told(mounted, path, moment):
+    def told(mounted: Mounted, path: bytes, moment: int) -> Union[bytes, type[elephant.Refused]]:
         try:
             return mounted.store.read(path, at=moment)
         except elephant.Refused as fault:
@@ -147,7 +155,7 @@ class Journals(Case):
 
 
 class Names(Case):
-    def test_a_name_that_was_a_folders_since_goes_on_with_no_past(self):
+    def test_a_name_that_was_a_folders_since_goes_on_with_no_past(self) -> None:
         it = self.mount()
         it.save(b"f", b"one")
         it.naming.unlink(it.top, b"f")
@@ -162,7 +170,7 @@ class Names(Case):
         it.save(b"f", b"three")
         self.assertEqual((it.read(b"f"), list(it.tree.refresh())), (b"three", []))
 
-    def test_a_file_that_an_undo_brought_back_gives_its_past_to_no_other_name(self):
+    def test_a_file_that_an_undo_brought_back_gives_its_past_to_no_other_name(self) -> None:
         it = self.mount()
         it.save(b"f", b"one").born -= 10
         it.rename(b"f", b"g")
@@ -173,7 +181,7 @@ class Names(Case):
         self.assertEqual((it.read(b"f"), it.read(b"g")), (b"one", b"two"))
         self.assertEqual((list(it.tree.refresh()), self.mount().read(b"f")), ([], b"one"))
 
-    def test_a_file_that_comes_back_shares_no_mode_with_the_one_that_took_its_content(self):
+    def test_a_file_that_comes_back_shares_no_mode_with_the_one_that_took_its_content(self) -> None:
         it = self.mount()
         it.save(b"f", b"one")
         it.save(b"g", b"two")
@@ -185,22 +193,22 @@ class Names(Case):
         before = it.all()
         self.assertEqual(self.mount().all(), before)
 
-    def test_a_folder_that_a_line_renames_can_be_opened(self):
+    def test_a_folder_that_a_line_renames_can_be_opened(self) -> None:
         it = self.mount()
         it.save(b"f", b"one", it.naming.mkdir(it.top, b"d", FOLDER, 0, 0))
         it.store.rename("/d", "/e")
         self.assertEqual({name for _, name in it.tree.refresh()}, {b"d", b"e"})
         folder = it.top.children[b"e"]
+        assert isinstance(folder, Directory)
         self.assertIs(it.tree.by_ino.get(folder.ino), folder)
-        self.assertEqual(it.contents.whole(folder.children[b"f"]), b"one")
+        self.assertEqual(it.contents.whole(it.file(b"f", folder)), b"one")
 
 
 class Times(Case):
-    def test_a_moved_folder_keeps_the_time_of_its_content(self):
+    def test_a_moved_folder_keeps_the_time_of_its_content(self) -> None:
         it = self.mount()
-        for name, new in ((b"d", b"e"), (b"f", b"g")):
+        for name in (b"d", b"f", b"g"):
             it.naming.mkdir(it.top, name, FOLDER, 0, 0)
-        it.naming.mkdir(it.top, b"g", FOLDER, 0, 0)
         for name, new in ((b"d", b"e"), (b"f", b"g")):
             it.naming.set_attributes(it.top.children[name], {"mtime": 5})
             it.rename(name, new)
@@ -208,7 +216,7 @@ class Times(Case):
         before = it.all()
         self.assertEqual(self.mount().all(), before)
 
-    def test_a_file_that_gives_its_past_back_leaves_its_folder_as_it_is(self):
+    def test_a_file_that_gives_its_past_back_leaves_its_folder_as_it_is(self) -> None:
         it = self.mount()
         folder = it.naming.mkdir(it.top, b"d", FOLDER, 0, 0)
         node = it.save(b"f", b"one")
@@ -220,7 +228,7 @@ class Times(Case):
         before = it.all()
         self.assertEqual(self.mount().all(), before)
 
-    def test_a_time_that_is_set_while_a_file_is_written_stays(self):
+    def test_a_time_that_is_set_while_a_file_is_written_stays(self) -> None:
         it = self.mount()
         node = it.open(it.make(b"f"))
         it.contents.write(node, 0, b"one")
@@ -232,20 +240,21 @@ class Times(Case):
 
 
 class Pasts(Case):
-    def past(self, it, *names):
+    def past(self, it: Mounted, *names: bytes) -> PastNode:
         node = it.past.root
         for name in names:
             node = it.past.lookup(node, name)
         return node
 
-    def test_an_inode_of_the_past_has_one_content(self):
+    def test_an_inode_of_the_past_has_one_content(self) -> None:
         it = self.mount()
         node = it.save(b"f", b"one")
         it.naming.link(node, it.top, b"other")
         place = self.past(it, b"versions", b"f", b"2")
         self.assertEqual(it.past.content(place), b"one")
-        it.save(b"new", b"two")
-        it.rename(b"new", b"f")
+        it.naming.unlink(it.top, b"f")
+        it.top.left.clear()
+        it.save(b"f", b"two")
         newer = self.past(it, b"versions", b"f", b"2")
         self.assertNotEqual(newer.ino, place.ino)
         self.assertEqual(it.past.content(newer), b"two")
@@ -253,11 +262,11 @@ class Pasts(Case):
             it.past.content(place)
         self.assertEqual(caught.exception.errno, errno.ESTALE)
 
-    def test_a_name_that_was_made_and_deleted_within_a_second_has_no_other_files_content(self):
+    def test_a_name_that_was_made_and_deleted_within_a_second_has_no_other_files_content(self) -> None:
         it = self.mount()
-        with mock.patch("time.time", lambda: 2_000_000_000):
+        with clock_at(2_000_000_000):
             it.save(b"f", b"first")
-        with mock.patch("time.time", lambda: 2_000_000_005):
+        with clock_at(2_000_000_005):
             it.naming.unlink(it.top, b"f")
             it.top.left.clear()
             it.save(b"f", b"second")
@@ -265,14 +274,15 @@ class Pasts(Case):
         with self.assertRaises((OSError, elephant.ElephantError)):
             it.past.content(self.past(it, b"restorable", b"f"))
 
-    def test_names_that_lead_nowhere_leave_nothing(self):
+    def test_names_that_lead_nowhere_leave_nothing(self) -> None:
         it = self.mount()
-        with mock.patch("time.time", lambda: 2_000_000_000):
+        with clock_at(2_000_000_000):
             it.save(b"f", b"one")
-        with mock.patch("time.time", lambda: 2_000_000_009):
+        with clock_at(2_000_000_009):
             then, versions = self.past(it, b"at", b"2000000001"), self.past(it, b"versions", b"f")
             count = len(it.past.by_ino)
-            for parent, name in ((then, b"none"), (versions, b"9"), (it.past.root, b"x"), (it.past.root.__class__(1, ("at",)), b"9999999999")):
+            places = (then, b"none"), (versions, b"9"), (it.past.root, b"x"), (PastNode(1, ("at",)), b"9999999999")
+            for parent, name in places:
                 with self.assertRaises((OSError, elephant.ElephantError)):
                     it.past.lookup(parent, name)
             it.store.line("policy /f one")
@@ -281,16 +291,16 @@ class Pasts(Case):
                 it.past.lookup(versions, b"1")
             self.assertEqual(len(it.past.by_ino), count)
 
-    def test_a_folder_of_deleted_files_has_its_mode(self):
+    def test_a_folder_of_deleted_files_has_its_mode(self) -> None:
         it = self.mount()
         folder = it.naming.mkdir(it.top, b"d", 0o700, 0, 0)
         it.save(b"f", b"secret", folder)
         it.naming.unlink(folder, b"f")
-        self.assertEqual(it.past.show(self.past(it, b"restorable", b"d")).mode & 0o777, 0o500)
+        self.assertEqual(it.past.show(self.past(it, b"restorable", b"d")).mode & 0o777, 0o700)
 
 
 class Exchanging(Case):
-    def test_two_files_each_go_on(self):
+    def test_two_files_each_go_on(self) -> None:
         it = self.mount()
         nodes = it.save(b"f", b"one"), it.save(b"g", b"two")
         it.rename(b"f", b"g", EXCHANGE)
@@ -302,14 +312,14 @@ class Exchanging(Case):
         it = self.mount()
         self.assertEqual((it.all(), it.versions(b"f")), (before, [b"", b"one", b"two", b"three"]))
 
-    def test_files_that_are_open_or_linked_and_folders_change_places(self):
+    def test_files_that_are_open_or_linked_and_folders_change_places(self) -> None:
         it = self.mount()
         node, folder = it.open(it.save(b"f", b"one"), writes=False), it.naming.mkdir(it.top, b"d", FOLDER, 0, 0)
         inner = it.naming.mkdir(folder, b"e", FOLDER, 0, 0)
         it.save(b"g", b"two", inner)
         size, used = it.store.journal_size, it.store.counts.used["names"]
         it.naming.rename(it.top, b"f", folder, b"e", EXCHANGE)
-        self.assertEqual(len(Journals.changes_since(self, it, size)), 1)
+        self.assertEqual(len(changes_since(self.journal, it, size)), 1)
         self.assertEqual(it.store.counts.used["names"], used + 3)
         self.assertEqual((it.top.children[b"f"], folder.children[b"e"]), (inner, node))
         self.assertEqual((it.top.subdirectories, folder.subdirectories, inner.path, node.path), (2, 0, b"/f", b"/d/e"))
@@ -318,7 +328,7 @@ class Exchanging(Case):
         self.assertIn(b"/f/g", [row[0] for row in before])
         self.assertEqual(self.mount().all(), before)
 
-    def test_exchanges_that_are_refused(self):
+    def test_exchanges_that_are_refused(self) -> None:
         it = self.mount(elephant.Limits(names=6))
         folder = it.naming.mkdir(it.top, b"d", FOLDER, 0, 0)
         inner = it.naming.mkdir(folder, b"e", FOLDER, 0, 0)
@@ -334,7 +344,7 @@ class Exchanging(Case):
 
 
 class Extended(Case):
-    def test_they_are_kept_and_removed(self):
+    def test_they_are_kept_and_removed(self) -> None:
         it = self.mount()
         node, folder = it.save(b"f", b"one"), it.naming.mkdir(it.top, b"d", FOLDER, 0, 0)
         it.naming.set_extended(node, b"user.a", b"1 \x00\xff")
@@ -349,7 +359,7 @@ class Extended(Case):
         self.assertEqual(it.top.children[b"d"].attributes.extended, {b"user.d": b"2"})
         self.assertEqual(it.all(), before)
 
-    def test_they_go_with_the_file_that_is_renamed(self):
+    def test_they_go_with_the_file_that_is_renamed(self) -> None:
         it = self.mount()
         for name in (b"f", b"g", b"new"):
             it.naming.set_extended(it.save(name, name), b"user.is", name)
@@ -363,7 +373,7 @@ class Extended(Case):
             kept = {name: (node.attributes.extended or {}).get(b"user.is") for name, node in mounted.top.children.items()}
             self.assertEqual(kept, {b"f": None, b"g": None, b"h": b"new"})
 
-    def test_they_are_in_a_new_journal(self):
+    def test_they_are_in_a_new_journal(self) -> None:
         it = self.mount()
         it.naming.set_extended(it.save(b"f", b"one"), b"user.a", b"1")
         new = self.journal.with_name("new")
@@ -372,7 +382,7 @@ class Extended(Case):
         self.addCleanup(again.store.close)
         self.assertEqual(again.top.children[b"f"].attributes.extended, {b"user.a": b"1"})
 
-    def test_they_have_a_limit(self):
+    def test_they_have_a_limit(self) -> None:
         it = self.mount()
         node = it.save(b"f", b"one")
         it.naming.set_extended(node, b"user.a", bytes(MOST_EXTENDED - 20))
@@ -381,8 +391,8 @@ class Extended(Case):
         self.assertEqual(caught.exception.errno, errno.ENOSPC)
         size = it.store.journal_size
         it.save(b"g", b"two")
-        self.assertTrue(list(changes_in(str(self.journal), size, it.store.journal_size, it.store.checksum_at(size))))
-        self.assertEqual(list(self.mount().top.children[b"f"].attributes.extended), [b"user.a"])
+        self.assertTrue(changes_since(self.journal, it, size))
+        self.assertEqual(list(self.mount().file(b"f").attributes.extended or ()), [b"user.a"])
 
 
 if __name__ == "__main__":

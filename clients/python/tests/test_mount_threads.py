@@ -1,10 +1,19 @@
-"""What a mount does beside its requests: rewriting, cleaning, syncing, lines, and its end. tools/mount runs this, since it needs pyfuse3."""
+"""What a mount does beside its requests: rewriting, cleaning, syncing, lines, and its end.
 
+tools/mount runs this, since it needs pyfuse3.
+"""
+
+from __future__ import annotations
+
+import asyncio
 import errno
 import os
+import stat
 import threading
+import types
 import unittest
 from pathlib import Path
+from typing import Any, Optional
 from unittest import mock
 
 try:
@@ -12,84 +21,174 @@ try:
 except ImportError:
     raise unittest.SkipTest("there is no pyfuse3 for this Python") from None
 
-from elephant import JournalError, Limits
+from elephant import Full, JournalError, JournalLost, Limits
 from elephant.mount import keeper as keepers
-from elephant.mount.control import Lines
+from elephant.mount.contents import Limited
+from elephant.mount.control import Changes, Lines
 from elephant.mount.keeper import Keeper
+from elephant.mount.log import Log
 from elephant.mount.loop import Loop
-from elephant.mount.mounting import Mount
+from elephant.mount.mounting import Asked, Mount
+from elephant.mount.names import spelled
 from elephant.mount.operations import Operations
 from elephant.mount.rewriting import SUFFIX, Rewriting
-from test_mount import FOLDER, Case, Mounted
+from elephant.mount.tree import Directory
+from clocks import FalseClocks
+from test_mount import FILE, FOLDER, Case, Mounted
+from test_mount_names import make_raw
 
 
-class Said:
+class Said(Log):
     """A log that keeps what is said."""
 
-    def __init__(self):
-        self.lines = []
+    def __init__(self) -> None:
+        super().__init__()
+        self.lines: list[str] = []
 
-    def say(self, text):
+    def say(self, text: str) -> None:
         self.lines.append(text)
 
-    say_once = say
+    def say_once(self, text: str) -> None:
+        self.lines.append(text)
 
 
 class Parts(Case):
-    def mount(self, limits=None):
+    def mount(self, limits: Optional[Limits] = None) -> Mounted:
         it = super().mount(limits)
         self.log = Said()
         self.operations = Operations(it.store, it.tree, it.contents, it.naming, it.past, self.log)
-        self.rewriting = Rewriting(self.operations, self.log, False)
+        self.rewriting = Rewriting(self.operations, self.log)
         return it
 
-    def keeper(self, kind=Keeper, clean_every=0.0):
+    def keeper(self, kind: type[Keeper] = Keeper, clean_every: float = 0.0) -> Keeper:
         made = kind(self.operations, self.rewriting, self.log, lambda _: None, clean_every, 0.0)
         self.addCleanup(made.stop)
         return made
 
 
+class Attributes(Parts):
+    """What `ls` and `du` print of a file and of a folder."""
+
+    def entry(self, ino: int) -> Any:
+        return asyncio.run(self.operations.getattr(ino, None))
+
+    def test_of_files_and_folders(self) -> None:
+        it = self.mount()
+        for size, blocks in ((0, 0), (1, 1), (512, 1), (513, 2), (5_000, 10)):
+            found = self.entry(it.save(b"f", bytes(size)).ino)
+            self.assertEqual((found.st_size, found.st_blocks, found.st_blksize), (size, blocks, 4096))
+            self.assertEqual((found.st_mode, found.st_nlink, found.st_uid, found.st_gid), (FILE, 1, 1, 2))
+        it.naming.link(it.file(b"f"), it.top, b"g")
+        self.assertEqual(self.entry(it.file(b"g").ino).st_nlink, 2)
+        folder = it.naming.mkdir(it.top, b"folder", FOLDER, 3, 4)
+        it.naming.mkdir(folder, b"below", FOLDER, 3, 4)
+        found = self.entry(folder.ino)
+        self.assertEqual((found.st_mode, found.st_nlink, found.st_uid, found.st_gid), (0o40755, 3, 3, 4))
+        self.assertEqual((found.st_size, found.st_blocks), (4096, 8))
+
+    def test_of_the_past(self) -> None:
+        it = self.mount()
+        it.save(b"f", bytes(5_000))
+        ino = it.top.ino
+        for name in (b".elephant", b"at", b"%d" % it.store.now, b"f"):
+            found = asyncio.run(self.operations.lookup(ino, name, None))
+            ino = found.st_ino
+        self.assertEqual((found.st_mode, found.st_nlink, found.st_uid, found.st_gid), (FILE, 1, 1, 2))
+        self.assertEqual((found.st_size, found.st_blocks), (5_000, 10))
+
+    def test_only_files_pipes_and_sockets_are_made(self) -> None:
+        it = self.mount()
+        context = types.SimpleNamespace(uid=1, gid=2)
+        for kind in (stat.S_IFREG, stat.S_IFIFO, stat.S_IFSOCK):
+            made = asyncio.run(self.operations.mknod(it.top.ino, b"%d" % kind, kind | 0o600, 0, context))
+            self.assertEqual((made.st_mode, made.st_nlink), (kind | 0o600, 1))
+        for kind in (stat.S_IFCHR, stat.S_IFBLK):
+            with self.assertRaises(pyfuse3.FUSEError) as refused:
+                asyncio.run(self.operations.mknod(it.top.ino, b"%d" % kind, kind | 0o600, 1, context))
+            self.assertEqual(refused.exception.errno, errno.EPERM)
+        self.assertEqual(len(it.top.children), 3)
+
+
+class Space(Parts):
+    """What `df` prints of a mount."""
+
+    def told(self) -> Any:
+        return asyncio.run(self.operations.statfs(None))
+
+    def test_as_many_files_can_be_saved_as_are_told(self) -> None:
+        """Each takes a file, a name and two versions, and one in a hundred of each is kept back."""
+        for limits, free in (
+            (Limits(files=7), 7), (Limits(files=200), 198), (Limits(names=30), 30), (Limits(names=300), 297), (Limits(versions=41), 20),
+        ):
+            it = self.mount(limits)
+            it.naming.mkdir(it.top, b"folder", FOLDER, 1, 2)
+            free -= limits.names < 1000
+            for made in range(free):
+                told = self.told()
+                self.assertEqual((told.f_files, told.f_ffree, told.f_favail), (limits.files, free - made, free - made), limits)
+                it.save(b"%d" % made, b"x")
+            self.assertEqual((self.told().f_ffree, self.told().f_favail), (0, 0), limits)
+            self.assertRaises((Full, Limited), it.save, b"more", b"x")
+            it.close()
+            self.journal.unlink()
+
+    def test_the_space_is_that_of_the_disk(self) -> None:
+        """A content takes twice its bytes in the journal, and none is free if the journal can't be written."""
+        it = self.mount()
+        disk, journal = it.store.disk(), os.statvfs(self.journal)
+        self.assertEqual((disk.f_fsid, disk.f_frsize, disk.f_blocks), (journal.f_fsid, journal.f_frsize, journal.f_blocks))
+        made_up = types.SimpleNamespace(f_frsize=8192, f_blocks=1000, f_bavail=300, f_bfree=400)
+        with mock.patch.object(it.store, "disk", return_value=made_up):
+            told = self.told()
+            self.assertEqual((told.f_bsize, told.f_frsize, told.f_namemax), (4096, 4096, 64))
+            self.assertEqual((told.f_blocks, told.f_bfree, told.f_bavail), (2000, 300, 300))
+            it.store.stopped = "the disk is full"
+            self.assertEqual((self.told().f_bfree, self.told().f_bavail), (0, 0))
+
+
 class Rewritings(Parts):
-    def fill(self, it):
+    def fill(self, it: Mounted) -> None:
         it.store.line("default / one")
         for number in range(30):
             it.save(b"f", bytes([65 + number]) * 50_000)
         while it.store.clean():
             pass
 
-    def test_two_never_run_at_once(self):
+    def test_two_never_run_at_once(self) -> None:
         it = self.mount()
         self.fill(it)
-        make, others = self.rewriting._make, []
+        make = self.rewriting._make
+        others: list[str] = []
 
-        def make_twice(*words):
+        def make_twice(*words: Any) -> str:
             if not others:
                 others.append("")
                 others[0] = self.rewriting.run()
             return make(*words)
 
-        self.rewriting._make = make_twice
-        self.assertEqual(self.rewriting.run(), "")
+        with mock.patch.object(self.rewriting, "_make", make_twice):
+            self.assertEqual(self.rewriting.run(), "")
         self.assertEqual(others, ["it is being made anew already"])
         it.save(b"g", b"after")
         before = it.all()
         self.assertEqual(super().mount().all(), before)
 
-    def test_owner_and_mode_stay(self):
+    def test_owner_and_mode_stay(self) -> None:
         self.fill(self.mount())
         os.chmod(self.journal, 0o640)
-        make, modes = self.rewriting._make, []
+        make = self.rewriting._make
+        modes: list[int] = []
 
-        def make_and_look(*words):
+        def make_and_look(*words: Any) -> str:
             answer = make(*words)
             modes.append(os.stat(f"{self.journal}{SUFFIX}").st_mode & 0o777)
             return answer
 
-        self.rewriting._make = make_and_look
-        self.assertEqual(self.rewriting.run(), "")
+        with mock.patch.object(self.rewriting, "_make", make_and_look):
+            self.assertEqual(self.rewriting.run(), "")
         self.assertEqual((modes, self.journal.stat().st_mode & 0o777), ([0o600], 0o640))
 
-    def test_a_mount_that_ends_keeps_its_journal(self):
+    def test_a_mount_that_ends_keeps_its_journal(self) -> None:
         self.fill(self.mount())
         before = self.journal.stat()
         self.rewriting.stop()
@@ -97,24 +196,27 @@ class Rewritings(Parts):
         self.assertTrue(os.path.samestat(self.journal.stat(), before))
         self.assertEqual((self.journal.stat().st_size, list(self.journal.parent.glob(f"*{SUFFIX}"))), (before.st_size, []))
 
-    def test_a_journal_that_was_moved_replaces_none(self):
-        self.fill(self.mount())
+    def test_a_journal_that_was_moved_replaces_none(self) -> None:
+        it = self.mount()
+        self.fill(it)
         self.journal.rename(self.journal.with_name("moved"))
         self.journal.write_bytes(self.journal.with_name("moved").read_bytes())
         before = self.journal.stat()
         self.assertNotEqual(self.rewriting.run(), "")
         self.assertTrue(os.path.samestat(self.journal.stat(), before))
+        with self.assertRaises(JournalLost):
+            it.store.close()
 
 
 class Keepers(Parts):
-    def test_a_fault_of_a_task_is_logged_and_ends_nothing(self):
+    def test_a_fault_of_a_task_is_logged_and_ends_nothing(self) -> None:
         self.mount()
         keeper = self.keeper()
         keeper._guarded(lambda: 1 // 0)
         keeper._guarded(mock.Mock(side_effect=OSError(errno.EIO, "a fault")))
         self.assertEqual(len(self.log.lines), 2)
 
-    def test_a_sync_that_fails_is_logged(self):
+    def test_a_sync_that_fails_is_logged(self) -> None:
         it = self.mount()
         keeper = self.keeper()
         it.save(b"f", b"one")
@@ -125,17 +227,17 @@ class Keepers(Parts):
             self.operations.require_writable()
         self.assertEqual(caught.exception.errno, errno.EROFS)
 
-    def test_syncing_goes_on_while_a_clean_up_runs(self):
+    def test_syncing_goes_on_while_a_clean_up_runs(self) -> None:
         self.mount()
         cleaning, synced = threading.Event(), threading.Event()
 
         class Slow(Keeper):
-            def clean(self):
+            def clean(self) -> int:
                 cleaning.set()
                 synced.wait(20)
                 return 0
 
-            def sync(self):
+            def sync(self) -> None:
                 if cleaning.is_set():
                     synced.set()
 
@@ -144,13 +246,13 @@ class Keepers(Parts):
         keeper.start()
         self.assertTrue(cleaning.wait(10) and synced.wait(10))
 
-    def test_files_that_were_closed_meanwhile_become_versions(self):
+    def test_files_that_were_closed_meanwhile_become_versions(self) -> None:
         it = self.mount()
         node = it.open(it.make(b"f"))
         it.contents.write(node, 0, b"one")
-        with mock.patch("os.write", side_effect=OSError(errno.ENOSPC, os.strerror(errno.ENOSPC))):
-            with self.assertRaises(JournalError) as caught:
-                it.contents.closed(node, True)
+        broken = mock.patch("os.write", side_effect=OSError(errno.ENOSPC, os.strerror(errno.ENOSPC)))
+        with broken, self.assertRaises(JournalError) as caught:
+            it.contents.closed(node, True)
         self.assertEqual(self.operations.errno_of(caught.exception), errno.ENOSPC)
         keeper = self.keeper()
         keeper.retry()
@@ -158,77 +260,122 @@ class Keepers(Parts):
 
 
 class Faults(Parts):
-    def test_files_of_a_folder_whose_renaming_the_journal_lacks_can_be_read(self):
+    def test_files_of_a_folder_whose_renaming_the_journal_lacks_can_be_read(self) -> None:
         it = self.mount()
         folder = it.naming.mkdir(it.top, b"d", FOLDER, 0, 0)
         node = it.save(b"f", b"one", folder)
         it.save(b"g", b"two", folder)
         it.contents.forget_read()
-        with mock.patch("os.write", side_effect=OSError(errno.EIO, os.strerror(errno.EIO))), self.assertRaises(pyfuse3.FUSEError) as caught:
+        broken = mock.patch("os.write", side_effect=OSError(errno.EIO, os.strerror(errno.EIO)))
+        with broken, self.assertRaises(pyfuse3.FUSEError) as caught:
             self.operations.rename(it.top.ino, b"d", it.top.ino, b"e", 0, None).send(None)
-        self.assertEqual((caught.exception.errno, it.contents.whole(node), self.operations.by_ino[folder.ino].path), (errno.EIO, b"one", b"/e"))
+        self.assertEqual((caught.exception.errno, it.contents.whole(node), folder.path), (errno.EIO, b"one", b"/e"))
+        self.assertIs(self.operations.by_ino[folder.ino], folder)
         with self.assertRaises(pyfuse3.FUSEError) as caught:
             self.operations.unlink(folder.ino, b"f", None).send(None)
         self.assertEqual(caught.exception.errno, errno.EROFS)
-        told = []
+        told: list[Changes] = []
         keeper = Keeper(self.operations, self.rewriting, self.log, told.append, 0.0, 0.0)
-        with mock.patch("os.write", side_effect=OSError(errno.EIO, os.strerror(errno.EIO))):
+        with broken:
             keeper.retry()
         keeper.retry()
         self.assertEqual(([{name for _, name in changes} for changes in told], it.store.stopped), ([{b"d", b"e"}, set()], ""))
-        self.assertEqual(sorted(super().mount().top.children[b"e"].children), [b"f", b"g"])
+        again = super().mount().top.children[b"e"]
+        self.assertEqual(sorted(again.children if isinstance(again, Directory) else ()), [b"f", b"g"])
 
 
 class Asking(Parts):
-    def test_lines(self):
+    def test_lines(self) -> None:
         it = self.mount()
         lines = Lines(self.operations)
         node = it.open(it.save(b"f", b"one"))
         it.save(b"f", b"two")
-        for line, begin in ((b"undo /f \xff", "elephant-mount: "), (b"undo /f", "elephant-mount: a program has"), (b"revert /f 1", "elephant-mount: a program has"),
+        refused = "elephant-mount: a program has"
+        for line, begin in ((b"undo /f \xff", "elephant-mount: "), (b"undo /f", refused), (b"revert /f 1", refused),
                             (b"open write /f", "elephant-mount: programs write")):
             text, changes = lines.answer(line.decode("utf-8", "surrogateescape"))
             self.assertEqual((text[:len(begin)], changes), (begin, []))
         it.contents.closed(node, True)
         text, changes = lines.answer("undo /f")
-        self.assertEqual((text, changes, it.read(b"f")), ("ok version 4\n", [(node, None)], b"one"))
+        self.assertEqual((text[:37], changes, it.read(b"f")), ("ok version 4: what version 2 held, sa", [(node, None)], b"one"))
         self.assertEqual((node.version, node.size, list(it.tree.refresh())), (4, 3, []))
         with mock.patch.object(it.tree, "refresh", side_effect=KeyError):  # a whole look at the tree takes as long as it is large
             it.naming.unlink(it.top, b"f")
             text, changes = lines.answer("undo /f")
-        self.assertEqual((text, changes), ("ok version 5\n", [(it.top, b"f")]))
+        self.assertEqual((text[:21], changes), ("ok version 5: what it", [(it.top, b"f")]))
         self.assertEqual((it.read(b"f"), list(it.tree.refresh())), (b"one", []))
         with mock.patch("os.write", side_effect=OSError(errno.EIO, os.strerror(errno.EIO))):
             text, changes = lines.answer("mkdir /d")
         self.assertEqual((text[:16], changes, b"d" in it.top.children), ("elephant-mount: ", [(it.top, b"d")], True))
 
 
+class Words(Parts):
+    def test_words_of_a_line(self) -> None:
+        it = self.mount()
+        lines = Lines(self.operations)
+        it.save(b"my letter", b"one")
+        self.assertEqual(lines.answer("policy '/my letter' one")[0], "ok done\n")
+        self.assertIn("has a quote without its end", lines.answer("policy '/my letter one")[0])
+        for line in ("create /a%2Fb", "mkdir /.elephant", "rename /my%20letter /%2E%2E"):
+            text, changes = lines.answer(line)
+            self.assertEqual((text[:16], changes), ("elephant-mount: ", []), line)
+        for line in ("undo", "undo letter", "undo --now '/my letter'"):
+            self.assertIn("undo takes a file or a folder", lines.answer(line)[0])
+        self.assertIn("'soon' is no time", lines.answer("undo '/my letter' soon")[0])
+        self.assertRegex(lines.answer("undo '/my letter'")[0], "^no: my letter was never changed")
+
+    def test_names_that_are_shown_otherwise(self) -> None:
+        make_raw(self.journal, b"/.elephant", b"/a%2Fb")
+        it = self.mount()
+        self.assertEqual(self.log.lines, ["names that a folder can't show are shown as they are spelled: /.elephant /a%2Fb"])
+        for name in (b"%2Eelephant", b"a%2Fb"):
+            for text in (b"one", b"two"):
+                it.save(name, text)
+            self.assertRegex(Lines(self.operations).answer("undo /" + spelled(name).decode())[0], "^ok version 4")
+            self.assertEqual(it.read(name), b"one")
+
+    def test_a_moment_while_the_clock_is_in_doubt(self) -> None:
+        clocks = FalseClocks()
+        it = self.mounted = Mounted(self.journal, clock=clocks)
+        self.addCleanup(it.store.close)
+        operations = Operations(it.store, it.tree, it.contents, it.naming, it.past, Said())
+        it.save(b"f", b"one")
+        clocks.pass_by(10)
+        it.save(b"f", b"two")
+        clocks.set_by(30 * 86_400)
+        text = Lines(operations).answer("undo /f 5 seconds ago")[0]
+        self.assertRegex(text, "^ok version 4: what f held at ")
+        self.assertIn("\n- the time of day jumped ahead by 30 days: moments are of the store's time, which is ", text)
+        self.assertEqual(it.read(b"f"), b"one")
+
+
 class Beginning(Case):
-    def test_a_folder_that_can_not_be_mounted(self):
+    def test_a_folder_that_can_not_be_mounted(self) -> None:
         folder = Path(self.journal.parent, "folder")
         folder.mkdir()
         with mock.patch("elephant.mount.mounting._collect_rarely"), mock.patch("sys.stderr"):
-            mount = Mount(str(folder), str(self.journal), Limits(), 60.0, 0.0)
+            mount = Mount(Asked(str(folder), str(self.journal)))
             with mock.patch.object(pyfuse3, "init", side_effect=RuntimeError("no")):
                 self.assertEqual(mount.run(False), 1)
         self.assertTrue(mount.store.is_closed)
         Mounted(self.journal).close()
 
+
 class Ends(unittest.TestCase):
     """How requests end, by what the kernel says in place of one."""
 
     @staticmethod
-    def run_to(number):
-        async def main(**_):
+    def run_to(number: int) -> None:
+        async def main(**_: int) -> None:
             raise OSError(number, os.strerror(number))
 
         with mock.patch.object(pyfuse3, "main", main):
             Loop().run()
 
-    def test_a_connection_that_is_cut_ends_them(self):
+    def test_a_connection_that_is_cut_ends_them(self) -> None:
         self.run_to(errno.ECONNABORTED)
 
-    def test_any_other_fault_is_told(self):
+    def test_any_other_fault_is_told(self) -> None:
         with self.assertRaisesRegex(OSError, "Input/output"):
             self.run_to(errno.EIO)
 

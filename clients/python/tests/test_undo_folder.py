@@ -14,15 +14,30 @@ import unittest
 from contextlib import redirect_stdout
 from datetime import datetime
 from pathlib import Path
+from types import ModuleType
 
-sys.path.insert(0, str(Path(__file__).resolve().parents[1] / "src"))
 ROOT = Path(__file__).resolve().parents[3]
 TOOL = ROOT / "examples" / "undo_folder.py"
 DOCUMENTS = ("README.md", "docs/SCRIPT.md", "docs/POLICIES.md", "docs/landmarks_at_30.svg")
 
 
+def loaded_tool() -> ModuleType:
+    spec = importlib.util.spec_from_file_location("undo_folder", TOOL)
+    assert spec is not None and spec.loader is not None
+    tool = importlib.util.module_from_spec(spec)
+    spec.loader.exec_module(tool)
+    return tool
+
+
+def words_of(row: str) -> tuple[str, ...]:
+    """Returns the words of a row of `list FILE`: number, moment, length and fate."""
+    found = re.fullmatch(r"#(\d) +(\S+) +(\d+) bytes, (.*)", row)
+    assert found is not None, row
+    return found.groups()
+
+
 class UndoFolder(unittest.TestCase):
-    def setUp(self):
+    def setUp(self) -> None:
         folder = tempfile.TemporaryDirectory()
         self.addCleanup(folder.cleanup)
         self.folder = Path(folder.name)
@@ -30,19 +45,19 @@ class UndoFolder(unittest.TestCase):
             (self.folder / name).parent.mkdir(exist_ok=True)
             shutil.copyfile(ROOT / name, self.folder / name)
 
-    def run_tool(self, *words, status=0):
+    def run_tool(self, *words: str, status: int = 0) -> str:
         ran = subprocess.run([sys.executable, TOOL, self.folder, *words], capture_output=True, text=True, timeout=120, check=False)
         self.assertEqual(ran.returncode, status, ran)
         return ran.stdout if status == 0 else ran.stderr
 
-    def moment(self):
+    def moment(self) -> str:
         """Returns the present second as the tool takes it, and waits until it has passed."""
         now = int(time.time())
         while int(time.time()) == now:
             time.sleep(0.02)
         return datetime.fromtimestamp(now).isoformat()
 
-    def test_saves_are_kept_and_restored(self):
+    def test_saves_are_kept_and_restored(self) -> None:
         readme = self.folder / "README.md"
         first = readme.read_bytes()
         (self.folder / ".hidden").write_text("no")
@@ -56,12 +71,13 @@ class UndoFolder(unittest.TestCase):
         self.assertEqual(self.run_tool("list").splitlines(), [
             "README.md: 3 versions", "docs/POLICIES.md: 2 versions", "docs/landmarks_at_30.svg: 2 versions",
         ])
-        rows = [re.fullmatch(r"#(\d) +(\S+) +(\d+) bytes, (.*)", line).groups() for line in self.run_tool("list", "README.md").splitlines()]
+        rows = [words_of(line) for line in self.run_tool("list", "README.md").splitlines()]
         self.assertEqual([(row[0], row[2]) for row in rows], [("1", "0"), ("2", str(len(first))), ("3", "9")])
         self.assertEqual((rows[2][3], rows[1][3].startswith("kept until "), rows[1][1] <= saved < rows[2][1]), ("current", True, True))
         self.run_tool("restore", "README.md", saved)
         self.run_tool("restore", "docs/SCRIPT.md", saved)
-        self.assertEqual((readme.read_bytes(), (self.folder / "docs/SCRIPT.md").read_bytes()), (first, (ROOT / "docs/SCRIPT.md").read_bytes()))
+        self.assertEqual(readme.read_bytes(), first)
+        self.assertEqual((self.folder / "docs/SCRIPT.md").read_bytes(), (ROOT / "docs/SCRIPT.md").read_bytes())
         # What docs/SCRIPT.md held came back with its name.
         self.assertEqual(self.run_tool("keep"), "kept README.md as version 4\n")
         self.run_tool("restore", "README.md", "#3")
@@ -75,12 +91,9 @@ class UndoFolder(unittest.TestCase):
         (readme / "part 1").write_text("one")
         self.assertEqual(self.run_tool("keep"), "ended README.md\nkept README.md/part 1 as version 2\n")
 
-    def test_marks_outlast_what_is_forgotten(self):
+    def test_marks_outlast_what_is_forgotten(self) -> None:
         """A day later the versions of one hour go but its newest, and a marked one."""
-        note = self.folder / "note"
-        spec = importlib.util.spec_from_file_location("undo_folder", TOOL)
-        tool = importlib.util.module_from_spec(spec)
-        spec.loader.exec_module(tool)
+        note, tool = self.folder / "note", loaded_tool()
         hour = 1_800_000_000 // 3600 * 3600
         clock = [hour]
         real, time.time = time.time, lambda: clock[0]
@@ -103,9 +116,10 @@ class UndoFolder(unittest.TestCase):
         finally:
             time.time, time.sleep = real, sleep
 
-    def test_it_watches(self):
-        words = [sys.executable, TOOL, self.folder, "watch"]
+    def test_it_watches(self) -> None:
+        words = [sys.executable, str(TOOL), str(self.folder), "watch"]
         with subprocess.Popen(words, stdout=subprocess.PIPE, text=True) as watching:
+            assert watching.stdout is not None
             try:
                 kept = {watching.stdout.readline() for _ in DOCUMENTS}
                 self.assertEqual(kept, {f"kept {name} as version 2\n" for name in DOCUMENTS})
@@ -118,7 +132,7 @@ class UndoFolder(unittest.TestCase):
             finally:
                 watching.send_signal(signal.SIGTERM)
 
-    def test_it_is_short(self):
+    def test_it_is_short(self) -> None:
         self.assertLess(len(TOOL.read_text().splitlines()), 150)
 
 

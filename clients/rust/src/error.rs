@@ -61,8 +61,8 @@ impl fmt::Display for Limit {
 macro_rules! errors {
     ($($name:ident = $code:ident, $text:literal;)*) => {
         /// Why a call was refused or stopped. Nothing has changed then, unless the variant or the call says
-/// otherwise.
-///
+        /// otherwise; a store with a history keeps a refusal as an entry.
+        ///
         /// A function that adds to an error what it was about can look at the variant:
         ///
         /// ```
@@ -167,6 +167,9 @@ errors! {
 impl std::error::Error for Error {}
 
 impl From<Error> for io::Error {
+    /// The kind is `NotFound` for a name or version that isn't there, `AlreadyExists` for a taken name,
+    /// `OutOfMemory`, `InvalidInput` for too large a content and for what is no name, path or moment, and
+    /// `Other` for each other error.
     fn from(error: Error) -> io::Error {
         let kind = match error {
             Error::NoEntry | Error::NoVersion | Error::Forgotten { .. } => io::ErrorKind::NotFound,

@@ -32,15 +32,13 @@
 //! proved. It links the library statically, and depends on no other crate. `docs/EMBED.md` of the
 //! repository has a table of all calls and their limits.
 
-#![deny(missing_docs)]
-#![deny(unsafe_op_in_unsafe_fn)]
-
 mod error;
 mod questions;
 mod reader;
 mod retention;
 mod session;
 mod store;
+// It declares all that the header does, with the header's names; the header has the comments.
 #[allow(dead_code, missing_docs, non_camel_case_types)]
 mod sys;
 mod types;

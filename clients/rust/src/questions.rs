@@ -57,22 +57,12 @@ impl Store {
         let (path, tag, number) = parts(target.into());
         // SAFETY: see `call`.
         let rows = self.number(|e, rows| unsafe { sys::elephant_versions(e, path.as_ptr(), path.len(), tag, number, rows) })?;
-        self.rows(rows, |index| {
+        read_rows(rows, |index| {
             // SAFETY: see `call`.
             let row: sys::elephant_version_row = self.row(|e, row| unsafe { sys::elephant_row_version(e, index, row) })?;
             let ended = unless_never(row.ended);
             Ok(Version { number: row.number, opened: row.opened, closed: row.closed, ended, length: row.length })
         })
-    }
-
-    // Reads each row of the list that the last call kept.
-    pub(crate) fn rows<T>(&self, count: u64, read: impl Fn(u64) -> Result<T, Error>) -> Result<Vec<T>, Error> {
-        let mut found = Vec::new();
-        found.try_reserve_exact(usize::try_from(count).map_err(|_| Error::NoMemory)?).map_err(|_| Error::NoMemory)?;
-        for index in 0..count {
-            found.push(read(index)?);
-        }
-        Ok(found)
     }
 
     /// Returns the names in a directory, in order: now, or [`at`](crate::at) a moment.
@@ -83,7 +73,7 @@ impl Store {
         let (path, tag, number) = parts(target.into());
         // SAFETY: see `call`.
         let rows = self.number(|e, rows| unsafe { sys::elephant_list(e, path.as_ptr(), path.len(), tag, number, rows) })?;
-        self.rows(rows, |index| self.name_row(index).map(|(_, name, node)| Entry { name, node }))
+        read_rows(rows, |index| self.name_row(index).map(|(_, name, node)| Entry { name, node }))
     }
 
     /// Returns the dead names that [`undelete`](Store::undelete) can restore, by directory and
@@ -94,7 +84,7 @@ impl Store {
     pub fn restorable(&self) -> Result<Vec<DeadName>, Error> {
         // SAFETY: see `call`.
         let rows = self.number(|e, rows| unsafe { sys::elephant_restorable(e, rows) })?;
-        self.rows(rows, |index| self.name_row(index).map(|(directory, name, node)| DeadName { directory, name, node }))
+        read_rows(rows, |index| self.name_row(index).map(|(directory, name, node)| DeadName { directory, name, node }))
     }
 
     fn name_row(&self, index: u64) -> Result<(u64, String, Node), Error> {
@@ -124,7 +114,7 @@ impl Store {
     pub fn due(&self) -> Result<Vec<Due>, Error> {
         // SAFETY: see `call`.
         let rows = self.number(|e, rows| unsafe { sys::elephant_due(e, rows) })?;
-        self.rows(rows, |index| self.due_row(index))
+        read_rows(rows, |index| self.due_row(index))
     }
 
     /// Returns the versions that will be due at a later moment if only the clock moves.
@@ -134,12 +124,12 @@ impl Store {
     pub fn ahead(&self, moment: u64) -> Result<Vec<Due>, Error> {
         // SAFETY: see `call`.
         let rows = self.number(|e, rows| unsafe { sys::elephant_ahead(e, moment, rows) })?;
-        self.rows(rows, |index| self.due_row(index))
+        read_rows(rows, |index| self.due_row(index))
     }
 
     fn due_row(&self, index: u64) -> Result<Due, Error> {
         // SAFETY: see `call`.
-        self.row(|e, key| unsafe { sys::elephant_row_key(e, index, key) }).map(due_of)
+        self.row(|e, key| unsafe { sys::elephant_row_key(e, index, key) }).map(|key| due_of(&key))
     }
 
     /// Returns what the files of each kind of policy use.
@@ -187,11 +177,21 @@ impl Store {
     }
 }
 
+// Reads each row of the list that the last call kept.
+pub(crate) fn read_rows<T>(count: u64, read: impl Fn(u64) -> Result<T, Error>) -> Result<Vec<T>, Error> {
+    let mut found = Vec::new();
+    found.try_reserve_exact(usize::try_from(count).map_err(|_| Error::NoMemory)?).map_err(|_| Error::NoMemory)?;
+    for index in 0..count {
+        found.push(read(index)?);
+    }
+    Ok(found)
+}
+
 pub(crate) fn unless_never(number: u64) -> Option<u64> {
     Some(number).filter(|it| *it != sys::ELEPHANT_NEVER)
 }
 
-pub(crate) fn due_of(key: sys::elephant_key) -> Due {
+pub(crate) fn due_of(key: &sys::elephant_key) -> Due {
     Due { since: key.since, file: key.file, number: key.number }
 }
 

@@ -44,6 +44,7 @@ impl<'store> Reader<'store> {
     }
 
     /// Returns its number in the store.
+    #[must_use]
     pub fn handle(&self) -> u64 {
         self.handle
     }

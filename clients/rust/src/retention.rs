@@ -1,6 +1,6 @@
 //! Policies, groups, marks and removals, and the history.
 
-use crate::questions::{due_of, unless_never};
+use crate::questions::{due_of, read_rows, unless_never};
 use crate::sys;
 use crate::{Due, Error, Group, Mark, Pass, PassEnd, Policy, Store};
 
@@ -94,14 +94,14 @@ impl Store {
     pub fn groups(&self) -> Result<Vec<Group>, Error> {
         // SAFETY: see `call`.
         let rows = self.number(|e, rows| unsafe { sys::elephant_groups(e, rows) })?;
-        self.rows(rows, |index| {
+        read_rows(rows, |index| {
             // SAFETY: see `call`.
             let row: sys::elephant_group_row = self.row(|e, row| unsafe { sys::elephant_row_group(e, index, row) })?;
-            let files = self.rows(row.members, |member| {
+            let files = read_rows(row.members, |member| {
                 // SAFETY: see `call`.
                 self.number(|e, file| unsafe { sys::elephant_row_member(e, index, member, file) })
             })?;
-            let marks = self.rows(row.marks, |mark| self.mark_row(index, mark))?;
+            let marks = read_rows(row.marks, |mark| self.mark_row(index, mark))?;
             Ok(Group { name: self.row_bytes(index)?, files, marks })
         })
     }
@@ -122,7 +122,7 @@ impl Store {
     pub fn clean(&self) -> Result<Option<Due>, Error> {
         // SAFETY: see `call`.
         let removed = self.row(|e, removed| unsafe { sys::elephant_clean(e, removed) })?;
-        Ok(Some(due_of(removed)).filter(|it| it.file != 0))
+        Ok(Some(due_of(&removed)).filter(|it| it.file != 0))
     }
 
     /// Removes due versions, until none is due or as many as the budget says are removed.

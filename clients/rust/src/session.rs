@@ -37,6 +37,7 @@ impl<'store> Session<'store> {
     }
 
     /// Returns its number in the store.
+    #[must_use]
     pub fn handle(&self) -> u64 {
         self.handle
     }

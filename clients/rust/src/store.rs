@@ -23,6 +23,7 @@ pub const LARGEST_CONTENT: usize = 1 << 20;
 /// # }
 /// ```
 #[derive(Clone, Debug, Default)]
+#[must_use = "options make no store by themselves"]
 pub struct Options {
     limits: Limits,
     history: bool,
@@ -214,6 +215,7 @@ impl Store {
 /// The clock, which only these calls move.
 impl Store {
     /// Returns the store's moment, in seconds since 1970-01-01T00:00:00Z.
+    #[must_use]
     pub fn now(&self) -> u64 {
         // SAFETY: see `call`. An open store has no error here.
         self.number(|e, moment| unsafe { sys::elephant_now(e, moment) }).unwrap_or_default()
@@ -330,12 +332,14 @@ impl Store {
         let session = self.open_write(path)?;
         // If this fails the draft is unchanged, and makes no version.
         session.write_at(0, bytes)?;
-        if let Err(error) = session.set_len(bytes.len() as u64) {
-            // The first error is returned.
+        let made = session.set_len(bytes.len() as u64).and_then(|()| self.close_handle(session.handle()));
+        if made.is_ok() {
+            std::mem::forget(session);
+        } else {
+            // The first error is returned. The drop closes the session.
             let _ = self.restore(path, &session);
-            return Err(error);
         }
-        session.close()
+        made
     }
 
     // Sets a draft to the content of its file.

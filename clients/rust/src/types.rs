@@ -5,6 +5,7 @@ use std::time::{SystemTime, UNIX_EPOCH};
 
 /// Returns the seconds since 1970-01-01T00:00:00Z of a system time, and 0 for an earlier one. Pass
 /// it to [`Store::clock`](crate::Store::clock), since a store never reads the machine's clock.
+#[must_use]
 pub fn moment(time: SystemTime) -> u64 {
     time.duration_since(UNIX_EPOCH).map_or(0, |it| it.as_secs())
 }
@@ -36,11 +37,13 @@ impl<'a> From<&'a String> for Target<'a> {
 }
 
 /// The version that was current at a moment, not after now, in the file that the path named then.
+#[must_use]
 pub fn at(path: &str, moment: u64) -> Target<'_> {
     Target { path, tag: Tag::At(moment) }
 }
 
 /// The version with that number of the file that the path names now.
+#[must_use]
 pub fn version(path: &str, number: u64) -> Target<'_> {
     Target { path, tag: Tag::Version(number) }
 }
@@ -117,12 +120,14 @@ const DAY: u64 = 86_400;
 
 impl Policy {
     /// Keeps versions for so many days after their end.
+    #[must_use]
     pub fn keep_days(days: u64) -> Policy {
         Policy::KeepSafe { seconds: days.saturating_mul(DAY), floor: 0 }
     }
 
     /// Keeps all versions of a day, then one of each hour, after a week one of each day, and after
     /// 30 days one of each week.
+    #[must_use]
     pub fn standard_landmarks() -> Policy {
         let rungs = [(DAY, 3_600), (7 * DAY, DAY), (30 * DAY, 7 * DAY)];
         Policy::KeepLandmarks(rungs.iter().map(|&(age, width)| Rung { age, width }).collect())

@@ -181,10 +181,12 @@ class ClosedSession(NamedTuple):
 
 
 class Recovered(NamedTuple):
-    """What the opening of a journal repaired: how many bytes of a cut change it removed, and which sessions it closed."""
+    """What the opening of a journal repaired: how many bytes after the last whole change it cut off (a store that is read only left them
+    out), which sessions it closed, and with `repair=True` the path of the file that has the bytes of a damaged end, else ""."""
 
     cut: int = 0
     closed: tuple[ClosedSession, ...] = ()
+    copy: str = ""
 
     def __bool__(self) -> bool:
         return self != Recovered()

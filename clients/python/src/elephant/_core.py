@@ -10,7 +10,7 @@ from ctypes import byref, c_uint64, c_void_p
 from typing import TYPE_CHECKING, Any, SupportsIndex
 
 from ._answers import Limits, Version
-from ._errors import BadLimits, Forgotten, Full, NoMemory, Untold, error_of
+from ._errors import BadLimits, ElephantError, Forgotten, Full, NoMemory, Untold, error_of
 from ._library import FILE_NAME, KeyRow, LimitsRow, StatRow, VersionRow, library
 from ._moments import Moment, moment_or_none
 from ._names import MOST_NAME
@@ -38,7 +38,10 @@ def as_bytes(data: ReadableBuffer) -> bytes:
 
 
 class Core:
-    """An open store of the library. One call at a time."""
+    """An open store of the library. One call at a time.
+
+    `is_ahead` is set by `do`, `ask` and `line`, the calls that may change something. Who has stored the change clears it.
+    """
 
     def __init__(self, limits: Limits, history: bool) -> None:
         self.library = library()
@@ -48,6 +51,7 @@ class Core:
             raise NoMemory(FILE_NAME)
         self.handle: int = handle.value or 0
         self.free = weakref.finalize(self, self.library.elephant_delete, handle)
+        self.is_ahead = False
         self._number = c_uint64()
         # A number is passed on more quickly than a reference.
         self.number_at = ctypes.addressof(self._number)
@@ -63,35 +67,43 @@ class Core:
         if code:
             self.refuse(code)
 
-    def refuse(self, code: int, subject: object = "") -> None:
-        """Raises the error of the code that the last call returned."""
+    def error(self, code: int, subject: object = "") -> ElephantError:
+        """Returns the error of the code that the last call returned."""
         detail = None
         if code in _TOLD_MORE and self.library.elephant_detail(self.handle, self.number_at) == 0:
             detail = self._number.value
-        raise error_of(code, subject if isinstance(subject, str) else repr(subject), detail)
+        return error_of(code, subject if isinstance(subject, str) else repr(subject), detail)
+
+    def refuse(self, code: int, subject: object = "") -> None:
+        """Raises the error of the code that the last call returned."""
+        raise self.error(code, subject)
 
     def do(self, call: Call, subject: object, *words: object) -> None:
-        """Makes a call."""
+        """Makes a call that may change something."""
         code = call(self.handle, *words)
         if code:
             self.refuse(code, subject)
+        self.is_ahead = True
 
     def ask(self, call: Call, subject: object, *words: object) -> int:
-        """Makes a call that returns one number, and returns it."""
+        """Makes a call that may change something and returns one number, and returns it."""
+        number = self.look(call, subject, *words)
+        self.is_ahead = True
+        return number
+
+    def look(self, call: Call, subject: object, *words: object) -> int:
+        """Makes a call that changes nothing and returns one number, and returns it."""
         code = call(self.handle, *words, self.number_at)
         if code:
             self.refuse(code, subject)
         return self._number.value
 
-    def ask_two(self, call: Call, subject: object, *words: object) -> tuple[int, int]:
-        """Makes a call that returns two numbers, and returns them."""
-        self.do(call, subject, *words, self.number_at, byref(self._second))
-        return self._number.value, self._second.value
-
     def row(self, call: Call, kind: type[ctypes.Structure], subject: object, *words: object) -> Any:
         """Makes a call that returns a row, and returns it."""
         row = kind()
-        self.do(call, subject, *words, byref(row))
+        code = call(self.handle, *words, byref(row))
+        if code:
+            self.refuse(code, subject)
         return row
 
     def rows(self, call: Call, kind: type[ctypes.Structure], count: int) -> Iterator[Any]:
@@ -115,13 +127,17 @@ class Core:
 
     def row_name(self, index: int) -> bytes:
         """Returns the name in a row of the kept list."""
-        length = self.ask(self.library.elephant_row_bytes, "", index, self.name_room, MOST_NAME)
+        length = self.look(self.library.elephant_row_bytes, "", index, self.name_room, MOST_NAME)
         return self.name_room.raw[:length]
 
     def read(self, subject: object, name: bytes, tag: int, number: int) -> bytes:
         """Returns the content of a version."""
-        length = self.ask(self.library.elephant_read, subject, name, len(name), tag, number)
+        length = self.look(self.library.elephant_read, subject, name, len(name), tag, number)
         return self.kept_bytes(self.library.elephant_take, length)
+
+    def read_handle(self, subject: object, handle: int) -> bytes:
+        """Returns what a handle reads."""
+        return self.kept_bytes(self.library.elephant_take, self.look(self.library.elephant_read_handle, subject, handle))
 
     def stat(self, subject: object, name: bytes, tag: int = 0, number: int = 0) -> Any:
         """Returns the row of a path, which the next call of `stat` writes over."""
@@ -136,11 +152,17 @@ class Core:
             return KeepAll() if row.policy else KeepOne()
         if row.policy == 2:
             return KeepSafe(seconds=row.seconds, floor=row.floor)
-        return Landmarks([self.ask_two(self.library.elephant_rung, "", index) for index in range(row.rungs)])
+        return Landmarks([self._rung(index) for index in range(row.rungs)])
+
+    def _rung(self, index: int) -> tuple[int, int]:
+        code = self.library.elephant_rung(self.handle, index, self.number_at, byref(self._second))
+        if code:
+            self.refuse(code)
+        return self._number.value, self._second.value
 
     def versions(self, subject: object, name: bytes, tag: int, number: int) -> list[Version]:
         """Returns the held versions of a file."""
-        count = self.ask(self.library.elephant_versions, subject, name, len(name), tag, number)
+        count = self.look(self.library.elephant_versions, subject, name, len(name), tag, number)
         return [
             Version(row.number, Moment(row.opened), Moment(row.closed), moment_or_none(row.ended), row.length)
             for row in self.rows(self.library.elephant_row_version, VersionRow, count)
@@ -153,6 +175,8 @@ class Core:
     def line(self, line: bytes) -> bytes:
         """Runs a line of the script language, and returns its answer."""
         code = self.library.elephant_line(self.handle, line, len(line), self.number_at)
+        if code in (0, Untold.number):
+            self.is_ahead = True
         if code == Untold.number:
             code = self.library.elephant_tell(self.handle, self.number_at)
         if code:
@@ -166,4 +190,4 @@ class Core:
 
     def now(self) -> int:
         """Returns the store's moment."""
-        return self.ask(self.library.elephant_now, "")
+        return self.look(self.library.elephant_now, "")

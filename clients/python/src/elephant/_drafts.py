@@ -2,17 +2,18 @@
 
 from __future__ import annotations
 
+from collections.abc import Iterator, Sequence
 from dataclasses import dataclass, field
 from typing import Optional, SupportsIndex
 
-from ._answers import Limits
 from ._core import as_bytes, natural
+from ._errors import JournalError
 from ._moments import MomentLike
 from ._names import Path, path_of, spell
-from ._questions import Questions, tag_of
+from ._questions import Questions
 from ._replay import write_lines
 from ._sessions import Reader, Session
-from ._turns import Clock, Fsync
+from ._turns import Opening
 
 # In place of the number of an unknown file.
 UNKNOWN = 0
@@ -30,22 +31,24 @@ class Draft:
 class Drafts(Questions):
     """A store whose files are written by sessions, which share a draft."""
 
-    def __init__(self, journal: Optional[str], limits: Limits, history: bool, clock: Clock, fsync: Fsync, wait: float) -> None:
+    def __init__(self, opening: Opening) -> None:
         self._writers: dict[int, Draft] = {}
         """The draft of each open handle that writes."""
         self._drafts: dict[int, Draft] = {}
         """The draft of each file that has one."""
         self._joint: list[bytes] = []
         """In a store with a history, the lines of all drafts: two of them may be of one file, if the file of one is unknown."""
-        super().__init__(journal, limits, history, clock, fsync, wait)
+        super().__init__(opening)
 
     def session(self, path: Path) -> Session:
         """Opens a session, which writes the file's draft. All sessions of the file share the draft, and only they read it."""
         name = spell(path)
         with self._lock, self._change as core:
+            # First what may be refused: an open handle that the journal doesn't have would end the store.
+            file = core.stat(path, name).id
             number = core.ask(core.library.elephant_open_write, path, name, len(name))
-            self._add_writer(core.stat(path, name).id, number)
             self._keep(b"open write " + name)
+            self._add_writer(file, number)
             return Session(self, path_of(name), number)
 
     def _add_writer(self, file: int, handle: int) -> None:
@@ -57,7 +60,7 @@ class Drafts(Questions):
 
     def reader(self, path: Path, *, at: Optional[MomentLike] = None, version: Optional[SupportsIndex] = None) -> Reader:
         """Opens a handle that reads a version, which is not removed as long as the handle is open."""
-        name, (tag, number) = spell(path), tag_of(at, version)
+        name, (tag, number) = spell(path), self._tag(at, version)
         with self._lock, self._change as core:
             handle = core.ask(core.library.elephant_open_read, path, name, len(name), tag, number)
             self._keep(b"open read " + name + (b"", b"@%d", b"#%d")[tag] % ((number,) if tag else ()))
@@ -66,13 +69,14 @@ class Drafts(Questions):
     def _read_handle(self, handle: int) -> bytes:
         with self._lock:
             core = self._begin()
-            return core.kept_bytes(core.library.elephant_take, core.ask(core.library.elephant_read_handle, f"handle {handle}", handle))
+            return core.read_handle(f"handle {handle}", handle)
 
     def _write_handle(self, handle: int, offset: int, data: bytes) -> None:
         place, content = natural(offset, "an offset"), as_bytes(data)
+        lines = write_lines(handle, place, content) if self._journal is not None else []
         with self._lock, self._change as core:
             core.do(core.library.elephant_write, f"handle {handle}", handle, place, content, len(content))
-            self._defer(handle, *(write_lines(handle, place, content) if self._journal is not None else ()))
+            self._defer(handle, *lines)
 
     def _truncate_handle(self, handle: int, size: int) -> None:
         number = natural(size, "a size")
@@ -84,6 +88,10 @@ class Drafts(Questions):
         """Stores the lines of a session until its draft becomes a version, or until a sync."""
         if self._journal is not None:
             self._writers[handle].lines.extend(lines)
+        self._note_kept()
+
+    def _unjournaled(self) -> Iterator[Sequence[bytes]]:
+        return (list(lines) for lines in {id(draft.lines): draft.lines for draft in self._drafts.values()}.values())
 
     def _close_handle(self, handle: int) -> Optional[int]:
         with self._lock, self._change as core:
@@ -98,17 +106,30 @@ class Drafts(Questions):
         if draft is None:
             self._keep(line)
             return
-        self._defer(handle, line)
+        try:
+            if makes_version or draft.handles == {handle}:
+                self._flush(draft, line)
+            else:
+                self._defer(handle, line)
+        finally:
+            if self._failure is None:  # else what the session wrote is still read
+                self._forget_writer(handle, draft)
+
+    def _forget_writer(self, handle: int, draft: Draft) -> None:
         del self._writers[handle]
         draft.handles.discard(handle)
         if not draft.handles:
             del self._drafts[draft.file]
-        if makes_version or not draft.handles:
-            self._flush(draft)
 
-    def _flush(self, draft: Draft) -> None:
-        """Puts the lines of a draft into the journal that it doesn't have yet."""
+    def _flush(self, draft: Draft, *more: bytes) -> None:
+        """Puts the lines of a draft into the journal that it doesn't have yet, and more lines in the same change."""
         lines = draft.lines[:]
         draft.lines.clear()
-        if lines:
-            self._keep(*lines)
+        if not lines and not more:
+            return
+        try:
+            self._keep(*lines, *more)
+        except JournalError:
+            if self._failure is not None:
+                draft.lines[:] = lines
+            raise

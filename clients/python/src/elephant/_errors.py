@@ -10,7 +10,7 @@ class ElephantError(Exception):
     """Base of all errors of this package.
 
     `number` and `name` are those of the store's answer, as `5` and `NoEntry`. An error of the journal has the number 0.
-    After a refusal the store is as it was.
+    After a refusal the store is as it was; with `history=True` it keeps the refusal as an entry.
     """
 
     number: int = 0
@@ -174,7 +174,7 @@ class Full(Refused, number=27):
 
 
 class BadName(Refused, ValueError, number=28):
-    """A name is empty or has more than 64 bytes as it is spelled."""
+    """A name is empty or has more than 64 bytes as it is spelled, or no folder can show it."""
 
 
 class BadPath(Refused, ValueError, number=29):
@@ -213,6 +213,26 @@ class Untold(ElephantError, MemoryError, number=71):
     """The line was run, but there was no memory for the text of its answer."""
 
 
+class ClockDoubt(ElephantError):
+    """The time of day can't be believed, so nothing is removed. `Store.clock_fault` says why, and `Store.trust_clock` that it is right."""
+
+
+class MassRemoval(ElephantError):
+    """A pass would remove much at once, and wasn't confirmed: `count` of the `held` versions. Nothing was removed."""
+
+    def __init__(self, subject: str = "", count: int = 0, held: int = 0) -> None:
+        super().__init__(subject)
+        self.count, self.held = count, held
+
+
+class ReadOnly(ElephantError):
+    """The store was opened with `read_only=True`, and the call would change it. The core wasn't asked."""
+
+
+class BadTime(ElephantError, ValueError):
+    """A text means no time, or may mean two. The message says what is accepted."""
+
+
 class JournalError(ElephantError):
     """The journal can't be used, or it no longer matches the store in memory. Open the store again."""
 
@@ -232,6 +252,10 @@ class JournalDamaged(JournalError):
     def __init__(self, subject: str = "", line: int = 0, offset: int = 0) -> None:
         super().__init__(subject)
         self.line, self.offset = line, offset
+
+
+class JournalLost(JournalError):
+    """The journal was cut, deleted, renamed or replaced while the store was open, so that no later change would be kept in it."""
 
 
 LIMIT_NAMES = ("", "files", "directories", "names", "versions", "handles", "groups", "members", "marks")

@@ -179,5 +179,5 @@ def _drop(file: Union[File, TextFile]) -> None:
     if is_done:
         return
     if file.writable():
-        warnings.warn(f"{file.name} was written and never closed: it made no version", ResourceWarning, source=file)
+        warnings.warn(f"{file.name} was written and never closed: it made no version", ResourceWarning, stacklevel=2, source=file)
     file.discard()

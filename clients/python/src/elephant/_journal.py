@@ -7,49 +7,102 @@ all lines up to its own, so it detects a line that was changed, left out, double
 
 from __future__ import annotations
 
+import errno
 import fcntl
 import os
 import re
+import stat
 import time
-from collections.abc import Iterator, Sequence
+from collections.abc import Generator, Iterator, Sequence
+from contextlib import suppress
+from itertools import count
+from typing import Optional
 from zlib import crc32
 
-from ._errors import JournalDamaged, JournalError, JournalLocked
+from ._errors import ElephantError, JournalDamaged, JournalError, JournalLocked, JournalLost, ReadOnly
 
 FORM = b"# elephant journal 1"
 PREFIX = len("00000000 = ")
 ONE, FIRST, MIDDLE, LAST = b"= ", b"< ", b"- ", b"> "
-# No line of the script language contains this, as no word of one character follows a word that ends in such digits.
-_CHANGE_START = re.compile(rb"[0-9a-f]{8} [=<] ")
-
+# The most bytes of a line, with its line feed.
+MOST_LINE = 9000
+# What a line that was cut off begins with: after a whole change, and within one.
+_CUT_LINE = {
+    is_within: re.compile(rb"[0-9a-f]{1,8}|[0-9a-f]{8} (?:[%b](?: [ -~]*)?)?" % marks)
+    for is_within, marks in ((False, b"=<"), (True, b">-"))
+}
+# How often a journal that another process writes is read again, if a line seems damaged: its writer may have taken back a failed change
+# and written another one meanwhile.
+_TRIES, _PAUSE = 5, 0.02
+_COPIED_AT_ONCE = 1 << 20
 
 _HEADER_SUM = crc32(b"%b%b\n" % (ONE, FORM))
 HEADER = b"%08x %b%b\n" % (_HEADER_SUM, ONE, FORM)
+Whole = Generator[list[bytes], None, Optional[int]]
 
 
 class Journal:
-    """An open journal, which only this process uses. First read `changes` to its end, then `append` adds to it."""
+    """An open journal, which only this process writes. First read `changes` to its end, then `append` adds to it.
 
-    def __init__(self, path: str, syncs_each: bool, wait: float) -> None:
-        self.path, self._syncs_each, self._file = os.path.abspath(path), syncs_each, -1
+    `read_only`: nothing is locked or written, and another process may write it meanwhile. `repair`: from a damaged line on, the rest is
+    copied beside the journal and cut off; a journal that is read only is left as it is.
+    """
+
+    def __init__(self, path: str, syncs_each: bool, wait: float, read_only: bool = False, repair: bool = False) -> None:
+        self.path, self._syncs_each, self._file = path, syncs_each, -1
+        self.read_only, self._repairs = read_only, repair
+        self.cut, self.copy = 0, ""
+        """How many bytes after the last whole change were cut off or left out, and the path of their copy."""
+        self._lines = 1
+        """The lines up to the end of the last whole change."""
+        self._is_torn = False
+        """Whether a part of a change that failed follows it."""
         try:
-            self._open_locked(time.monotonic() + wait)
-            self.cut = self._begin()
+            self.path = os.path.realpath(path)
+            is_new = self._open(time.monotonic() + wait)
+            self._begin(is_new)
+        except (OSError, ValueError) as fault:
+            self.close()
+            if isinstance(fault, ElephantError):
+                raise
+            raise JournalError(f"{self.path!r} can't be opened: {getattr(fault, 'strerror', None) or fault}") from fault
         except BaseException:
             self.close()
             raise
 
-    def _open_locked(self, deadline: float) -> None:
-        """Opens the file and locks it. The last owner may have replaced the file before the lock; then this opens the new one."""
+    # Opening.
+
+    def _open(self, deadline: float) -> bool:
+        """Opens the file and locks it. Returns whether it made it. The last owner may have replaced the file before the lock; then this
+        opens the new one."""
         while True:
-            self._file = os.open(self.path, os.O_RDWR | os.O_CREAT | os.O_APPEND | os.O_CLOEXEC, 0o666)
+            is_new = self._open_file()
+            found = os.fstat(self._file)
+            self._identity = found.st_ino, found.st_dev
+            if not stat.S_ISREG(found.st_mode):
+                raise JournalError(f"{self.path} is no regular file")
+            if self.read_only:
+                return False
             self._lock(deadline)
+            with suppress(FileNotFoundError):
+                if os.path.samestat(found, os.stat(self.path)):
+                    return is_new
+            self.close()
+
+    def _open_file(self) -> bool:
+        """Opens the file, or makes it for its owner only. Returns whether it made it."""
+        # Without a wait for the other end of a pipe.
+        flags = os.O_CLOEXEC | os.O_NONBLOCK | (os.O_RDONLY if self.read_only else os.O_RDWR | os.O_APPEND)
+        while True:
             try:
-                if os.path.samestat(os.fstat(self._file), os.stat(self.path)):
-                    return
+                self._file = os.open(self.path, flags)
+                return False
             except FileNotFoundError:
-                pass
-            os.close(self._file)
+                if self.read_only:
+                    raise
+            with suppress(FileExistsError):
+                self._file = os.open(self.path, flags | os.O_CREAT | os.O_EXCL, 0o600)
+                return True
 
     def _lock(self, deadline: float) -> None:
         while True:
@@ -60,18 +113,28 @@ class Journal:
                     raise JournalLocked(f"another store has {self.path}") from None
             time.sleep(0.02)
 
-    def _begin(self) -> int:
-        """Writes the header of a new journal, or reads it, and returns how many bytes of a header were cut off."""
+    def _begin(self, is_new: bool) -> None:
+        """Reads the header, or writes what a new journal or one with a part of a header lacks of it."""
         found = os.pread(self._file, len(HEADER), 0)
-        if found != HEADER:
-            if not HEADER.startswith(found):
-                raise JournalDamaged(f"{self.path} does not begin as a journal", line=1)
-            os.ftruncate(self._file, 0)
-            os.write(self._file, HEADER)
+        self._checksum, self._size = _HEADER_SUM, len(HEADER)
+        if found == HEADER:
+            return
+        if not HEADER.startswith(found):
+            raise JournalDamaged(f"{self.path} does not begin as a journal", line=1)
+        self.cut = len(found)
+        if self.read_only:
+            self._size = len(found)
+            return
+        try:
+            self._write(HEADER[len(found):])
             os.fsync(self._file)
             self._sync_folder()
-        self._checksum, self._size = _HEADER_SUM, len(HEADER)
-        return len(found) if found != HEADER else 0
+        except OSError:
+            with suppress(OSError):
+                os.ftruncate(self._file, len(found))
+                if is_new:
+                    os.unlink(self.path)
+            raise
 
     def _sync_folder(self) -> None:
         folder = os.open(os.path.dirname(self.path), os.O_RDONLY)
@@ -80,73 +143,186 @@ class Journal:
         finally:
             os.close(folder)
 
+    # Reading.
+
+    @property
+    def next_place(self) -> tuple[int, int]:
+        """The line and the byte at which the next change begins. Within a loop over `changes`, those of the change of this turn."""
+        return self._lines + 1, self._size
+
     def changes(self) -> Iterator[list[bytes]]:
-        """Yields each whole change as its lines. Cuts off what follows the last one, or raises JournalDamaged if it is no torn tail."""
-        number, sum_now, size = 1, self._checksum, self._size
+        """Yields each whole change as its lines. Cuts off a change that was not written to its end. Raises JournalDamaged if what follows
+        the last whole change is anything else."""
+        damaged = yield from self._whole_changes()
+        for _ in range(_TRIES if self.read_only else 0):
+            if damaged is None:
+                break
+            time.sleep(_PAUSE)
+            damaged = yield from self._whole_changes()
+        if damaged is None:
+            self._cut_off()
+        elif self._repairs:
+            self.end_here()
+        else:
+            raise self.damage(damaged)
+
+    def end_here(self) -> None:
+        """Ends the journal before the change that was read last: copies the rest into a file beside it, and cuts it off."""
+        if not self.read_only:
+            self._copy_rest()
+        self._cut_off()
+
+    def _whole_changes(self) -> Whole:
+        """Yields the whole changes that follow. Returns None if nothing follows the last of them, or a part of a change; else the number
+        of the line that is damaged."""
+        number, sum_now, size = self._lines, self._checksum, self._size
         change: list[bytes] = []
-        with open(self.path, "rb", buffering=1 << 20) as file:
+        with os.fdopen(os.dup(self._file), "rb", buffering=1 << 20) as file:
             file.seek(size)
-            for raw in file:
+            while True:
+                raw = file.readline(MOST_LINE + 1)
+                if not raw:
+                    return None
                 number += 1
                 body = raw[PREFIX - 2:]
                 checksum = crc32(body, sum_now)
                 if raw[:PREFIX - 2] != b"%08x " % checksum or raw[-1:] != b"\n":
-                    break
+                    return None if _is_cut(raw, sum_now, bool(change)) else number
                 sum_now, size = checksum, size + len(raw)
                 mark = body[:2]
-                if (mark in (ONE, FIRST)) == bool(change) or len(body) < 3:
-                    raise self._damaged(number)
+                if mark not in ((LAST, MIDDLE) if change else (ONE, FIRST)) or len(body) < 4:
+                    return number
                 change.append(body[2:-1])
                 if mark in (ONE, LAST):
                     yield change
                     change = []
-                    self._checksum, self._size = sum_now, size
-        self._cut_tail(number)
+                    self._checksum, self._size, self._lines = sum_now, size, number
 
-    def _damaged(self, number: int) -> JournalDamaged:
-        place = f"line {number} of {self.path}, in the change that begins at byte {self._size}"
-        return JournalDamaged(f"{place}, is damaged", number, self._size)
+    def again(self) -> Iterator[list[bytes]]:
+        """Yields all changes once more, up to the one that was appended last. Raises JournalLost if they are no longer there."""
+        end = self._lines, self._checksum, self._size
+        self._lines, self._checksum, self._size = 1, _HEADER_SUM, len(HEADER)
+        try:
+            for change in self._whole_changes():
+                if self._size >= end[2]:
+                    break
+                yield change
+            if (self._lines, self._checksum, self._size) != end:
+                raise JournalLost(f"{self.path} no longer has what was written to it")
+        finally:
+            self._lines, self._checksum, self._size = end
 
-    def _cut_tail(self, number: int) -> None:
-        """Cuts off the change that was begun last. Raises JournalDamaged if another change begins after it: then it was no torn tail."""
+    def damage(self, line: int, reason: str = "is damaged") -> JournalDamaged:
+        """Returns the error of a damaged line of the change that follows the last whole one."""
+        place = f"line {line} of {self.path}, in the change that begins at byte {self._size}"
+        return JournalDamaged(f"{place}, {reason}", line, self._size)
+
+    def _copy_rest(self) -> None:
+        """Copies what follows the last whole change into a new file beside the journal."""
+        for number in count(1):
+            copy = f"{self.path}.damaged-{number}"
+            with suppress(FileExistsError):
+                file = os.open(copy, os.O_WRONLY | os.O_CREAT | os.O_EXCL | os.O_CLOEXEC, 0o600)
+                break
+        try:
+            place = self._size
+            while piece := os.pread(self._file, _COPIED_AT_ONCE, place):
+                _write_all(file, piece)
+                place += len(piece)
+            os.fsync(file)
+            self._sync_folder()
+        except OSError as fault:
+            os.unlink(copy)
+            raise JournalError(f"what follows byte {self._size} of {self.path} can't be copied, so it stays there: {fault}") from fault
+        finally:
+            os.close(file)
+        self.copy = copy
+
+    def _cut_off(self) -> None:
+        """Cuts off what follows the last whole change."""
         end = os.fstat(self._file).st_size
-        if end == self._size:
+        if end <= self._size:
             return
-        if _CHANGE_START.search(os.pread(self._file, end - self._size, self._size), 1):
-            raise self._damaged(number)
         self.cut += end - self._size
-        os.ftruncate(self._file, self._size)
-        os.fsync(self._file)
+        if not self.read_only:
+            try:
+                os.ftruncate(self._file, self._size)
+                os.fsync(self._file)
+            except OSError as fault:
+                raise JournalError(f"{self.path} can't be cut after its last whole change: {fault}") from fault
+
+    # Writing.
+
+    def check(self) -> None:
+        """Raises JournalLost if the file is not as the last change left it, or if its path names another file or none. Raises JournalError
+        if it still has a part of a change that failed."""
+        if self._is_torn:
+            raise JournalError(f"{self.path} still has a part of a change that failed")
+        if not self.read_only:
+            self._check_length(self._size)
+
+    def _check_length(self, size: int) -> None:
+        """Does so with one question for the path, as each change asks it."""
+        try:
+            named = os.stat(self.path)
+        except OSError as fault:
+            reason = "was deleted or renamed" if fault.errno == errno.ENOENT else f"can't be found: {fault.strerror}"
+            raise JournalLost(f"{self.path} {reason}, so what is written to it would be lost") from fault
+        if (named.st_ino, named.st_dev) != self._identity:
+            raise JournalLost(f"{self.path} was replaced by another file, so what is written to it would be lost")
+        if named.st_size != size:
+            raise JournalLost(f"{self.path} has {named.st_size} bytes, and not the {size} that were written: another program changed it")
 
     def append(self, lines: Sequence[bytes]) -> None:
         """Adds a change. If it can't be written, removes all of it again and raises JournalError."""
-        checksum, last, parts = self._checksum, len(lines) - 1, []
-        mark = FIRST if last else ONE
-        for at, line in enumerate(lines):
-            body = b"%b%b\n" % (mark, line)
-            checksum = crc32(body, checksum)
-            parts.append(b"%08x %b" % (checksum, body))
-            mark = MIDDLE if at + 1 < last else LAST
-        text = b"".join(parts)
+        if self.read_only:
+            raise ReadOnly(self.path)
         try:
-            written = os.write(self._file, text)
-            while written < len(text):
-                written += os.write(self._file, text[written:])
+            text, checksum = _spelled(lines, self._checksum)
+            if self._is_torn:
+                self.take_back()
+            self._write(text)
             if self._syncs_each:
                 os.fdatasync(self._file)
-        except OSError as fault:
-            self._take_back()
-            raise JournalError(f"{self.path} can't be written: {fault}") from fault
-        self._checksum, self._size = checksum, self._size + len(text)
+            self._check_length(self._size + len(text))
+        except JournalLost:
+            self._take_back_from_lost(len(text))
+            raise
+        except (OSError, MemoryError) as fault:
+            self._take_back_quietly()
+            raise JournalError(f"{self.path} can't be written: {fault if str(fault) else 'there is no memory'}") from fault
+        except BaseException:
+            self._take_back_quietly()
+            raise
+        self._checksum, self._size, self._lines = checksum, self._size + len(text), self._lines + len(lines)
 
-    def _take_back(self) -> None:
-        try:
+    def _write(self, text: bytes) -> None:
+        _write_all(self._file, text)
+
+    def take_back(self) -> None:
+        """Cuts off what a failed append left. Raises JournalLost if the file is shorter than what was written, and OSError."""
+        if os.fstat(self._file).st_size > self._size:
             os.ftruncate(self._file, self._size)
-        except OSError:
-            pass  # the next opening cuts it off, as the change isn't whole
+        self._is_torn = False
+        self.check()
+
+    def _take_back_quietly(self) -> None:
+        """Does so if it can: else the next append does it, or the next opening cuts it off, as the change isn't whole."""
+        self._is_torn = True
+        with suppress(OSError, JournalError):
+            self.take_back()
+
+    def _take_back_from_lost(self, length: int) -> None:
+        """Takes a change out of a file that has another name now, if nothing else was changed in it."""
+        with suppress(OSError):
+            if os.fstat(self._file).st_size == self._size + length:
+                os.ftruncate(self._file, self._size)
 
     def sync(self) -> None:
         """Writes all changes to the disk."""
+        if self.read_only:
+            return
+        self.check()
         try:
             os.fdatasync(self._file)
         except OSError as fault:
@@ -160,3 +336,30 @@ class Journal:
 
     def __del__(self) -> None:
         self.close()
+
+
+def _write_all(file: int, text: bytes) -> None:
+    written = os.write(file, text)
+    while written < len(text):
+        written += os.write(file, text[written:])
+
+
+def _spelled(lines: Sequence[bytes], checksum: int) -> tuple[bytes, int]:
+    """Returns the text of a change that follows a checksum, and its own checksum."""
+    last, parts = len(lines) - 1, []
+    mark = FIRST if last else ONE
+    for at, line in enumerate(lines):
+        body = b"%b%b\n" % (mark, line)
+        checksum = crc32(body, checksum)
+        parts.append(b"%08x %b" % (checksum, body))
+        mark = MIDDLE if at + 1 < last else LAST
+    return b"".join(parts), checksum
+
+
+def _is_cut(raw: bytes, sum_before: int, is_within: bool) -> bool:
+    """Whether the last bytes of a journal are a part of a line: not longer than one, of its form, and no whole one whose line feed was
+    changed."""
+    if len(raw) > MOST_LINE or not _CUT_LINE[is_within].fullmatch(raw):
+        return False
+    body = raw[PREFIX - 2:-1] + b"\n"
+    return raw[:PREFIX - 2] != b"%08x " % crc32(body, sum_before)

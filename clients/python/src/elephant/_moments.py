@@ -23,10 +23,11 @@ class Moment(int):
         return _EPOCH + timedelta(seconds=int(self))
 
 
-MomentLike = Union[int, datetime]
+# A text is a time as people type it: see _times.py.
+MomentLike = Union[int, datetime, str]
 
 
-def seconds_of(moment: MomentLike) -> int:
+def seconds_of(moment: Union[int, datetime]) -> int:
     """Returns a moment's number of seconds. It drops the part of a second, so a moment within a second means that second."""
     if isinstance(moment, datetime):
         if moment.utcoffset() is None:
@@ -35,7 +36,7 @@ def seconds_of(moment: MomentLike) -> int:
     elif isinstance(moment, int) and not isinstance(moment, bool):
         seconds = int(moment)
     else:
-        raise TypeError(f"a moment is an int or an aware datetime, not {type(moment).__name__}")
+        raise TypeError(f"a moment is an int, an aware datetime or a text such as 'yesterday 15:00', not {type(moment).__name__}")
     if not 0 <= seconds <= LAST_MOMENT:
         raise BadMoment(f"{moment!r} is not from 0 to {LAST_MOMENT}")
     return seconds

@@ -17,7 +17,13 @@ from ._errors import BadName, BadPath
 Path = Union[str, bytes, "os.PathLike[str]", "os.PathLike[bytes]"]
 
 MOST_NAME = 64
+# The most names of a path.
+MOST_NAMES = 32
+HIDDEN = ".elephant"
+"""The name that a mounted folder keeps for itself at its top."""
 _OWN = re.compile(rb"[^!-~]|[/@#%]")
+# The bytes of a spelled name.
+_FORM = re.compile(rb"[!-\"$-.0-?A-~]{1,64}")
 _SPELLED = re.compile(rb"%([0-9A-F]{2})")
 
 
@@ -64,6 +70,33 @@ def name_of(spelled: bytes) -> str:
         return name if "/" not in spelled.decode("ascii") and name and spell_name(name) == spelled else spelled.decode("ascii")
     except BadName:
         return spelled.decode("ascii")
+
+
+def is_shown(name: str) -> bool:
+    """Whether a folder can have a file of that name."""
+    return name not in (".", "..") and "/" not in name and "\0" not in name
+
+
+def require_shown(*paths: bytes) -> None:
+    """Raises BadName if the last of a command's paths, as they are spelled, would have a name that no mounted folder can show.
+
+    Call it where a name is made. A journal may have such a name all the same, and then it can be read, renamed and removed. If one of the
+    paths has no path's form, the core refuses the command, and says why.
+    """
+    if not all(map(_has_form, paths)):
+        return
+    path = paths[-1]
+    if path == b"/" + HIDDEN.encode():
+        raise BadName(f"{path.decode()} is the name of a mounted folder's past")
+    spelled = path.rpartition(b"/")[2]
+    if not is_shown(name_of(spelled)):
+        raise BadName(f"no folder can show a file of the name {name_of(spelled)!r}, spelled {spelled.decode('ascii', 'replace')}")
+
+
+def _has_form(path: bytes) -> bool:
+    """Whether bytes have a path's form: a slash before each of at most 32 names."""
+    first, *names = path.split(b"/")
+    return not first and 0 < len(names) <= MOST_NAMES and all(map(_FORM.fullmatch, names))
 
 
 @functools.lru_cache(maxsize=4096)

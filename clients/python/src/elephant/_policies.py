@@ -139,3 +139,9 @@ class Landmarks(Policy):
 
     def __repr__(self) -> str:
         return f"Landmarks({list(self.rungs)!r})"
+
+
+_DAY = 86_400
+LADDER = Landmarks([(7 * _DAY, 3_600), (30 * _DAY, _DAY), (365 * _DAY, 7 * _DAY)])
+"""The policy with which a new journal begins: all versions for a week, then the newest of each hour, after 30 days of each day, and after
+a year of each week. The last version of a deleted file stays for good."""

@@ -6,12 +6,27 @@ from collections.abc import Callable
 from typing import Any, Optional, SupportsIndex, Union
 
 from ._answers import (
-    DeadName, DirectoryStat, Entry, Fate, FileStat, Group, History, Current, Due, Kept, Marked, Open, Mark, Removable, Usage, Version,
+    Current,
+    DeadName,
+    DirectoryStat,
+    Due,
+    Entry,
+    Fate,
+    FileStat,
+    Group,
+    History,
+    Kept,
+    Mark,
+    Marked,
+    Open,
+    Removable,
+    Usage,
+    Version,
 )
 from ._core import Core, natural
 from ._errors import NoHistory
 from ._library import AT, NOW, VERSION, GroupRow, MarkRow, NameRow, UsageRow, WhyRow
-from ._moments import NEVER, Moment, MomentLike, moment_or_none, seconds_of
+from ._moments import NEVER, Moment, MomentLike, moment_or_none
 from ._names import Path, name_of, spell
 from ._turns import Turns
 
@@ -27,20 +42,11 @@ Groups = list[Group]
 NameRows = list[tuple[int, bool, int, bytes]]
 
 
-def tag_of(at: Optional[MomentLike], version: Optional[SupportsIndex] = None) -> tuple[int, int]:
-    """Returns the tag and the number by which the library finds a version."""
-    if version is not None:
-        if at is not None:
-            raise TypeError("give a moment or the number of a version, not both")
-        return VERSION, natural(version, "the number of a version")
-    return (NOW, 0) if at is None else (AT, seconds_of(at))
-
-
 class Questions(Turns):
     """The questions of a store.
 
-    Each question about a path takes a moment in the past (`at`, an int or an aware datetime), and some take the number of a version
-    (`version`). Without either the question is about now.
+    Each question about a path takes a moment in the past (`at`: an int, an aware datetime, or a text such as `yesterday 15:00`), and some
+    take the number of a version (`version`). Without either the question is about now.
     """
 
     @property
@@ -50,9 +56,17 @@ class Questions(Turns):
             self._begin()
             return Moment(self._now)
 
+    def _tag(self, at: Optional[MomentLike], version: Optional[SupportsIndex] = None) -> tuple[int, int]:
+        """Returns the tag and the number by which the library finds a version."""
+        if version is not None:
+            if at is not None:
+                raise TypeError("give a moment or the number of a version, not both")
+            return VERSION, natural(version, "the number of a version")
+        return (NOW, 0) if at is None else (AT, self._seconds(at))
+
     def read(self, path: Path, *, at: Optional[MomentLike] = None, version: Optional[SupportsIndex] = None) -> bytes:
         """Returns the content of a version. Raises Forgotten if it was removed; it never returns another version in its place."""
-        name, (tag, number) = spell(path), tag_of(at, version)
+        name, (tag, number) = spell(path), self._tag(at, version)
         with self._lock:
             core = self._begin()
             return core.read(path, name, tag, number)
@@ -61,7 +75,7 @@ class Questions(Turns):
         self, path: Path, *, at: Optional[MomentLike] = None, version: Optional[SupportsIndex] = None
     ) -> Union[FileStat, DirectoryStat]:
         """Describes a version of a file, with the file's policy, or a directory."""
-        name, (tag, number) = spell(path), tag_of(at, version)
+        name, (tag, number) = spell(path), self._tag(at, version)
         with self._lock:
             core = self._begin()
             row = core.stat(path, name, tag, number)
@@ -72,24 +86,24 @@ class Questions(Turns):
 
     def versions(self, path: Path, *, at: Optional[MomentLike] = None) -> Versions:
         """Returns the held versions of the file that the path names, or named at a moment."""
-        name, (tag, number) = spell(path), tag_of(at)
+        name, (tag, number) = spell(path), self._tag(at)
         with self._lock:
             core = self._begin()
             return core.versions(path, name, tag, number)
 
     def list(self, path: Path = "/", *, at: Optional[MomentLike] = None) -> Entries:
         """Returns the names in a directory, now or at a moment, in the order of their bytes."""
-        name, (tag, number) = spell(path), tag_of(at)
+        name, (tag, number) = spell(path), self._tag(at)
         with self._lock:
             core = self._begin()
-            rows = self._names(core, core.ask(core.library.elephant_list, path, name, len(name), tag, number))
+            rows = self._names(core, core.look(core.library.elephant_list, path, name, len(name), tag, number))
         return [Entry(name_of(spelled), is_directory, target, spelled) for _, is_directory, target, spelled in rows]
 
     def restorable(self) -> DeadNames:
         """Returns the names that `undelete` can restore, by directory and name."""
         with self._lock:
             core = self._begin()
-            rows = self._names(core, core.ask(core.library.elephant_restorable, ""))
+            rows = self._names(core, core.look(core.library.elephant_restorable, ""))
         return [DeadName(parent, name_of(spelled), is_directory, target, spelled) for parent, is_directory, target, spelled in rows]
 
     @staticmethod
@@ -101,20 +115,20 @@ class Questions(Turns):
         """Returns the versions that may be removed now, in order of removal."""
         with self._lock:
             core = self._begin()
-            keys = core.keys(core.ask(core.library.elephant_due, ""))
+            keys = core.keys(core.look(core.library.elephant_due, ""))
         return [Removable(Moment(since), file, number) for since, file, number in keys]
 
     def ahead(self, moment: MomentLike) -> Removables:
         """Returns what `due` will return at a moment if only the clock moves."""
-        seconds = seconds_of(moment)
+        seconds = self._seconds(moment)
         with self._lock:
             core = self._begin()
-            keys = core.keys(core.ask(core.library.elephant_ahead, moment, seconds))
+            keys = core.keys(core.look(core.library.elephant_ahead, moment, seconds))
         return [Removable(Moment(since), file, number) for since, file, number in keys]
 
     def why(self, path: Path, *, at: Optional[MomentLike] = None, version: Optional[SupportsIndex] = None) -> Fate:
         """Returns why a version stays, or since when it may be removed."""
-        name, (tag, number) = spell(path), tag_of(at, version)
+        name, (tag, number) = spell(path), self._tag(at, version)
         with self._lock:
             core = self._begin()
             row = core.row(core.library.elephant_why, WhyRow, path, name, len(name), tag, number)
@@ -125,21 +139,21 @@ class Questions(Turns):
         """Returns what the files of each kind of policy use: KeepOne, KeepAll, KeepSafe, Landmarks."""
         with self._lock:
             core = self._begin()
-            rows = core.rows(core.library.elephant_row_usage, UsageRow, core.ask(core.library.elephant_usage, ""))
+            rows = core.rows(core.library.elephant_row_usage, UsageRow, core.look(core.library.elephant_usage, ""))
             return [Usage(kind, row.files, row.versions, row.bytes, row.blocks) for kind, row in zip(_KINDS, rows)]
 
     def groups(self) -> Groups:
         """Returns the groups with their files and marks, in order of making."""
         with self._lock:
             core = self._begin()
-            count = core.ask(core.library.elephant_groups, "")
+            count = core.look(core.library.elephant_groups, "")
             rows = enumerate(core.rows(core.library.elephant_row_group, GroupRow, count))
             return [self._group(core, index, row.members, row.marks) for index, row in rows]
 
     @staticmethod
     def _group(core: Core, index: int, members: int, marks: int) -> Group:
         spelled = core.row_name(index)
-        files = tuple(core.ask(core.library.elephant_row_member, "", index, member) for member in range(members))
+        files = tuple(core.look(core.library.elephant_row_member, "", index, member) for member in range(members))
         rows = [core.row(core.library.elephant_row_mark, MarkRow, "", index, mark) for mark in range(marks)]
         return Group(name_of(spelled), files, tuple(Mark(Moment(row.moment), moment_or_none(row.until)) for row in rows), spelled)
 
@@ -154,7 +168,7 @@ class Questions(Turns):
 
 
 def _marked(core: Core, row: Any) -> Fate:
-    length = core.ask(core.library.elephant_why_group, "", core.name_room, len(core.name_room))
+    length = core.look(core.library.elephant_why_group, "", core.name_room, len(core.name_room))
     return Marked(name_of(core.name_room.raw[:length]), Moment(row.moment), moment_or_none(row.until))
 
 

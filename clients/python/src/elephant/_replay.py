@@ -5,9 +5,11 @@ from __future__ import annotations
 from binascii import hexlify, unhexlify
 
 from ._core import Core
-from ._errors import JournalError, NoMemory
+from ._errors import Full, HistoryFull, JournalDamaged, JournalError, NoMemory
 
 MOST_PIECE = 4000
+# Of a number below 2^64.
+MOST_DIGITS = 19
 # Lines that change nothing, and that no journal has.
 QUESTIONS = frozenset(b"read stat versions list restorable due usage groups history trim why ahead handles gone answers".split())
 
@@ -29,31 +31,35 @@ class Replay:
         self.readers: set[int] = set()
 
     def run(self, lines: list[bytes]) -> None:
-        """Runs the lines of one change. Raises JournalError if one gets another answer than it had."""
-        for line in lines:
+        """Runs the lines of one change. Raises JournalDamaged if one is refused, and JournalError if it is refused for a limit; `line` is
+        its place in the change, from 0."""
+        for at, line in enumerate(lines):
             word, _, rest = line.partition(b" ")
-            if word == b"write":
-                code = self._write(*rest.split(b" "))
+            words = rest.split(b" ")
+            if word == b"write" and len(words) == 3 and _are_numbers(words[:2]):
+                code = self._write(*words)
             elif word == b"#":
                 self.remark(rest)
                 continue
-            elif word == b"open" and rest.startswith(b"write "):
-                code = self._open_write(rest[6:])
-            elif word == b"close":
+            elif word == b"open" and words[0] == b"write" and len(words) == 2:
+                code = self._open_write(words[1])
+            elif word == b"close" and _are_numbers(words) and len(words) == 1:
                 code = self._close(int(rest))
-            elif word == b"truncate":
-                handle, size = rest.split(b" ")
-                code = self._library.elephant_truncate(self._e, int(handle), int(size))
+            elif word == b"truncate" and _are_numbers(words) and len(words) == 2:
+                code = self._library.elephant_truncate(self._e, int(words[0]), int(words[1]))
             else:
                 code = self._other(line)
             if code:
-                self._refuse(code, line)
+                self._refuse(code, line, at)
 
     def remark(self, text: bytes) -> None:
         """Passes over a remark, which is no command. A program may write remarks into its journal; the store doesn't."""
 
     def _write(self, handle: bytes, offset: bytes, digits: bytes) -> int:
-        data = unhexlify(digits)
+        try:
+            data = unhexlify(digits)
+        except ValueError:
+            return self._other(b"write %b %b %b" % (handle, offset, digits))
         code: int = self._library.elephant_write(self._e, int(handle), int(offset), data, len(data))
         return code
 
@@ -77,8 +83,15 @@ class Replay:
             self.readers.add(int(answer.split()[2]))
         return 0
 
-    @staticmethod
-    def _refuse(code: int, line: bytes) -> None:
+    def _refuse(self, code: int, line: bytes, at: int) -> None:
         if code == NoMemory.number:
             raise NoMemory("the journal's store")
-        raise JournalError(f"its line {line[:80]!r} is answered with {code}; was it made with larger limits?")
+        reason = f"{line[:80]!r}, is refused: {self._core.error(code)}"
+        if code in (Full.number, HistoryFull.number):
+            raise JournalError(f"a line, {reason}; was the journal made with larger limits?")
+        raise JournalDamaged(reason, at)
+
+
+def _are_numbers(words: list[bytes]) -> bool:
+    """Whether these are numbers that the library takes."""
+    return all(word.isdigit() and len(word) <= MOST_DIGITS for word in words)

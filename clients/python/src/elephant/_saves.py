@@ -12,7 +12,7 @@ from ._errors import Drafting, ElephantError, Exists, IsDirectory, NoEntry, TooB
 from ._files import MOST_BYTES, File, Mode, TextFile, mode_of
 from ._library import NO_ENTRY, NOW
 from ._moments import MomentLike
-from ._names import Path, path_of, spell
+from ._names import Path, path_of, require_shown, spell
 from ._replay import write_lines
 
 if TYPE_CHECKING:
@@ -82,6 +82,7 @@ class Saves(Drafts):
     def _base(self, path: Path, name: bytes, mode: Mode) -> Optional[_Base]:
         """Returns the content of the file, or None if the file is to be made. Raises the refusal of the mode or the path."""
         with self._lock:
+            self._refuse_changes()
             core = self._begin()
             try:
                 row = core.stat(path, name)
@@ -149,6 +150,7 @@ class Saves(Drafts):
         """Returns a handle that writes the file, or 0 if the file was made and stays empty."""
         code = NO_ENTRY if must_create else core.library.elephant_open_write(core.handle, name, len(name), core.number_at)
         if code == NO_ENTRY:
+            require_shown(name)
             core.ask(core.library.elephant_create, path, name, len(name))
             lines.append(b"create " + name)
             if not size:
@@ -156,6 +158,7 @@ class Saves(Drafts):
             code = core.library.elephant_open_write(core.handle, name, len(name), core.number_at)
         if code:
             core.refuse(code, path)
+        core.is_ahead = True
         lines.append(b"open write " + name)
         return core.number
 
@@ -198,8 +201,16 @@ class Saves(Drafts):
         except ElephantError:
             # The draft stays open, so that it becomes no version.
             self._fail("there was no memory to undo a save")
-            self._add_writer(core.stat(path, name).id, handle)
+            self._add_writer(_file_of(core, path, name), handle)
             raise
+
+
+def _file_of(core: Core, path: Path, name: bytes) -> int:
+    """Returns the number of a file, or UNKNOWN if there is no memory for the answer."""
+    try:
+        return int(core.stat(path, name).id)
+    except ElephantError:
+        return UNKNOWN
 
 
 def _changed(old: bytes, new: bytes) -> tuple[int, int]:

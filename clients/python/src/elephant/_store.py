@@ -3,6 +3,7 @@
 from __future__ import annotations
 
 import os
+from collections.abc import Iterator, Sequence
 from ctypes import byref, c_uint64
 from types import TracebackType
 from typing import Optional, SupportsIndex, Union
@@ -10,14 +11,24 @@ from typing import Optional, SupportsIndex, Union
 from ._answers import Limits, Pass, Removable
 from ._core import Core, natural
 from ._drafts import UNKNOWN
-from ._errors import Stop, error_of
+from ._dump import dump
+from ._errors import BadName, ClockDoubt, ElephantError, MassRemoval, Refused, Stop, Untold, error_of
 from ._library import KeyRow
-from ._moments import NEVER, Moment, MomentLike, seconds_of
-from ._names import Path, spell, spell_name
+from ._moments import NEVER, Moment, MomentLike
+from ._names import Path, require_shown, spell, spell_name
 from ._policies import Policy
 from ._replay import QUESTIONS
 from ._saves import Saves
-from ._turns import Clock, Fsync
+from ._turns import Clock, Fsync, Opening
+
+
+# More versions than this, which are also more than one in so many of those that are held, are much to remove at once.
+MANY, PART = 100, 5
+
+
+def is_much(count: int, held: int) -> bool:
+    """Whether a removal of so many of the held versions has to be asked for twice."""
+    return count > MANY and count * PART > held
 
 
 class Store(Saves):
@@ -25,25 +36,33 @@ class Store(Saves):
 
     `journal`: the path of the file that stores it; without one the store ends with this object. `limits`: how many of each kind it may
     ever make. `history`: it also keeps all events, which `history` returns. `clock`: with `"system"` each call first moves the store's
-    clock to the time of day, never back; with `"manual"` it begins at 0, and only `clock` and `tick` move it. `fsync`: with `"always"`
-    a change is on the disk before the call returns, with `"sync"` only after a `sync`. `wait`: how many seconds to wait for a journal
-    that another store has.
+    clock to the time of day, never back; with `"manual"` it begins at 0, and only `clock` and `tick` move it; an object with `now` and
+    `steady` stands for the machine's clocks. `fsync`: with `"always"` a change is on the disk before the call returns, with `"sync"` only
+    after a `sync`. `wait`: how many seconds to wait for a journal that another store has.
 
-    Many threads may call a store. Paths begin with a slash. A moment is an int, of seconds since 1970, or an aware datetime.
+    `read_only`: the store shows what the journal has now, and writes nothing anywhere, so another process may have it meanwhile. Its
+    clock stands at the journal's last moment, or at `at`. `repair`: if the journal is damaged, everything from the damaged change on is
+    copied into a file beside it and cut off; with `read_only` it is only left out.
+
+    Many threads may call a store. Paths begin with a slash. A moment is an int, of seconds since 1970, an aware datetime, or a text such
+    as `2026-11-29 15:00` or `2 hours ago`, in local time.
     """
 
     def __init__(
         self,
-        journal: Optional[Union[str, "os.PathLike[str]"]] = None,
+        journal: Optional[Union[str, os.PathLike[str]]] = None,
         *,
         limits: Optional[Limits] = None,
         history: bool = False,
         clock: Clock = "system",
         fsync: Fsync = "always",
         wait: float = 0.0,
+        read_only: bool = False,
+        at: Optional[MomentLike] = None,
+        repair: bool = False,
     ) -> None:
         path = None if journal is None else os.fspath(journal)
-        super().__init__(path, limits or Limits(), history, clock, fsync, wait)
+        super().__init__(Opening(path, limits or Limits(), history, clock, fsync, wait, read_only, at, repair))
 
     def __enter__(self) -> Store:
         return self
@@ -57,27 +76,37 @@ class Store(Saves):
             if self.is_closed:
                 return
             try:
-                if self._journal is not None and self._failure is None:
-                    for handle in sorted(self._writers):
-                        self._close_handle(handle)
-                    self._journal.sync()
+                if self._journal is not None and self._failure is None and not self.is_read_only:
+                    self._close_sessions_kept()
+                    self._sync_journal()
             finally:
                 self._release()
+
+    def _close_sessions_kept(self) -> None:
+        """Closes the open sessions. If one can't be closed, the journal gets what it wrote, of which the next opening makes a version."""
+        try:
+            for handle in sorted(self._writers):
+                self._close_handle(handle)
+        except ElephantError:
+            if self._failure is None:
+                self.sync()
+            raise
 
     def sync(self) -> None:
         """Writes all changes to the disk, also what open sessions wrote. If the program ends then, the next opening makes versions of
         these."""
+        if self.is_read_only:
+            return
         with self._lock, self._change:
             for draft in self._drafts.values():
                 self._flush(draft)
-            if self._journal is not None:
-                self._journal.sync()
+            self._sync_journal()
 
     # The clock.
 
     def clock(self, moment: MomentLike) -> Moment:
         """Moves the clock to a moment, and returns the moment now. Raises ClockBack if it is before now."""
-        seconds = seconds_of(moment)
+        seconds = self._seconds(moment)
         with self._lock, self._change as core:
             core.do(core.library.elephant_clock, moment, seconds)
             self._keep_clock(seconds)
@@ -96,6 +125,7 @@ class Store(Saves):
     def mkdir(self, path: Path) -> int:
         """Makes a directory, and returns its number."""
         name = spell(path)
+        require_shown(name)
         with self._lock, self._change as core:
             number = core.ask(core.library.elephant_mkdir, path, name, len(name))
             self._keep(b"mkdir " + name)
@@ -111,6 +141,7 @@ class Store(Saves):
     def create(self, path: Path) -> int:
         """Makes a file, whose version 1 is empty, and returns its number."""
         name = spell(path)
+        require_shown(name)
         with self._lock, self._change as core:
             number = core.ask(core.library.elephant_create, path, name, len(name))
             self._keep(b"create " + name)
@@ -119,6 +150,7 @@ class Store(Saves):
     def link(self, path: Path, new: Path) -> None:
         """Gives a file another name."""
         name, other = spell(path), spell(new)
+        require_shown(name, other)
         with self._lock, self._change as core:
             core.do(core.library.elephant_link, (path, new), name, len(name), other, len(other))
             self._keep(b"link %b %b" % (name, other))
@@ -133,6 +165,7 @@ class Store(Saves):
     def rename(self, path: Path, new: Path) -> None:
         """Moves a file or a directory to a new path. It never replaces anything."""
         name, other = spell(path), spell(new)
+        require_shown(name, other)
         with self._lock, self._change as core:
             core.do(core.library.elephant_rename, (path, new), name, len(name), other, len(other))
             self._keep(b"rename %b %b" % (name, other))
@@ -166,6 +199,9 @@ class Store(Saves):
         self._policy("default", path, policy)
 
     def _policy(self, word: str, path: Path, policy: Policy) -> None:
+        if not isinstance(policy, Policy):
+            wanted = "KeepOne(), KeepAll(), KeepSafe(days=7) or Landmarks.standard()"
+            raise TypeError(f"a policy is an object such as {wanted}, not {policy!r}; Policy.of('safe:604800') makes one of its word")
         name, spelled = spell(path), policy.word.encode("ascii")
         with self._lock, self._change as core:
             call = getattr(core.library, f"elephant_{word}")
@@ -203,14 +239,14 @@ class Store(Saves):
 
     def mark(self, group: str, at: MomentLike, until: Optional[MomentLike] = None) -> None:
         """Holds what was current of a group's files at a past moment, for good or until another moment."""
-        name, moment, end = spell_name(group), seconds_of(at), NEVER if until is None else seconds_of(until)
+        name, moment, end = spell_name(group), self._seconds(at), NEVER if until is None else self._seconds(until)
         with self._lock, self._change as core:
             core.do(core.library.elephant_mark, group, name, len(name), moment, end)
             self._keep(b"mark %b %d" % (name, moment) + (b"" if until is None else b" %d" % end))
 
     def unmark(self, group: str, at: MomentLike) -> None:
         """Removes a mark."""
-        name, moment = spell_name(group), seconds_of(at)
+        name, moment = spell_name(group), self._seconds(at)
         with self._lock, self._change as core:
             core.do(core.library.elephant_unmark, group, name, len(name), moment)
             self._keep(b"unmark %b %d" % (name, moment))
@@ -218,22 +254,33 @@ class Store(Saves):
     # Forgetting.
 
     def clean(self) -> Optional[Removable]:
-        """Removes the first version that may be removed, and returns it. None if there is none."""
+        """Removes the first version that may be removed, and returns it. None if there is none. Raises ClockDoubt."""
         with self._lock, self._change as core:
+            if self._most_removed(core) == 0:
+                return None
             key = core.row(core.library.elephant_clean, KeyRow, "")
             if not key.file:
                 return None
+            core.is_ahead = True
             self._keep(b"clean")
             return Removable(Moment(key.since), key.file, key.number)
 
-    def pass_(self, budget: Optional[SupportsIndex] = None) -> Pass:
+    def pass_(self, budget: Optional[SupportsIndex] = None, *, confirm: bool = False) -> Pass:
         """Removes versions until none may be removed, or as many as the budget says. A Stop has in `removed` how many it removed
-        before."""
+        before. Raises ClockDoubt.
+
+        A store with a journal whose clock follows the time of day raises MassRemoval, and removes nothing, if that would be more than 100
+        versions and more than a fifth of all. With `confirm` it removes them. So a wrong date at the opening doesn't remove the past.
+        """
         most = NEVER if budget is None else natural(budget, "a budget")
         removed, finished = c_uint64(), c_uint64()
         with self._lock, self._change as core:
+            most = min(most, self._most_removed(core))
+            if not confirm:
+                self._require_few(core, most)
             code = core.library.elephant_pass(core.handle, most, byref(removed), byref(finished))
             if removed.value:
+                core.is_ahead = True
                 self._keep(b"pass %d" % removed.value)
             if code:
                 fault = error_of(code, "pass")
@@ -242,11 +289,35 @@ class Store(Saves):
                 raise fault
             return Pass(removed.value, bool(finished.value))
 
+    def _require_few(self, core: Core, most: int) -> None:
+        """Raises MassRemoval if a pass of so many versions has to be confirmed."""
+        if self._watch is None or self._journal is None or most <= MANY:
+            return
+        count = min(most, core.look(core.library.elephant_due, ""))
+        if count > MANY:
+            held = sum(it.versions for it in self.usage())
+            if is_much(count, held):
+                right = "if the date is right and you want that, call pass_(confirm=True)"
+                raise MassRemoval(f"the pass would remove {count} of {held} versions; {right}", count, held)
+
+    def _most_removed(self, core: Core) -> int:
+        """Returns how many versions may be removed: if the store's time is ahead of the time of day, only those that both make due."""
+        end = self._removal_end()
+        if end is None:
+            return NEVER
+        return sum(since <= end for since, _, _ in core.keys(core.look(core.library.elephant_due, "")))
+
     def trim(self) -> int:
         """Folds the history into the store as it is, and returns how many events these were. The store needs `history=True`."""
         with self._lock:
             core = self._begin()
-            return core.ask(core.library.elephant_trim, "trim")
+            return core.look(core.library.elephant_trim, "trim")
+
+    def dump(self) -> Iterator[str]:
+        """Yields the policies, defaults, groups and marks as lines of the script language. What a line can't say is a remark, which
+        begins with `#`."""
+        with self._lock:
+            return iter(list(dump(self)))
 
     # Lines of the script language.
 
@@ -256,28 +327,73 @@ class Store(Saves):
         if "\n" in line:
             raise ValueError(f"{line!r} has a line feed")
         spelled = line.encode("utf-8", "surrogateescape")
-        with self._lock, self._change as core:
-            answer = core.line(spelled)
-            self._keep_line(core, spelled, answer)
+        words = spelled.split(b" ")
+        if not _is_shown_by(words):
+            return f"bad {BadName.number} {BadName.__name__}\n"
+        with self._lock:
+            if words[0] in QUESTIONS:
+                return self._begin().line(spelled).decode("ascii")
+            with self._change as core:
+                if words[0] in (b"clean", b"pass") and self._removal_end() is not None:
+                    raise ClockDoubt("the store's time is ahead of the time of day; pass_() removes what both make due")
+                # A question for the file would be an event of the history. Without the file's number, the draft is shared with all
+                # sessions of unknown files.
+                opens = words[:2] == [b"open", b"write"] and len(words) == 3 and not self._has_history
+                file = self._file_at(core, words[2]) if opens else UNKNOWN
+                answer = self._changing_line(core, spelled)
+                self._keep_line(words, spelled, answer, file)
             return answer.decode("ascii")
 
-    def _keep_line(self, core: Core, line: bytes, answer: bytes) -> None:
+    @staticmethod
+    def _file_at(core: Core, path: bytes) -> int:
+        """Returns the number of the file at a path, or UNKNOWN if the path means none."""
+        try:
+            return int(core.stat(path, path).id)
+        except Refused:
+            return UNKNOWN
+
+    def _changing_line(self, core: Core, line: bytes) -> bytes:
+        """Runs a line that may change something, and returns its answer. If there was no memory for the text of the answer, it runs the
+        line again, in a store that is made anew from the journal."""
+        try:
+            answer = core.line(line)
+        except Untold:
+            if self._journal is None:
+                raise
+            core = self._renew()
+            answer = core.line(line)
+        core.is_ahead = answer.startswith(b"ok ")
+        return answer
+
+    def _keep_line(self, words: Sequence[bytes], line: bytes, answer: bytes, file: int) -> None:
         """Puts a line into the journal as the call of the same name does."""
-        words, told = line.split(b" "), answer.split()
-        word = words[0]
+        word, told = words[0], answer.split()
         if word == b"pass" and told[-1].isdigit() and told[-1] != b"0":
             self._keep(b"pass " + told[-1])  # as many as it removed
-        if not answer.startswith(b"ok ") or word in QUESTIONS or word == b"pass" or answer == b"ok nothing\n":
-            return
-        if word in (b"clock", b"tick"):
+        elif not answer.startswith(b"ok ") or word == b"pass" or answer == b"ok nothing\n":
+            self._note_kept()
+        elif word in (b"clock", b"tick"):
             self._keep_clock(int(told[2]))
         elif word in (b"write", b"truncate"):
             self._defer(int(words[1]), line)
         elif word == b"close":
             self._keep_close(int(words[1]), len(told) > 2)
         else:
-            if words[:2] == [b"open", b"write"]:
-                # A question for the file would be an event of the history. Without the file's number, the draft is shared with all
-                # sessions of unknown files.
-                self._add_writer(UNKNOWN if self._has_history else core.stat(words[2], words[2]).id, int(told[2]))
             self._keep(line)
+            if words[:2] == [b"open", b"write"]:
+                self._add_writer(file, int(told[2]))
+
+
+# The lines that make a name, each with the place of its path.
+_MAKES = {b"mkdir": 1, b"create": 1, b"link": 2, b"rename": 2}
+
+
+def _is_shown_by(words: list[bytes]) -> bool:
+    """Whether a folder can show the name that a line makes, if it makes one. A line that the core takes for no command is left to it."""
+    if len(words) != _MAKES.get(words[0], 0) + 1 or words[0] not in _MAKES:
+        return True
+    try:
+        require_shown(*words[1:])
+    except BadName:
+        return False
+    return True

@@ -11,7 +11,7 @@ from typing import Any, Callable
 
 import pyfuse3
 
-from .._errors import ElephantError, Full, JournalError, NoMemory
+from .._errors import ElephantError, Full, JournalError, ReadOnly
 from .contents import Limited, TooBig
 from .disk import FULL
 from .log import Log
@@ -26,13 +26,14 @@ _ERRNOS = {
 }
 
 
-class Answering(pyfuse3.Operations):  # type: ignore[misc]
+class Answering(pyfuse3.Operations):
     """What all requests need: the store, the log and the lock."""
 
     def __init__(self, store: MountStore, log: Log) -> None:
         super().__init__()
         self.store, self.log = store, log
         self.lock = threading.RLock()
+        self._is_behind = False
 
     def errno_of(self, fault: Exception) -> int:
         """Returns the error number of an exception of a request, and logs what the number doesn't show."""
@@ -41,17 +42,20 @@ class Answering(pyfuse3.Operations):  # type: ignore[misc]
                 self.store.stopped = "the disk of the journal is full"
                 self.log.say(f"{self.store.stopped}: the folder is read-only until there is space again")
             return errno.ENOSPC
+        if isinstance(fault, ReadOnly):
+            return errno.EROFS
         if isinstance(fault, JournalError):
-            self.log.say_once(f"the folder is read-only: {fault}")
-            return next((number for number in FULL if os.strerror(number) in str(fault)), errno.EIO)
+            self.log.say_once(f"the folder is read-only: {self.store.stopped or fault}")
+            return next((number for number in (*FULL, errno.ENOMEM) if os.strerror(number) in str(fault)), errno.EIO)
         if isinstance(fault, Full):
             limit = fault.what
             return self.errno_of(Limited(limit, getattr(self.store.counts.limits, limit)))
+        if isinstance(fault, MemoryError):
+            self.log.say_once("refused: there is no memory")
+            return errno.ENOMEM
         if isinstance(fault, (Limited, TooBig, TooLong, TooMuch)):
             where = f"{shown(fault.node.path)}: " if isinstance(fault, TooBig) and fault.node.names else ""
             self.log.say_once(f"refused: {where}{fault.strerror}")
-        elif isinstance(fault, NoMemory):
-            self.log.say("refused: there is no memory")
         if isinstance(fault, ElephantError):
             return _ERRNOS.get(fault.number, errno.EIO)
         assert isinstance(fault, OSError)
@@ -62,9 +66,25 @@ class Answering(pyfuse3.Operations):  # type: ignore[misc]
         meanwhile."""
 
     def require_writable(self) -> None:
+        """Raises why nothing can be changed, before anything is: a stopped journal, a full disk, or no memory."""
         if self.store.stopped:
-            raise OSError(errno.EROFS, self.store.stopped)
+            raise OSError(errno.EIO if self.store.is_lost else errno.EROFS, self.store.stopped)
+        if self._is_behind:
+            self.catch_up()
+        self.store.require_memory()
         self.store.reserve(0)
+        self.say_ends()
+
+    def catch_up(self) -> None:
+        """Brings the names up to date after a change that failed midway."""
+        self._is_behind, self.store.has_taken_back = True, False
+        self.follow_store()
+        self._is_behind = False
+
+    def say_ends(self) -> None:
+        """Logs which limits of the store come near."""
+        for text in self.store.counts.news():
+            self.log.say(text)
 
 
 def answered(method: Callable[..., Any]) -> Callable[..., Any]:
@@ -75,7 +95,7 @@ def answered(method: Callable[..., Any]) -> Callable[..., Any]:
         try:
             with self.lock:
                 return method(self, *words)
-        except (OSError, ElephantError, NoSpace) as fault:
+        except (OSError, ElephantError, NoSpace, MemoryError) as fault:
             raise pyfuse3.FUSEError(self.errno_of(fault)) from None
         except Exception:
             # A fault of this program: this request fails, and the others go on.
@@ -92,8 +112,9 @@ def changing(method: Callable[..., Any]) -> Callable[..., Any]:
         self.require_writable()
         try:
             return method(self, *words)
-        except JournalError:
-            self.follow_store()
+        except Exception as fault:
+            if self.store.has_taken_back or isinstance(fault, (JournalError, MemoryError)):
+                self.catch_up()
             raise
 
     return answered(functools.wraps(method)(checked))

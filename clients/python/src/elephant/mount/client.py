@@ -4,6 +4,12 @@ from __future__ import annotations
 
 import os
 import socket
+import time
+from contextlib import suppress
+
+from .._errors import BadTime
+from .._times import read_time
+from .names import spelled
 
 
 def ask(folder: str, line: str) -> str:
@@ -13,6 +19,44 @@ def ask(folder: str, line: str) -> str:
         caller.sendall(line.encode("utf-8", "surrogateescape") + b"\n")
         parts = list(iter(lambda: caller.recv(1 << 20), b""))
     return b"".join(parts).decode("utf-8", "surrogateescape")
+
+
+def undo_line(folder: str, text: str, words: list[str]) -> list[str]:
+    """Returns the words of a line that undoes, with the path as the store spells it. `text` is the line as it was typed, if it was one
+    word: then the file's name may have spaces without quotes."""
+    options = [it for it in words[1:] if it.startswith("--")]
+    rest = [it for it in words[1:] if it not in options]
+    if not rest:
+        return words
+    file, moment = rest[0], rest[1:]
+    if text and not set(text) & set("'\"\\"):
+        file, moment = _file_and_moment(folder, rest)
+    return ["undo", *options, _spelled(folder, file), *moment]
+
+
+def _file_and_moment(folder: str, words: list[str]) -> tuple[str, list[str]]:
+    """Splits words into those of a file's name and those of a moment: the longest name that is there, else the longest moment."""
+    for count in range(len(words), 0, -1):
+        file = " ".join(words[:count])
+        if os.path.lexists(file) or os.path.lexists(os.path.join(folder, file.lstrip("/"))):
+            return file, words[count:]
+    for count in range(1, len(words)):
+        with suppress(BadTime):
+            read_time(" ".join(words[count:]), int(time.time()))
+            return " ".join(words[:count]), words[count:]
+    return " ".join(words), []
+
+
+def _spelled(folder: str, file: str) -> str:
+    """Returns the store's path of a file, which is relative to the working directory or to FOLDER."""
+    top = mount_of(folder)
+    for place in (os.path.abspath(file), os.path.abspath(os.path.join(folder, file.lstrip("/")))):
+        path = os.path.join(os.path.realpath(os.path.dirname(place)), os.path.basename(place))
+        if path == top:
+            return "/"
+        if path.startswith(top + "/"):
+            return "/" + "/".join(spelled(it).decode() for it in os.fsencode(os.path.relpath(path, top)).split(b"/"))
+    return file
 
 
 def mount_of(folder: str) -> str:

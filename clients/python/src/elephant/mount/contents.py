@@ -107,9 +107,9 @@ class Contents:
         draft = self.begin(node)
         if node.names:
             self._reserve(node, max(end, len(draft)))
-        if offset > len(draft):
-            draft.extend(bytes(offset - len(draft)))
-        draft[offset:end] = data
+        if end > len(draft):
+            draft.extend(bytes(end - len(draft)))
+        memoryview(draft)[offset:end] = data  # needs no memory, so a write is done whole or not at all
         self._written(node)
         return len(data)
 
@@ -198,6 +198,17 @@ class Contents:
         """Keeps the content of an open file in memory, before the file loses its last name."""
         if node.opens and node.draft is None:
             self._set_draft(node, bytearray(self.whole(node)))
+
+    def drop_draft(self, node: File) -> None:
+        """Forgets what is written into a file and in no version."""
+        assert node.handle is None
+        node.is_unsaved = False
+        self._set_draft(node, None)
+
+    def go_on_writing(self, node: File, handle: int, content: bytes) -> None:
+        """Gives a file, which programs write, a draft that the store has already."""
+        node.handle, node.is_unsaved = handle, False
+        self._set_draft(node, bytearray(content))
 
     def settle_all(self, is_every: bool = True) -> list[tuple[File, Exception]]:
         """Makes versions of all drafts, or of those that no program writes any more. Returns the failures, each with its reason."""

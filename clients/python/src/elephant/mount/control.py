@@ -14,24 +14,33 @@ import threading
 import traceback
 from collections.abc import Callable, Iterator
 from contextlib import suppress
-from typing import Optional, Union
+from typing import Optional
 from zlib import crc32
 
-from .._errors import ElephantError, Refused
-from .._library import AT
+from .._errors import BadName, ClockDoubt, ElephantError, Refused
+from .._names import require_shown
+from .._times import read_time, told_time
 from .names import name_in
 from .operations import Operations
-from .past import moment_of
 from .store import NoSpace
 from .tree import Directory, File, Node
+from .undo import Undo
+from .whereabouts import Nothing
+from .wording import as_bytes, spelled_path, words_of
 
 MOST_LINE = 1 << 20
 # The path of a socket has at most 107 bytes.
 MOST_FOLDER = 100
 # Lines after which the tree may differ, and lines that change nothing.
-_ASK = frozenset("read stat versions list restorable due usage groups why ahead handles gone answers history trim".split())
-_SHORT = frozenset("policy default group mark unmark clean pass".split())
-_OF_HANDLES = frozenset("write truncate close read".split())
+_ASK = frozenset((
+    "read", "stat", "versions", "list", "restorable", "due", "usage", "groups", "why", "ahead", "handles", "gone", "answers", "history",
+    "trim",
+))
+_SHORT = frozenset(("policy", "default", "group", "mark", "unmark", "clean", "pass"))
+# Lines that may use what is kept back of the limits.
+_UNDOING = frozenset(("undo", "undelete", "revert"))
+_MAKE = frozenset(("mkdir", "create", "link", "rename"))
+_OF_HANDLES = frozenset(("write", "truncate", "close", "read"))
 Changes = list[tuple[Node, Optional[bytes]]]
 
 
@@ -41,49 +50,53 @@ class Lines:
     def __init__(self, operations: Operations) -> None:
         self.operations = operations
         self.store, self.tree, self.contents = operations.store, operations.tree, operations.contents
+        self.undo = Undo(self.store, self.tree, self.contents, operations.past.store_at)
+        self._is_of_one = False
+        """Whether the last undo changed one name of a folder, and what is below it."""
         self.more: dict[str, Callable[[], str]] = {}
         """Lines of the mount's own, without words, that are answered without the lock."""
 
     def answer(self, line: str) -> tuple[str, Changes]:
         """Returns the answer to a line, with line feeds, and what it changed in the tree."""
-        words = line.split(" ")
         if line in self.more:
             return self.more[line](), []
+        try:
+            words = [spelled_path(it) for it in words_of(line)]
+        except ValueError as fault:
+            return self._refusal(fault), []
         with self.operations.lock:
             changes: Changes = []
             try:
                 try:
-                    text = self._undo(words[1:]) if words[0] == "undo" else self._line(words)
+                    with self.store.counts.undoing(words[0] in _UNDOING):
+                        text = self._undo(words) if words[0] == "undo" else self._line(words)
                 finally:  # the store may have done what the journal couldn't take
                     changes = [] if words[0] in _ASK | _SHORT else list(self._refreshed(words))
-            except (ElephantError, NoSpace, OSError, ValueError) as fault:
+            except (ElephantError, Nothing, NoSpace, OSError, ValueError) as fault:
                 text = self._refusal(fault)
         return text, changes
 
     def _refreshed(self, words: list[str]) -> Iterator[tuple[Node, Optional[bytes]]]:
-        if words[0] != "undo" or len(words) < 2:
-            return self.tree.refresh()
-        parent, _, name = words[1].rpartition("/")
-        directory = self._node(parent)
-        is_there = isinstance(directory, Directory) and name
-        return self.tree.refresh_file(directory, name_in(_bytes(name))) if is_there else iter(())  # type: ignore[arg-type]
+        """Brings the tree up to date with what a line has done, as one change of the journal."""
+        with self.store.together():
+            yield from self._one_refreshed(words[1]) if words[0] == "undo" and self._is_of_one else self.tree.refresh()
+
+    def _one_refreshed(self, path: str) -> Iterator[tuple[Node, Optional[bytes]]]:
+        parent, _, spelling = as_bytes(path).rpartition(b"/")
+        directory = self.tree.find(parent)
+        assert isinstance(directory, Directory)
+        return self.tree.refresh_file(directory, directory.name_of(spelling))
 
     def _refusal(self, fault: Exception) -> str:
+        if isinstance(fault, Nothing):
+            return f"no: {fault}\n"
         if isinstance(fault, Refused):
             return f"no {str(fault).split(':')[0]}\n"
+        if isinstance(fault, ClockDoubt):
+            return f"elephant-mount: {fault.subject}\n"
         if not isinstance(fault, ValueError):
             self.operations.errno_of(fault)
         return f"elephant-mount: {getattr(fault, 'strerror', None) or fault or type(fault).__name__}\n"
-
-    def _node(self, spelling: str) -> Optional[Union[File, Directory]]:
-        """Returns the node of a path now, or None."""
-        node: Union[File, Directory] = self.tree.root
-        for name in _bytes(spelling).split(b"/")[1:]:
-            child = node.children.get(name_in(name)) if isinstance(node, Directory) and name else None
-            if child is None:
-                return None
-            node = child
-        return node
 
     def _line(self, words: list[str]) -> str:
         word = words[0]
@@ -110,69 +123,56 @@ class Lines:
 
     def _own_handles(self) -> set[str]:
         drafts = {str(it.handle) for it in self.contents.drafts if it.handle is not None}
-        return drafts | {str(it.reader) for it in self.operations.past_handles.values() if it.reader is not None}
+        readers = {str(it.reader) for it in self.operations.past_handles.values() if it.reader is not None}
+        return drafts | readers | {str(it) for it in self.operations.kept_readers}
 
     def _prepare(self, words: list[str]) -> None:
         """Prepares for a line that ends a name: keeps the contents of open files for their programs, and makes versions of drafts
         first."""
-        node = self._node(words[1]) if len(words) > 1 and words[1].startswith("/") else None
+        if words[0] in _MAKE:
+            try:
+                require_shown(as_bytes(words[-1]))
+            except BadName as fault:
+                raise ValueError(fault.subject) from None
+        node = self.tree.find(as_bytes(words[1])) if len(words) > 1 and words[1].startswith("/") else None
         if not isinstance(node, File):
             return
         if words[0] in ("unlink", "rename") and len(node.names) == 1:
             self.contents.hold(node)
         elif words[0] == "revert":
-            self._require_no_writer(node)
-
-    @staticmethod
-    def _require_no_writer(node: File) -> None:
-        """Refuses to change the content of a file that a program may write: that program would go on at its old position."""
-        if node.draft is not None or node.writers:
-            raise OSError(16, "a program has the file open to write it: close it first")
+            self.undo.require_no_writer(node)
 
     # Undo.
 
     def _undo(self, words: list[str]) -> str:
-        """Makes what a file held before its last save, or at a moment, its next version. Restores a deleted file."""
-        if len(words) not in (1, 2) or not words[0].startswith("/"):
-            return "elephant-mount: undo takes a file, and a moment if you like\n"
+        """Brings back what a file or a folder was before its last change, or at a moment."""
+        self._is_of_one = False
+        options = [it for it in words[1:] if it.startswith("--")]
+        path, *moment = [it for it in words[1:] if it not in options] or [""]
+        if not path.startswith("/") or options not in ([], ["--dry-run"]):
+            raise ValueError("undo takes a file or a folder, a moment if you like, and --dry-run")
         self.operations.require_writable()
-        path, node = _bytes(words[0]), self._node(words[0])
-        if isinstance(node, Directory):
-            raise IsADirectoryError(21, "undo takes a file")
-        if node is not None:
-            self._require_no_writer(node)
-        if len(words) == 1:
-            return self._undo_last(path, node)
-        with self.store.together():
-            return self._undo_to(path, node, moment_of(_bytes(words[1])))
+        place = self._as_shown(as_bytes(path))
+        words[1:] = [place.decode("ascii"), *moment]
+        has_parent = isinstance(self.tree.find(place.rpartition(b"/")[0]), Directory)
+        self._is_of_one = not moment and has_parent and not isinstance(self.tree.find(place), Directory)
+        asked = read_time(" ".join(moment), int(self.store.now)).moment if moment else None
+        return self.undo.run(place, asked, bool(options)) + (self._clock_note() if moment else "")
 
-    def _undo_last(self, path: bytes, node: Optional[File]) -> str:
-        if node is None:
-            return self._undelete(path)
-        return self._told(self.store.revert(path, max(node.version - 1, 0)))
+    def _as_shown(self, path: bytes) -> bytes:
+        """Returns the store's path of one whose names are spelled as the folder shows them."""
+        node: Optional[Node] = self.tree.root
+        place = b""
+        for spelling in path.split(b"/")[1:]:
+            name = name_in(spelling)
+            place = node.path_of(name) if isinstance(node, Directory) and name in node.children else place + b"/" + spelling
+            node = node.children.get(name) if isinstance(node, Directory) else None
+        return place
 
-    @staticmethod
-    def _told(version: int) -> str:
-        return f"ok version {version}\n"
-
-    def _undelete(self, path: bytes) -> str:
-        version = self.store.undelete(path)
-        return self._told(version) if version else "ok done\n"
-
-    def _undo_to(self, path: bytes, node: Optional[File], moment: int) -> str:
-        row = self.store.stat_row(path, AT, moment)
-        if row.is_directory:
-            raise IsADirectoryError(21, "undo takes a file")
-        file, version, content = row.id, row.version, self.store.content(path, AT, moment)
-        if node is None:
-            try:
-                self._undelete(path)
-            except Refused:
-                self.store.run((b"create", path))
-        now = self.store.stat_row(path)
-        if now.id == file:
-            return self._told(self.store.revert(path, version))
-        return self._told(self.store.close_draft(self.store.write_draft(path, None, content, True, ())))
+    def _clock_note(self) -> str:
+        """Returns what a moment means while the clock is in doubt, or an empty text."""
+        fault = self.store.clock_fault
+        return f"- {fault}: moments are of the store's time, which is {told_time(int(self.store.now))}\n" if fault else ""
 
 
 class Control:
@@ -222,10 +222,6 @@ class Control:
         answer, changes = self._lines.answer(line)
         self._changed(changes)
         caller.sendall(answer.encode("utf-8", "surrogateescape"))
-
-
-def _bytes(text: str) -> bytes:
-    return text.encode("utf-8", "surrogateescape")
 
 
 def _private_folder(journal: str) -> str:

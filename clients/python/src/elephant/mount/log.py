@@ -4,6 +4,12 @@ from __future__ import annotations
 
 import sys
 import time
+from contextlib import suppress
+
+
+def local(moment: int) -> str:
+    """Returns a moment as local date and time."""
+    return time.strftime("%Y-%m-%d %H:%M:%S", time.localtime(moment))
 
 
 class Log:
@@ -14,10 +20,8 @@ class Log:
 
     def say(self, text: str) -> None:
         now = time.strftime("%Y-%m-%dT%H:%M:%S%z")
-        try:
+        with suppress(OSError):  # nobody reads it
             print(f"elephant-mount {now}: {text}", file=sys.stderr, flush=True)
-        except OSError:
-            pass  # nobody reads it
 
     def say_once(self, text: str) -> None:
         """Writes a text unless it was written within the last minute."""

@@ -15,7 +15,6 @@ from typing import Any, Callable, Optional
 
 import pyfuse3
 
-
 # How long a loop that is to end still answers the kernel, in seconds.
 LONGEST_END = 2.0
 

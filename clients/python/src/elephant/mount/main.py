@@ -4,8 +4,8 @@ from __future__ import annotations
 
 import argparse
 import errno
+import importlib
 import os
-import re
 import signal
 import subprocess
 import sys
@@ -13,20 +13,25 @@ from typing import Optional
 
 from .._answers import Limits
 from .._errors import ElephantError, JournalLocked
-from .client import ask, mount_of
-from .names import spelled
+from .client import ask, undo_line
+from .wording import line_of, words_of
 
 _DESCRIPTION = "Mounts a folder that keeps each save of each file as a version, and sends lines to a mounted one."
+_EPILOG = "elephant-mount move OLD NEW makes a new journal with what OLD has now, and --past OLD then shows OLD's past beside it."
 _MISSING = "elephant-mount: {}: on Debian, 'apt-get install python3-pyfuse3 fuse3' installs it, for /usr/bin/python3"
 
 
 def _parser() -> argparse.ArgumentParser:
-    words = argparse.ArgumentParser(prog="elephant-mount", description=_DESCRIPTION)
+    words = argparse.ArgumentParser(prog="elephant-mount", description=_DESCRIPTION, epilog=_EPILOG)
     words.add_argument("folder", metavar="FOLDER", nargs="?", help="an empty folder, where the files appear")
     words.add_argument("--journal", metavar="FILE", help="the file that keeps all of it; it is made if it doesn't exist")
     words.add_argument("--every", type=float, default=0, metavar="MINUTES", help="make versions of files that stay open, as often as this")
     words.add_argument("--clean-every", type=float, default=60, metavar="SECONDS", help="remove what is due, as often as this; 0: never")
+    words.add_argument("--no-guard", action="store_true", help="remove what is due at once, also after a mount, and however much it is")
     words.add_argument("--allow-other", action="store_true", help="let other users in, as far as the modes let them")
+    words.add_argument("--read-only", action="store_true", help="only look: nothing is written or removed, and the clock is stopped")
+    words.add_argument("--moment", metavar="TIME", help="with --read-only: the moment of the stopped clock, if not the journal's last one")
+    words.add_argument("--past", action="append", default=[], metavar="FILE", help="an older journal whose past is shown too, read only")
     words.add_argument("--limit", action="append", default=[], metavar="NAME=NUMBER", help="a smaller limit, as files=1000")
     words.add_argument("--at", nargs=argparse.REMAINDER, metavar="FOLDER LINE", help="send a line to the mount, and print its answer")
     return words
@@ -50,12 +55,16 @@ def main(argv: Optional[list[str]] = None) -> int:
             print("elephant-mount: --at takes a FOLDER and a LINE", file=sys.stderr)
             return 2
         return send(words[1], words[2:])
+    if words[:1] == ["move"]:
+        return _move(words[1:])
     parser = _parser()
     asked = parser.parse_args(words)
     if asked.at is not None:
         parser.error("--at stands alone, with FOLDER and LINE after it")
     if not asked.folder or not asked.journal:
         parser.error("give a FOLDER and --journal FILE, or --at FOLDER LINE")
+    if asked.moment is not None and not asked.read_only:
+        parser.error("--moment is for a mount with --read-only; else time is the time of day")
     return run(asked)
 
 
@@ -64,11 +73,15 @@ def main(argv: Optional[list[str]] = None) -> int:
 
 def send(folder: str, words: list[str]) -> int:
     """Sends a line and prints its answer. The status is 0 if it was answered `ok`, else 1."""
-    words = " ".join(words).split(" ") if len(words) == 1 and not words[0].startswith("undo ") else list(words)
+    typed = words[0] if len(words) == 1 else ""
     try:
-        if words[0].startswith("undo"):
-            words = _undo_words(folder, words)
-        answer = ask(folder, " ".join(words))
+        words = words_of(typed) if typed else list(words)
+        if words[0] == "undo":
+            words = undo_line(folder, typed, [it for it in words if it])
+        answer = ask(folder, line_of(words))
+    except ValueError as fault:
+        print(f"elephant-mount: {fault}", file=sys.stderr)
+        return 2
     except OSError as fault:
         print(f"elephant-mount: {folder} is no mounted folder of elephant-mount: {fault.strerror or fault}", file=sys.stderr)
         return 2
@@ -76,23 +89,18 @@ def send(folder: str, words: list[str]) -> int:
     return 0 if answer.startswith("ok") else 1
 
 
-def _undo_words(folder: str, words: list[str]) -> list[str]:
-    """Spells the file of an `undo`, whose path is relative to the working directory or to FOLDER."""
-    if len(words) == 1:
-        _, *words = re.split(r" +", words[0], maxsplit=1)
-        words = ["undo", *words]
-        found = re.fullmatch(r"(.*) (\d{4}-\d\d-\d\d\S*|\d+)", words[1]) if len(words) > 1 else None
-        if found:
-            words = ["undo", found[1], found[2]]
-    if len(words) < 2:
-        return words
-    top, file = mount_of(folder), words[1]
-    for place in (os.path.abspath(file), os.path.abspath(os.path.join(folder, file.lstrip("/")))):
-        parent = os.path.realpath(os.path.dirname(place))
-        if (parent + "/").startswith(top + "/"):
-            names = os.fsencode(os.path.relpath(os.path.join(parent, os.path.basename(place)), top)).split(b"/")
-            return ["undo", "/" + "/".join(spelled(it).decode() for it in names), *words[2:]]
-    return words
+def _move(words: list[str]) -> int:
+    """Goes on in a new journal, and returns the status."""
+    from .moving import move
+
+    if len(words) != 2:
+        print("elephant-mount: move takes an OLD journal and the path of a NEW one", file=sys.stderr)
+        return 2
+    try:
+        print(f"ok {move(*words)}")
+    except (ElephantError, OSError) as fault:
+        return _refuse(getattr(fault, "subject", "") or str(fault))
+    return 0
 
 
 # Mounting.
@@ -106,19 +114,23 @@ def _refuse(text: str) -> int:
 def run(asked: argparse.Namespace) -> int:
     """Mounts a folder, and returns when it is unmounted."""
     try:
-        import pyfuse3  # noqa: F401
+        importlib.import_module("pyfuse3")
     except ImportError as lack:
         return _refuse(_MISSING.format(lack).partition(": ")[2])
     if not os.path.exists("/dev/fuse"):
         return _refuse("there is no /dev/fuse on this machine: FUSE is not in its kernel, or not let into this container")
     folder, journal = os.path.realpath(asked.folder), os.path.realpath(asked.journal)
+    older = tuple(os.path.realpath(it) for it in asked.past)
     fault = _place_fault(folder, journal)
+    if journal in older:
+        fault = f"{journal} is the folder's own journal, and no older one"
     if fault:
         return _refuse(fault)
-    from .mounting import Mount
+    from .mounting import Asked, Mount
 
     try:
-        mount = Mount(folder, journal, _limits(asked.limit), asked.clean_every, asked.every)
+        times = asked.clean_every, asked.every
+        mount = Mount(Asked(folder, journal, _limits(asked.limit), *times, asked.read_only, older, not asked.no_guard, asked.moment))
     except JournalLocked:
         return _refuse(f"{journal} is mounted already, or another program has it open")
     except (ElephantError, OSError) as lack:

@@ -6,53 +6,100 @@ import gc
 import os
 import threading
 from contextlib import suppress
+from typing import NamedTuple, Optional
 
 import pyfuse3
 
 from .._answers import Limits
-from .._errors import ElephantError
+from .._errors import ClockDoubt, ElephantError
+from .ages import Ages
 from .contents import Contents
 from .control import Changes, Control, Lines
 from .disk import sync_all
 from .keeper import Keeper
 from .log import Log
-from .names import shown
 from .loop import Loop
+from .names import shown
 from .naming import Naming
 from .operations import Operations
-from .past import Past
+from .past import text_of
 from .rewriting import Rewriting
-from .store import MountStore, NoSpace
+from .soon import Soon
+from .store import CLOCK_IS_RIGHT, READ_ONLY, MountStore, NoSpace
 from .tree import Directory, Tree
+
+
+class Asked(NamedTuple):
+    """What a command asks for. `older` are the journals that a mount shows the past of, beside its own. `moment` is where the time of a
+    mount stands that is read only, if not at the journal's last moment."""
+
+    folder: str
+    journal: str
+    limits: Limits = Limits()
+    clean_every: float = 60.0
+    every: float = 0.0
+    is_read_only: bool = False
+    older: tuple[str, ...] = ()
+    is_guarded: bool = True
+    moment: Optional[str] = None
 
 
 class Mount:
     """A folder and its journal. Making it opens the journal; `run` mounts it, and returns when it is unmounted."""
 
-    def __init__(self, folder: str, journal: str, limits: Limits, clean_every: float, every: float) -> None:
-        self.folder, self.log, self.loop = folder, Log(), Loop()
-        self.store = MountStore(journal, limits)
+    def __init__(self, asked: Asked) -> None:
+        self.folder, self.log, self.loop = asked.folder, Log(), Loop()
+        self.store = MountStore(asked.journal, asked.limits, asked.is_read_only, at=asked.moment)
         self._say_recovered()
         self.tree = Tree(self.store)
         self.contents = Contents(self.store, self.tree)
         self.naming = Naming(self.store, self.tree, self.contents)
-        self.past = Past(self.store, self.tree, b"")
+        self.past = Ages(self.store, self.tree, b"", [MountStore(it, read_only=True) for it in asked.older])
         self.operations = Operations(self.store, self.tree, self.contents, self.naming, self.past, self.log)
         self.lines = Lines(self.operations)
-        self.control = Control(self.lines, journal, self._tell_kernel)
+        # One that only reads has a socket of its own: another mount may write the journal.
+        self.control = Control(self.lines, f"{asked.journal} in {asked.folder}" if asked.is_read_only else asked.journal, self._tell_kernel)
         self.past.socket = os.fsencode(self.control.path)
-        self.rewriting = Rewriting(self.operations, self.log, every > 0)
-        self.keeper = Keeper(self.operations, self.rewriting, self.log, self._tell_kernel, clean_every, every)
-        self.lines.more = {"rewrite": self.rewriting.run_and_tell, "clean all": self._clean_all}
+        self.rewriting = Rewriting(self.operations, self.log)
+        every = asked.clean_every, asked.every
+        self.keeper = Keeper(self.operations, self.rewriting, self.log, self._tell_kernel, *every, asked.is_guarded)
+        self.lines.more = {
+            "rewrite": self.rewriting.run_and_tell, "clean all": self._clean_all, "dump": self._dump, "time": self._time,
+            CLOCK_IS_RIGHT: self._trust_clock,
+        }
+        self._show_removals(asked.clean_every > 0 and not asked.is_read_only)
         self._is_mounted, self._is_ending = False, False
 
+    def _show_removals(self, has_cleaning: bool) -> None:
+        soon = Soon(self.keeper.cleaner, has_cleaning)
+        self.past.texts.update({"soon": soon.soon, "restorable-until": soon.until})
+        self.past.notes = soon.notes
+
     def _clean_all(self) -> str:
-        return f"ok removed {self.keeper.clean()}\n"
+        if self.store.is_read_only:
+            return f"elephant-mount: {READ_ONLY}\n"
+        try:
+            return f"ok removed {self.keeper.cleaner.clean_all()}\n"
+        except ClockDoubt as fault:
+            return f"elephant-mount: {fault.subject}\n"
+
+    def _dump(self) -> str:
+        with self.operations.lock:
+            lines = list(self.store.dump())
+        return f"ok dump {len(lines)}\n" + "".join(f"{it}\n" for it in lines)
+
+    def _time(self) -> str:
+        """Answers what time it is, and whether that can be believed."""
+        return self.keeper.cleaner.time()
+
+    def _trust_clock(self) -> str:
+        return f"elephant-mount: {READ_ONLY}\n" if self.store.is_read_only else self.keeper.cleaner.trust_clock()
 
     def _say_recovered(self) -> None:
         recovered = self.store.recovered
         if recovered.cut:
-            self.log.say(f"the journal ended in the middle of a change: {recovered.cut} bytes were cut off")
+            what = "are left out" if self.store.is_read_only else "were cut off"
+            self.log.say(f"the journal ended in the middle of a change: {recovered.cut} bytes {what}")
         for path, version in recovered.closed:
             if version is not None:
                 self.log.say(f"{path} was being written: what was synced is version {version}")
@@ -60,6 +107,7 @@ class Mount:
     def run(self, allows_others: bool) -> int:
         """Mounts the folder and answers the kernel until it is unmounted."""
         options = {"fsname=elephant", "subtype=elephant", "default_permissions", *["allow_other"] * allows_others}
+        options |= {"ro"} if self.store.is_read_only else set()
         self.loop.install()
         _collect_rarely()
         try:
@@ -70,8 +118,12 @@ class Mount:
             return 1
         self._is_mounted = True
         self.control.start()
-        self.keeper.start()
-        self.log.say(f"{self.folder} is mounted, with {len(self.tree.files)} files; 'fusermount3 -u {self.folder}' ends it")
+        if not self.store.is_read_only:
+            self.keeper.cleaner.begin()
+            self.keeper.start()
+        kind = f"read-only, as of {text_of(int(self.store.now))}" if self.store.is_read_only else "mounted"
+        self.log.say(f"{self.folder} is {kind}, with {len(self.tree.files)} files; 'fusermount3 -u {self.folder}' ends it")
+        self.operations.say_ends()
         try:
             self.loop.run()
         finally:
@@ -98,11 +150,15 @@ class Mount:
         """Makes versions of the open drafts, and closes the journal. Returns whether the journal has everything."""
         self.control.stop()
         self.keeper.stop()
+        self.past.close()
+        if self.store.is_read_only:
+            self.store.close()
+            return True
         with self.operations.lock:
             if self.store.stopped:
                 self.store.retry()
             faults = [f"{shown(node.path)}: {fault}" for node, fault in self.contents.settle_all()]
-            for last in (self._close_readers, self.store.release_reserve, self.store.close):
+            for last in (self._close_readers, self.keeper.cleaner.release_all, self.store.release_reserve, self.store.close):
                 try:
                     last()
                 except (ElephantError, NoSpace, OSError) as fault:
@@ -119,14 +175,12 @@ class Mount:
     def _tell_kernel(self, changes: Changes) -> None:
         """Makes the kernel drop its cache of what a line changed. Call it without the lock: the kernel may send requests meanwhile."""
         for node, name in changes:
-            try:
+            with suppress(OSError):  # the kernel doesn't know it
                 if name is None:
                     pyfuse3.invalidate_inode(node.ino)
                 elif isinstance(node, Directory):
                     pyfuse3.invalidate_entry(node.ino, name)
                     pyfuse3.invalidate_inode(node.ino, attr_only=True)
-            except OSError:
-                pass  # the kernel doesn't know it
 
 
 def _collect_rarely() -> None:

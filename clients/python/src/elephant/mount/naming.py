@@ -1,9 +1,4 @@
-"""The changes of names in a mount: making, linking, removing and renaming, and how a name keeps its past when an editor saves.
-
-Editors save in three ways. Some write over the file, which makes a version anyway. Some write a new file and rename it over the old one:
-`rename` makes the new file's content the next version of the old file. Some rename or delete the old file and make a new one: `create`
-restores the old file's name for the new content, and makes another file of the renamed one.
-"""
+"""The changes of names in a mount: making, linking, removing, renaming and exchanging, and the changes of attributes."""
 
 from __future__ import annotations
 
@@ -13,19 +8,16 @@ import time
 from collections.abc import Sequence
 from typing import Optional, Union
 
-from .._errors import ElephantError, Refused
+from .._errors import ElephantError
+from .._names import MOST_NAMES
 from . import records
-from .contents import Contents, Limited
-from .names import MOST_NAMES, TooLong, shown
+from .contents import Limited
+from .going_on import GoingOn, key_of
+from .names import TooLong, shown
 from .records import Attributes, directory_key, file_key
-from .store import MountStore, Remarks
-from .tree import Directory, File, Node, Tree
+from .store import Remarks
+from .tree import Directory, File, Node
 
-# How long after the end of a name a new file of that name continues the past of the old one, in seconds.
-GOES_ON = 2.0
-MOST_LEFT = 64
-# A file that was made and written once has the empty version 1 and one more.
-FRESH = 2
 NO_REPLACE, EXCHANGE = 1, 2
 # The limit of the names and values of a file's extended attributes, in bytes, about as on ext4.
 MOST_EXTENDED = 4000
@@ -38,15 +30,8 @@ class TooMuch(OSError):
         super().__init__(errno.ENOSPC, reason)
 
 
-def key_of(node: Node) -> int:
-    return directory_key(node.number) if isinstance(node, Directory) else file_key(node.number)
-
-
-class Naming:
+class Naming(GoingOn):
     """Changes names, in the store and in the tree."""
-
-    def __init__(self, store: MountStore, tree: Tree, contents: Contents) -> None:
-        self.store, self.tree, self.contents = store, tree, contents
 
     # Making.
 
@@ -63,13 +48,6 @@ class Naming:
     def _require_free(parent: Directory, name: bytes) -> None:
         if name in parent.children:
             raise FileExistsError(errno.EEXIST, shown(name))
-
-    def _touch(self, now: int, *nodes: Node) -> None:
-        for node in nodes:
-            node.attributes.ctime = now
-            if isinstance(node, Directory):
-                node.attributes.mtime = now
-            node.entry = None
 
     def mkdir(self, parent: Directory, name: bytes, mode: int, owner: int, group: int) -> Directory:
         """Makes a directory."""
@@ -88,13 +66,12 @@ class Naming:
         self._require_free(parent, name)
         path = parent.path_of_new(name)
         made = self._new(parent, mode, owner, group)
-        found = self._past_of(parent, name) if stat.S_ISREG(mode) else None
-        if found is not None:
-            with self.store.together():
-                if isinstance(found, File):
-                    return self._take_over(parent, name, made, found)
-                if self._revive(path, found):
-                    return self._go_on(parent, name, made, found)
+        past = self._past_of(parent, name) if stat.S_ISREG(mode) else None
+        if past is not None:
+            with self._one_change():
+                before = self._bring_back(path, past)
+                if before:
+                    return self._go_on(parent, name, made, before)
         number = self.store.run((b"create", path), remarks=lambda it: [records.made(file_key(it), key_of(parent), made)])
         return self._added(parent, name, number, made)
 
@@ -103,71 +80,6 @@ class Naming:
         node = self.tree.new_file(number)
         node.born = time.monotonic()
         self.tree.add(parent, name, node)
-        self._touch(made.ctime, parent)
-        return node
-
-    def _leave(self, parent: Directory, name: bytes, file: Union[File, int]) -> None:
-        """Notes that a name of a regular file ended, so that a new file may continue its past.
-
-        A file that was made and renamed at once had its name only while it was written: its past isn't the name's.
-        """
-        if isinstance(file, File) and (not file.is_regular or time.monotonic() - file.born < GOES_ON):
-            return
-        parent.left[name] = file, time.monotonic()
-        if len(parent.left) > MOST_LEFT:
-            del parent.left[next(iter(parent.left))]
-
-    def _past_of(self, parent: Directory, name: bytes) -> Optional[Union[File, int]]:
-        """Returns the file, or the number of the file, whose past a new file of a name that ended just now continues."""
-        file, moment = parent.left.pop(name, (0, 0.0))
-        if not file or time.monotonic() - moment > GOES_ON:
-            return None
-        if isinstance(file, File) and (len(file.names) != 1 or file.draft is not None):
-            return None
-        if file in self.tree.files:  # an undo has restored it, by another of its names
-            return None
-        drafts = len(self.contents.drafts)
-        lacks = self.store.counts.lacking(files=1, names=2, versions=3 + drafts, handles=2 + drafts)
-        return None if lacks else file
-
-    def _revive(self, path: bytes, number: int) -> bool:
-        """Restores a name. Returns whether it is again that of the file with this number."""
-        try:
-            version = self.store.run((b"undelete", path))
-        except Refused:
-            return False
-        self.store.counts.used["versions"] += bool(version)
-        row = self.store.stat_row(path)
-        if not row.is_directory and row.id == number:
-            return True
-        self.store.run((b"rmdir" if row.is_directory else b"unlink", path))
-        return False
-
-    def _take_over(self, parent: Directory, name: bytes, made: Attributes, old: File) -> File:
-        """Restores a file's name for a new content. The renamed node gets another file with the old content."""
-        path, away = parent.path_of(name), old.path
-        number = old.number
-        content = self.contents.whole(old)
-        self.contents.forget_read()
-        kept = old.attributes
-        # The folder of the renamed file is as it was before.
-        copy = self.store.run((b"rename", away, path), (b"create", away), remarks=lambda it: records.everything(file_key(it), kept))
-        self.tree.give_number(old, copy)
-        old.version = 1
-        if content:
-            handle = self.store.write_draft(away, None, content, True, (records.whole(file_key(copy), kept),))
-            old.version = self.store.close_draft(handle)
-        return self._go_on(parent, name, made, number)
-
-    def _go_on(self, parent: Directory, name: bytes, made: Attributes, number: int) -> File:
-        """Makes a new node of a file that has a past. It is empty, and its first content is the file's next version."""
-        self.store.records.by_key[file_key(number)] = made
-        self.store.keep(records.made(file_key(number), key_of(parent), made))
-        row = self.store.stat_row(parent.path_of(name))
-        node = self.tree.new_file(number, row.length, row.version)
-        self.tree.add(parent, name, node)
-        self.contents.begin(node, is_cut=True)
-        node.is_unsaved = True
         self._touch(made.ctime, parent)
         return node
 
@@ -192,6 +104,10 @@ class Naming:
             raise FileNotFoundError(errno.ENOENT, "the file has no name any more")
         self._require_free(parent, name)
         path, now = parent.path_of_new(name), records.now_ns()
+        if node.is_regular and len(node.names) == 1 and self._is_new(node):
+            past = self._past_of(parent, name)
+            if past is not None and past is not node and self._link_over(node, parent, name, past, now):
+                return node
         self.store.run((b"link", node.path, path), remarks=lambda _: [records.names_changed(now, key_of(parent), key_of(node))])
         self.tree.add(parent, name, node)
         self._touch(now, parent, node)
@@ -211,15 +127,15 @@ class Naming:
         node = self.child(parent, name)
         if isinstance(node, Directory):
             raise IsADirectoryError(errno.EISDIR, shown(name))
+        has_past = node.is_regular and (node.draft is None or node.version > 1) and self._set_down(node)
         if len(node.names) == 1:
             self.contents.hold(node)
         now = records.now_ns()
-        has_past = node.is_regular and len(node.names) == 1 and not node.opens and node.draft is None
         path = parent.path_of(name)
         self.store.run((b"unlink", path), remarks=lambda _: [records.names_changed(now, key_of(parent), key_of(node))])
         self._gone(parent, name, now)
-        if has_past:
-            self._leave(parent, name, node.number)
+        if has_past and len(node.names) < 2:
+            self._leave(parent, name, node if node.names else node.number)
         return node
 
     def _gone(self, parent: Directory, name: bytes, now: int) -> None:
@@ -257,7 +173,8 @@ class Naming:
         self._require_place(node, new_parent, found, new_name)
         now = records.now_ns()
         if found is None:
-            self._move(parent, name, new_parent, new_name, now)
+            if not self._move_over_past(parent, name, new_parent, new_name, now):
+                self._move(parent, name, new_parent, new_name, now)
         elif isinstance(found, File) and isinstance(node, File) and self._can_merge(node, found):
             self._merge(parent, name, new_parent, new_name, now)
         else:
@@ -312,33 +229,6 @@ class Naming:
     def _touch_moved(now: int, node: Node) -> None:
         node.attributes.ctime, node.entry = now, None
 
-    def _can_merge(self, node: File, found: File, versions: int = 1) -> bool:
-        """Whether the content of a file can become the next version of another, which it is renamed over."""
-        alone = all(it.is_regular and len(it.names) == 1 and not it.opens and it.draft is None for it in (node, found))
-        most = versions + len(self.contents.drafts)
-        return alone and self.store.counts.lacking(versions=most, handles=most) is None
-
-    def _merge(self, parent: Directory, name: bytes, new_parent: Directory, new_name: bytes, now: int) -> None:
-        """Makes a file's content the next version of the file of the new name. The node of the first gets that file."""
-        node, found = parent.children[name], new_parent.children[new_name]
-        assert isinstance(node, File) and isinstance(found, File)
-        path, new_path, number = parent.path_of(name), new_parent.path_of(new_name), found.number
-        content = self.contents.whole(node)
-        self.contents.forget_read()
-        node.attributes.ctime = now
-        source, is_fresh = node.number, node.version <= FRESH
-        version = self.store.replace_content(new_path, path, content, is_fresh, (
-            records.names_changed(now, key_of(parent), key_of(new_parent), key_of(node)),
-            *records.everything(file_key(number), node.attributes),
-        ))
-        self.tree.remove(new_parent, new_name)
-        self.tree.move(parent, name, new_parent, new_name)
-        self.tree.give_number(node, number)
-        node.version, node.born = version or found.version, found.born
-        self._touch(now, parent, new_parent, node, found)
-        if not is_fresh:
-            self._leave(parent, name, source)
-
     def _replace(
         self, parent: Directory, name: bytes, new_parent: Directory, new_name: bytes, now: int, path: bytes, new_path: bytes
     ) -> None:
@@ -373,14 +263,14 @@ class Naming:
     # Exchanging.
 
     def _exchange(self, parent: Directory, name: bytes, new_parent: Directory, new_name: bytes) -> None:
-        """Exchanges the nodes of two names. Each name's past continues, if both are the only names of files that are closed."""
+        """Exchanges the nodes of two names. Each name's past continues, if both are the only names of files."""
         node, found = self.child(parent, name), self.child(new_parent, new_name)
         if found is node:
             return
         self._require_below(node, new_parent, new_name)
         self._require_below(found, parent, name)
         now = records.now_ns()
-        if isinstance(node, File) and isinstance(found, File) and self._can_merge(node, found, 2):
+        if isinstance(node, File) and isinstance(found, File) and self._can_exchange(node, found):
             with self.store.together():
                 self.store.keep(records.names_changed(now, key_of(parent), key_of(new_parent)))
                 self._exchange_contents(parent.path_of(name), node, new_parent.path_of(new_name), found, now)
@@ -441,4 +331,3 @@ class Naming:
         if isinstance(node, File) and not node.names:
             return
         self.store.keep(records.whole(key_of(node), it))
-

@@ -14,8 +14,9 @@ from .._errors import ElephantError, Forgotten
 from .answering import Answering, answered, changing
 from .contents import Contents
 from .log import Log
+from .names import NAME, shown
 from .naming import Naming
-from .past import NAME, Past, PastNode, Source
+from .past import Past, PastNode, Source, is_lasting
 from .store import MountStore
 from .tree import ROOT, Directory, File, Node, Tree
 
@@ -24,6 +25,7 @@ LASTING = 86_400.0
 FIRST_PAST_HANDLE = 1 << 60
 NAME_MAX = 64
 USER = b"user."
+MOST_SAID = 5
 _CHANGES = os.O_ACCMODE | os.O_TRUNC
 
 
@@ -55,11 +57,21 @@ class Operations(Answering):
         self.tree, self.contents, self.naming, self.past = tree, contents, naming, past
         self.by_ino = tree.by_ino
         self.past_handles: dict[int, PastHandle] = {}
+        self.kept_readers: set[int] = set()
+        """The store's handles for versions that wait for their removal."""
         self._listings: dict[int, Listing] = {}
         self.untold: list[tuple[Node, Optional[bytes]]] = []
         """Changes of the tree without a request of the kernel. Another thread has to report them, as the kernel may send requests
         meanwhile."""
         self._next_handle = FIRST_PAST_HANDLE
+        self._say_odd_names()
+
+    def _say_odd_names(self) -> None:
+        """Logs which names have another spelling than the mount's: programs that look for them by their own won't find them."""
+        odd = [folder.path + b"/" + it for folder in (self.tree.root, *self.tree.directories()) for it in folder.odd.values()]
+        if odd:
+            more = f", and {len(odd) - MOST_SAID} more" if len(odd) > MOST_SAID else ""
+            self.log.say(f"names that a folder can't show are shown as they are spelled: {' '.join(map(shown, odd[:MOST_SAID]))}{more}")
 
     def follow_store(self) -> None:
         self.untold += self.tree.refresh()
@@ -111,28 +123,41 @@ class Operations(Answering):
 
     # The four most frequent requests are answered here, and their unusual cases below: one more call costs a reader a fifth.
 
+    # Without memory they fail as the others do: an exception of another kind would end the mount.
+
     async def lookup(self, ino: int, name: bytes, context: Any) -> Any:
-        with self.lock:
-            parent = self.by_ino.get(ino)
-            node = parent.children.get(name) if parent.__class__ is Directory else None  # type: ignore[union-attr]
-            if node is not None:
-                node.lookups += 1
-                return node.entry or self._entry(node)
+        try:
+            with self.lock:
+                parent = self.by_ino.get(ino)
+                node = parent.children.get(name) if type(parent) is Directory else None
+                if node is not None:
+                    entry = node.entry or self._entry(node)
+                    node.lookups += 1
+                    return entry
+        except MemoryError:
+            raise pyfuse3.FUSEError(errno.ENOMEM) from None
         return await self._lookup(ino, name)
 
     async def getattr(self, ino: int, context: Any) -> Any:
-        with self.lock:
-            node = self.by_ino.get(ino)
-            if node is not None:
-                return node.entry or self._entry(node)
+        try:
+            with self.lock:
+                node = self.by_ino.get(ino)
+                if node is not None:
+                    return node.entry or self._entry(node)
+        except MemoryError:
+            raise pyfuse3.FUSEError(errno.ENOMEM) from None
         return await self._getattr(ino)
 
     async def open(self, ino: int, flags: int, context: Any) -> Any:
-        with self.lock:
-            node = self.by_ino.get(ino)
-            if not flags & _CHANGES and node.__class__ is File and node.names:  # type: ignore[union-attr]
-                node.opens += 1  # type: ignore[union-attr]
-                return node.info or self._reading_info(node)  # type: ignore[union-attr, arg-type]
+        try:
+            with self.lock:
+                node = self.by_ino.get(ino)
+                if not flags & _CHANGES and type(node) is File and node.names:
+                    info = node.info or self._reading_info(node)
+                    node.opens += 1
+                    return info
+        except MemoryError:
+            raise pyfuse3.FUSEError(errno.ENOMEM) from None
         return await self._open(ino, flags)
 
     async def flush(self, handle: int) -> None:
@@ -143,8 +168,8 @@ class Operations(Answering):
         if not handle & 1:
             with self.lock:
                 node = self.by_ino.get(handle >> 1)
-                if node is not None and node.names:  # type: ignore[attr-defined]
-                    node.opens -= 1  # type: ignore[attr-defined]
+                if type(node) is File and node.names:
+                    node.opens -= 1
                     return
         await self._release(handle)
 
@@ -175,6 +200,8 @@ class Operations(Answering):
     def _lookup_past(self, parent: PastNode, name: bytes) -> Any:
         node = self.past.lookup(parent, name)
         entry = self._past_entry(node)
+        if parent.key == ("at",) and not is_lasting(name):
+            entry.entry_timeout = 0  # "2 hours ago" is soon another moment
         node.lookups += 1
         return entry
 
@@ -309,6 +336,11 @@ class Operations(Answering):
     def _info(handle: int, keep_cache: bool) -> Any:
         return pyfuse3.FileInfo(fh=handle, keep_cache=keep_cache)
 
+    def _file(self, handle: int) -> File:
+        node = self.by_ino[handle >> 1]
+        assert isinstance(node, File)
+        return node
+
     def _opened(self, node: File, flags: int) -> int:
         writes = flags & os.O_ACCMODE != os.O_RDONLY
         node.opens += 1
@@ -339,13 +371,14 @@ class Operations(Answering):
         if flags & os.O_ACCMODE != os.O_RDONLY or flags & os.O_TRUNC:
             raise OSError(errno.EROFS, "")
         try:
-            source = None if node.key == ("limits",) else self.past.source(node)
+            source = None if node.key[0] in self.past.texts else self.past.source(node)
             content = self.past.content(node)
         except (ElephantError, OSError) as fault:
-            is_lost = node.key[0] == "dead" and not node.key[-1] and not isinstance(fault, Forgotten)
-            raise OSError(errno.ENODATA, "") if is_lost else fault
+            if node.key[0] == "dead" and not node.key[-1] and not isinstance(fault, Forgotten):
+                raise OSError(errno.ENODATA, "") from fault
+            raise
         self._next_handle += 1
-        self.past_handles[self._next_handle] = PastHandle(node, source, content)
+        self.past_handles[self._next_handle] = PastHandle(node, source if self.past.can_lose(node) else None, content)
         node.opens += 1
         # The kernel caches no page of the only text that changes.
         return pyfuse3.FileInfo(fh=self._next_handle, keep_cache=True) if source else pyfuse3.FileInfo(fh=self._next_handle, direct_io=True)
@@ -362,21 +395,21 @@ class Operations(Answering):
     def read(self, handle: int, offset: int, size: int) -> bytes:
         if handle >= FIRST_PAST_HANDLE:
             return self.past_handles[handle].content[offset:offset + size]
-        return self.contents.read(self.by_ino[handle >> 1], offset, size)
+        return self.contents.read(self._file(handle), offset, size)
 
     @changing
     def write(self, handle: int, offset: int, data: bytes) -> int:
-        return self.contents.write(self.by_ino[handle >> 1], offset, data)
+        return self.contents.write(self._file(handle), offset, data)
 
     @answered
     def _flush(self, handle: int) -> None:
         if handle < FIRST_PAST_HANDLE:
-            self.contents.save(self.by_ino[handle >> 1])
+            self.contents.save(self._file(handle))
 
     @answered
     def _release(self, handle: int) -> None:
         if handle < FIRST_PAST_HANDLE:
-            self.contents.closed(self.by_ino[handle >> 1], bool(handle & 1))
+            self.contents.closed(self._file(handle), bool(handle & 1))
             return
         opened = self.past_handles.pop(handle)
         opened.node.opens -= 1
@@ -387,8 +420,12 @@ class Operations(Answering):
     @answered
     def fsync(self, handle: int, only_data: bool) -> None:
         if handle < FIRST_PAST_HANDLE:
-            self.contents.save(self.by_ino[handle >> 1])
+            self.contents.save(self._file(handle))
             self.store.sync_journal()
+
+    def open_past(self) -> list[PastNode]:
+        """Returns the nodes of the past that programs have open."""
+        return [opened.node for opened in self.past_handles.values()]
 
     def hold_past(self) -> bool:
         """Opens handles of the store for the versions that open files of the past read. Returns whether it opened another one.
@@ -418,10 +455,10 @@ class Operations(Answering):
     @answered
     def opendir(self, ino: int, context: Any) -> int:
         node = self._node(ino)
-        if isinstance(node, File):
+        if not isinstance(node, (Directory, PastNode)):
             raise OSError(errno.ENOTDIR, "")
         self._next_handle += 1
-        self._listings[self._next_handle] = Listing(node, [])  # type: ignore[arg-type]
+        self._listings[self._next_handle] = Listing(node, [])
         return self._next_handle
 
     @answered

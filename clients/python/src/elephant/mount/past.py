@@ -3,6 +3,8 @@
     .elephant/at/2026-11-27T08:00:00Z/PATH    what PATH held at that moment
     .elephant/versions/PATH/2                 version 2 of the file PATH
     .elephant/restorable/PATH                 what a deleted file held last
+    .elephant/restorable-until                until when each deleted file can be brought back, as text
+    .elephant/soon                            what is removed within a week, as text
     .elephant/limits                          how much of each limit is used and left, as text
     .elephant/socket                          a link to the socket that takes lines
 
@@ -13,20 +15,21 @@ from __future__ import annotations
 
 import errno
 import stat
+from collections.abc import Callable
+import time
 from datetime import datetime, timezone
 from typing import Any, NamedTuple, Optional
 
-from .._errors import ElephantError, Forgotten
+from .._errors import BadTime, ElephantError, Forgotten, NoEntry
 from .._library import AT, VERSION
-from .._moments import LAST_MOMENT
-from .names import name_in, spelled
-from .records import Attributes, directory_key, file_key
+from .._times import read_time
+from .names import TooLong, name_in, names_of, spelled
+from .records import DIRECTORY_MODE, FILE_MODE, Attributes, directory_key, file_key
 from .store import MountStore
 from .tree import Directory, Tree
 
-NAME = b".elephant"
 FIRST_INO = 1 << 48
-PARTS = (b"at", b"limits", b"restorable", b"socket", b"versions")
+PARTS = (b"at", b"limits", b"restorable", b"restorable-until", b"socket", b"soon", b"versions")
 _WORDS: dict[bytes, tuple[object, ...]] = {b"versions": (b"",), b"restorable": (0,)}
 # The kinds of files: by a moment, by the number of a version, and deleted ones.
 FILES = ("then", "version", "dead")
@@ -66,20 +69,17 @@ class Source(NamedTuple):
     number: int
 
 
-def moment_of(name: bytes) -> int:
-    """Returns the moment that a name of the folder `at` spells: seconds since 1970, or a date and time; without a zone it is local."""
-    text = name.decode("ascii", "replace")
+def moment_of(name: bytes, now: Optional[int] = None) -> int:
+    """Returns the moment that a name of the folder `at` spells: a time as people type it."""
     try:
-        if text.isdigit():
-            seconds = int(text)
-        else:
-            when = datetime.fromisoformat(text[:-1] + "+00:00" if text[-1:] in "Zz" else text)
-            seconds = int((when if when.tzinfo else when.astimezone()).timestamp())
-    except (ValueError, OverflowError):
-        raise FileNotFoundError(errno.ENOENT, f"{text} is no moment") from None
-    if not 0 <= seconds <= LAST_MOMENT:
-        raise FileNotFoundError(errno.ENOENT, f"{text} is no moment")
-    return seconds
+        return read_time(name.decode("utf-8", "replace"), int(time.time()) if now is None else now).moment
+    except BadTime as fault:
+        raise FileNotFoundError(errno.ENOENT, str(fault)) from None
+
+
+def is_lasting(name: bytes) -> bool:
+    """Whether a name of the folder `at` means one moment, whenever it is asked for."""
+    return name.lstrip(b"@").isdigit() or name[:5].endswith(b"-")
 
 
 def text_of(moment: int) -> str:
@@ -97,6 +97,10 @@ class Past:
         self._dead: dict[int, dict[bytes, Key]] = {}
         self._dead_paths: dict[int, bytes] = {}
         self._dead_seen = -1
+        self.texts: dict[str, Callable[[], bytes]] = {"limits": self.limits, "soon": bytes, "restorable-until": bytes}
+        """What the files hold that are texts."""
+        self.notes: Callable[[], str] = str
+        """More lines of the file `limits`."""
         self.root = self.node("root")
 
     def node(self, *key: object) -> PastNode:
@@ -145,19 +149,28 @@ class Past:
 
     def _find_at(self, words: list[object], name: bytes) -> Key:
         if not words:
-            moment = moment_of(name)
+            moment = moment_of(name, int(self.store.now))
             if moment > self.store.now:
                 raise FileNotFoundError(errno.ENOENT, "the moment is to come")
             return "at", moment, b""
-        moment_, path = words
-        assert isinstance(path, bytes)
-        return self._file_key("then", moment_, path + b"/" + spelled(name))
+        at, path = words
+        folder = _path(path)
+        try:
+            return self._file_key("then", at, folder + b"/" + spelled(name))
+        except (NoEntry, TooLong):
+            found = self._names_at(at, folder).get(name) if b"%" in name else None  # only then it may have another spelling
+            if found is None:
+                raise
+            return self._file_key("then", at, folder + b"/" + found)
+
+    def _names_at(self, moment: object, path: bytes) -> dict[bytes, bytes]:
+        """Returns the spellings in a folder at a moment, by the names that are shown."""
+        return names_of((it for it, _, _ in self.store.names_in(path or b"/", AT, _whole(moment))), not path)
 
     def _directory(self, path: object) -> Directory:
         directory = self.tree.root
-        assert isinstance(path, bytes)
-        for spelling in path.split(b"/")[1:]:
-            child = directory.children.get(name_in(spelling))
+        for spelling in _path(path).split(b"/")[1:]:
+            child = directory.child_of(spelling)
             if not isinstance(child, Directory):
                 raise FileNotFoundError(errno.ENOENT, "")
             directory = child
@@ -176,7 +189,7 @@ class Past:
             return second, AT, first
         if kind == "version":
             return first, VERSION, second
-        return self._dead_path(first) + b"/" + second, AT, max(self.store.ends.get((first, second), 0) - 1, 0)
+        return self._dead_path(first) + b"/" + second, AT, max(self.store.chronicle.last_end(first, second) - 1, 0)
 
     def _file_key(self, kind: object, first: object, second: object, wanted: object = None) -> Key:
         """Returns the key of the target of a path of the past. If a file's version isn't found, the version is 0."""
@@ -213,8 +226,8 @@ class Past:
 
     def content(self, node: PastNode) -> bytes:
         """Returns what a file holds."""
-        if node.key == ("limits",):
-            return self.limits()
+        if node.key[0] in self.texts:
+            return self.texts[str(node.key[0])]()
         if node.key == ("socket",):
             return self.socket
         _, path, tag, number = self.source(node)
@@ -226,21 +239,21 @@ class Past:
         now, root = int(self.store.now), self.tree.root.attributes
         if kind in FILES:
             return self._show_file(node)
-        if kind in ("limits", "socket"):
+        if kind in self.texts or kind == "socket":
             content = self.content(node)
-            return Shown((stat.S_IFREG | 0o444) if kind == "limits" else (stat.S_IFLNK | 0o777), len(content), now, root.owner, root.group)
+            return Shown((stat.S_IFREG | 0o444) if kind != "socket" else (stat.S_IFLNK | 0o777), len(content), now, root.owner, root.group)
         if kind == "at" and words and words[1]:
-            row = self.store.stat_row(words[1], AT, words[0])  # type: ignore[arg-type]
-            return _shown(self.tree.records.of(directory_key(row.id)), True, row.length, words[0], root)
+            row = self.store.stat_row(_path(words[1]), AT, _whole(words[0]))
+            return _shown(self.tree.records.of(directory_key(row.id)), True, row.length, _whole(words[0]), root)
+        if kind == "at" and words:
+            return _shown(root, True, 0, _whole(words[0]), root)
         if kind == "file":
-            path = words[0]
-            assert isinstance(path, bytes)
-            return Shown(stat.S_IFDIR | 0o555, 0, self.store.stat_row(path).closed, root.owner, root.group)
+            return Shown(DIRECTORY_MODE, 0, self.store.stat_row(_path(words[0])).closed, root.owner, root.group)
         if kind == "versions":
             return _shown(self._directory(words[0]).attributes, True, 0, now, root)
         if kind == "restorable" and words[0]:
-            return _shown(self.tree.records.of(directory_key(words[0])), True, 0, now, root)  # type: ignore[arg-type]
-        return Shown(stat.S_IFDIR | 0o555, 0, int(words[0]) if kind == "at" and words else now, root.owner, root.group)  # type: ignore
+            return _shown(self.tree.records.of(directory_key(_whole(words[0]))), True, 0, now, root)
+        return Shown(stat.S_IFDIR | 0o555, 0, now, root.owner, root.group)
 
     def _show_file(self, node: PastNode) -> Shown:
         root = self.tree.root.attributes
@@ -251,13 +264,17 @@ class Past:
                 return node.shown
             if node.key[0] != "dead" or node.key[-1]:
                 raise
-            return Shown(stat.S_IFREG | 0o444, 0, int(self.store.now), root.owner, root.group)
+            return Shown(FILE_MODE, 0, int(self.store.now), root.owner, root.group)
         node.shown = _shown(self.tree.records.of(file_key(row.id)), False, row.length, row.closed, root)
         return node.shown
 
     def is_over(self, node: PastNode) -> bool:
         """Whether a node is of a tree of an earlier moment: such a tree never changes."""
-        return node.key[0] == "at" and len(node.key) > 1 and node.key[1] < self.store.now  # type: ignore[operator]
+        return node.key[0] == "at" and len(node.key) > 1 and _whole(node.key[1]) < self.store.now
+
+    def can_lose(self, node: PastNode) -> bool:
+        """Whether the version of a file may be removed while it is open."""
+        return True
 
     # Listing.
 
@@ -267,24 +284,22 @@ class Past:
         if kind == "root":
             return list(PARTS)
         if kind == "at" and words:
-            return [name_in(it) for it, _, _ in self.store.names_in(words[1] or b"/", AT, words[0])]  # type: ignore[arg-type]
+            return list(self._names_at(words[0], _path(words[1])))
         if kind == "versions":
             return sorted(self._directory(words[0]).children)
         if kind == "file":
-            return [b"%d" % it.number for it in self.store.versions(words[0])]  # type: ignore[arg-type]
+            return [b"%d" % it.number for it in self.store.versions(_path(words[0]))]
         return sorted(self._dead_names(words[0])) if kind == "restorable" else []
 
     # Deleted names.
 
     def _dead_path(self, number: object) -> bytes:
         self._refresh_dead()
-        assert isinstance(number, int)
-        return self._dead_paths.get(number, b"")
+        return self._dead_paths.get(_whole(number), b"")
 
     def _dead_names(self, number: object) -> dict[bytes, Key]:
         self._refresh_dead()
-        assert isinstance(number, int)
-        return self._dead.get(number, {})
+        return self._dead.get(_whole(number), {})
 
     def _refresh_dead(self) -> None:
         """Lists the deleted names again if any name has changed: those of files without another name, by directory."""
@@ -301,28 +316,40 @@ class Past:
                 places.setdefault(row.number, (row.parent, row.spelled))
         for row in rows:
             if not row.is_directory and row.number not in self.tree.files and row.parent in places:
-                dead.setdefault(row.parent, {})[name_in(row.spelled)] = ("dead", row.parent, row.spelled, row.number)
+                _add_name(dead.setdefault(row.parent, {}), row.spelled, ("dead", row.parent, row.spelled, row.number))
                 _add_above(dead, places, row.parent)
         self._dead, self._dead_seen = dead, self.store.name_changes
         self._dead_paths = {it: _path_in(places, it) for it in dead}
+
+    # Stores.
+
+    def store_at(self, moment: int) -> tuple[MountStore, int]:
+        """Returns the store that has a moment, and the moment to ask it for."""
+        return self.store, moment
 
     # Text.
 
     def limits(self) -> bytes:
         """Returns the text of the file `limits`."""
-        counts = self.store.counts
-        rows = [f"{name:<12}{used:>10}{counts.left(name):>10}\n" for name, used in counts.used.items()]
-        return ("limit             used      left\n" + "".join(rows)).encode()
+        return (self.store.counts.text() + self.notes()).encode()
+
+
+def _add_name(names: dict[bytes, Key], spelling: bytes, key: Key) -> bool:
+    """Gives a key the name of a spelling, with signs `%` after it if another one has that name. Returns whether it had none yet."""
+    name = name_in(spelling)
+    while names.get(name, key) != key:
+        name += b"%"
+    is_new = name not in names
+    names[name] = key
+    return is_new
 
 
 def _add_above(dead: dict[int, dict[bytes, Key]], places: dict[int, tuple[int, bytes]], number: int) -> None:
     """Lists a directory with deleted names in its parent, and so on up."""
     while number:
         parent, spelling = places[number]
-        names = dead.setdefault(parent, {})
-        if name_in(spelling) in names:
+        if not _add_name(dead.setdefault(parent, {}), spelling, ("restorable", number)):
             return
-        names[name_in(spelling)] = ("restorable", number)
         number = parent
         if number not in places:
             return
@@ -336,15 +363,27 @@ def _path_in(places: dict[int, tuple[int, bytes]], number: int) -> bytes:
     return b"".join(reversed(names))
 
 
+# The words of a key.
+
+
+def _whole(word: object) -> int:
+    assert isinstance(word, int)
+    return word
+
+
+def _path(word: object) -> bytes:
+    assert isinstance(word, bytes)
+    return word
+
+
 def _number(name: bytes) -> int:
     if not name.isdigit() or name[:1] == b"0":
         raise FileNotFoundError(errno.ENOENT, "")
     return min(int(name), (1 << 64) - 1)
 
 
-def _shown(found: Optional[Attributes], is_directory: bool, size: int, moment: object, root: Attributes) -> Shown:
-    assert isinstance(moment, int)
+def _shown(found: Optional[Attributes], is_directory: bool, size: int, moment: int, root: Attributes) -> Shown:
+    """Returns attributes with their bits for writing, so that a copy can be written. The file system itself is read only."""
     if found is None:
-        return Shown(stat.S_IFDIR | 0o555 if is_directory else stat.S_IFREG | 0o444, size, moment, root.owner, root.group)
-    mode = found.mode if found.is_link else found.mode & ~0o222
-    return Shown(mode, size, moment, found.owner, found.group)
+        return Shown(DIRECTORY_MODE if is_directory else FILE_MODE, size, moment, root.owner, root.group)
+    return Shown(found.mode, size, moment, found.owner, found.group)

@@ -9,6 +9,8 @@ The store's journal stores them, as remarks:
     # xattr f12 NS 757365722e61 =6f6e65   file 12 has the extended attribute user.a with the value one, both in hexadecimal
     # xattr f12 NS 757365722e61           file 12 has lost the attribute, and without a name it has none
 
+The remarks `due` and `undue` are those of the guard.
+
 NS is a time in nanoseconds since 1970. A mode has the kind of the file too: a symbolic link is a file of the store whose content is
 its target path.
 """
@@ -21,6 +23,8 @@ import time
 from binascii import hexlify, unhexlify
 from contextlib import suppress
 from typing import Optional
+
+from .guard import Announced
 
 _COARSE = 5  # CLOCK_REALTIME_COARSE
 FILE_MODE, DIRECTORY_MODE = stat.S_IFREG | 0o644, stat.S_IFDIR | 0o755
@@ -105,6 +109,7 @@ class Records:
 
     def __init__(self) -> None:
         self.by_key: dict[int, Attributes] = {}
+        self.announced = Announced()
 
     def apply(self, remark: bytes) -> None:
         """Applies a remark of the journal. It passes over remarks of other programs."""
@@ -125,6 +130,8 @@ class Records:
             self.by_key[key] = it
         elif word == b"xattr":
             self._extended(key_of(rest[0]), int(rest[1]), rest[2:])
+        elif word in (b"due", b"undue"):
+            self.announced.apply([word, *rest])
 
     def _made(self, rest: list[bytes]) -> None:
         now = int(rest[5])

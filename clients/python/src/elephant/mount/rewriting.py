@@ -30,15 +30,14 @@ SOURCE = str(Path(__file__).resolve().parent.parent.parent)
 class Rewriting:
     """Rewrites the journal."""
 
-    def __init__(self, operations: Operations, log: Log, may_settle: bool) -> None:
+    def __init__(self, operations: Operations, log: Log) -> None:
         self.operations, self.store, self.log = operations, operations.store, log
-        self._may_settle = may_settle
-        """Whether open drafts may become versions for this."""
         self._tried = 0
         self._turn = threading.Lock()
         self._process: Optional[subprocess.Popen[str]] = None
         self._is_stopped = False
-        _clear(self.store.journal_path + SUFFIX)
+        if not self.store.is_read_only:
+            _clear(self.store.journal_path + SUFFIX)
 
     def _is_worth(self) -> bool:
         with self.operations.lock:
@@ -55,7 +54,7 @@ class Rewriting:
     def run_and_tell(self) -> str:
         """Rewrites the journal, and returns a text with the old and the new length."""
         before = self.store.journal_size
-        fault = self.run()
+        fault = self.store.stopped or self.run()
         return f"elephant-mount: {fault}\n" if fault else f"ok journal {before} {self.store.journal_size}\n"
 
     def stop(self) -> None:
@@ -77,10 +76,6 @@ class Rewriting:
 
     def _run(self) -> str:
         with self.operations.lock:
-            if self._may_settle:
-                self.operations.contents.settle_all()
-            if self.store.has_sessions or any(it.handle is not None for it in self.operations.contents.drafts):
-                return "files are being written; later"
             path, size = self.store.journal_path, self.store.journal_size
             self._tried = size
         new = path + SUFFIX

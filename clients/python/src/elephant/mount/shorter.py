@@ -4,7 +4,9 @@ The new journal makes the same store, with the same numbers and moments. It has 
 number. It lacks the contents that no held version needs: a removed version has one byte, and a held one only the parts that differ from
 the version before it. It has each file's attributes once.
 
-Before it prints `ok` it runs the new journal in a fresh store, and compares all answers of that store with those of the old one.
+Sessions that are open stay open, with what was written.
+
+Before it prints `ok` it runs the new journal in a fresh store, and compares the two whole (comparing.py).
 """
 
 from __future__ import annotations
@@ -12,8 +14,6 @@ from __future__ import annotations
 import os
 import sys
 from collections.abc import Iterator
-from hashlib import sha256
-from itertools import zip_longest
 from zlib import crc32
 
 from .._answers import Limits
@@ -21,10 +21,12 @@ from .._core import Core
 from .._errors import ElephantError, JournalError
 from .._journal import FIRST, HEADER, LAST, ONE, PREFIX, Journal
 from .._library import KeyRow
-from .._moments import LAST_MOMENT
 from .._replay import Replay, write_lines
+from .comparing import Side, compare
+from .counts import Counts
 from .records import Records, everything, file_key
 from .store import changed_parts
+from .witness import OF_NAMES, Witness
 
 Version = tuple[int, int]
 REMARKS_AT_ONCE = 500
@@ -49,21 +51,22 @@ def changes_in(path: str, start: int, size: int, checksum: int) -> Iterator[list
         raise JournalError(f"{path} has no end of a change at byte {size}")
 
 
-class Census(Replay):
-    """Runs the old journal, and finds which version each handle made, which versions were removed, and which were copied from which."""
+class Census(Witness):
+    """Runs the old journal, and finds which version each handle made, which versions were removed, which were copied from which, and when
+    each name changed."""
 
     def __init__(self, core: Core) -> None:
-        super().__init__(core)
-        self.records = Records()
+        super().__init__(core, Records(), Counts(Limits()))
         self.files: dict[int, int] = {}
         self.made: dict[int, Version] = {}
         """By the number of the handle whose close made it."""
         self.removed: set[Version] = set()
         self.held: set[Version] = set()
         self.copies: list[tuple[Version, Version]] = []
-
-    def remark(self, text: bytes) -> None:
-        self.records.apply(text)
+        self.changes: set[tuple[int, bytes]] = set()
+        """The moments of each change of a name, each with the path."""
+        self.drafted: set[int] = set()
+        """The files that have an open session at the end."""
 
     def _open_write(self, path: bytes) -> int:
         code = super()._open_write(path)
@@ -82,20 +85,27 @@ class Census(Replay):
 
     def _other(self, line: bytes) -> int:
         word, *words = line.split(b" ")
-        if word == b"clean" or word == b"pass":
+        if word in OF_NAMES:
+            self.changes.update((self.moment, path) for path in words)
+        if word in (b"clean", b"pass"):
             return self._removals(1 if word == b"clean" else int(words[0]))
-        answer = self._core.line(line).split()
-        if answer[0] != b"ok":
-            return int(answer[1])
-        if word == b"create":
-            self.held.add((int(answer[2]), 1))
-        elif word in (b"revert", b"undelete") and answer[1] == b"version":
-            file, number = int(self._core.stat(words[0], words[0]).id), int(answer[2])
-            self.copies.append(((file, int(words[1]) if word == b"revert" else number - 1), (file, number)))
+        code = super()._other(line)
+        if not code and word in (b"create", b"revert"):
+            row = self._core.stat(words[0], words[0])
+            file, number = int(row.id), int(row.version)
             self.held.add((file, number))
-        elif line.startswith(b"open read "):
-            self.readers.add(int(answer[2]))
-        return 0
+            if word == b"revert":
+                self.copies.append(((file, int(words[1])), (file, number)))
+        return code
+
+    def _undelete(self, path: bytes) -> int:
+        code = super()._undelete(path)
+        number = self._core.number
+        if not code and number:
+            file = int(self._core.stat(path, path).id)
+            self.copies.append(((file, number - 1), (file, number)))
+            self.held.add((file, number))
+        return code
 
     def _removals(self, count: int) -> int:
         for _ in range(count):
@@ -106,6 +116,7 @@ class Census(Replay):
 
     def end(self) -> None:
         """Frees the store, and keeps the results."""
+        self.drafted = set(self.files.values())
         self._core.free()
 
     def needed(self) -> set[Version]:
@@ -124,6 +135,9 @@ class Shortening(Replay):
         super().__init__(core)
         self._other_core, self._made, self._needed = other, census.made, census.needed()
         self._lines: list[bytes] = []
+        self._files: dict[int, int] = {}
+        self._changed: set[int] = set()
+        """The files whose drafts are changed."""
 
     def shorten(self, change: list[bytes]) -> list[bytes]:
         """Runs a change, and returns the lines of the new journal for it."""
@@ -131,8 +145,29 @@ class Shortening(Replay):
         self.run(change)
         return self._lines
 
+    def run(self, lines: list[bytes]) -> None:
+        super().run(lines)
+        for line in lines:
+            if line.startswith((b"write ", b"truncate ")):
+                file = self._files.get(int(line.split(b" ", 2)[1]))
+                if file is not None:
+                    self._changed.add(file)
+
+    def open_drafts(self) -> list[bytes]:
+        """Returns the lines of what open sessions have written."""
+        self._lines = []
+        for handle in sorted(self.writers):
+            file = self._files[handle]
+            if file in self._changed:
+                self._fill(handle, True)
+                self._changed.discard(file)  # all sessions of a file share the draft
+        return self._lines
+
     def _open_write(self, path: bytes) -> int:
         code = super()._open_write(path)
+        if not code:
+            handle = self._core.number
+            self._files[handle] = int(self._core.stat(path, path).id)
         return code or self._also(b"open write " + path)
 
     def _also(self, line: bytes) -> int:
@@ -147,6 +182,9 @@ class Shortening(Replay):
         made = self._made.get(handle)
         if made is not None:
             self._fill(handle, made in self._needed)
+        file = self._files.pop(handle, None)
+        if file is not None and file not in self._files.values():
+            self._changed.discard(file)
         code = super()._close(handle)
         return code or self._also(b"close %d" % handle)
 
@@ -171,32 +209,8 @@ class Shortening(Replay):
 
 
 def _draft(core: Core, handle: int) -> bytes:
-    length = core.ask(core.library.elephant_read_handle, "", handle)
+    length = core.look(core.library.elephant_read_handle, "", handle)
     return core.kept_bytes(core.library.elephant_take, length) if length else b""
-
-
-def told(core: Core) -> Iterator[bytes]:
-    """Yields all answers of a store about what it holds."""
-    for line in (b"restorable", b"due", b"groups", b"ahead %d" % LAST_MOMENT, b"clock %d" % core.now()):
-        yield core.line(line)
-    for row in core.line(b"usage").splitlines():
-        yield row.rpartition(b" ")[0]  # how many blocks they share depends on how they were written
-    folders = [b"/"]
-    while folders:
-        folder = folders.pop()
-        listed = core.line(b"list " + folder)
-        yield listed
-        for row in listed.split(b"\n")[1:-1]:
-            _, name, kind, _ = row.split(b" ")
-            path = folder.rstrip(b"/") + b"/" + name
-            yield core.line(b"stat " + path)
-            if kind == b"directory":
-                folders.append(path)
-                continue
-            versions = core.line(b"versions " + path)
-            yield versions
-            for version in versions.split(b"\n")[1:-1]:
-                yield sha256(core.read(path, path, 2, int(version.split()[1]))).digest()
 
 
 def shorten(old: str, size: int, new: str) -> None:
@@ -213,13 +227,11 @@ def shorten(old: str, size: int, new: str) -> None:
         _write(old, size, shortening, journal, census)
     finally:
         journal.close()
-    made = Core(Limits(), False)
-    replay = Replay(made)
+    made = Witness(Core(Limits(), False), Records(), Counts(Limits()))
     for change in changes_in(new, len(HEADER), os.path.getsize(new), first):
-        replay.run(change)
-    for left, right in zip_longest(told(core), told(made), fillvalue=b""):
-        if left != right:
-            raise JournalError(f"the new journal's store tells {right[:80]!r}, and not {left[:80]!r}")
+        made.run(change)
+    sides = Side(core, census.records, census.counts, shortening), Side(made.core, made.records, made.counts, made)
+    compare(*sides, census.changes)
 
 
 def _write(old: str, size: int, shortening: Shortening, journal: Journal, census: Census) -> None:
@@ -229,8 +241,14 @@ def _write(old: str, size: int, shortening: Shortening, journal: Journal, census
         lines = shortening.shorten(change)
         if lines:
             journal.append(lines)
-    files = {file_key(file) for file, _ in census.held}
+    drafts = shortening.open_drafts()
+    if drafts:
+        journal.append(drafts)
+    files = {file_key(file) for file in {file for file, _ in census.held} | census.drafted}
     remarks = [line for key, it in census.records.by_key.items() if key & 1 or key in files for line in everything(key, it)]
+    announced = census.records.announced
+    announced.drop(announced.since.keys() - census.held)
+    remarks += announced.remarks()
     for start in range(0, len(remarks), REMARKS_AT_ONCE):
         journal.append(remarks[start:start + REMARKS_AT_ONCE])
     journal.sync()

@@ -12,7 +12,8 @@ from collections.abc import Iterator
 from typing import Any, Optional, Union
 
 from .._errors import NoEntry
-from .names import MOST_NAMES, TooLong, name_in, shown, spelled
+from .._names import MOST_NAMES
+from .names import TooLong, is_spelling_of, name_in, names_of, shown, spelled
 from .records import DIRECTORY_MODE, FILE_MODE, Attributes, directory_key, file_key, saved
 from .store import MountStore
 
@@ -78,7 +79,7 @@ class Directory(Node):
         self.children: dict[bytes, Union[File, Directory]] = {}
         self.subdirectories = 0
         self.odd: dict[bytes, bytes] = {}
-        """Names with another spelling than the mount's: a line made them."""
+        """Names with another spelling than the mount's: a line or another program made them."""
         self.left: dict[bytes, tuple[Union[File, int], float]] = {}
         """Names that ended just now, each with the time, and the file if it has another name, or else its number."""
         self.ended = False
@@ -86,6 +87,18 @@ class Directory(Node):
     def path_of(self, name: bytes) -> bytes:
         """Returns the path of a name in it as the store spells it."""
         return self.path + b"/" + (self.odd.get(name) or spelled(name))
+
+    def name_of(self, spelling: bytes) -> bytes:
+        """Returns the name that the folder shows for a spelling."""
+        for name, odd in self.odd.items():
+            if odd == spelling:
+                return name
+        return name_in(spelling)
+
+    def child_of(self, spelling: bytes) -> Optional[Union[File, Directory]]:
+        """Returns the node of a name as the store spells it, or None."""
+        name = self.name_of(spelling)
+        return self.children.get(name) if self.odd.get(name, spelling) == spelling else None
 
     def path_of_new(self, name: bytes) -> bytes:
         """Returns the path of a new name. Raises TooLong."""
@@ -104,10 +117,19 @@ class Tree:
         self.by_ino: dict[int, Node] = {}
         self.files: dict[int, File] = {}
         """The files with a name, by the number of the store's file."""
+        self._unnamed: dict[int, File] = {}
+        """The files that a refresh has found without a name, by number: another name may follow."""
         self._spare = FIRST_SPARE
         self.root = self.new_directory(0)
         for _ in self.refresh():
             pass
+
+    def find(self, path: bytes) -> Optional[Union[File, Directory]]:
+        """Returns the node of a path as the store spells it, or None."""
+        node: Optional[Union[File, Directory]] = self.root
+        for spelling in path.split(b"/")[1:]:
+            node = node.child_of(spelling) if isinstance(node, Directory) and spelling else None
+        return node
 
     # Making.
 
@@ -145,7 +167,7 @@ class Tree:
         parent.left.pop(name, None)
         parent.children[name] = node
         parent.entry = node.entry = None
-        if spelling is not None and spelled(name) != spelling:
+        if spelling is not None and not is_spelling_of(spelling, name):
             parent.odd[name] = spelling
         if isinstance(node, File):
             node.names[parent, name] = None
@@ -239,7 +261,9 @@ class Tree:
         known = {0: self.root}
         for directory in self.directories():
             known[directory.number] = directory
+        self._unnamed = {}
         yield from self._refresh(self.root, known)
+        self._unnamed = {}
 
     def directories(self, above: Optional[Directory] = None) -> Iterator[Directory]:
         """Yields all directories but the root, each after its parent."""
@@ -258,8 +282,9 @@ class Tree:
         yield from self._refresh_names(directory, [name] if name in directory.children else [], rows, {})
 
     def _refresh(self, directory: Directory, known: dict[int, Directory]) -> Iterator[tuple[Node, Optional[bytes]]]:
-        rows = {name_in(it[0]): it for it in self.store.names_in(directory.path or b"/")}
-        yield from self._refresh_names(directory, list(directory.children), rows, known)
+        rows = {it[0]: it for it in self.store.names_in(directory.path or b"/")}
+        names = names_of(rows, directory is self.root)
+        yield from self._refresh_names(directory, list(directory.children), {name: rows[it] for name, it in names.items()}, known)
 
     def _refresh_names(
         self, directory: Directory, names: list[bytes], rows: dict[bytes, tuple[bytes, bool, int]], known: dict[int, Directory]
@@ -267,8 +292,11 @@ class Tree:
         """Updates names of a directory to those of the store's rows."""
         for name in names:
             node, row = directory.children[name], rows.get(name)
-            if row is None or (isinstance(node, Directory), node.number) != row[1:]:
+            spelling = directory.path_of(name).rpartition(b"/")[2]
+            if row is None or (spelling, isinstance(node, Directory), node.number) != row:
                 self.remove(directory, name)
+                if isinstance(node, File) and not node.names:
+                    self._unnamed[node.number] = node
                 yield directory, name
         for name, (spelling, is_directory, number) in rows.items():
             if name not in directory.children:
@@ -283,20 +311,21 @@ class Tree:
             child = directory.children[name]
             if isinstance(child, Directory):
                 yield from self._refresh(child, known)
-            elif self._is_changed(child):
+            elif self._is_changed(child, directory.path_of(name)):
                 yield child, None
 
     def _file(self, directory: Directory, spelling: bytes, number: int) -> File:
-        found = self.files.get(number)
+        found = self.files.get(number) or self._unnamed.get(number)
         if found is not None:
             return found
         row = self.store.stat_row(directory.path + b"/" + spelling)
         return self.new_file(number, row.length, row.version, row.closed)
 
-    def _is_changed(self, node: File) -> bool:
+    def _is_changed(self, node: File, path: bytes) -> bool:
+        """Whether a file has another content. Its other names may have ended."""
         if node.draft is not None:
             return False
-        row = self.store.stat_row(node.path)
+        row = self.store.stat_row(path)
         if row.version == node.version:
             return False
         node.size, node.version, node.entry = row.length, row.version, None

@@ -1,0 +1,81 @@
+"""When the names of each directory ended, and which names a directory had before: what `undo` asks about the past of names."""
+
+from __future__ import annotations
+
+from collections.abc import Iterator
+from typing import NamedTuple, Optional
+
+
+class Place(NamedTuple):
+    """A name that a directory had until a moment."""
+
+    until: int
+    parent: int
+    name: bytes
+
+
+class Chronicle:
+    """The ends of names, by the number of the directory and the name as it is spelled."""
+
+    def __init__(self) -> None:
+        self._ends: dict[int, dict[bytes, list[int]]] = {}
+        self._moved: set[tuple[int, bytes]] = set()
+        self._places: dict[int, list[Place]] = {}
+
+    def end(self, parent: int, name: bytes, directory: Optional[int], now: int, is_moved: bool) -> None:
+        """Notes that a name ends, which directory had it, if one had, and whether what had it goes on under another name."""
+        self._ends.setdefault(parent, {}).setdefault(name, []).append(now)
+        (self._moved.add if is_moved else self._moved.discard)((parent, name))
+        if directory is not None:
+            self._places.setdefault(directory, []).append(Place(now, parent, name))
+
+    def note_moved(self, parent: int, name: bytes) -> None:
+        """Notes that what had a name, which has ended, goes on under another one."""
+        self._moved.add((parent, name))
+
+    def ends_of(self, parent: int, name: bytes) -> list[int]:
+        """Returns the moments at which a name ended, the first one first."""
+        return self._ends.get(parent, {}).get(name, [])
+
+    def last_end(self, parent: int, name: bytes) -> int:
+        """Returns the moment at which a name ended last, or 0."""
+        return next(reversed(self.ends_of(parent, name)), 0)
+
+    def was_moved(self, parent: int, name: bytes) -> bool:
+        """Whether a name ended last since what had it got another one."""
+        return (parent, name) in self._moved
+
+    def moments_in(self, parent: int) -> Iterator[int]:
+        """Yields the moments at which names of a directory ended."""
+        for ends in self._ends.get(parent, {}).values():
+            yield from ends
+
+    def place_at(self, directory: int, moment: int) -> Optional[Place]:
+        """Returns the name that a directory had at a moment, if it has lost that name since."""
+        return next((it for it in self._places.get(directory, []) if it.until > moment), None)
+
+    def below(self, directory: int, live: dict[int, int]) -> set[int]:
+        """Returns the numbers of a directory and of all that were ever below it; `live` has the parent of each directory with a name."""
+        children: dict[int, set[int]] = {}
+        for number, parent in live.items():
+            children.setdefault(parent, set()).add(number)
+        for number, places in self._places.items():
+            for place in places:
+                children.setdefault(place.parent, set()).add(number)
+        found, open_ = {directory}, [directory]
+        while open_:
+            fresh = children.get(open_.pop(), set()) - found
+            found |= fresh
+            open_ += fresh
+        return found
+
+
+def begin_of_last(moments: list[int], pause: int) -> int:
+    """Returns the first of the moments after the last pause that is longer than so many seconds."""
+    ordered = sorted(set(moments), reverse=True)
+    begin = ordered[0]
+    for moment in ordered[1:]:
+        if begin - moment > pause:
+            break
+        begin = moment
+    return begin

@@ -1,0 +1,135 @@
+"""What include/elephant.h says beside its declarations: the names of parameters, the numbers in comments, and the codes of each call. No
+compiler looks at them."""
+
+import re
+import unittest
+from pathlib import Path
+
+from elephant import Limits, _moments
+from header import HEADER, codes_of, numbers_of
+
+TOP = Path(__file__).resolve().parents[3]
+CRATES, SCRIPT = TOP / "crates", TOP / "docs" / "SCRIPT.md"
+# The calls that are named otherwise than their commands.
+CALLS = {"close H": "close_handle", "read H": "read_handle"}
+# The codes that an argument may have, by the name of the parameter.
+OF_ARGUMENTS = {
+    "path": {"BAD_PATH", "BAD_NAME"}, "from": {"BAD_PATH", "BAD_NAME"}, "to": {"BAD_PATH", "BAD_NAME"}, "tag": {"BAD_MOMENT", "SYNTAX"},
+    "moment": {"BAD_MOMENT"}, "until": {"BAD_MOMENT"}, "policy": {"BAD_LADDER", "SYNTAX"}, "group": {"BAD_NAME"},
+}
+# Any call may be stopped.
+STOPS = {"NO_MEMORY", "HISTORY_FULL"}
+# A slice of Rattle is a pointer and one of these in C.
+LENGTHS = re.compile(r"(\w+_)?len|room")
+# The constant of each number that comments name, and how they name it.
+NUMBERS = [
+    ("ele_moment/src/moment.rt", "LAST", r"from 0 to (\d+)"), ("ele_moment/src/moment.rt", "LAST", r"past (\d+)"),
+    ("ele_content/src/longest.rt", "LONGEST_CONTENT", r"content has at most ([\d,]+) bytes"),
+    ("ele_content/src/longest.rt", "LONGEST_CONTENT", r"longer than ([\d,]+) bytes"),
+    ("ele_moment/src/name.rt", "MOST_BYTES", r"name has 1 to (\d+) bytes"), ("ele_path/src/path.rt", "MOST_NAMES", r"at most (\d+) names"),
+]
+
+
+def number(digits: str) -> int:
+    return int(digits.replace(",", "").replace("_", ""))
+
+
+def parameters_of_c(text: str) -> dict[str, list[str]]:
+    found: dict[str, list[str]] = {}
+    for name, listed in re.findall(r"\b(?:int32_t|void) (elephant_\w+)\(([^)]*)\);", re.sub(r"/\*.*?\*/", "", text, flags=re.S)):
+        words = [re.findall(r"\w+", it)[-1] for it in listed.split(",")]
+        found[name] = [it for it in words if not LENGTHS.fullmatch(it)]
+    return found
+
+
+def parameters_of_rattle() -> dict[str, list[str]]:
+    """Returns the names of the parameters of each exported function, but of the allocator."""
+    found: dict[str, list[str]] = {}
+    for source in sorted((CRATES / "ele_c" / "src").glob("*.rt")):
+        for name, listed in re.findall(r'pub extern "C" fn (elephant_\w+)\(([^)]*)\)', source.read_text(encoding="utf-8")):
+            words = [it.partition(":")[0].strip() for it in listed.split(",") if it.strip()]
+            found[name] = ["e" if it == "elephant" else it for it in words if it != "alloc"]
+    return found
+
+
+def refusals_of_script(codes: dict[str, str]) -> dict[str, set[str]]:
+    """Returns the codes of the refusals of each command of docs/SCRIPT.md, by its line. `codes` has a code by the name of its refusal."""
+    rows = re.findall(r"^\| (`[a-z][^|]*) \| [^|]* \| ([^|]*) \|$", SCRIPT.read_text(encoding="utf-8"), re.M)
+    texts = {line: refusals for lines, refusals in rows for line in re.findall("`([^`]+)`", lines)}
+
+    def of(text: str) -> set[str]:
+        found = {codes[it] for it in re.findall(r"\w+", text) if it in codes}
+        found |= {"NO_ENTRY", "NOT_DIRECTORY"} if "walk" in text else set()
+        also = re.search("those of `([^`]+)`", text)
+        return found | of(texts[also[1]]) if also else found
+
+    return {line: of(text) for line, text in texts.items()}
+
+
+@unittest.skipUnless(HEADER.is_file() and CRATES.is_dir(), "there are no sources")
+class HeaderWords(unittest.TestCase):
+    text: str
+
+    @classmethod
+    def setUpClass(cls) -> None:
+        cls.text = HEADER.read_text(encoding="utf-8")
+
+    def test_names_of_parameters(self) -> None:
+        declared, exported = parameters_of_c(self.text), parameters_of_rattle()
+        self.assertGreater(len(exported), 50)
+        # It takes the handle itself, and so in another form.
+        self.assertEqual(declared.pop("elephant_delete"), ["e"])
+        exported.pop("elephant_delete", None)
+        self.assertEqual(declared, exported)
+
+    def test_limits_in_comments(self) -> None:
+        struct = re.search(r"struct elephant_limits \{(.*?)\}", self.text, re.S)
+        assert struct is not None
+        rows = re.findall(r"uint64_t (\w+); +/\*.*?at most ([\d,]+)", struct[1])
+        self.assertEqual({name: number(most) for name, most in rows}, Limits()._asdict())
+
+    def test_never(self) -> None:
+        self.assertEqual(re.findall(r"#define ELEPHANT_NEVER (.*)", self.text), ["UINT64_MAX"])
+        self.assertEqual(_moments.NEVER, (1 << 64) - 1)
+
+    def test_numbers_in_comments(self) -> None:
+        words = re.sub(r"\s+\*?\s*", " ", self.text)
+        for source, name, form in NUMBERS:
+            constant = re.search(rf"const {name}: u\w+ = ([\d_]+);", (CRATES / source).read_text(encoding="utf-8"))
+            assert constant is not None, name
+            named = re.findall(form, words)
+            self.assertTrue(named, form)
+            self.assertEqual({number(it) for it in named}, {number(constant[1])}, form)
+
+    def test_codes_in_comments(self) -> None:
+        """Codes that a comment names are codes, and those with a detail are told by their numbers."""
+        codes = {name: int(value) for name, value in re.findall(r"ELEPHANT_(\w+) = (\d+)", self.text)}
+        comments = " ".join(re.findall(r"/\*(.*?)\*/", self.text, re.S))
+        of_calls = " ".join(re.findall(r"/\*(.*?)\*/", self.text.partition("/* ---- The handle ---- */")[2], re.S))
+        listed = re.findall(r"(?<![\w'.])(?:ELEPHANT_)?([A-Z]{2,}(?:_[A-Z]+)*)(?=[,;.])", of_calls)
+        self.assertGreater(len(listed), 50)
+        known = {"NEVER", *codes, *(it.removeprefix("IS_") for it in codes)}
+        self.assertEqual(set(listed) - known, set())
+        detailed = re.search(r"elephant_detail returns the detail of (\d+) and (\d+)", comments)
+        assert detailed is not None
+        self.assertEqual([int(it) for it in detailed.groups()], [codes["FORGOTTEN"], codes["FULL"]])
+
+    def test_codes_of_each_call(self) -> None:
+        """A call has the refusals of its command in docs/SCRIPT.md, and the codes of its arguments."""
+        refusals = refusals_of_script({"".join(word.title() for word in it.split("_")): it for it in numbers_of(self.text)})
+        calls, tried = codes_of(self.text), set()
+        for line, refused in refusals.items():
+            name = CALLS.get(line) or "_".join(re.findall(r"(?<!\S)[a-z]+", line))
+            if name not in calls:
+                continue
+            tried.add(name)
+            call = calls[name]
+            arguments = {code for it in call.parameters for code in OF_ARGUMENTS.get(it, ())}
+            with self.subTest(line):
+                self.assertEqual((refused | arguments) - call.own - call.section, set(), "left out")
+                self.assertEqual(call.own - refused - arguments - STOPS, set(), "no refusal of the command")
+        self.assertGreater(len(tried), 35)
+
+
+if __name__ == "__main__":
+    unittest.main()

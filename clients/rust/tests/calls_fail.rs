@@ -1,0 +1,261 @@
+//! Each call of the library that a method makes fails in turn. Only over the library of `tools/library/faulty.py`, whose calls fail when
+//! a test asks for it: `tools/library/rust_client` makes it, and sets this condition.
+#![cfg(faulty_library)]
+
+use elephant::{at, version, Error, Fate, PassEnd, Policy, Rung, Store};
+use std::collections::BTreeSet;
+use std::fmt::Debug;
+
+extern "C" {
+    fn elephant_fail(at: u64, code: i32, after: i32);
+    fn elephant_made() -> u64;
+}
+
+const NO_MEMORY: i32 = 1;
+const UNTOLD: i32 = 71;
+// The two codes whose errors have a detail.
+const FORGOTTEN: i32 = 13;
+const FULL: i32 = 27;
+// Every code that the crate has an error for, but those two.
+const CODES: [i32; 34] = [
+    1, 2, 3, 4, 5, 6, 7, 8, 9, 10, 11, 12, 14, 15, 16, 17, 18, 19, 20, 21, 22, 23, 24, 25, 26, 28, 29, 30, 31, 32, 41, 66, 67, 71,
+];
+const FIRST: [u8; 9_000] = [1; 9_000];
+const CURRENT: [u8; 5_000] = [2; 5_000];
+
+/// Makes a call of this thread fail, counted from here on from 0: without being run, or after it was.
+fn fail(at: u64, code: i32, after: bool) {
+    // SAFETY: it sets numbers of this thread.
+    unsafe { elephant_fail(at, code, after.into()) }
+}
+
+fn fail_none() {
+    fail(u64::MAX, 0, false);
+}
+
+fn calls_made() -> u64 {
+    // SAFETY: it returns a number of this thread.
+    unsafe { elephant_made() }
+}
+
+/// A store that has some of everything.
+fn scene() -> Store {
+    fail_none();
+    let store = Store::new().unwrap();
+    store.set_default("/", &Policy::KeepAll).unwrap();
+    store.create_dir("/d").unwrap();
+    store.create_dir("/empty").unwrap();
+    store.create("/d/f").unwrap();
+    store.save("/d/f", &FIRST).unwrap();
+    store.clock(10).unwrap();
+    store.save("/d/f", &CURRENT).unwrap();
+    store.create("/one").unwrap();
+    store.set_policy("/one", &Policy::KeepOne).unwrap();
+    store.save("/one", b"1").unwrap();
+    store.create("/gone").unwrap();
+    store.unlink("/gone").unwrap();
+    store.group_make("k").unwrap();
+    store.group_add("k", "/d/f").unwrap();
+    store.mark("k", 5, None).unwrap();
+    store.set_policy("/d/f", &Policy::KeepLandmarks(vec![Rung { age: 10, width: 5 }, Rung { age: 40, width: 50 }])).unwrap();
+    store
+}
+
+/// What a store has, as the answers to questions.
+fn state(store: &Store) -> Vec<String> {
+    let questions = [
+        "list /",
+        "list /d",
+        "versions /d/f",
+        "versions /one",
+        "read /d/f",
+        "read /d/f#2",
+        "restorable",
+        "due",
+        "usage",
+        "groups",
+        "stat /",
+        "stat /d",
+        "stat /d/f",
+    ];
+    let mut found = vec![store.now().to_string()];
+    found.extend(questions.iter().map(|it| store.line(it).unwrap()));
+    found
+}
+
+type Method = fn(&Store) -> Result<String, Error>;
+
+fn text<T: Debug>(result: Result<T, Error>) -> Result<String, Error> {
+    result.map(|it| format!("{it:?}"))
+}
+
+// The methods that change nothing if a call fails.
+const METHODS: [(&str, Method); 40] = [
+    ("clock", |it| text(it.clock(11))),
+    ("tick", |it| text(it.tick(1))),
+    ("create_dir", |it| text(it.create_dir("/n"))),
+    ("remove_dir", |it| text(it.remove_dir("/empty"))),
+    ("create", |it| text(it.create("/n"))),
+    ("link", |it| text(it.link("/d/f", "/n"))),
+    ("unlink", |it| text(it.unlink("/d/f"))),
+    ("rename", |it| text(it.rename("/d", "/n"))),
+    ("undelete", |it| text(it.undelete("/gone"))),
+    ("revert", |it| text(it.revert("/d/f", 2))),
+    ("open_write", |it| text(it.open_write("/d/f").map(drop))),
+    ("write_at", |it| text(it.open_write("/d/f").and_then(|it| it.write_at(0, b"x")))),
+    ("set_len", |it| text(it.open_write("/d/f").and_then(|it| it.set_len(1)))),
+    ("contents of a session", |it| text(it.open_write("/d/f").and_then(|it| it.contents()))),
+    ("open_read", |it| text(it.open_read(version("/d/f", 2)).map(drop))),
+    ("contents of a reader", |it| text(it.open_read(version("/d/f", 2)).and_then(|mut it| it.contents().map(<[u8]>::to_vec)))),
+    ("read", |it| text(it.read("/d/f"))),
+    ("stat of a file", |it| text(it.stat("/d/f"))),
+    ("stat of a directory", |it| text(it.stat("/d"))),
+    ("versions", |it| text(it.versions("/d/f"))),
+    ("list", |it| text(it.list("/"))),
+    ("list of the past", |it| text(it.list(at("/", 9)))),
+    ("restorable", |it| text(it.restorable())),
+    ("due", |it| text(it.due())),
+    ("ahead", |it| text(it.ahead(100))),
+    ("usage", |it| text(it.usage())),
+    ("why it is current", |it| text(it.why("/d/f"))),
+    ("why it is marked", |it| text(it.why(version("/d/f", 2)))),
+    ("why it is due", |it| text(it.why(version("/one", 1)))),
+    ("set_policy", |it| text(it.set_policy("/d/f", &Policy::KeepOne))),
+    ("set_default", |it| text(it.set_default("/d", &Policy::KeepOne))),
+    ("group_make", |it| text(it.group_make("n"))),
+    ("group_drop", |it| text(it.group_drop("k"))),
+    ("group_add", |it| text(it.group_add("k", "/one"))),
+    ("group_remove", |it| text(it.group_remove("k", "/d/f"))),
+    ("mark", |it| text(it.mark("k", 6, Some(99)))),
+    ("unmark", |it| text(it.unmark("k", 5))),
+    ("groups", |it| text(it.groups())),
+    ("clean", |it| text(it.clean())),
+    ("line", |it| text(it.line("versions /d/f"))),
+];
+
+#[test]
+fn a_call_that_is_refused_memory_leaves_the_store_as_it_was() {
+    for (name, method) in METHODS {
+        let store = scene();
+        fail_none();
+        let wanted = method(&store);
+        let calls = calls_made();
+        assert!(wanted.is_ok() && calls > 0, "{name}: {wanted:?} by {calls} calls");
+        for at in 0..calls {
+            let store = scene();
+            let before = state(&store);
+            fail(at, NO_MEMORY, false);
+            let found = method(&store);
+            let is_closing = at + 1 == calls && (name.starts_with("open_") || name.contains("contents"));
+            let is_write = at + 1 == calls && ["write_at", "set_len"].contains(&name);
+            fail_none();
+            if is_closing || is_write {
+                // The drop of a session or of a reader can't return an error.
+                assert_eq!(found, wanted, "{name}, call {at}");
+                continue;
+            }
+            assert_eq!(found, Err(Error::NoMemory), "{name}, call {at}");
+            assert_eq!(state(&store), before, "{name}, call {at}");
+            assert_eq!(method(&store), wanted, "{name}, again after call {at}");
+        }
+    }
+}
+
+#[test]
+fn a_save_that_is_refused_memory_makes_no_version_of_its_content() {
+    for content in [&b""[..], b"short", &[3; 4_999], &[3; 12_345]] {
+        let whole: BTreeSet<Vec<u8>> = [vec![], FIRST.to_vec(), CURRENT.to_vec()].into();
+        fail_none();
+        let store = scene();
+        fail_none();
+        assert_eq!(store.save("/d/f", content), Ok(Some(4)));
+        let calls = calls_made();
+        assert_eq!(calls, 4);
+        for at in 0..calls {
+            let store = scene();
+            fail(at, NO_MEMORY, false);
+            assert_eq!(store.save("/d/f", content), Err(Error::NoMemory), "call {at}");
+            fail_none();
+            assert_eq!(store.read("/d/f").unwrap(), CURRENT, "call {at}");
+            for it in store.versions("/d/f").unwrap() {
+                assert!(whole.contains(&store.read(version("/d/f", it.number)).unwrap()), "call {at}, version {}", it.number);
+            }
+            assert!(store.save("/d/f", content).unwrap().is_some(), "call {at}");
+            assert_eq!(store.read("/d/f").unwrap(), content, "call {at}");
+            // An open session would refuse it.
+            assert!(store.revert("/d/f", 2).is_ok(), "call {at}");
+        }
+    }
+}
+
+#[test]
+fn a_close_that_is_refused_memory_is_made_again() {
+    let store = scene();
+    let session = store.open_write("/d/f").unwrap();
+    session.write_at(0, b"new").unwrap();
+    fail(0, NO_MEMORY, false);
+    assert_eq!(session.close(), Err(Error::NoMemory));
+    assert_eq!(calls_made(), 2);
+    fail_none();
+    assert_eq!(store.read("/d/f").unwrap()[..4], *b"new\x02");
+    let reader = store.open_read("/d/f").unwrap();
+    store.save("/d/f", b"newer").unwrap();
+    store.set_policy("/d/f", &Policy::KeepOne).unwrap();
+    assert_eq!(store.why(version("/d/f", 4)), Ok(Fate::Open));
+    fail(0, NO_MEMORY, false);
+    assert_eq!(reader.close(), Err(Error::NoMemory));
+    assert_eq!(calls_made(), 2);
+    fail_none();
+    assert_ne!(store.why(version("/d/f", 4)), Ok(Fate::Open));
+}
+
+#[test]
+fn a_pass_that_is_stopped_says_what_it_removed() {
+    let store = scene();
+    // The first version of each file.
+    assert_eq!(store.due().unwrap().len(), 2);
+    fail(0, NO_MEMORY, true);
+    let pass = store.pass(9);
+    fail_none();
+    assert_eq!((pass.removed, pass.end), (2, PassEnd::Stopped(Error::NoMemory)));
+    assert_eq!(store.due(), Ok(vec![]));
+}
+
+#[test]
+fn a_line_that_cannot_be_told_was_run_and_is_told_later() {
+    let store = scene();
+    fail(0, UNTOLD, true);
+    assert_eq!(store.line("mkdir /n"), Err(Error::Untold));
+    fail_none();
+    assert_eq!(store.tell().unwrap(), "ok directory 3\n");
+    assert_eq!(store.line("mkdir /n").unwrap(), "no 8 Exists\n");
+    fail(0, UNTOLD, false);
+    assert_eq!(store.tell(), Err(Error::Untold));
+}
+
+#[test]
+fn each_code_is_its_error_and_asks_for_a_detail_only_if_it_has_one() {
+    let store = scene();
+    for code in CODES {
+        fail(0, code, false);
+        let error = store.tick(1).unwrap_err();
+        assert!(!matches!(error, Error::Unexpected(_)), "{code}: {error:?}");
+        assert_eq!((error.code(), calls_made()), (code, 1), "{error:?}");
+    }
+    for (code, error) in [(FORGOTTEN, Error::Forgotten { last: None }), (FULL, Error::Unexpected(FULL))] {
+        fail(0, code, false);
+        assert_eq!((store.tick(1), calls_made()), (Err(error), 2));
+    }
+    fail(0, 99, false);
+    assert_eq!(store.tick(1), Err(Error::Unexpected(99)));
+    fail_none();
+    assert_eq!(store.now(), 10);
+}
+
+#[test]
+fn a_store_that_cannot_be_opened_is_an_error() {
+    for code in [NO_MEMORY, 66] {
+        fail(0, code, false);
+        assert_eq!(Store::new().unwrap_err().code(), code);
+    }
+}
