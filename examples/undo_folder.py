@@ -6,7 +6,7 @@
     undo_folder.py FOLDER list [FILE]            the documents, or the versions of one
     undo_folder.py FOLDER restore FILE MOMENT    write back what it held: 2026-11-28T10:30:00, seconds, or #VERSION
     undo_folder.py FOLDER mark NAME              keep what all documents hold now, for good
-    undo_folder.py FOLDER forget                 remove the versions that may go: of the last day none, then more and more
+    undo_folder.py FOLDER forget [much]          remove the versions that may go: of the last day none, then more and more
 
 The store is the journal FOLDER/.undo. Documents of more than 1 MiB and hidden files are left out. `watch` opens the store only to keep
 what changed, so that the other commands work beside it. It needs Python 3.10.
@@ -19,10 +19,10 @@ from datetime import datetime
 from pathlib import Path
 
 sys.path.insert(0, str(Path(__file__).resolve().parent.parent / "clients" / "python" / "src"))
-from elephant import AlreadyMember, ElephantError, Exists, GroupExists, Landmarks, NoEntry, NotRestorable, Store
+from elephant import AlreadyMember, ElephantError, Exists, GroupExists, Landmarks, MassRemoval, NoEntry, NotRestorable, Store
 
 
-def open_store(folder):
+def open_store(folder: Path) -> Store:
     """Opens the folder's store, and gives a new one its policy."""
     store = Store(journal=folder / ".undo", wait=10)
     if not store.list("/"):
@@ -30,21 +30,20 @@ def open_store(folder):
     return store
 
 
-def documents(folder):
+def documents(folder: Path) -> dict[str, object]:
     """Returns the documents by name, each with what changes when it is saved."""
     found = {it.relative_to(folder): it.stat() for it in folder.rglob("[!.]*") if it.is_file() and not it.is_symlink()}
     seen = {name: (it.st_mtime_ns, it.st_size, it.st_ino) for name, it in found.items()}
     return {name.as_posix(): it for name, it in seen.items() if not any(part.startswith(".") for part in name.parts)}
 
 
-def kept(store, directory=""):
-    """Yields the paths of the documents that the store has now."""
-    for entry in store.list(directory or "/"):
-        path = f"{directory}/{entry.name}"
-        yield from kept(store, path) if entry.is_directory else [path]
+def kept(store: Store, directory: str = "") -> list[str]:
+    """Returns the paths of the documents that the store has now."""
+    paths = [(f"{directory}/{it.name}", it.is_directory) for it in store.list(directory or "/")]
+    return [path for it, is_directory in paths for path in (kept(store, it) if is_directory else [it])]
 
 
-def held(store, path):
+def held(store: Store, path: str) -> bytes | None:
     """Returns what the store has at a path, and restores its name if it is dead. None if there never was one."""
     for parent in list(Path(path).parents)[-2::-1]:
         with suppress(Exists):
@@ -59,7 +58,7 @@ def held(store, path):
         return store.read(path)
 
 
-def keep_changes(folder, found, seen):
+def keep_changes(folder: Path, found: dict[str, object], seen: dict[str, object]) -> None:
     with open_store(folder) as store:
         for path in sorted(set(kept(store)) - {f"/{name}" for name in found}):
             store.unlink(path)
@@ -73,8 +72,8 @@ def keep_changes(folder, found, seen):
                 print(f"left out {name}: {fault}", file=sys.stderr, flush=True)
 
 
-def watch(folder, every):
-    seen = {}
+def watch(folder: Path, every: int) -> None:
+    seen: dict[str, object] = {}
     while True:
         with suppress(FileNotFoundError):  # one may go while they are looked at
             found = documents(folder)
@@ -84,7 +83,7 @@ def watch(folder, every):
         time.sleep(every)
 
 
-def show(folder, file=None):
+def show(folder: Path, file: str | None = None) -> None:
     with open_store(folder) as store:
         for path in sorted(kept(store)) if file is None else []:
             print(f"{path[1:]}: {len(store.versions(path))} versions")
@@ -93,7 +92,7 @@ def show(folder, file=None):
             print(f"#{number}  {closed.datetime.astimezone():%Y-%m-%dT%H:%M:%S}  {length} bytes, {fate}")
 
 
-def restore(folder, file, moment):
+def restore(folder: Path, file: str, moment: str) -> None:
     with open_store(folder) as store:
         if moment.startswith("#"):
             content = store.read(f"/{file}", version=int(moment[1:]))
@@ -105,7 +104,7 @@ def restore(folder, file, moment):
     print(f"restored {beside.replace(folder / file)}: {len(content)} bytes")
 
 
-def mark(folder, name):
+def mark(folder: Path, name: str) -> None:
     with open_store(folder) as store:
         with suppress(GroupExists):
             store.group_make(name)
@@ -119,12 +118,12 @@ def mark(folder, name):
         print(f"marked {name} at {moment.datetime.astimezone():%Y-%m-%dT%H:%M:%S}")
 
 
-def forget(folder):
+def forget(folder: Path, much: bool = False) -> None:
     with open_store(folder) as store:
-        print(f"removed {store.pass_().removed} versions")
+        print(f"removed {store.pass_(confirm=much).removed} versions")
 
 
-def main(words):
+def main(words: list[str]) -> None:
     try:
         match words:
             case [folder, "watch"]:
@@ -137,12 +136,13 @@ def main(words):
                 restore(Path(folder), file, moment)
             case [folder, "mark", name]:
                 mark(Path(folder), name)
-            case [folder, "forget"]:
-                forget(Path(folder))
+            case [folder, "forget", *much] if much in ([], ["much"]):
+                forget(Path(folder), bool(much))
             case _:
                 sys.exit(__doc__)
     except ElephantError as fault:
-        sys.exit(f"undo_folder: {fault}")
+        more = ", as 'forget much' does" if isinstance(fault, MassRemoval) else ""
+        sys.exit(f"undo_folder: {fault}{more}")
 
 
 if __name__ == "__main__":

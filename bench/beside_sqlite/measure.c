@@ -1,5 +1,6 @@
 /* measure FILE PROGRAM WORDS: runs the program, and writes into the file how many microseconds of a processor and how many
  * kilobytes at most it took. It is a program of its own because Linux counts the memory of the process that starts another. */
+#define _DEFAULT_SOURCE /* for wait4 */
 #include <stdio.h>
 #include <sys/resource.h>
 #include <sys/wait.h>

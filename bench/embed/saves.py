@@ -1,13 +1,14 @@
 """How long a small save takes from Python, in microseconds."""
 
 import time
+from typing import Any
 
 import elephant
 
 SAVES = 30_000
 
 
-def saves(**how):
+def saves(**how: Any) -> float:
     with elephant.Store(**how) as store:
         store.create("/f")
         began = time.perf_counter()
@@ -16,7 +17,7 @@ def saves(**how):
         return (time.perf_counter() - began) / SAVES * 1e6
 
 
-def sessions():
+def sessions() -> float:
     with elephant.Store() as store:
         store.create("/f")
         began = time.perf_counter()
