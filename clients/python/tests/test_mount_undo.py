@@ -416,6 +416,28 @@ class Folders(Undoing):
         self.undo(b"/d")
         self.assertEqual(set(self.files().values()), {b"oops"})
 
+    def test_a_copy_that_a_program_renames_belongs_to_its_change(self) -> None:
+        self.fill({b"/d/sedx1": b"oops"})
+        self.later(2)
+        self.rename(b"/d/sedx1", b"/d/a")
+        self.fill({b"/d/e/.probe": b"", b"/d/e/sedx2": b"oops"})
+        self.later(1)
+        self.rename(b"/d/e/sedx2", b"/d/e/b")
+        self.unlink(b"/d/e/.probe")
+        self.later()
+        self.undo(b"/d")
+        self.assertEqual(self.files(), self.CONTENTS)
+
+    def test_a_file_that_was_made_a_while_before_comes_back(self) -> None:
+        self.fill({b"/d/a": b"newer"})
+        self.later(1)
+        self.fill({b"/d/new": b"new"})
+        self.later(3)
+        self.unlink(b"/d/new")
+        self.later()
+        self.undo(b"/d")
+        self.assertEqual(self.files(), {**self.CONTENTS, b"/d/a": b"newer", b"/d/new": b"new"})
+
     def test_names_and_contents_that_a_program_changed(self) -> None:
         for path in self.CONTENTS:
             self.fill({path: b"encrypted"})

@@ -6,6 +6,7 @@ from __future__ import annotations
 import errno
 from collections.abc import Callable, Iterable, Iterator
 from contextlib import suppress
+from functools import cache
 from itertools import chain
 from typing import NamedTuple, Optional, Union
 
@@ -210,7 +211,33 @@ class Undo:
                 moments.append(int(self.store.stat_row(node.path).closed))
         if not moments:
             raise Nothing(f"nothing below {told(folder.path)} was ever changed")
-        return begin_of_last(moments, CHANGE_PAUSE) - 1
+        begin = begin_of_last(moments, CHANGE_PAUSE)
+        while (made := self._made_before(numbers, begin)) is not None:
+            begin = begin_of_last([made, *(it for it in moments if it < made)], CHANGE_PAUSE)
+        return begin - 1
+
+    def _made_before(self, folders: set[int], begin: int) -> Optional[int]:
+        """Returns when a name was made that has ended since `begin`, if that was shortly before: the copy that `sed -i` writes, for example,
+        belongs to the change that renames it. Returns None if there is no such name."""
+        path_at, found = cache(self._where.path_at), begin
+        for number in folders:
+            for name in self.store.chronicle.ended_since(number, begin):
+                moments = range(begin - 1, begin - CHANGE_PAUSE - 2, -1)
+                absent = next((it for it in moments if not self._was_there(path_at(number, it), name, it)), begin)
+                found = min(found, absent + 1)
+        return found if found < begin else None
+
+    def _was_there(self, folder: Optional[bytes], name: bytes, moment: int) -> bool:
+        """Whether a folder had a name at a moment. `folder` is its path of then, or None."""
+        if folder is None or moment < 0:
+            return False
+        try:
+            self.store.stat_row(folder + b"/" + name, AT, moment)
+        except Forgotten:
+            return True
+        except Refused:
+            return False
+        return True
 
     def _undo_to(self, path: bytes, node: Optional[Union[File, Directory]], moment: int, is_dry: bool) -> str:
         if moment > self.store.now:
