@@ -60,6 +60,7 @@ typedef struct elephant elephant;
 
 /* ---- Codes ---- */
 
+/* Printed by tools/pages/surface --write: the codes, from refusal.rt of ele_model, fault.rt of ele_printer and codes.rt of ele_c_values. */
 enum elephant_code {
     ELEPHANT_OK = 0,
 
@@ -85,10 +86,10 @@ enum elephant_code {
     ELEPHANT_TOO_BIG = 17,         /* the content would be longer than 1,048,576 bytes */
     ELEPHANT_DRAFTING = 18,        /* the file has a draft: a handle writes it */
     ELEPHANT_NOT_RESTORABLE = 19,  /* the name can't be restored */
-    ELEPHANT_NO_GROUP = 20,
-    ELEPHANT_GROUP_EXISTS = 21,
-    ELEPHANT_NO_MARK = 22,
-    ELEPHANT_MARK_EXISTS = 23,
+    ELEPHANT_NO_GROUP = 20,        /* there is no such group */
+    ELEPHANT_GROUP_EXISTS = 21,    /* the group exists already */
+    ELEPHANT_NO_MARK = 22,         /* the group has no mark at that moment */
+    ELEPHANT_MARK_EXISTS = 23,     /* the group has a mark at that moment already */
     ELEPHANT_NOT_PAST = 24,        /* the moment is not before now */
     ELEPHANT_ALREADY_MEMBER = 25,  /* the group has the file already */
     ELEPHANT_NOT_MEMBER = 26,      /* the group doesn't have the file */
@@ -112,6 +113,7 @@ enum elephant_code {
     ELEPHANT_NO_ROOM = 70,         /* the buffer is too small, and nothing is copied */
     ELEPHANT_UNTOLD = 71           /* the line was run, but there is no memory for the text of its answer */
 };
+/* End of the codes. */
 
 /* No moment or no level: a version that has not ended, a mark without an end, .. */
 #define ELEPHANT_NEVER UINT64_MAX
@@ -131,6 +133,7 @@ typedef struct elephant_limits {
     uint64_t marks;        /* at most 10,000 */
 } elephant_limits;
 
+/* Printed by tools/pages/surface --write: the limits, from ele_c_values/src/codes.rt. */
 enum elephant_limit {
     ELEPHANT_LIMIT_FILES = 1,
     ELEPHANT_LIMIT_DIRECTORIES = 2,
@@ -141,6 +144,7 @@ enum elephant_limit {
     ELEPHANT_LIMIT_MEMBERS = 7,
     ELEPHANT_LIMIT_MARKS = 8
 };
+/* End of the limits. */
 
 /* Makes a closed handle at *out, or NULL if there is no memory. Pass it to elephant_delete once. */
 void elephant_new(elephant **out);

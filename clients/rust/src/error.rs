@@ -4,6 +4,7 @@ use crate::sys;
 use std::fmt;
 use std::io;
 
+// Printed by tools/pages/surface --write: the limits, from ele_c_values/src/codes.rt and ele_help/src/pages.rt.
 /// A kind of thing that has a limit ([`Limits`](crate::Limits)).
 #[derive(Clone, Copy, Debug, PartialEq, Eq, Hash)]
 #[non_exhaustive]
@@ -12,9 +13,9 @@ pub enum Limit {
     Files,
     /// Directories ever made.
     Directories,
-    /// Names ever given.
+    /// Names ever made.
     Names,
-    /// Versions ever made, with the open drafts.
+    /// Versions made, and open drafts.
     Versions,
     /// Handles ever opened.
     Handles,
@@ -56,6 +57,7 @@ impl fmt::Display for Limit {
         })
     }
 }
+// End of the limits.
 
 // The errors that have only their code, each with its text.
 macro_rules! errors {
@@ -127,6 +129,7 @@ macro_rules! errors {
     };
 }
 
+// Printed by tools/pages/surface --write: the codes, from refusal.rt of ele_model, fault.rt of ele_printer and codes.rt of ele_c_values.
 errors! {
     NoMemory = ELEPHANT_NO_MEMORY, "there is no memory";
     HistoryFull = ELEPHANT_HISTORY_FULL, "as many events were answered as the limits allow";
@@ -163,6 +166,7 @@ errors! {
     NoHistory = ELEPHANT_NO_HISTORY, "the store was opened without a history";
     Untold = ELEPHANT_UNTOLD, "the line was run, and there was no memory for the text of its answer";
 }
+// End of the codes.
 
 impl std::error::Error for Error {}
 

@@ -1,4 +1,5 @@
-//! The declarations of `include/elephant.h`. `tools/rust_client` compares the two.
+//! The declarations of `include/elephant.h`.
+// Printed by tools/pages/surface --write, from include/elephant.h.
 
 use std::marker::{PhantomData, PhantomPinned};
 

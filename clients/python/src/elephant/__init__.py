@@ -32,6 +32,7 @@ from ._answers import (
     Usage,
     Version,
 )
+# Printed by tools/pages/surface --write: the errors, from _errors.py.
 from ._errors import (
     AlreadyMember,
     BadLadder,
@@ -82,6 +83,7 @@ from ._errors import (
     TooBig,
     Untold,
 )
+# End of the errors.
 from ._files import File, TextFile
 from ._moments import LAST_MOMENT, Moment
 from ._policies import KeepAll, KeepOne, KeepSafe, Landmarks, Policy
@@ -90,12 +92,14 @@ from ._store import Store
 from ._times import Time, read_time
 
 __all__ = [
-    "LAST_MOMENT", "AlreadyMember", "BadLadder", "BadLimits", "BadMoment", "BadName", "BadPath", "BadTime", "ClockBack", "ClockDoubt",
-    "ClockEnd", "Closed", "ClosedSession", "DeadName", "DirectoryStat", "Drafting", "ElephantError", "Entry", "Exists", "Fate", "File",
-    "FileStat", "Forgotten", "Full", "Future", "Group", "GroupExists", "History", "HistoryFull", "IntoItself", "Current", "IsDirectory",
-    "Due", "Kept", "Marked", "Open", "IsRoot", "JournalDamaged", "JournalError", "JournalLocked", "JournalLost", "KeepAll", "KeepOne",
-    "KeepSafe", "Landmarks", "Limits", "Mark", "MarkExists", "MassRemoval", "Moment", "NoEntry", "NoGroup", "NoHandle", "NoHistory",
-    "NoMark", "NoMemory", "NotAhead", "NotDirectory", "NotEmpty", "NotMember", "NotPast", "NotRestorable", "NotWriter", "NoVersion", "Pass",
-    "Policy", "ReadOnly", "Reader", "Recovered", "Refused", "Removable", "Session", "Stop", "Store", "Syntax", "TextFile", "Time",
-    "TooBig", "Untold", "Usage", "Version", "read_time",
+    "LAST_MOMENT", "ClosedSession", "Current", "DeadName", "DirectoryStat", "Due", "Entry", "Fate", "File", "FileStat", "Group", "History",
+    "KeepAll", "KeepOne", "KeepSafe", "Kept", "Landmarks", "Limits", "Mark", "Marked", "Moment", "Open", "Pass", "Policy", "Reader",
+    "Recovered", "Removable", "Session", "Store", "TextFile", "Time", "Usage", "Version", "read_time",
+    # Printed by tools/pages/surface --write: the names of errors, from _errors.py.
+    "AlreadyMember", "BadLadder", "BadLimits", "BadMoment", "BadName", "BadPath", "BadTime", "ClockBack", "ClockDoubt", "ClockEnd",
+    "Closed", "Drafting", "ElephantError", "Exists", "Forgotten", "Full", "Future", "GroupExists", "HistoryFull", "IntoItself",
+    "IsDirectory", "IsRoot", "JournalDamaged", "JournalError", "JournalLocked", "JournalLost", "MarkExists", "MassRemoval", "NoEntry",
+    "NoGroup", "NoHandle", "NoHistory", "NoMark", "NoMemory", "NotAhead", "NotDirectory", "NotEmpty", "NotMember", "NotPast",
+    "NotRestorable", "NotWriter", "NoVersion", "ReadOnly", "Refused", "Stop", "Syntax", "TooBig", "Untold",
+    # End of the names of errors.
 ]

@@ -43,16 +43,19 @@ class Stop(ElephantError):
     removed: int = 0
 
 
+class Refused(ElephantError):
+    """The store refused the command, and changed nothing."""
+
+
+# Printed by tools/pages/surface --write: the codes, from refusal.rt of ele_model, fault.rt of ele_printer and codes.rt of ele_c_values.
+
+
 class NoMemory(Stop, MemoryError, number=1):
     """There was no memory for the command."""
 
 
 class HistoryFull(Stop, number=2):
     """The history has as many events as the limits allow."""
-
-
-class Refused(ElephantError):
-    """The store refused the command, and changed nothing."""
 
 
 class ClockBack(Refused, number=3):
@@ -101,15 +104,6 @@ class IsRoot(Refused, number=11):
 
 class Future(Refused, number=12):
     """The moment is after now."""
-
-
-class Forgotten(Refused, number=13):
-    """The version was removed. `last` is the greatest held number before it, or None."""
-
-    last: Optional[int] = None
-
-    def _detail(self) -> str:
-        return f" {'-' if self.last is None else self.last}"
 
 
 class NoVersion(Refused, number=14):
@@ -164,13 +158,8 @@ class NotMember(Refused, number=26):
     """The group doesn't have the file."""
 
 
-class Full(Refused, number=27):
-    """A limit is reached. `what` is its name: `files`, `directories`, `names`, `versions`, `handles`, `groups`, `members`, `marks`."""
-
-    what: str = ""
-
-    def _detail(self) -> str:
-        return f" {self.what}"
+class NotAhead(Refused, number=41):
+    """The end of a mark is not after now, or the moment of `ahead` is before now."""
 
 
 class BadName(Refused, ValueError, number=28):
@@ -193,10 +182,6 @@ class Syntax(Refused, ValueError, number=32):
     """An argument doesn't have the form of its kind."""
 
 
-class NotAhead(Refused, number=41):
-    """The end of a mark is not after now, or the moment of `ahead` is before now."""
-
-
 class Closed(ElephantError, ValueError, number=64):
     """The store, or the handle, is closed."""
 
@@ -211,6 +196,27 @@ class NoHistory(ElephantError, ValueError, number=67):
 
 class Untold(ElephantError, MemoryError, number=71):
     """The line was run, but there was no memory for the text of its answer."""
+
+
+# End of the codes.
+
+
+class Forgotten(Refused, number=13):
+    """The version was removed. `last` is the greatest held number before it, or None."""
+
+    last: Optional[int] = None
+
+    def _detail(self) -> str:
+        return f" {'-' if self.last is None else self.last}"
+
+
+class Full(Refused, number=27):
+    """A limit is reached. `what` is its name: `files`, `directories`, `names`, `versions`, `handles`, `groups`, `members`, `marks`."""
+
+    what: str = ""
+
+    def _detail(self) -> str:
+        return f" {self.what}"
 
 
 class ClockDoubt(ElephantError):
@@ -258,7 +264,9 @@ class JournalLost(JournalError):
     """The journal was cut, deleted, renamed or replaced while the store was open, so that no later change would be kept in it."""
 
 
+# Printed by tools/pages/surface --write: the limits, from ele_c_values/src/codes.rt.
 LIMIT_NAMES = ("", "files", "directories", "names", "versions", "handles", "groups", "members", "marks")
+# End of the limits.
 
 
 def error_of(number: int, subject: str = "", detail: Optional[int] = None) -> ElephantError:

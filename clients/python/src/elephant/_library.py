@@ -13,14 +13,17 @@ from ._errors import ElephantError
 
 FILE_NAME = "libelephant.so"
 VARIABLE = "ELEPHANT_LIBRARY"
+# Printed by tools/pages/surface --write: the numbers, from include/elephant.h.
 NOW, AT, VERSION = 0, 1, 2
 NO_ENTRY = 5
+# End of the numbers.
 
 
 def _struct(name: str, fields: str) -> type[Structure]:
     return type(name, (Structure,), {"_fields_": [(field, c_uint64) for field in fields.split()]})
 
 
+# Printed by tools/pages/surface --write: the rows, from include/elephant.h.
 LimitsRow = _struct("LimitsRow", "events files directories names versions handles groups members marks")
 StatRow = _struct("StatRow", "is_directory id version opened closed ended length policy seconds floor rungs")
 VersionRow = _struct("VersionRow", "number opened closed ended length")
@@ -30,33 +33,29 @@ UsageRow = _struct("UsageRow", "files versions bytes blocks")
 GroupRow = _struct("GroupRow", "name_length members marks")
 MarkRow = _struct("MarkRow", "moment until")
 WhyRow = _struct("WhyRow", "fate moment until level cause seconds by")
+# End of the rows.
 
 # `text` is a pointer to bytes and their count; `into` is a buffer and its size; `out` is a pointer to a number or a row.
 _PARTS: dict[str, list[type]] = {
     "handle": [c_void_p], "text": [c_char_p, c_size_t], "into": [c_void_p, c_size_t], "out": [c_void_p],
     "number": [c_uint64], "word": [c_uint32],
 }
+# Printed by tools/pages/surface --write: the calls, from include/elephant.h.
 _CALLS = {
-    "open": "out word", "open_largest": "word", "detail": "out",
-    "line": "text out", "tell": "out", "answer": "number into out",
-    "now": "out", "clock": "number", "tick": "number",
-    "mkdir": "text out", "rmdir": "text", "create": "text out", "link": "text text", "unlink": "text", "rename": "text text",
-    "undelete": "text out",
-    "open_write": "text out", "write": "number number text", "truncate": "number number", "close_handle": "number out",
-    "revert": "text number out",
-    "open_read": "text word number out", "read": "text word number out", "read_handle": "number out", "take": "number into out",
-    "read_into": "text word number number into out out", "read_handle_into": "number number into out out",
-    "stat": "text word number out", "rung": "number out out",
-    "versions": "text word number out", "row_version": "number out", "list": "text word number out", "restorable": "out",
-    "row_name": "number out", "row_bytes": "number into out", "due": "out", "ahead": "number out", "row_key": "number out",
-    "usage": "out", "row_usage": "number out",
-    "policy": "text text", "default": "text text",
-    "group_make": "text", "group_drop": "text", "group_add": "text text", "group_remove": "text text",
-    "mark": "text number number", "unmark": "text number",
+    "open": "out word", "open_largest": "word", "detail": "out", "line": "text out", "tell": "out", "answer": "number into out",
+    "now": "out", "clock": "number", "tick": "number", "mkdir": "text out", "rmdir": "text", "create": "text out", "link": "text text",
+    "unlink": "text", "rename": "text text", "undelete": "text out", "open_write": "text out", "write": "number number text",
+    "truncate": "number number", "close_handle": "number out", "revert": "text number out", "open_read": "text word number out",
+    "read": "text word number out", "read_handle": "number out", "take": "number into out",
+    "read_into": "text word number number into out out", "read_handle_into": "number number into out out", "stat": "text word number out",
+    "rung": "number out out", "versions": "text word number out", "row_version": "number out", "list": "text word number out",
+    "restorable": "out", "row_name": "number out", "row_bytes": "number into out", "due": "out", "ahead": "number out",
+    "row_key": "number out", "usage": "out", "row_usage": "number out", "policy": "text text", "default": "text text", "group_make": "text",
+    "group_drop": "text", "group_add": "text text", "group_remove": "text text", "mark": "text number number", "unmark": "text number",
     "groups": "out", "row_group": "number out", "row_member": "number number out", "row_mark": "number number out",
-    "why": "text word number out", "why_group": "into out", "clean": "out", "pass": "number out out",
-    "history": "out out", "trim": "out",
+    "why": "text word number out", "why_group": "into out", "clean": "out", "pass": "number out out", "history": "out out", "trim": "out",
 }
+# End of the calls.
 
 
 def _places() -> Iterator[str]:

@@ -11,7 +11,9 @@ MOST_PIECE = 4000
 # Of a number below 2^64.
 MOST_DIGITS = 19
 # Lines that change nothing, and that no journal has.
-QUESTIONS = frozenset(b"read stat versions list restorable due usage groups history trim why ahead handles gone answers".split())
+# Printed by tools/pages/surface --write: the questions, from ele_commands/src/command.rt and ele_model/specs/NothingChanges.antt.
+QUESTIONS = frozenset(b"due groups list read restorable stat usage versions history trim ahead answers gone handles why".split())
+# End of the questions.
 
 
 def write_lines(handle: int, offset: int, data: bytes) -> list[bytes]:

@@ -32,11 +32,13 @@ MOST_LINE = 1 << 20
 # The path of a socket has at most 107 bytes.
 MOST_FOLDER = 100
 # Lines after which the tree may differ, and lines that change nothing.
+# Printed by tools/pages/surface --write: the lines, from ele_commands/src/command.rt and ele_model/specs/NothingChanges.antt.
 _ASK = frozenset((
-    "read", "stat", "versions", "list", "restorable", "due", "usage", "groups", "why", "ahead", "handles", "gone", "answers", "history",
-    "trim",
+    "due", "groups", "list", "read", "restorable", "stat", "usage", "versions", "history", "trim", "ahead", "answers", "gone", "handles",
+    "why",
 ))
-_SHORT = frozenset(("policy", "default", "group", "mark", "unmark", "clean", "pass"))
+_SHORT = frozenset(("clean", "default", "group", "mark", "pass", "policy", "unmark"))
+# End of the lines.
 # Lines that may use what is kept back of the limits.
 _UNDOING = frozenset(("undo", "undelete", "revert"))
 _MAKE = frozenset(("mkdir", "create", "link", "rename"))

@@ -9,11 +9,13 @@ from typing import Optional
 from .._answers import Limits
 
 # The counts that each command raises by one.
+# Printed by tools/pages/surface --write: the counts, from ele_model/specs/Step.antt and ele_model/specs/Change.antt.
 TAKES = {
-    b"create": ("files", "names", "versions"), b"mkdir": ("directories", "names"), b"link": ("names",), b"rename": ("names",),
-    b"undelete": ("names",), b"open": ("handles",), b"revert": ("versions",), b"group make": ("groups",), b"group add": ("members",),
-    b"mark": ("marks",),
+    b"create": ("files", "names", "versions"), b"group make": ("groups",), b"group add": ("members",), b"link": ("names",),
+    b"mark": ("marks",), b"mkdir": ("directories", "names"), b"open": ("handles",), b"rename": ("names",), b"revert": ("versions",),
+    b"undelete": ("names",),
 }
+# End of the counts.
 # One in so many of each limit is kept back for `undo`.
 KEPT_BACK = 100
 # In how many in 100 of a limit the log says that its end comes near.

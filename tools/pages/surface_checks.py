@@ -1,0 +1,61 @@
+"""What tools/pages/surface does with a tree: it prints each file, and compares what it doesn't print."""
+
+from collections.abc import Iterator
+from typing import NamedTuple
+
+from gate.building import ROOT
+from pages import surface_docs, surface_header, surface_python, surface_rust
+from pages.surface_facts import EXPORTS, SOURCES, facts_of
+from pages.surface_header import HEADER
+from pages.surface_regions import Tree
+
+PRINTED = [
+    HEADER, *surface_python.PRINTED, surface_rust.SYS, surface_rust.ERRORS, surface_docs.SCRIPT, surface_docs.ERRORS, surface_docs.DRIVE,
+]
+
+
+class Outcome(NamedTuple):
+    """What a tree should be: each file that is printed, what else differs from the sources, and how much was compared."""
+
+    printed: dict[str, str]
+    complaints: list[str]
+    counted: str
+
+    def stale(self, tree: Tree) -> list[str]:
+        """Returns the files of a tree that are printed otherwise."""
+        return [path for path, text in self.printed.items() if text != tree[path]]
+
+
+def read_tree() -> dict[str, str]:
+    """Returns the files of this repository that have a part in the surface."""
+    exports = sorted(str(it.relative_to(ROOT)) for it in (ROOT / EXPORTS).glob("*.rt"))
+    return {path: (ROOT / path).read_text(encoding="utf-8") for path in [*SOURCES, *exports, *PRINTED]}
+
+
+def outcome_of(tree: Tree) -> Outcome:
+    """Prints a tree. The clients are printed from the header as it is printed."""
+    facts = facts_of(tree)
+    header = {HEADER: surface_header.made(tree, facts)}
+    with_header = {**tree, **header}
+    printed = {**header}
+    for part in (surface_python, surface_rust, surface_docs):
+        printed.update(part.made(with_header, facts))
+    whole = {**tree, **printed}
+    complaints = [it for part in (surface_header, surface_python, surface_docs) for it in part.complaints(whole, facts)]
+    columns = sum(len(it) for it in facts.rows.values())
+    counted = (
+        f"{len(facts.commands)} commands, {len(facts.codes)} numbers of errors, {len(facts.limits)} limits, {columns} columns, "
+        f"{len(facts.exports)} calls"
+    )
+    return Outcome(printed, complaints, counted)
+
+
+def findings(tree: Tree) -> Iterator[str]:
+    """Yields each file that is to be printed anew, and each complaint. What can't be read is one too."""
+    try:
+        found = outcome_of(tree)
+    except (LookupError, ValueError) as fault:
+        yield f"{type(fault).__name__}: {fault}"
+        return
+    yield from found.stale(tree)
+    yield from found.complaints

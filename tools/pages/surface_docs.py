@@ -1,0 +1,198 @@
+"""What tools/pages/surface prints in the documents: tables of commands, limits and errors, and the words of docs/DRIVE.md's program."""
+
+import re
+from collections.abc import Iterator
+
+from gate.building import match_in
+from pages import surface_words as words
+from pages.surface_facts import ERRORS as HELP_ERRORS, HELP_PAGES, Command, Facts
+from pages.surface_python import questions
+from pages.surface_regions import Tree, joined, region_in, with_region
+
+SCRIPT, ERRORS, DRIVE = (f"docs/{it}.md" for it in ("SCRIPT", "ERRORS", "DRIVE"))
+FROM_COMMANDS = "ROWS and HELP of ele_commands/src/command.rt; the last column is kept by hand"
+FROM_LIMITS = "ele_model/src/limits.rt and the limits of lines, runs, names and contents"
+FROM_ERRORS = "ele_help/src/errors.rt"
+# The tables of docs/ERRORS.md, each with the kind of its numbers.
+TABLES = {
+    "refusal": "the refusals", "line": "the bad lines", "stop": "the stops", "run": "the ends of a run", "storm": "the ends of a storm",
+}
+# What the program prints in an answer, and the words for the kinds of policies.
+PRINTED = re.compile(r"(?:ok|stop|-) .*?(?=,? (?:then|or|and|in order|by)\b|, (?=ok|stop)|$)")
+KINDS = re.compile(r"(?<=the same for ).*")
+LISTS = re.compile(r"ok (\w+)((?: F)?) (?:K|4), then ")
+# Refusals of looking something up: a path, a version, a handle. They don't stand in a command's own line of the plan.
+OF_LOOK_UPS = {"IsRoot", "NoEntry", "NotDirectory", "IsDirectory", "Future", "NoVersion", "Forgotten", "NoHandle", "NotWriter"}
+# A trim frees memory when the driver's journal is run again, so its journal has it.
+OF_JOURNAL = {"trim"}
+
+
+# Commands.
+
+
+def forms_of(command: Command, facts: Facts) -> list[str]:
+    """Returns the cells of a command: of one that takes either of two words two, and of one that may have a last word one with both."""
+    letters, after_path = [], False
+    for kind in command.kinds:
+        letters.append(facts.letters[f"{kind} if after_path"] if kind == "Path" and after_path else facts.letters[kind])
+        after_path = kind == "Path"
+    last = letters[-1] if letters else ""
+    usage = " ".join([command.words, *letters])
+    if "|" in last:
+        return [f"`{usage.replace(last, it)}`" for it in last.split("|")]
+    return [f"`{usage.replace(f' {last}', '')}`, `{usage.replace(last, last[1:-1])}`"] if last.startswith("[") else [f"`{usage}`"]
+
+
+def answer_of(command: Command) -> str:
+    """Returns the cell of an answer, with what the program prints as code."""
+    text = PRINTED.sub(r"`\g<0>`", command.answer)
+    return KINDS.sub(lambda it: re.sub(r"\b(?!and\b)\w+", r"`\g<0>`", it[0]), text)
+
+
+def rows_in(table: str) -> dict[str, str]:
+    """Returns the last cell of each row of a table of commands, by the first."""
+    rows = [[it.strip() for it in line.split("|")[1:-1]] for line in table.splitlines() if line.startswith("| `")]
+    return {row[0]: row[-1] for row in rows}
+
+
+def commands(facts: Facts, table: str, explains: bool) -> str:
+    """Returns a table of commands, in the order that it has. What is new is at its end, and what the refusals are stays as it is."""
+    answers = {form: answer_of(it) for it in facts.commands if it.explains == explains for form in forms_of(it, facts)}
+    refusals = rows_in(table)
+    order = [*(it for it in refusals if it in answers), *(it for it in answers if it not in refusals)]
+    cells = [[it, answers[it], refusals.get(it, "")] for it in order]
+    return table_of(["Line", "Answer", "Refusals, in this order"], cells)
+
+
+def table_of(head: list[str], rows: list[list[str]]) -> str:
+    lines = [head, *rows]
+    text = [f"|{'|'.join(f' {it} ' if it else ' ' for it in line)}|\n" for line in lines]
+    return "".join([text[0], f"|{'---|' * len(head)}\n", *text[1:]])
+
+
+# Limits.
+
+
+def limits(facts: Facts) -> str:
+    """Returns the table of limits."""
+    makers = {it.word: joined(f"`{command.first()}`" for command in facts.commands if it.word in command.takes) for it in facts.limits}
+    full, most = facts.code("Full"), {name: f"{it:,}" for name, it in facts.constants.items()}
+
+    def told(word: str, phrase: str) -> str:
+        return words.LIMITS_OF_SCRIPT.get(word, phrase).format(makers=makers[word])
+
+    def code(before: str, name: str) -> str:
+        return f"`{before}{facts.code(name).number} {name}`"
+
+    rows = [[told(it.word, it.phrase), f"{it.most:,}", f"`no {full.number} {full.name} {it.word}`"] for it in facts.limits]
+    rows += [
+        ["events of a history, folded ones too", f"{most['events']}, or N of `--events N`, from 1 to {most['most events']}",
+         code("stop ", "HistoryFull")],
+        ["lines of a run, and its bytes", f"{most['lines']}, and {most['bytes']}", f"status 1, {code('', 'TooManyLines')}"],
+        ["bytes of a line", most["line"], code("bad ", "LineTooLong")],
+        ["names of a path, and bytes of a name", f"{most['names']}, and {most['name']}",
+         f"{code('bad ', 'BadPath')}, {code('bad ', 'BadName')}"],
+        ["bytes of a content", most["content"], code("no ", "TooBig")],
+    ]
+    return table_of(["What", "Most", "Answer above it"], rows)
+
+
+def script(tree: Tree, facts: Facts) -> str:
+    text = tree[SCRIPT]
+    for name, explains in (("the commands", False), ("the questions", True)):
+        table = commands(facts, region_in(SCRIPT, text, name), explains)
+        text = with_region(SCRIPT, text, name, FROM_COMMANDS, table)
+    return with_region(SCRIPT, text, "the limits", FROM_LIMITS, limits(facts))
+
+
+# Errors, and the program of docs/DRIVE.md.
+
+
+def errors(tree: Tree, facts: Facts) -> str:
+    text = tree[ERRORS]
+    for kind, name in TABLES.items():
+        rows = [[str(it.number), it.name, it.meaning] for it in facts.of(kind)]
+        text = with_region(ERRORS, text, name, FROM_ERRORS, table_of(["Number", "Name", "What it means, and what to do"], rows))
+    return text
+
+
+def lists_of(facts: Facts) -> list[tuple[str, str]]:
+    """Returns the words and letters of each answer with rows after it, `history` and `F K`."""
+    found = [LISTS.match(it.answer) for it in facts.commands]
+    return [(it[1], f"{it[2]} K".strip()) for it in found if it]
+
+
+def drive(tree: Tree, facts: Facts) -> str:
+    """Returns the page with both lists of its program."""
+    lists = {
+        "QUESTIONS": [it for it in questions(facts) if it not in OF_JOURNAL],
+        "WITH_ROWS": [word for word, _ in lists_of(facts) if word != "answers"],
+    }
+    text = tree[DRIVE]
+    for name, items in lists.items():
+        old = match_in(rf"(?m)^{name} = .*\n", text)[0]
+        text = text.replace(old, f"{name} = {{{', '.join(f'{chr(34)}{it}{chr(34)}' for it in items)}}}\n")
+    return text
+
+
+def made(tree: Tree, facts: Facts) -> dict[str, str]:
+    """Returns each page with its printed regions."""
+    return {SCRIPT: script(tree, facts), ERRORS: errors(tree, facts), DRIVE: drive(tree, facts)}
+
+
+# What is compared.
+
+
+def complaints(tree: Tree, facts: Facts) -> Iterator[str]:
+    yield from refusals_by_hand(tree, facts)
+    yield from lists_by_hand(tree, facts)
+    yield from limits_of_help(tree, facts)
+    for code in facts.codes:
+        if code.kind in TABLES and not code.meaning:
+            yield f"{HELP_ERRORS}: the help doesn't say what {code.number} {code.name} means"
+
+
+def refusals_by_hand(tree: Tree, facts: Facts) -> Iterator[str]:
+    """Yields the rows of commands whose refusals aren't those of their line of the plan, in its order."""
+    listed = rows_in(region_in(SCRIPT, tree[SCRIPT], "the commands"))
+    checked = {it.name for it in facts.of("refusal")} - OF_LOOK_UPS | {f"Full {it.word}" for it in facts.limits}
+    for command in facts.commands:
+        if command.refusals is None:
+            continue
+        told = [listed.get(form, "") for form in forms_of(command, facts)]
+        found = [it for cell in told for it in re.findall(r"\bFull \w+|\b[A-Z]\w+", cell) if it in checked]
+        # Another row's refusals come before the own ones.
+        if found != command.refusals and found != [it for it in command.refusals if it not in of_another(told, listed, checked)]:
+            yield f"{SCRIPT}: the refusals of `{command.words}` are {found}, and the plan has {command.refusals}"
+        if not all(told):
+            yield f"{SCRIPT}: the refusals of `{command.words}` are missing"
+
+
+def of_another(told: list[str], listed: dict[str, str], checked: set[str]) -> set[str]:
+    """Returns the refusals of the rows that a cell names."""
+    named = [listed.get(it, "") for cell in told for it in re.findall(r"those of (`[^`]+`)", cell)]
+    return {it for cell in named for it in re.findall(r"\bFull \w+|\b[A-Z]\w+", cell) if it in checked}
+
+
+def lists_by_hand(tree: Tree, facts: Facts) -> Iterator[str]:
+    """Yields a line if the sentence on answers with rows has others than the table."""
+    sentence = match_in(r"After ((?:`ok [^`]*`(?:, | and )?)+), K rows follow", tree[SCRIPT])[1]
+    wanted = {f"ok {word} {letters}" for word, letters in lists_of(facts) if word != "answers"}
+    found = set(re.findall("`([^`]*)`", sentence))
+    if found != wanted:
+        yield f"{SCRIPT}: answers with rows are {sorted(found)}, and the commands have {sorted(wanted)}"
+
+
+def limits_of_help(tree: Tree, facts: Facts) -> Iterator[str]:
+    """Yields the limits that the help has otherwise than the sources."""
+    most = facts.constants
+    wanted = [(f"no {facts.code('Full').number} Full {it.word}", it.most) for it in facts.limits]
+    wanted += [(f"stop {facts.code('HistoryFull').number} HistoryFull; see --events", most["events"])]
+    lines = f"{facts.code('TooManyLines').number} TooManyLines, status 1"
+    wanted += [(lines, most["lines"]), (lines, most["bytes"]), (f"bad {facts.code('LineTooLong').number} LineTooLong", most["line"])]
+    wanted += [(f"bad {facts.code(name).number} {name}", most[of]) for name, of in (("BadPath", "names"), ("BadName", "name"))]
+    wanted += [(f"no {facts.code('TooBig').number} TooBig", most["content"])]
+    found = re.findall(r"^  \S.*?  +([\d,]+)  +(\S.*)$", tree[HELP_PAGES], re.M)
+    have = [(answer, int(digits.replace(",", ""))) for digits, answer in found]
+    for it in [*(it for it in have if it not in wanted), *(it for it in wanted if it not in have)]:
+        yield f"{HELP_PAGES}: {it[0]} at {it[1]:,} is only in the {'help' if it in have else 'sources'}"

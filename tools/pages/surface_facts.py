@@ -1,0 +1,296 @@
+"""The facts of the surface, as the sources of the crates have them: commands, numbers of errors, limits, columns of rows, and exports.
+
+Which command only asks, and which counts it raises, follows from the definitions: `asks`, `plan` and `after_change` of `ele_model`.
+"""
+
+import re
+from collections.abc import Iterator
+from typing import NamedTuple
+
+from gate.building import match_in
+from pages.surface_regions import Tree
+
+COMMAND, PARTS = "crates/ele_commands/src/command.rt", "crates/ele_commands/specs/Parts.antt"
+STEP, CHANGE, ASKS = (f"crates/ele_model/specs/{it}.antt" for it in ("Step", "Change", "NothingChanges"))
+REFUSAL, LIMITS = "crates/ele_model/src/refusal.rt", "crates/ele_model/src/limits.rt"
+ERRORS, HELP_PAGES, HELP_SCRIPT = (f"crates/ele_help/src/{it}.rt" for it in ("errors", "pages", "script"))
+LINE_FAULT, SHELL_FAULT = "crates/ele_printer/src/fault.rt", "crates/ele_run_options/src/fault.rt"
+STORM_FAULT = "crates/ele_storm_plan/src/fault.rt"
+CODES, FIELDS, TAGS = (f"crates/ele_c_values/src/{it}.rt" for it in ("codes", "fields", "asks"))
+FIELD_RULES = "crates/ele_c_values/specs/Fields.antt"
+# What has a number: its source, and the type that has it. Another type may have the numbers of memory and of a full history too.
+NUMBERED = [
+    ("stop", REFUSAL, "Stop"), ("refusal", REFUSAL, "Refusal"), ("line", LINE_FAULT, "LineFault"), ("run", SHELL_FAULT, "ShellFault"),
+    ("storm", STORM_FAULT, "AuditFault"), ("storm", STORM_FAULT, "StormFault"),
+]
+# Numbers that limits of no store have: where each stands, and its name there.
+CONSTANTS = {
+    "most events": (LIMITS, r"(?m)^        events: ([\d_]+),"),
+    "events": ("crates/ele_invocation/src/run.rt", r'\.default_value\("(\d+)"\)'),
+    "lines": ("crates/ele_runs/src/script.rt", r"const MOST_LINES: u64 = ([\d_]+);"),
+    "bytes": ("crates/ele_runs/src/script.rt", r"const MOST_BYTES: u64 = ([\d_]+);"),
+    "line": ("crates/ele_script/src/reading.rt", r"const LONGEST_LINE: usize = ([\d_]+);"),
+    "names": ("crates/ele_path/src/path.rt", r"const MOST_NAMES: usize = ([\d_]+);"),
+    "name": ("crates/ele_moment/src/name.rt", r"const MOST_BYTES: usize = ([\d_]+);"),
+    "content": ("crates/ele_content/src/longest.rt", r"const LONGEST_CONTENT: u64 = ([\d_]+);"),
+}
+SOURCES = [
+    COMMAND, PARTS, STEP, CHANGE, ASKS, REFUSAL, LIMITS, ERRORS, HELP_PAGES, HELP_SCRIPT, LINE_FAULT, SHELL_FAULT, STORM_FAULT, CODES,
+    FIELDS, TAGS, FIELD_RULES, *sorted({path for path, _ in CONSTANTS.values()} - {LIMITS}),
+]
+EXPORTS = "crates/ele_c/src"
+TYPES = {
+    "&mut Elephant": "elephant *", "*mut Elephant": "elephant *", "&mut *mut Elephant": "elephant **", "u64": "uint64_t", "u32": "uint32_t",
+    "&mut u64": "uint64_t *", "&[u8]": "const void *", "&mut [u8]": "void *",
+}
+
+
+class Command(NamedTuple):
+    """A command: its words, the kinds of the words after it, whether only a run that explains has it, its topic and its answer; whether it
+    only asks, the counts that it always raises by one, and the refusals that its own line of the plan names, in their order."""
+
+    words: str
+    kinds: list[str]
+    explains: bool
+    topic: str
+    answer: str
+    asks: bool
+    takes: tuple[str, ...]
+    refusals: list[str] | None
+
+    def first(self) -> str:
+        return self.words.split()[0]
+
+
+class Code(NamedTuple):
+    """A number with its name: what has it (`stop`, `refusal`, `line`, `run`, `storm` or `handle`), what its source says of it, and what the
+    help says."""
+
+    kind: str
+    number: int
+    name: str
+    says: str
+    meaning: str
+
+    def in_c(self) -> str:
+        """Returns its name in C, without ELEPHANT_."""
+        return re.sub(r"(?<!^)([A-Z])", r"_\1", self.name).upper()
+
+
+class Limit(NamedTuple):
+    """A kind of thing that has a limit: its name, its word, its number, its largest limit, and what the help calls it."""
+
+    name: str
+    word: str
+    number: int
+    most: int
+    phrase: str
+
+
+class Parameter(NamedTuple):
+    """A parameter of a call of C. The length of a text has no name in Rattle, where a slice has it."""
+
+    kind: str
+    name: str
+
+
+class Call(NamedTuple):
+    """A call of C: the type of its result, and its parameters."""
+
+    result: str
+    parameters: list[Parameter]
+
+
+class Facts(NamedTuple):
+    """All that the sources have. A row has its columns by its name in C."""
+
+    commands: list[Command]
+    codes: list[Code]
+    limits: list[Limit]
+    rows: dict[str, list[str]]
+    exports: dict[str, Call]
+    enums: dict[str, int]
+    constants: dict[str, int]
+    detailed: list[str]
+    letters: dict[str, str]
+
+    def of(self, kind: str) -> list[Code]:
+        return [it for it in self.codes if it.kind == kind]
+
+    def code(self, name: str) -> Code:
+        return next(it for it in self.codes if it.name == name)
+
+
+def number(word: str) -> int:
+    return int(re.sub("[_,]", "", word))
+
+
+def block(text: str, begin: str) -> str:
+    """Returns the lines from one that begins so to the next brace or bracket at the margin."""
+    return match_in(rf"(?ms)^{re.escape(begin)}.*?^[}}\]]", text)[0]
+
+
+# Commands.
+
+
+def equations(text: str, name: str) -> Iterator[tuple[str, str]]:
+    """Yields each variant that a function has an equation for, and that equation."""
+    for found in re.finditer(rf"^{name} (?:w )?\(?(\w+\.)?(\w+)((?:.|\n(?!{name} |--|abbrev|\n))*)", text, re.M):
+        yield found[2], found[3]
+
+
+def raised_by(tree: Tree) -> dict[str, set[str]]:
+    """Returns the counts that each change raises, itself or by what it calls."""
+    text = tree[CHANGE]
+    called = dict(re.findall(r"^abbrev pub (\w+) : .*\n((?:\1 .*\n(?:[ }].*\n)*)+)", text, re.M))
+
+    def counts(body: str, seen: frozenset[str]) -> set[str]:
+        own = set(re.findall(r"made = record w\.made \{ (\w+) = ", body))
+        inner = (counts(called[it], seen | {it}) for it in set(re.findall(r"\w+", body)) - seen if it in called)
+        return own.union(*inner)
+
+    return {change: counts(body, frozenset(["after_change", "after_changes"])) for change, body in equations(text, "after_change")}
+
+
+def makes_in(equation: str) -> Iterator[str]:
+    """Yields the changes of each outcome of an equation of the plan, as they are spelled there."""
+    for found in re.finditer(r"\bMake (\((?:[^()]|\([^()]*\))*\)|\w+) \(((?:[^()]|\([^()]*\))*)\)", equation):
+        yield found[2]
+
+
+def takes_of(equation: str, raised: dict[str, set[str]], order: list[str]) -> tuple[str, ...]:
+    """Returns the counts that each outcome which changes something raises."""
+    outcomes = [set().union(*(raised[it] for it in re.findall(r"\w+", made) if it in raised)) for made in makes_in(equation)]
+    always = set.intersection(*outcomes) if outcomes else set()
+    return tuple(it for it in order if it in always)
+
+
+def refusals_of(equation: str, names: list[str]) -> list[str]:
+    """Returns the refusals that an equation names, each where it is named last."""
+    found = re.findall(rf"\b(?:Full which\.(\w+)|({'|'.join(names)})\b)", equation)
+    listed = [f"Full {which.lower()}" if which else name for which, name in found]
+    return [it for at, it in enumerate(listed) if it not in listed[at + 1:]]
+
+
+def commands_of(tree: Tree, limits: list[Limit], refusals: list[str]) -> list[Command]:
+    """Returns the commands, in the order of their rows."""
+    row = r'\(\s*Command::(\w+),\s*"(\w*)",\s*"(\w*)",\s*&\[([^\]]*)\],\s*(\w+),?\s*\)'
+    rows = re.findall(row, block(tree[COMMAND], "pub static ROWS"))
+    told = re.findall(r'\(\s*Topic::(\w+),\s*"([^"]*)",?\s*\)', block(tree[COMMAND], "pub static HELP"))
+    if not rows or len(rows) != len(told):
+        raise LookupError(f"{COMMAND}: {len(rows)} rows and {len(told)} of help")
+    events = {command: event for event, command in re.findall(r"^parts_of \(?event\.(\w+).* = \(command\.(\w+),", tree[PARTS], re.M)}
+    asking = {event for event, value in equations(tree[ASKS], "asks") if value.rstrip().endswith("= true")}
+    plan: dict[str, str] = {}
+    for variant, lines in equations(tree[STEP], "plan"):
+        plan[variant.replace("ListNames", "List")] = plan.get(variant, "") + lines
+    raised, order = raised_by(tree), [it.word for it in limits]
+    found = []
+    for (name, first, second, kinds, when), (topic, answer) in zip(rows, told):
+        event = events.get(name)
+        asks = event in asking if event else when == "Explaining" or topic == "History"
+        equation = plan[event] if event else ""
+        words, listed, takes = f"{first} {second}".strip(), re.findall(r"\w+", kinds), takes_of(equation, raised, order)
+        own = refusals_of(equation, refusals) if event else None
+        found.append(Command(words, listed, when == "Explaining", topic, answer, asks, takes, own))
+    return found
+
+
+# Numbers of errors.
+
+
+def said_of(text: str, kind: str) -> dict[str, str]:
+    """Returns the first sentence of the comment of each variant."""
+    rows = re.findall(r"^((?:    /// .*\n)+)(?:    #.*\n)*    (\w+)", block(text, f"pub enum {kind} "), re.M)
+    comments = {name: " ".join(it.strip().removeprefix("/// ") for it in lines.splitlines()) for lines, name in rows}
+    return {name: re.split(r"(?<=[^.])\.(?: |$)", it)[0].partition(": ")[0] for name, it in comments.items()}
+
+
+def meanings_of(tree: Tree) -> dict[str, str]:
+    """Returns what the help says of each refusal and fault."""
+    text = tree[ERRORS]
+    refused = re.findall(r'Refusal::(\w+)(?:\(_\))? =>\s*\{?\s*"([^"]*)"', block(text, "fn meaning_of"))
+    others = re.findall(r'\b(?:\w+)::(\w+)\)?,\s*"([^"]*)"', text.partition("// The column")[0])
+    return dict([*refused, *others])
+
+
+def codes_of(tree: Tree) -> list[Code]:
+    """Returns what has a number, by its kind and number."""
+    meanings, found = meanings_of(tree), []
+    for kind, source, name in NUMBERED:
+        text, said = tree[source], said_of(tree[source], name)
+        names = dict(re.findall(rf'\b{name}::(\w+)(?:\(_\))?\)? => "(\w+)",', text))
+        for variant, digits in re.findall(rf"\b{name}::(\w+)(?:\(_\))?\)? => (\d+),", text):
+            if kind == "stop" or variant not in ("NoMemory", "HistoryFull"):
+                found.append(Code(kind, int(digits), names[variant], said.get(variant, ""), meanings.get(variant, "")))
+    for says, name, digits in re.findall(r"^/// (.*)\.\npub const (\w+): i32 = (\d+);", tree[CODES], re.M):
+        if int(digits) > 1:
+            found.append(Code("handle", int(digits), "".join(it.title() for it in name.split("_")), says, ""))
+    order = [it for it, _, _ in NUMBERED] + ["handle"]
+    return sorted(found, key=lambda it: (order.index(it.kind), it.number))
+
+
+# Limits, rows, enums and exports.
+
+
+def limits_of(tree: Tree) -> list[Limit]:
+    words = dict(re.findall(r'Which::(\w+) => "(\w+)"', tree[REFUSAL]))
+    most = {name: number(digits) for name, digits in re.findall(r"^        (\w+): ([\d_]+),", tree[LIMITS], re.M)}
+    phrases = {word: phrase for phrase, word in re.findall(r"^  (\S.*?)  +[\d,]+  +no \d+ Full (\w+)$", tree[HELP_PAGES], re.M)}
+    numbers = re.findall(r"Which::(\w+) => (\d+),", tree[CODES])
+    return [Limit(name, words[name], int(digits), most[words[name]], phrases.get(words[name], "")) for name, digits in numbers]
+
+
+def rows_of(tree: Tree) -> dict[str, tuple[str, list[str]]]:
+    """Returns each row by its name in Rattle: its name in C, and its columns."""
+    found = re.findall(r"^/// `(\w+)`\.\n(?:#.*\n)*pub struct (\w+) \{\n((?: .*\n)*)\}", tree[FIELDS], re.M)
+    return {name: (in_c, re.findall(r"pub (\w+): u64,", body)) for in_c, name, body in found}
+
+
+def enums_of(tree: Tree) -> dict[str, int]:
+    """Returns the numbers of tags, kinds of policies, fates and causes, by their names in C."""
+    rules, found = tree[FIELD_RULES], {}
+    for digits, name in re.findall(r"^        (\d) => (?:Ok\(|moment\(number\)\.map\()Tag::(\w+)", tree[TAGS], re.M):
+        found[{"Number": "VERSION"}.get(name, name.upper())] = int(digits)
+    for name, digits in re.findall(r"^kind_number \(?policy\.(\w+).* = (\d+)$", rules, re.M):
+        found[f"KEEP_{name.upper()}"] = int(digits)
+    for kind, form, before in (("fate", "fate_fields", "IS_"), ("cause", "due_fields since", "")):
+        for name, body in re.findall(rf"^{form} \(?{kind}\.(\w+)(.*)$", rules, re.M):
+            digits = re.findall(rf"\b{kind} = (\d+)", body)
+            names = {"AtOnce": "AT_ONCE", "Age": "BY_AGE"}
+            found[before + names.get(name, name.upper())] = int(digits[0]) if digits else 0
+    # Its cause is told beside it.
+    found["IS_DUE"] = int(match_in(r"(?m)^due_fields .*\bfate = (\d+)", rules)[1])
+    return found
+
+
+def exports_of(tree: Tree) -> dict[str, Call]:
+    """Returns each exported call, in the words of C. An allocator is no parameter."""
+    rows, found = rows_of(tree), {}
+    for path in sorted(it for it in tree if it.startswith(EXPORTS)):
+        for name, listed, result in re.findall(r'pub (?:unsafe )?extern "C" fn (elephant_\w+)\(([^)]*)\)( -> i32)?', tree[path]):
+            found[name] = Call("int32_t" if result else "void", list(parameters_of(listed, rows)))
+    return found
+
+
+def parameters_of(listed: str, rows: dict[str, tuple[str, list[str]]]) -> Iterator[Parameter]:
+    for name, _, kind in (it.strip().partition(": ") for it in listed.split(",") if it.strip()):
+        if kind == "Global":
+            continue
+        of_row = re.fullmatch(r"&(mut )?(\w+Fields)", kind)
+        in_c = f"{'' if of_row[1] else 'const '}{rows[of_row[2]][0]} *" if of_row else TYPES[kind]
+        yield Parameter(in_c, "e" if name == "elephant" else name)
+        if "[u8]" in kind:
+            yield Parameter("size_t", "")
+
+
+def facts_of(tree: Tree) -> Facts:
+    limits, codes = limits_of(tree), codes_of(tree)
+    commands = commands_of(tree, limits, [it.name for it in codes if it.kind == "refusal" and it.name != "Full"])
+    detail = tree[CODES].partition("fn detail_in(")[2].partition("\n}")[0]
+    letters = re.findall(r'WordKind::(\w+)( if after_path)? => "(\S+)"', tree[HELP_SCRIPT])
+    return Facts(
+        commands, codes, limits, dict(rows_of(tree).values()), exports_of(tree), enums_of(tree),
+        {name: number(match_in(form, tree[path])[1]) for name, (path, form) in CONSTANTS.items()},
+        re.findall(r"Refusal::(\w+)\(\w+\) => Some", detail), {f"{name}{after}": letter for name, after, letter in letters},
+    )

@@ -1,0 +1,164 @@
+"""What tools/pages/surface prints in the Python package: rows and calls of the library, exceptions with their names, lists of commands."""
+
+import re
+from collections.abc import Iterator
+
+from pages import surface_words as words
+from pages.surface_facts import Call, Code, Command, Facts
+from pages.surface_header import CODES_FROM, HEADER, Declared, declared
+from pages.surface_regions import Tree, with_region, wrapped
+
+PACKAGE = "clients/python/src/elephant"
+LIBRARY, ERRORS, NAMES, REPLAY = (f"{PACKAGE}/{it}.py" for it in ("_library", "_errors", "__init__", "_replay"))
+CONTROL, COUNTS = (f"{PACKAGE}/mount/{it}.py" for it in ("control", "counts"))
+FROM_COMMANDS = "ele_commands/src/command.rt and ele_model/specs/NothingChanges.antt"
+# What an exception is by the kind of its number.
+BASES = {"stop": ["Stop"], "refusal": ["Refused"], "line": ["Refused", "ValueError"], "handle": ["ElephantError", "ValueError"]}
+# The words of _library._PARTS for a type of C; a size belongs to the pointer before it.
+PARTS = {"uint64_t": "number", "uint32_t": "word", "const void *": "text", "void *": "into"}
+# What the tree of a mount doesn't show.
+SHORT_TOPICS = ("Policies", "Groups", "Cleaning")
+
+
+def quoted(text: str) -> str:
+    return f'"{text}"'
+
+
+# The library.
+
+
+def row_name(name: str) -> str:
+    """Returns the class of a row: elephant_stat_row is StatRow."""
+    return name.removeprefix("elephant_").removesuffix("_row").title() + "Row"
+
+
+def parts_of(call: Call) -> str:
+    """Returns the words of _library._PARTS for the parameters of a call, but for the handle."""
+    found = [PARTS.get(it.kind, "out" if it.kind.endswith("*") else it.kind) for it in call.parameters[1:]]
+    return " ".join(it for it in found if it != "size_t")
+
+
+def library(tree: Tree, facts: Facts, of_c: Declared) -> str:
+    tags = of_c.enums["tag"]
+    numbers = f"{', '.join(tags)} = {', '.join(map(str, tags.values()))}\n"
+    numbers += "".join(f"{facts.code(it).in_c()} = {facts.code(it).number}\n" for it in words.NAMED_IN_PYTHON)
+    rows = "".join(f'{row_name(name)} = _struct("{row_name(name)}", "{" ".join(columns)}")\n' for name, columns in of_c.rows.items())
+    listed = [(name.removeprefix("elephant_"), parts_of(call)) for name, call in of_c.calls.items() if call.result != "void"]
+    calls = f"_CALLS = {{\n{wrapped(f'{quoted(name)}: {quoted(parts)}' for name, parts in listed)}}}\n"
+    text = with_region(LIBRARY, tree[LIBRARY], "the numbers", HEADER, numbers)
+    text = with_region(LIBRARY, text, "the rows", HEADER, rows)
+    return with_region(LIBRARY, text, "the calls", HEADER, calls)
+
+
+# Exceptions.
+
+
+def in_python(facts: Facts) -> Iterator[Code]:
+    """Yields the codes that have an exception."""
+    for code in facts.codes:
+        if code.kind in BASES and code.name not in words.NEVER_IN_PYTHON | words.NEVER_IN_C:
+            yield code
+
+
+def exception(code: Code) -> str:
+    """Returns the class of a code."""
+    own = words.OWN_BASES.get(code.name)
+    bases = [*BASES[code.kind][:1], own] if own else BASES[code.kind]
+    lines = [f"class {code.name}({', '.join(bases)}, number={code.number}):", f'    """{words.in_python(code.name, code.says)}."""']
+    lines += ["", f"    errno = errno.{words.SYSTEM[code.name]}"] if code.name in words.SYSTEM else []
+    return "".join(f"{it}\n" for it in lines)
+
+
+def errors(tree: Tree, facts: Facts, _: Declared) -> str:
+    listed = [exception(it) for it in in_python(facts) if it.name not in words.BY_HAND]
+    # Two empty lines before and after each class, as everywhere.
+    text = with_region(ERRORS, tree[ERRORS], "the codes", CODES_FROM, "\n\n" + "\n\n".join(listed) + "\n\n")
+    limits = ", ".join(quoted(it) for it in ("", *(it.word for it in facts.limits)))
+    return with_region(ERRORS, text, "the limits", "ele_c_values/src/codes.rt", f"LIMIT_NAMES = ({limits})\n")
+
+
+def names(tree: Tree, facts: Facts, of_c: Declared) -> str:
+    """Returns the list of the package's names, with each exception."""
+    listed = sorted(re.findall(r"^class (\w+)", errors(tree, facts, of_c), re.M), key=str.casefold)
+    imported = "".join(f"    {it},\n" for it in listed)
+    text = with_region(NAMES, tree[NAMES], "the errors", "_errors.py", f"from ._errors import (\n{imported})\n")
+    return with_region(NAMES, text, "the names of errors", "_errors.py", wrapped(map(quoted, listed)))
+
+
+def numbers_by_hand(tree: Tree, facts: Facts) -> Iterator[str]:
+    """Yields the exceptions that have another number than their code."""
+    found = dict(re.findall(r"^class (\w+)\(.*\bnumber=(\d+)\)", tree[ERRORS], re.M))
+    wanted = {it.name: str(it.number) for it in in_python(facts)}
+    for name in sorted({*found, *wanted}):
+        if found.get(name) != wanted.get(name):
+            yield f"{ERRORS}: {name} has the number {found.get(name)}, and the sources have {wanted.get(name)}"
+
+
+# Lists of commands.
+
+
+def questions(facts: Facts) -> list[str]:
+    """Returns the first words of the lines that only ask: commands, those of histories, and those of runs that explain."""
+    asking = [it for it in facts.commands if it.asks]
+    asking.sort(key=lambda it: (it.explains, it.topic == "History"))
+    found = list(dict.fromkeys(it.first() for it in asking))
+    mixed = [it.words for it in facts.commands if not it.asks and it.first() in found]
+    if mixed:
+        raise LookupError(f"{', '.join(mixed)} changes something, and another command with its first word only asks")
+    return found
+
+
+def takers(facts: Facts) -> dict[str, tuple[str, ...]]:
+    """Returns the counts that each command raises, by its first word, or by both if those with this first word raise others."""
+    found: dict[str, tuple[str, ...]] = {}
+    for command in facts.commands:
+        alike: set[tuple[str, ...]] = {it.takes for it in facts.commands if it.first() == command.first()}
+        found[command.first() if len(alike) == 1 else command.words] = command.takes
+    return {words: takes for words, takes in found.items() if takes}
+
+
+def replay(tree: Tree, facts: Facts, _: Declared) -> str:
+    body = f'QUESTIONS = frozenset(b"{" ".join(questions(facts))}".split())\n'
+    return with_region(REPLAY, tree[REPLAY], "the questions", FROM_COMMANDS, body)
+
+
+def control(tree: Tree, facts: Facts, _: Declared) -> str:
+    short = list(dict.fromkeys(it.first() for it in facts.commands if is_short(it)))
+    body = f"_ASK = frozenset((\n{wrapped(map(quoted, questions(facts)))}))\n"
+    body += f"_SHORT = frozenset(({', '.join(map(quoted, short))}))\n"
+    return with_region(CONTROL, tree[CONTROL], "the lines", FROM_COMMANDS, body)
+
+
+def is_short(command: Command) -> bool:
+    """Whether a command leaves names and contents."""
+    return command.topic in SHORT_TOPICS
+
+
+def counts(tree: Tree, facts: Facts, _: Declared) -> str:
+    def spelled(takes: tuple[str, ...]) -> str:
+        return f"({', '.join(map(quoted, takes))}{',' * (len(takes) == 1)})"
+
+    items = [f"b{quoted(name)}: {spelled(takes)}" for name, takes in takers(facts).items()]
+    sources = "ele_model/specs/Step.antt and ele_model/specs/Change.antt"
+    return with_region(COUNTS, tree[COUNTS], "the counts", sources, f"TAKES = {{\n{wrapped(items)}}}\n")
+
+
+def pairs_by_hand(tree: Tree, facts: Facts) -> Iterator[str]:
+    """Yields a line if the mount reads two words of other commands than the table has."""
+    first = {name.split()[0] for name in takers(facts) if " " in name}
+    if first != set(re.findall(r'words\[0\] == b"(\w+)" else', tree[COUNTS])):
+        yield f"{COUNTS}: _command_of reads two words, and TAKES has two of {', '.join(sorted(first))}"
+
+
+PRINTED = {LIBRARY: library, ERRORS: errors, NAMES: names, REPLAY: replay, CONTROL: control, COUNTS: counts}
+
+
+def made(tree: Tree, facts: Facts) -> dict[str, str]:
+    """Returns each file of the package with its printed regions."""
+    of_c = declared(tree[HEADER])
+    return {path: printed(tree, facts, of_c) for path, printed in PRINTED.items()}
+
+
+def complaints(tree: Tree, facts: Facts) -> Iterator[str]:
+    yield from numbers_by_hand(tree, facts)
+    yield from pairs_by_hand(tree, facts)

@@ -1,0 +1,115 @@
+"""What tools/pages/surface prints in the Rust crate: its declarations of the library, and its table of errors."""
+
+from collections.abc import Iterator
+
+from pages import surface_words as words
+from pages.surface_facts import Call, Facts, Limit
+from pages.surface_header import CODES_FROM, HEADER, Declared, declared
+from pages.surface_regions import HEAD, Tree, with_region
+
+SYS, ERRORS = "clients/rust/src/sys.rs", "clients/rust/src/error.rs"
+# The width of clients/rust/rustfmt.toml.
+WIDTH = 130
+TYPES = {
+    "elephant *": "*mut elephant", "elephant **": "*mut *mut elephant", "const void *": "*const u8", "void *": "*mut u8", "uint64_t": "u64",
+    "uint32_t": "u32", "size_t": "usize", "uint64_t *": "*mut u64", "int32_t": "i32",
+}
+# The types of the numbers of an enum; of others it is that of a column.
+ENUM_TYPES = {"code": "i32", "tag": "u32"}
+HANDLE = """
+use std::marker::{PhantomData, PhantomPinned};
+
+/// The type of a handle.
+#[repr(C)]
+pub struct elephant {
+    private: [u8; 0],
+    // Neither `Send` nor `Sync` nor `Unpin`, since its content is unknown here.
+    marker: PhantomData<(*mut u8, PhantomPinned)>,
+}
+"""
+
+
+def type_in_rust(kind: str) -> str:
+    """Returns a type of C in the words of Rust."""
+    if kind in TYPES:
+        return TYPES[kind]
+    const, _, name = f" {kind}".removesuffix(" *").rpartition(" ")
+    return f"*{'const' if const.strip() == 'const' else 'mut'} {name}"
+
+
+def lines_of_call(name: str, call: Call) -> Iterator[str]:
+    """Yields the lines of a call, as rustfmt lays them out."""
+    listed = [f"{it.name}: {type_in_rust(it.kind)}" for it in call.parameters]
+    result = "" if call.result == "void" else f" -> {type_in_rust(call.result)}"
+    line = f"    pub fn {name}({', '.join(listed)}){result};"
+    if len(line) <= WIDTH:
+        yield line
+    else:
+        yield from (f"    pub fn {name}(", *(f"        {it}," for it in listed), f"    ){result};")
+
+
+def lines_of_sys(of_c: Declared, left_out: set[str]) -> Iterator[str]:
+    """Yields the lines of the declarations: numbers but these, rows and calls."""
+    for name, numbers in of_c.enums.items():
+        kind = ENUM_TYPES.get(name, "u64")
+        yield from (f"pub const ELEPHANT_{it}: {kind} = {number};" for it, number in numbers.items() if it not in left_out)
+        yield ""
+    yield "pub const ELEPHANT_NEVER: u64 = u64::MAX;"
+    for name, columns in of_c.rows.items():
+        # A program makes the limits, and the library the other rows.
+        yield from ("", "#[repr(C)]", *["#[derive(Default)]"] * (name != "elephant_limits"), f"pub struct {name} {{")
+        yield from (*(f"    pub {it}: u64," for it in columns), "}")
+    yield from ("", 'extern "C" {')
+    for name, call in of_c.calls.items():
+        if name not in words.UNUSED_IN_RUST:
+            yield from lines_of_call(name, call)
+    yield "}"
+
+
+def sys_of(tree: Tree, facts: Facts) -> str:
+    head = f"//! The declarations of `{HEADER}`.\n// {HEAD}, from {HEADER}.\n"
+    left_out = {facts.code(it).in_c() for it in words.NEVER_IN_RUST}
+    return head + HANDLE + "\n" + "".join(f"{it}\n" for it in lines_of_sys(declared(tree[HEADER]), left_out))
+
+
+def errors(tree: Tree, facts: Facts) -> str:
+    listed = [it for it in facts.codes if it.kind in ("stop", "refusal", "line", "handle")]
+    left_out = words.NEVER_IN_RUST | words.NEVER_IN_C | words.BY_HAND
+    rows = [
+        f'    {it.name} = ELEPHANT_{it.in_c()}, "{words.in_rust(it.name, it.says)}";\n' for it in listed if it.name not in left_out
+    ]
+    text = with_region(ERRORS, tree[ERRORS], "the codes", CODES_FROM, f"errors! {{\n{''.join(rows)}}}\n")
+    return with_region(ERRORS, text, "the limits", "ele_c_values/src/codes.rt and ele_help/src/pages.rt", limits(facts.limits))
+
+
+def limits(listed: list[Limit]) -> str:
+    """Returns the type of limits, with what makes one of a number, and its words."""
+    variants = "".join(f"    /// {words.upper(it.phrase)}.\n    {it.name},\n" for it in listed)
+    numbers = "".join(f"            sys::ELEPHANT_LIMIT_{it.word.upper()} => Limit::{it.name},\n" for it in listed)
+    texts = "".join(f'            Limit::{it.name} => "{it.word}",\n' for it in listed)
+    return f"""/// A kind of thing that has a limit ([`Limits`](crate::Limits)).
+#[derive(Clone, Copy, Debug, PartialEq, Eq, Hash)]
+#[non_exhaustive]
+pub enum Limit {{
+{variants}}}
+
+impl Limit {{
+    fn from_detail(detail: u64) -> Option<Limit> {{
+        Some(match detail {{
+{numbers}            _ => return None,
+        }})
+    }}
+}}
+
+impl fmt::Display for Limit {{
+    fn fmt(&self, f: &mut fmt::Formatter<'_>) -> fmt::Result {{
+        f.write_str(match self {{
+{texts}        }})
+    }}
+}}
+"""
+
+
+def made(tree: Tree, facts: Facts) -> dict[str, str]:
+    """Returns both files."""
+    return {SYS: sys_of(tree, facts), ERRORS: errors(tree, facts)}

@@ -1,0 +1,111 @@
+"""Tries tools/pages/surface on copies of the tree in which something is wrong: a number, a missing refusal, a limit too many."""
+
+from typing import NamedTuple
+
+from pages import surface_docs as docs, surface_facts as facts, surface_python as python, surface_rust as rust
+from pages.surface_checks import findings
+from pages.surface_header import HEADER
+from pages.surface_regions import Tree
+
+COUNTED = "made = record w.made { names = w.made.names + 1 };"
+
+
+class Planted(NamedTuple):
+    """A fault: the file, what stands there once, what takes its place, and what the tool must name, files or words of a complaint."""
+
+    path: str
+    old: str
+    new: str
+    wanted: tuple[str, ...]
+
+
+# A fault of a file that is printed or compared.
+OF_FILES = [
+    Planted(HEADER, "    ELEPHANT_NO_ENTRY = 5,", "    ELEPHANT_NO_ENTRY = 6,", (HEADER,)),
+    Planted(HEADER, "    ELEPHANT_IS_ROOT = 11,         /* the root has no name */\n", "", (HEADER,)),
+    Planted(HEADER, "    ELEPHANT_LIMIT_MARKS = 8\n", "    ELEPHANT_LIMIT_MARKS = 8,\n    ELEPHANT_LIMIT_PINS = 9\n", (HEADER,)),
+    Planted(HEADER, "at most 200,000", "at most 200,001", ("the most of names",)),
+    Planted(HEADER, "ELEPHANT_KEEP_ALL = 1", "ELEPHANT_KEEP_ALL = 2", ("ELEPHANT_KEEP_ALL",)),
+    Planted(HEADER, "ELEPHANT_IS_KEPT = 3", "ELEPHANT_IS_KEPT = 5", ("ELEPHANT_IS_KEPT",)),
+    Planted(HEADER, "ELEPHANT_DISPLACED = 2", "ELEPHANT_DISPLACED = 3", ("ELEPHANT_DISPLACED",)),
+    Planted(HEADER, "ELEPHANT_AT = 1", "ELEPHANT_AT = 4", ("ELEPHANT_AT",)),
+    Planted(HEADER, "uint64_t file, number;", "uint64_t number, file;", ("the columns of elephant_key",)),
+    Planted(HEADER, "uint64_t members, marks;", "uint64_t members;", ("elephant_group_row",)),
+    Planted(HEADER, "elephant_clock(elephant *e, uint64_t moment)", "elephant_clock(elephant *e, uint32_t moment)", ("elephant_clock",)),
+    Planted(HEADER, "elephant_tick(elephant *e, uint64_t seconds)", "elephant_tick(elephant *e, uint64_t moment)", ("elephant_tick",)),
+    Planted(HEADER, "void elephant_close(elephant *e)", "int32_t elephant_close(elephant *e)", ("elephant_close",)),
+    Planted(HEADER, "int32_t elephant_groups(elephant *e, uint64_t *rows);", "", ("elephant_groups",)),
+    Planted(HEADER, "#define ELEPHANT_NEVER UINT64_MAX", "#define ELEPHANT_NEVER 0", ("ELEPHANT_NEVER",)),
+    Planted(rust.SYS, "pub const ELEPHANT_NO_ENTRY: i32 = 5;", "pub const ELEPHANT_NO_ENTRY: i32 = 6;", (rust.SYS,)),
+    Planted(rust.SYS, "pub fn elephant_tick(e: *mut elephant, seconds: u64)", "pub fn elephant_tick(e: *mut elephant)", (rust.SYS,)),
+    Planted(rust.ERRORS, "    IsRoot = ELEPHANT_IS_ROOT, \"the root has no name\";\n", "", (rust.ERRORS,)),
+    Planted(rust.ERRORS, "    /// Marks ever made.\n", "    /// Pins ever made.\n    Pins,\n    /// Marks ever made.\n", (rust.ERRORS,)),
+    Planted(python.LIBRARY, '"KeyRow", "since file number"', '"KeyRow", "file since number"', (python.LIBRARY,)),
+    Planted(python.LIBRARY, '"tick": "number",', '"tick": "out",', (python.LIBRARY,)),
+    Planted(python.LIBRARY, "NO_ENTRY = 5", "NO_ENTRY = 6", (python.LIBRARY,)),
+    Planted(python.ERRORS, "class IsRoot(Refused, number=11):", "class IsRoot(Refused, number=12):", (python.ERRORS,)),
+    Planted(python.ERRORS, "class Full(Refused, number=27):", "class Full(Refused, number=28):", ("Full has the number 28",)),
+    Planted(python.ERRORS, '"members", "marks")', '"members", "marks", "pins")', (python.ERRORS,)),
+    Planted(python.NAMES, "    IsRoot,\n", "", (python.NAMES,)),
+    Planted(python.NAMES, '"IsDirectory", "IsRoot",', '"IsDirectory",', (python.NAMES,)),
+    Planted(python.REPLAY, "due groups list", "due list", (python.REPLAY,)),
+    Planted(python.CONTROL, '"clean", "default",', '"default",', (python.CONTROL,)),
+    Planted(python.COUNTS, 'b"rename": ("names",)', 'b"rename": ("files",)', (python.COUNTS,)),
+    Planted(python.COUNTS, 'words[0] == b"group"', 'words[0] == b"open"', ("_command_of",)),
+    Planted(docs.SCRIPT, "| `rmdir P` | `ok done` |", "| `rmdir P` | `ok gone` |", (docs.SCRIPT,)),
+    Planted(docs.SCRIPT, "NoGroup; NotPast; NotAhead; MarkExists", "NoGroup; NotAhead; NotPast; MarkExists", ("`mark`",)),
+    Planted(docs.SCRIPT, "| `unmark G M` | `ok done` | NoGroup; NoMark |\n", "", (docs.SCRIPT, "`unmark`")),
+    Planted(docs.SCRIPT, "| marks ever made | 10,000 |", "| marks ever made | 10,001 |", (docs.SCRIPT,)),
+    Planted(docs.SCRIPT, "`ok usage K`, `ok groups K`", "`ok usage K`", ("answers with rows",)),
+    Planted(docs.ERRORS, "| 11 | IsRoot |", "| 12 | IsRoot |", (docs.ERRORS,)),
+    Planted(docs.DRIVE, 'QUESTIONS = {"due", ', "QUESTIONS = {", (docs.DRIVE,)),
+    Planted(docs.DRIVE, 'WITH_ROWS = {"ahead", ', "WITH_ROWS = {", (docs.DRIVE,)),
+    Planted(docs.ERRORS, "End of the stops.", "End.", ("no region of the stops",)),
+]
+ALL_OF_A_REFUSAL = (HEADER, python.ERRORS, python.NAMES, rust.SYS, rust.ERRORS, docs.ERRORS)
+# A fault, or something new, of a source.
+OF_SOURCES = [
+    Planted(facts.REFUSAL, "Refusal::IsRoot => 11,", "Refusal::IsRoot => 42,", tuple(it for it in ALL_OF_A_REFUSAL if it != python.NAMES)),
+    Planted(facts.REFUSAL, 'Refusal::IsRoot => "IsRoot"', 'Refusal::IsRoot => "Root"', ALL_OF_A_REFUSAL),
+    Planted(facts.REFUSAL, "    /// The root has no name.", "    /// The root is none.", (HEADER, python.ERRORS, rust.ERRORS)),
+    Planted(facts.ERRORS, "the root can't be made, moved", "the root can't be moved", (docs.ERRORS,)),
+    Planted(facts.ERRORS, "Refusal::IsRoot =>", "Refusal::Root =>", ("doesn't say what 11 IsRoot means",)),
+    Planted(facts.LINE_FAULT, "LineFault::BadPath => 29", "LineFault::BadPath => 43", (HEADER, docs.ERRORS, docs.SCRIPT, facts.HELP_PAGES)),
+    Planted(facts.SHELL_FAULT, "ShellFault::ReadFault => 34", "ShellFault::ReadFault => 44", (docs.ERRORS,)),
+    Planted(facts.STORM_FAULT, "AuditFault::TurnHeld => 38", "AuditFault::TurnHeld => 45", (docs.ERRORS,)),
+    Planted(facts.CODES, "pub const NO_ROOM: i32 = 70;", "pub const NO_ROOM: i32 = 72;", (HEADER,)),
+    Planted(facts.CODES, "Which::Marks => 8,", "Which::Marks => 9,", (HEADER, rust.SYS)),
+    Planted(facts.CODES, "Refusal::Full(which) => Some", "Refusal::TooBig(which) => Some", (HEADER,)),
+    Planted(facts.LIMITS, "        marks: 10_000,", "        marks: 20_000,", (docs.SCRIPT, "the most of marks", facts.HELP_PAGES)),
+    Planted(facts.HELP_PAGES, "1,048,576      no 17 TooBig", "1,048,577      no 17 TooBig", (facts.HELP_PAGES,)),
+    Planted(facts.FIELDS, "    pub policy: u64,", "    pub size: u64,\n    pub policy: u64,", ("elephant_stat_row",)),
+    Planted(facts.FIELD_RULES, "kind_number policy.All = 1", "kind_number policy.All = 4", ("ELEPHANT_KEEP_ALL",)),
+    Planted(facts.TAGS, "1 => moment(number).map(Tag::At)", "3 => moment(number).map(Tag::At)", ("ELEPHANT_AT",)),
+    Planted(
+        facts.COMMAND, '(Command::Unlink, "unlink", "", &[Path], Always)', '(Command::Unlink, "remove", "", &[Path], Always)',
+        (docs.SCRIPT, "`remove`"),
+    ),
+    Planted(facts.COMMAND, '(Topic::History, "ok trimmed K")', '(Topic::Cleaning, "ok trimmed K")', (python.REPLAY, python.CONTROL)),
+    Planted(facts.COMMAND, '"ok trimmed K"', '"ok folded K, then K lines - N"', (docs.SCRIPT, docs.DRIVE)),
+    Planted(facts.HELP_SCRIPT, 'WordKind::Name => "G"', 'WordKind::Name => "W"', (docs.SCRIPT,)),
+    Planted(facts.ASKS, "asks (Stat tagged) = true\n", "", (python.REPLAY, python.CONTROL, docs.DRIVE)),
+    Planted(facts.CHANGE, COUNTED, "", (python.COUNTS, docs.SCRIPT)),
+    Planted(facts.STEP, "Unless (list_any (is_live_in directory) w.names) NotEmpty", "Unless false Exists", ("`rmdir`",)),
+    Planted(facts.STEP, "(Unless (nat_le w.limits.files w.made.files) (Full which.Files)", "(id", ("`create`",)),
+    Planted(f"{facts.EXPORTS}/rows.rt", "row: &mut VersionFields,", "row: &mut NameFields,", ("elephant_row_version",)),
+]
+PLANTED = [*OF_FILES, *OF_SOURCES]
+
+
+def run(tree: Tree) -> list[str]:
+    """Returns a line for each fault that isn't found in a copy of a tree, which has none itself."""
+    wrong = [f"a tree without a fault has one: {it}" for it in findings(tree)]
+    for planted in PLANTED:
+        text = tree[planted.path]
+        if text.count(planted.old) != 1:
+            wrong.append(f"{planted.path} has {planted.old!r} {text.count(planted.old)} times, and a fault is planted where it stands once")
+            continue
+        found = "\n".join(findings({**tree, planted.path: text.replace(planted.old, planted.new)}))
+        wrong += [f"{planted.path}: {it!r} isn't named if {planted.new!r} is in place of {planted.old!r}"
+                  for it in planted.wanted if it not in found]
+    return wrong
