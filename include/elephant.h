@@ -86,7 +86,7 @@ enum elephant_code {
     ELEPHANT_TOO_BIG = 17,         /* the content would be longer than 1,048,576 bytes */
     ELEPHANT_DRAFTING = 18,        /* the file has a draft: a handle writes it */
     ELEPHANT_NOT_RESTORABLE = 19,  /* the name can't be restored */
-    ELEPHANT_NO_GROUP = 20,        /* there is no such group */
+    ELEPHANT_NO_GROUP = 20,        /* no group has that name */
     ELEPHANT_GROUP_EXISTS = 21,    /* the group exists already */
     ELEPHANT_NO_MARK = 22,         /* the group has no mark at that moment */
     ELEPHANT_MARK_EXISTS = 23,     /* the group has a mark at that moment already */

@@ -13,6 +13,8 @@ SCRIPT, ERRORS, DRIVE = (f"docs/{it}.md" for it in ("SCRIPT", "ERRORS", "DRIVE")
 FROM_COMMANDS = "ROWS and HELP of ele_commands/src/command.rt; the last column is kept by hand"
 FROM_LIMITS = "ele_model/src/limits.rt and the limits of lines, runs, names and contents"
 FROM_ERRORS = "ele_help/src/errors.rt"
+# Pages that say how many events there are.
+OF_EVENTS = ("crates/ele_core/README.md", "docs/PROMISES.md")
 # The tables of docs/ERRORS.md, each with the kind of its numbers.
 TABLES = {
     "refusal": "the refusals", "line": "the bad lines", "stop": "the stops", "run": "the ends of a run", "storm": "the ends of a storm",
@@ -147,6 +149,9 @@ def complaints(tree: Tree, facts: Facts) -> Iterator[str]:
     yield from refusals_by_hand(tree, facts)
     yield from lists_by_hand(tree, facts)
     yield from limits_of_help(tree, facts)
+    for page in OF_EVENTS:
+        if set(re.findall(r"[Ee]ach of the (\d+) events", tree[page])) != {str(facts.events)}:
+            yield f"{page}: there are {facts.events} events"
     for code in facts.codes:
         if code.kind in TABLES and not code.meaning:
             yield f"{HELP_ERRORS}: the help doesn't say what {code.number} {code.name} means"

@@ -111,8 +111,13 @@ class Facts(NamedTuple):
     exports: dict[str, Call]
     enums: dict[str, int]
     constants: dict[str, int]
+    events: int
     detailed: list[str]
     letters: dict[str, str]
+
+    def most(self) -> dict[str, int]:
+        """Returns the largest limits, in the order of the row that a program gives."""
+        return {"events": self.constants["most events"], **{it.word: it.most for it in self.limits}}
 
     def of(self, kind: str) -> list[Code]:
         return [it for it in self.codes if it.kind == kind]
@@ -291,6 +296,8 @@ def facts_of(tree: Tree) -> Facts:
     letters = re.findall(r'WordKind::(\w+)( if after_path)? => "(\S+)"', tree[HELP_SCRIPT])
     return Facts(
         commands, codes, limits, dict(rows_of(tree).values()), exports_of(tree), enums_of(tree),
-        {name: number(match_in(form, tree[path])[1]) for name, (path, form) in CONSTANTS.items()},
-        re.findall(r"Refusal::(\w+)\(\w+\) => Some", detail), {f"{name}{after}": letter for name, after, letter in letters},
+        constants={name: number(match_in(form, tree[path])[1]) for name, (path, form) in CONSTANTS.items()},
+        events=len(re.findall(r"^parts_of ", tree[PARTS], re.M)),
+        detailed=re.findall(r"Refusal::(\w+)\(\w+\) => Some", detail),
+        letters={f"{name}{after}": letter for name, after, letter in letters},
     )

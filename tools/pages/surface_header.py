@@ -81,7 +81,7 @@ def complaints(tree: Tree, facts: Facts) -> Iterator[str]:
         yield f"{HEADER}: ELEPHANT_NEVER isn't UINT64_MAX"
     struct = tree[HEADER].partition("typedef struct elephant_limits {")[2].partition("}")[0]
     most = {name: int(digits.replace(",", "")) for name, digits in re.findall(r"uint64_t (\w+); +/\*.*?at most ([\d,]+)", struct)}
-    yield from differing("the most of ", most, {**{it.word: it.most for it in facts.limits}, "events": facts.constants["most events"]})
+    yield from differing("the most of ", most, facts.most())
 
 
 def unnamed(parameters: list[Parameter]) -> Iterator[Parameter]:

@@ -11,6 +11,7 @@ from pages.surface_regions import Tree, with_region, wrapped
 PACKAGE = "clients/python/src/elephant"
 LIBRARY, ERRORS, NAMES, REPLAY = (f"{PACKAGE}/{it}.py" for it in ("_library", "_errors", "__init__", "_replay"))
 CONTROL, COUNTS = (f"{PACKAGE}/mount/{it}.py" for it in ("control", "counts"))
+ANSWERS = f"{PACKAGE}/_answers.py"
 FROM_COMMANDS = "ele_commands/src/command.rt and ele_model/specs/NothingChanges.antt"
 # What an exception is by the kind of its number.
 BASES = {"stop": ["Stop"], "refusal": ["Refused"], "line": ["Refused", "ValueError"], "handle": ["ElephantError", "ValueError"]}
@@ -150,6 +151,14 @@ def pairs_by_hand(tree: Tree, facts: Facts) -> Iterator[str]:
         yield f"{COUNTS}: _command_of reads two words, and TAKES has two of {', '.join(sorted(first))}"
 
 
+def limits_by_hand(tree: Tree, facts: Facts) -> Iterator[str]:
+    """Yields a line if the limits of Python have other names or numbers, or another order."""
+    listed = tree[ANSWERS].partition("class Limits(")[2].partition("\n\n\n")[0]
+    found = [(name, int(digits.replace("_", ""))) for name, digits in re.findall(r"^    (\w+): int = ([\d_]+)$", listed, re.M)]
+    if found != list(facts.most().items()):
+        yield f"{ANSWERS}: Limits has {found}, and the sources have {facts.most()}"
+
+
 PRINTED = {LIBRARY: library, ERRORS: errors, NAMES: names, REPLAY: replay, CONTROL: control, COUNTS: counts}
 
 
@@ -162,3 +171,4 @@ def made(tree: Tree, facts: Facts) -> dict[str, str]:
 def complaints(tree: Tree, facts: Facts) -> Iterator[str]:
     yield from numbers_by_hand(tree, facts)
     yield from pairs_by_hand(tree, facts)
+    yield from limits_by_hand(tree, facts)

@@ -1,13 +1,17 @@
-"""What tools/pages/surface prints in the Rust crate: its declarations of the library, and its table of errors."""
+"""What tools/pages/surface prints in the Rust crate: its declarations of the library, and its table of errors. What else has these by hand
+is compared."""
 
+import re
 from collections.abc import Iterator
 
 from pages import surface_words as words
-from pages.surface_facts import Call, Facts, Limit
+from pages.surface_facts import Call, Code, Facts, Limit
 from pages.surface_header import CODES_FROM, HEADER, Declared, declared
 from pages.surface_regions import HEAD, Tree, with_region
 
-SYS, ERRORS = "clients/rust/src/sys.rs", "clients/rust/src/error.rs"
+CRATE = "clients/rust"
+SYS, ERRORS, VALUES, STORE = (f"{CRATE}/src/{it}.rs" for it in ("sys", "error", "types", "store"))
+TESTED = f"{CRATE}/tests/errors.rs"
 # The width of clients/rust/rustfmt.toml.
 WIDTH = 130
 TYPES = {
@@ -73,11 +77,8 @@ def sys_of(tree: Tree, facts: Facts) -> str:
 
 
 def errors(tree: Tree, facts: Facts) -> str:
-    listed = [it for it in facts.codes if it.kind in ("stop", "refusal", "line", "handle")]
-    left_out = words.NEVER_IN_RUST | words.NEVER_IN_C | words.BY_HAND
-    rows = [
-        f'    {it.name} = ELEPHANT_{it.in_c()}, "{words.in_rust(it.name, it.says)}";\n' for it in listed if it.name not in left_out
-    ]
+    listed = [it for it in codes(facts) if it.name not in words.BY_HAND]
+    rows = [f'    {it.name} = ELEPHANT_{it.in_c()}, "{words.in_rust(it.name, it.says)}";\n' for it in listed]
     text = with_region(ERRORS, tree[ERRORS], "the codes", CODES_FROM, f"errors! {{\n{''.join(rows)}}}\n")
     return with_region(ERRORS, text, "the limits", "ele_c_values/src/codes.rt and ele_help/src/pages.rt", limits(facts.limits))
 
@@ -113,3 +114,40 @@ impl fmt::Display for Limit {{
 def made(tree: Tree, facts: Facts) -> dict[str, str]:
     """Returns both files."""
     return {SYS: sys_of(tree, facts), ERRORS: errors(tree, facts)}
+
+
+def codes(facts: Facts) -> list[Code]:
+    """Returns the codes that have a variant of their own."""
+    left_out = words.NEVER_IN_RUST | words.NEVER_IN_C
+    return [it for it in facts.codes if it.kind in ("stop", "refusal", "line", "handle") and it.name not in left_out]
+
+
+def complaints(tree: Tree, facts: Facts) -> Iterator[str]:
+    """Yields what the crate's limits and the test of all errors have otherwise than the sources."""
+    struct = tree[VALUES].partition("pub struct Limits {")[2].partition("\n}")[0]
+    default = tree[VALUES].partition("fn default() -> Limits {")[2].partition("\n}")[0]
+    given = tree[STORE].partition("sys::elephant_limits {")[2].partition("};")[0]
+    wanted = facts.most()
+    yield from differing(f"{VALUES}: what Limits is said to have", numbers_in(r"at most ([\d,]+)\.\n +pub (\w+):", struct), wanted)
+    yield from differing(f"{VALUES}: the largest limits", numbers_in(r"()(\w+): ([\d_]+),", default), wanted)
+    if re.findall(r"(\w+): self\.limits\.\1,", given) != list(wanted):
+        yield f"{STORE}: the limits that a store is opened with are others than {', '.join(wanted)}"
+    rows = numbers_in(r"()\(Error::(\w+), (\d+),", tree[TESTED])
+    bare = {it.name: it.number for it in codes(facts) if it.name not in words.BY_HAND}
+    yield from differing(f"{TESTED}: the number of each error", rows, bare)
+    limited = re.findall(r'\(Limit::(\w+), "(\w+)"\)', tree[TESTED])
+    if limited != [(it.name, it.word) for it in facts.limits]:
+        yield f"{TESTED}: the limits are {limited}, and the sources have others"
+
+
+def numbers_in(form: str, text: str) -> dict[str, int]:
+    """Returns the numbers of names. A form has the number before the name, or after it."""
+    found = re.findall(form, text)
+    pairs = [(it[1], it[2] if len(it) == 3 else it[0]) for it in found]
+    return {name: int(re.sub("[,_]", "", digits)) for name, digits in pairs}
+
+
+def differing(what: str, has: dict[str, int], wanted: dict[str, int]) -> Iterator[str]:
+    names = sorted(it for it in {*has, *wanted} if has.get(it) != wanted.get(it))
+    if names:
+        yield f"{what}: others than the sources' are {', '.join(names)}"

@@ -62,6 +62,19 @@ OF_FILES = [
     Planted(docs.DRIVE, 'WITH_ROWS = {"ahead", ', "WITH_ROWS = {", (docs.DRIVE,)),
     Planted(docs.ERRORS, "End of the stops.", "End.", ("no region of the stops",)),
 ]
+# A fault of a file that is only compared.
+OF_OTHERS = [
+    Planted(python.ANSWERS, "    marks: int = 10_000", "    marks: int = 10_001", ("Limits has",)),
+    Planted(python.ANSWERS, "    members: int = 100_000\n    marks: int = 10_000", "    marks: int = 10_000", ("Limits has",)),
+    Planted(rust.VALUES, "    /// Marks: at most 10,000.", "    /// Marks: at most 10,001.", ("said to have", "marks")),
+    Planted(rust.VALUES, "            marks: 10_000,", "            marks: 10_001,", ("the largest limits", "marks")),
+    Planted(rust.STORE, "            marks: self.limits.marks,\n", "", (rust.STORE,)),
+    Planted(rust.TESTED, "(Error::IsRoot, 11, ", "(Error::IsRoot, 12, ", (rust.TESTED, "IsRoot")),
+    Planted(rust.TESTED, "    (Error::IsRoot, 11, ErrorKind::Other),\n", "", (rust.TESTED, "IsRoot")),
+    Planted(rust.TESTED, '    (Limit::Marks, "marks"),\n', "", (rust.TESTED,)),
+    Planted(docs.OF_EVENTS[0], "Each of the 32 events", "Each of the 31 events", (docs.OF_EVENTS[0],)),
+    Planted(docs.OF_EVENTS[1], "each of the 32 events", "each of the 33 events", (docs.OF_EVENTS[1],)),
+]
 ALL_OF_A_REFUSAL = (HEADER, python.ERRORS, python.NAMES, rust.SYS, rust.ERRORS, docs.ERRORS)
 # A fault, or something new, of a source.
 OF_SOURCES = [
@@ -94,7 +107,7 @@ OF_SOURCES = [
     Planted(facts.STEP, "(Unless (nat_le w.limits.files w.made.files) (Full which.Files)", "(id", ("`create`",)),
     Planted(f"{facts.EXPORTS}/rows.rt", "row: &mut VersionFields,", "row: &mut NameFields,", ("elephant_row_version",)),
 ]
-PLANTED = [*OF_FILES, *OF_SOURCES]
+PLANTED = [*OF_FILES, *OF_OTHERS, *OF_SOURCES]
 
 
 def run(tree: Tree) -> list[str]:

@@ -33,7 +33,7 @@ OWN_WORDS = {
     "Drafting": Says(
         c="the file has a draft: a handle writes it", python="A session has a draft of the file", rust="the file is being written",
     ),
-    "NoGroup": Says("there is no such group"),
+    "NoGroup": Says("there is no such group", c="no group has that name"),
     "GroupExists": Says("the group exists already", rust="the group is there already"),
     "NoMark": Says("the group has no mark at that moment"),
     "MarkExists": Says("the group has a mark at that moment already"),
