@@ -5,16 +5,13 @@ from collections.abc import Callable, Iterable
 from dataclasses import dataclass, field
 from typing import NamedTuple, TypeVar
 
+from program.script_commands import read_numbers
+
 LAST_MOMENT = 253402300799
 LONGEST = 1 << 20
 SLOT = 512
 HIGHEST_FLOOR = 16
-NUMBERS = {
-    "ClockBack": 3, "ClockEnd": 4, "NoEntry": 5, "NotDirectory": 6, "IsDirectory": 7, "Exists": 8, "NotEmpty": 9, "IntoItself": 10,
-    "IsRoot": 11, "Future": 12, "Forgotten": 13, "NoVersion": 14, "NoHandle": 15, "NotWriter": 16, "TooBig": 17, "Drafting": 18,
-    "NotRestorable": 19, "NoGroup": 20, "GroupExists": 21, "NoMark": 22, "MarkExists": 23, "NotPast": 24, "AlreadyMember": 25,
-    "NotMember": 26, "NotAhead": 41,
-}
+NUMBERS = read_numbers("Refusals")
 KINDS = ("one", "all", "safe", "landmarks")
 Something = TypeVar("Something")
 # The bytes of each slot, and the number of the version that wrote it.

@@ -1,11 +1,11 @@
-"""What include/elephant.h says beside its declarations: the names of parameters, the numbers in comments, and the codes of each call. No
-compiler looks at them."""
+"""What include/elephant.h says beside its declarations: the numbers in comments, and the codes of each call. No compiler looks at them.
+tools/pages/surface compares the declarations."""
 
 import re
 import unittest
 from pathlib import Path
 
-from elephant import Limits, _moments
+from elephant import _moments
 from header import HEADER, codes_of, numbers_of
 
 TOP = Path(__file__).resolve().parents[3]
@@ -19,8 +19,6 @@ OF_ARGUMENTS = {
 }
 # Any call may be stopped.
 STOPS = {"NO_MEMORY", "HISTORY_FULL"}
-# A slice of Rattle is a pointer and one of these in C.
-LENGTHS = re.compile(r"(\w+_)?len|room")
 # The constant of each number that comments name, and how they name it.
 NUMBERS = [
     ("ele_moment/src/moment.rt", "LAST", r"from 0 to (\d+)"), ("ele_moment/src/moment.rt", "LAST", r"past (\d+)"),
@@ -32,24 +30,6 @@ NUMBERS = [
 
 def number(digits: str) -> int:
     return int(digits.replace(",", "").replace("_", ""))
-
-
-def parameters_of_c(text: str) -> dict[str, list[str]]:
-    found: dict[str, list[str]] = {}
-    for name, listed in re.findall(r"\b(?:int32_t|void) (elephant_\w+)\(([^)]*)\);", re.sub(r"/\*.*?\*/", "", text, flags=re.S)):
-        words = [re.findall(r"\w+", it)[-1] for it in listed.split(",")]
-        found[name] = [it for it in words if not LENGTHS.fullmatch(it)]
-    return found
-
-
-def parameters_of_rattle() -> dict[str, list[str]]:
-    """Returns the names of the parameters of each exported function, but of the allocator."""
-    found: dict[str, list[str]] = {}
-    for source in sorted((CRATES / "ele_c" / "src").glob("*.rt")):
-        for name, listed in re.findall(r'pub extern "C" fn (elephant_\w+)\(([^)]*)\)', source.read_text(encoding="utf-8")):
-            words = [it.partition(":")[0].strip() for it in listed.split(",") if it.strip()]
-            found[name] = ["e" if it == "elephant" else it for it in words if it != "alloc"]
-    return found
 
 
 def refusals_of_script(codes: dict[str, str]) -> dict[str, set[str]]:
@@ -74,22 +54,7 @@ class HeaderWords(unittest.TestCase):
     def setUpClass(cls) -> None:
         cls.text = HEADER.read_text(encoding="utf-8")
 
-    def test_names_of_parameters(self) -> None:
-        declared, exported = parameters_of_c(self.text), parameters_of_rattle()
-        self.assertGreater(len(exported), 50)
-        # It takes the handle itself, and so in another form.
-        self.assertEqual(declared.pop("elephant_delete"), ["e"])
-        exported.pop("elephant_delete", None)
-        self.assertEqual(declared, exported)
-
-    def test_limits_in_comments(self) -> None:
-        struct = re.search(r"struct elephant_limits \{(.*?)\}", self.text, re.S)
-        assert struct is not None
-        rows = re.findall(r"uint64_t (\w+); +/\*.*?at most ([\d,]+)", struct[1])
-        self.assertEqual({name: number(most) for name, most in rows}, Limits()._asdict())
-
     def test_never(self) -> None:
-        self.assertEqual(re.findall(r"#define ELEPHANT_NEVER (.*)", self.text), ["UINT64_MAX"])
         self.assertEqual(_moments.NEVER, (1 << 64) - 1)
 
     def test_numbers_in_comments(self) -> None:
