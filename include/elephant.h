@@ -58,6 +58,8 @@ extern "C" {
 
 typedef struct elephant elephant;
 
+/* tools/pages/surface --write prints the enums of codes and limits, and the columns of each row. The comments of columns are by hand. */
+
 /* ---- Codes ---- */
 
 /* Printed by tools/pages/surface --write: the codes, from refusal.rt of ele_model, fault.rt of ele_printer and codes.rt of ele_c_values. */

@@ -11,10 +11,9 @@ from pages.surface_regions import Tree
 
 PARTS = (surface_python, surface_rust, surface_docs)
 PRINTED = [
-    HEADER, *surface_python.PRINTED, surface_rust.SYS, surface_rust.ERRORS, surface_docs.SCRIPT, surface_docs.ERRORS, surface_docs.DRIVE,
+    HEADER, *surface_python.PRINTED, *surface_rust.PRINTED, surface_docs.SCRIPT, surface_docs.ERRORS, surface_docs.DRIVE,
+    *surface_docs.OF_EVENTS,
 ]
-# What people write, and what is compared.
-COMPARED = [surface_python.ANSWERS, surface_rust.VALUES, surface_rust.STORE, surface_rust.TESTED, *surface_docs.OF_EVENTS]
 
 
 class Outcome(NamedTuple):
@@ -32,7 +31,7 @@ class Outcome(NamedTuple):
 def read_tree() -> dict[str, str]:
     """Returns the files of this repository that have a part in the surface."""
     exports = sorted(str(it.relative_to(ROOT)) for it in (ROOT / EXPORTS).glob("*.rt"))
-    return {path: (ROOT / path).read_text(encoding="utf-8") for path in [*SOURCES, *exports, *PRINTED, *COMPARED]}
+    return {path: (ROOT / path).read_text(encoding="utf-8") for path in [*SOURCES, *exports, *PRINTED]}
 
 
 def outcome_of(tree: Tree) -> Outcome:
@@ -44,7 +43,7 @@ def outcome_of(tree: Tree) -> Outcome:
     for part in PARTS:
         printed.update(part.made(with_header, facts))
     whole = {**tree, **printed}
-    complaints = [it for part in (surface_header, *PARTS) for it in part.complaints(whole, facts)]
+    complaints = [it for part in (surface_header, surface_python, surface_docs) for it in part.complaints(whole, facts)]
     columns = sum(len(it) for it in facts.rows.values())
     counted = (
         f"{len(facts.commands)} commands, {len(facts.codes)} numbers of errors, {len(facts.limits)} limits, {columns} columns, "

@@ -139,7 +139,8 @@ def drive(tree: Tree, facts: Facts) -> str:
 
 def made(tree: Tree, facts: Facts) -> dict[str, str]:
     """Returns each page with its printed regions."""
-    return {SCRIPT: script(tree, facts), ERRORS: errors(tree, facts), DRIVE: drive(tree, facts)}
+    counted = {it: re.sub(r"\b([Ee]ach of the) \d+ events", rf"\1 {facts.events} events", tree[it]) for it in OF_EVENTS}
+    return {SCRIPT: script(tree, facts), ERRORS: errors(tree, facts), DRIVE: drive(tree, facts), **counted}
 
 
 # What is compared.
@@ -149,9 +150,6 @@ def complaints(tree: Tree, facts: Facts) -> Iterator[str]:
     yield from refusals_by_hand(tree, facts)
     yield from lists_by_hand(tree, facts)
     yield from limits_of_help(tree, facts)
-    for page in OF_EVENTS:
-        if set(re.findall(r"[Ee]ach of the (\d+) events", tree[page])) != {str(facts.events)}:
-            yield f"{page}: there are {facts.events} events"
     for code in facts.codes:
         if code.kind in TABLES and not code.meaning:
             yield f"{HELP_ERRORS}: the help doesn't say what {code.number} {code.name} means"

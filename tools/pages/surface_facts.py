@@ -14,6 +14,7 @@ COMMAND, PARTS = "crates/ele_commands/src/command.rt", "crates/ele_commands/spec
 STEP, CHANGE, ASKS = (f"crates/ele_model/specs/{it}.antt" for it in ("Step", "Change", "NothingChanges"))
 REFUSAL, LIMITS = "crates/ele_model/src/refusal.rt", "crates/ele_model/src/limits.rt"
 ERRORS, HELP_PAGES, HELP_SCRIPT = (f"crates/ele_help/src/{it}.rt" for it in ("errors", "pages", "script"))
+PARAGRAPHS = "crates/ele_help/src/paragraphs.rt"
 LINE_FAULT, SHELL_FAULT = "crates/ele_printer/src/fault.rt", "crates/ele_run_options/src/fault.rt"
 STORM_FAULT = "crates/ele_storm_plan/src/fault.rt"
 CODES, FIELDS, TAGS = (f"crates/ele_c_values/src/{it}.rt" for it in ("codes", "fields", "asks"))
@@ -199,6 +200,16 @@ def commands_of(tree: Tree, limits: list[Limit], refusals: list[str]) -> list[Co
         own = refusals_of(equation, refusals) if event else None
         found.append(Command(words, listed, when == "Explaining", topic, answer, asks, takes, own))
     return found
+
+
+def paragraphs_in(commands: str, paragraphs: str) -> list[tuple[str, str]]:
+    """Returns the words of each command, and what the help says of it with its example, from the sources of both."""
+    rows = re.findall(r'Command::\w+,\s*"(\w*)",\s*"(\w*)"', block(commands, "pub static ROWS"))
+    told = re.findall(r'\(\s*"((?:[^"\\]|\\.)*)",\s*"((?:[^"\\]|\\.)*)",?\s*\)', paragraphs.partition("PARAGRAPHS")[2])
+    if len(rows) != len(told):
+        raise LookupError(f"{len(rows)} commands and {len(told)} paragraphs of help")
+    texts = [f"{what}\n{example}".replace("\\n", "\n").replace('\\"', '"') for what, example in told]
+    return [(f"{first} {second}".strip(), text) for (first, second), text in zip(rows, texts)]
 
 
 # Numbers of errors.

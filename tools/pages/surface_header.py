@@ -1,9 +1,12 @@
-"""The header: its enums of codes and of limits are printed from the facts, and what else it declares is read and compared with them."""
+"""The header: its enums of codes and of limits and the columns of its rows are printed from the facts. What else it declares is compared.
+
+A column keeps the comment that it has, which people write. Only the most of a limit is printed in it."""
 
 import re
 from collections.abc import Iterator, Mapping
 from typing import NamedTuple
 
+from gate.building import match_in
 from pages import surface_words as words
 from pages.surface_facts import Call, Facts, Parameter
 from pages.surface_regions import Tree, joined, with_region
@@ -62,12 +65,58 @@ def lines_of_codes(facts: Facts) -> list[str]:
     return [f"    {it:<{width}}/* {comment} */" if comment else f"    {it}".rstrip() for it, comment in rows]
 
 
+class Columns(NamedTuple):
+    """A line of a row: some of its columns, and the comment after them."""
+
+    names: list[str]
+    comment: str
+
+    def line(self, width: int) -> str:
+        declared = f"    uint64_t {', '.join(self.names)};"
+        return f"{declared:<{width}}{self.comment}".rstrip() + "\n"
+
+
+def columns_in(body: str) -> list[Columns]:
+    """Returns the lines of a row."""
+    return [Columns(names.split(", "), comment) for names, comment in re.findall(r"^    uint64_t ([\w, ]+); *(/\*.*\*/)?$", body, re.M)]
+
+
+def regrouped(lines: list[Columns], wanted: list[str]) -> list[Columns]:
+    """Returns lines of these columns in their order. Those that were on one line stay there, and so does the comment of the first."""
+    at_first = {name: at for at, line in enumerate(lines) for name in line.names}
+    found: list[tuple[int | None, Columns]] = []
+    for name in wanted:
+        at = at_first.get(name)
+        if found and at is not None and found[-1][0] == at:
+            found[-1][1].names.append(name)
+        else:
+            is_new = at is None or at in (it for it, _ in found)
+            found.append((at, Columns([name], "" if is_new else lines[at or 0].comment)))
+    return [it for _, it in found]
+
+
+def with_columns(text: str, name: str, facts: Facts) -> str:
+    """Returns the header in which a row has its columns."""
+    body = match_in(rf"(?s)typedef struct {name} \{{\n(.*?)\}} {name};", text)[1]
+    # One space or more precedes the longest line's comment.
+    width = max((len(it.partition("/*")[0]) for it in body.splitlines() if "/*" in it), default=0)
+    lines = regrouped(columns_in(body), facts.rows[name])
+    if name == "elephant_limits":
+        most = {it: f"{number:,}" for it, number in facts.most().items()}
+        told = [re.sub(r"at most [\d,]+\d", f"at most {most[it.names[0]]}", it.comment) for it in lines]
+        lines = [it._replace(comment=comment or f"/* at most {most[it.names[0]]} */") for it, comment in zip(lines, told)]
+    return text.replace(body, "".join(it.line(width) for it in lines))
+
+
 def made(tree: Tree, facts: Facts) -> str:
-    """Returns the header with its printed enums."""
+    """Returns the header with its printed enums and columns."""
     codes = "".join(f"{it}\n" for it in lines_of_codes(facts))
     text = with_region(HEADER, tree[HEADER], "the codes", CODES_FROM, f"enum elephant_code {{\n{codes}}};\n")
     limits = ",\n".join(f"    ELEPHANT_LIMIT_{it.word.upper()} = {it.number}" for it in facts.limits)
-    return with_region(HEADER, text, "the limits", LIMITS_FROM, f"enum elephant_limit {{\n{limits}\n}};\n")
+    text = with_region(HEADER, text, "the limits", LIMITS_FROM, f"enum elephant_limit {{\n{limits}\n}};\n")
+    for name in facts.rows:
+        text = with_columns(text, name, facts)
+    return text
 
 
 def complaints(tree: Tree, facts: Facts) -> Iterator[str]:

@@ -3,6 +3,7 @@
 import re
 from collections.abc import Iterator
 
+from gate.building import match_in
 from pages import surface_words as words
 from pages.surface_facts import Call, Code, Command, Facts
 from pages.surface_header import CODES_FROM, HEADER, Declared, declared
@@ -151,15 +152,15 @@ def pairs_by_hand(tree: Tree, facts: Facts) -> Iterator[str]:
         yield f"{COUNTS}: _command_of reads two words, and TAKES has two of {', '.join(sorted(first))}"
 
 
-def limits_by_hand(tree: Tree, facts: Facts) -> Iterator[str]:
-    """Yields a line if the limits of Python have other names or numbers, or another order."""
-    listed = tree[ANSWERS].partition("class Limits(")[2].partition("\n\n\n")[0]
-    found = [(name, int(digits.replace("_", ""))) for name, digits in re.findall(r"^    (\w+): int = ([\d_]+)$", listed, re.M)]
-    if found != list(facts.most().items()):
-        yield f"{ANSWERS}: Limits has {found}, and the sources have {facts.most()}"
+def answers(tree: Tree, facts: Facts, _: Declared) -> str:
+    """Returns the file with the limits of a store."""
+    old = match_in(r"(?s)class Limits\(NamedTuple\):\n    \"\"\".*?\"\"\"\n\n(.*?)\n\n", tree[ANSWERS])[1]
+    return tree[ANSWERS].replace(old, "\n".join(f"    {name}: int = {most:_}" for name, most in facts.most().items()))
 
 
-PRINTED = {LIBRARY: library, ERRORS: errors, NAMES: names, REPLAY: replay, CONTROL: control, COUNTS: counts}
+PRINTED = {
+    LIBRARY: library, ERRORS: errors, NAMES: names, REPLAY: replay, CONTROL: control, COUNTS: counts, ANSWERS: answers,
+}
 
 
 def made(tree: Tree, facts: Facts) -> dict[str, str]:
@@ -171,4 +172,3 @@ def made(tree: Tree, facts: Facts) -> dict[str, str]:
 def complaints(tree: Tree, facts: Facts) -> Iterator[str]:
     yield from numbers_by_hand(tree, facts)
     yield from pairs_by_hand(tree, facts)
-    yield from limits_by_hand(tree, facts)

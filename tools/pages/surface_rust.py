@@ -1,9 +1,10 @@
-"""What tools/pages/surface prints in the Rust crate: its declarations of the library, and its table of errors. What else has these by hand
-is compared."""
+"""What tools/pages/surface prints in the Rust crate: its declarations of the library, and its table of errors, its limits, and
+which errors its test tries."""
 
 import re
 from collections.abc import Iterator
 
+from gate.building import match_in
 from pages import surface_words as words
 from pages.surface_facts import Call, Code, Facts, Limit
 from pages.surface_header import CODES_FROM, HEADER, Declared, declared
@@ -111,43 +112,53 @@ impl fmt::Display for Limit {{
 """
 
 
-def made(tree: Tree, facts: Facts) -> dict[str, str]:
-    """Returns both files."""
-    return {SYS: sys_of(tree, facts), ERRORS: errors(tree, facts)}
+# The limits, and the test of all errors. They keep what people write of a limit, and the kind of each error.
+
+
+def values(tree: Tree, facts: Facts) -> str:
+    """Returns the file with the limits as a row of Rust and as its default."""
+    text = tree[VALUES]
+    struct = match_in(r"(?s)pub struct Limits \{\n(.*?)\}\n", text)[1]
+    default = match_in(r"(?s)fn default\(\) -> Limits \{\n        Limits \{\n(.*?)        \}\n", text)[1]
+    said = {it.word: words.upper(it.phrase) for it in facts.limits}
+    said.update({name: it for it, name in re.findall(r"    /// (.*): at most .*\n    pub (\w+):", struct)})
+    fields = "".join(f"    /// {said[name]}: at most {most:,}.\n    pub {name}: u64,\n" for name, most in facts.most().items())
+    numbers = "".join(f"            {name}: {most:_},\n" for name, most in facts.most().items())
+    return text.replace(struct, fields).replace(default, numbers)
+
+
+def store(tree: Tree, facts: Facts) -> str:
+    """Returns the file with the limits that a store is opened with."""
+    given = match_in(r"(?s)sys::elephant_limits \{\n(.*?)        \};", tree[STORE])[1]
+    return tree[STORE].replace(given, "".join(f"            {name}: self.limits.{name},\n" for name in facts.most()))
+
+
+def tested(tree: Tree, facts: Facts) -> str:
+    """Returns the test of all errors, with a row for each in the order that it has. A new error is of no kind of its own."""
+    text = tree[TESTED]
+    kinds = {name: kind for name, kind in re.findall(r"\(Error::(\w+), \d+, (ErrorKind::\w+)\)", text)}
+    bare = {it.name: it.number for it in codes(facts) if it.name not in words.BY_HAND}
+    order = [*(it for it in kinds if it in bare), *(it for it in bare if it not in kinds)]
+    rows = [f"(Error::{it}, {bare[it]}, {kinds.get(it, 'ErrorKind::Other')})" for it in order]
+    text = with_rows(text, "BARE: [(Error, i32, ErrorKind)", rows)
+    return with_rows(text, "LIMITS: [(Limit, &str)", [f'(Limit::{it.name}, "{it.word}")' for it in facts.limits])
+
+
+def with_rows(text: str, begin: str, rows: list[str]) -> str:
+    """Returns a text in which a constant has these rows, and their count."""
+    old = match_in(rf"(?s)const {re.escape(begin)}; \d+\] = \[\n.*?\];\n", text)[0]
+    return text.replace(old, f"const {begin}; {len(rows)}] = [\n{''.join(f'    {it},{chr(10)}' for it in rows)}];\n")
 
 
 def codes(facts: Facts) -> list[Code]:
-    """Returns the codes that have a variant of their own."""
+    """Returns the codes that have a variant."""
     left_out = words.NEVER_IN_RUST | words.NEVER_IN_C
     return [it for it in facts.codes if it.kind in ("stop", "refusal", "line", "handle") and it.name not in left_out]
 
 
-def complaints(tree: Tree, facts: Facts) -> Iterator[str]:
-    """Yields what the crate's limits and the test of all errors have otherwise than the sources."""
-    struct = tree[VALUES].partition("pub struct Limits {")[2].partition("\n}")[0]
-    default = tree[VALUES].partition("fn default() -> Limits {")[2].partition("\n}")[0]
-    given = tree[STORE].partition("sys::elephant_limits {")[2].partition("};")[0]
-    wanted = facts.most()
-    yield from differing(f"{VALUES}: what Limits is said to have", numbers_in(r"at most ([\d,]+)\.\n +pub (\w+):", struct), wanted)
-    yield from differing(f"{VALUES}: the largest limits", numbers_in(r"()(\w+): ([\d_]+),", default), wanted)
-    if re.findall(r"(\w+): self\.limits\.\1,", given) != list(wanted):
-        yield f"{STORE}: the limits that a store is opened with are others than {', '.join(wanted)}"
-    rows = numbers_in(r"()\(Error::(\w+), (\d+),", tree[TESTED])
-    bare = {it.name: it.number for it in codes(facts) if it.name not in words.BY_HAND}
-    yield from differing(f"{TESTED}: the number of each error", rows, bare)
-    limited = re.findall(r'\(Limit::(\w+), "(\w+)"\)', tree[TESTED])
-    if limited != [(it.name, it.word) for it in facts.limits]:
-        yield f"{TESTED}: the limits are {limited}, and the sources have others"
+PRINTED = {SYS: sys_of, ERRORS: errors, VALUES: values, STORE: store, TESTED: tested}
 
 
-def numbers_in(form: str, text: str) -> dict[str, int]:
-    """Returns the numbers of names. A form has the number before the name, or after it."""
-    found = re.findall(form, text)
-    pairs = [(it[1], it[2] if len(it) == 3 else it[0]) for it in found]
-    return {name: int(re.sub("[,_]", "", digits)) for name, digits in pairs}
-
-
-def differing(what: str, has: dict[str, int], wanted: dict[str, int]) -> Iterator[str]:
-    names = sorted(it for it in {*has, *wanted} if has.get(it) != wanted.get(it))
-    if names:
-        yield f"{what}: others than the sources' are {', '.join(names)}"
+def made(tree: Tree, facts: Facts) -> dict[str, str]:
+    """Returns each file of the crate with what is printed in it."""
+    return {path: printed(tree, facts) for path, printed in PRINTED.items()}

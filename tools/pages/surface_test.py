@@ -24,13 +24,14 @@ OF_FILES = [
     Planted(HEADER, "    ELEPHANT_NO_ENTRY = 5,", "    ELEPHANT_NO_ENTRY = 6,", (HEADER,)),
     Planted(HEADER, "    ELEPHANT_IS_ROOT = 11,         /* the root has no name */\n", "", (HEADER,)),
     Planted(HEADER, "    ELEPHANT_LIMIT_MARKS = 8\n", "    ELEPHANT_LIMIT_MARKS = 8,\n    ELEPHANT_LIMIT_PINS = 9\n", (HEADER,)),
-    Planted(HEADER, "at most 200,000", "at most 200,001", ("the most of names",)),
+    Planted(HEADER, "at most 200,000", "at most 200,001", (HEADER,)),
     Planted(HEADER, "ELEPHANT_KEEP_ALL = 1", "ELEPHANT_KEEP_ALL = 2", ("ELEPHANT_KEEP_ALL",)),
     Planted(HEADER, "ELEPHANT_IS_KEPT = 3", "ELEPHANT_IS_KEPT = 5", ("ELEPHANT_IS_KEPT",)),
     Planted(HEADER, "ELEPHANT_DISPLACED = 2", "ELEPHANT_DISPLACED = 3", ("ELEPHANT_DISPLACED",)),
     Planted(HEADER, "ELEPHANT_AT = 1", "ELEPHANT_AT = 4", ("ELEPHANT_AT",)),
-    Planted(HEADER, "uint64_t file, number;", "uint64_t number, file;", ("the columns of elephant_key",)),
-    Planted(HEADER, "uint64_t members, marks;", "uint64_t members;", ("elephant_group_row",)),
+    Planted(HEADER, "uint64_t file, number;", "uint64_t number, file;", (HEADER,)),
+    Planted(HEADER, "uint64_t members, marks;", "uint64_t members;", (HEADER,)),
+    Planted(HEADER, "typedef struct elephant_key {", "typedef struct elephant_keys {", ("elephant_key",)),
     Planted(HEADER, "elephant_clock(elephant *e, uint64_t moment)", "elephant_clock(elephant *e, uint32_t moment)", ("elephant_clock",)),
     Planted(HEADER, "elephant_tick(elephant *e, uint64_t seconds)", "elephant_tick(elephant *e, uint64_t moment)", ("elephant_tick",)),
     Planted(HEADER, "void elephant_close(elephant *e)", "int32_t elephant_close(elephant *e)", ("elephant_close",)),
@@ -61,16 +62,13 @@ OF_FILES = [
     Planted(docs.DRIVE, 'QUESTIONS = {"due", ', "QUESTIONS = {", (docs.DRIVE,)),
     Planted(docs.DRIVE, 'WITH_ROWS = {"ahead", ', "WITH_ROWS = {", (docs.DRIVE,)),
     Planted(docs.ERRORS, "End of the stops.", "End.", ("no region of the stops",)),
-]
-# A fault of a file that is only compared.
-OF_OTHERS = [
-    Planted(python.ANSWERS, "    marks: int = 10_000", "    marks: int = 10_001", ("Limits has",)),
-    Planted(python.ANSWERS, "    members: int = 100_000\n    marks: int = 10_000", "    marks: int = 10_000", ("Limits has",)),
-    Planted(rust.VALUES, "    /// Marks: at most 10,000.", "    /// Marks: at most 10,001.", ("said to have", "marks")),
-    Planted(rust.VALUES, "            marks: 10_000,", "            marks: 10_001,", ("the largest limits", "marks")),
+    Planted(python.ANSWERS, "    marks: int = 10_000", "    marks: int = 10_001", (python.ANSWERS,)),
+    Planted(python.ANSWERS, "    members: int = 100_000\n    marks: int = 10_000", "    marks: int = 10_000", (python.ANSWERS,)),
+    Planted(rust.VALUES, "    /// Marks: at most 10,000.", "    /// Marks: at most 10,001.", (rust.VALUES,)),
+    Planted(rust.VALUES, "            marks: 10_000,", "            marks: 10_001,", (rust.VALUES,)),
     Planted(rust.STORE, "            marks: self.limits.marks,\n", "", (rust.STORE,)),
-    Planted(rust.TESTED, "(Error::IsRoot, 11, ", "(Error::IsRoot, 12, ", (rust.TESTED, "IsRoot")),
-    Planted(rust.TESTED, "    (Error::IsRoot, 11, ErrorKind::Other),\n", "", (rust.TESTED, "IsRoot")),
+    Planted(rust.TESTED, "(Error::IsRoot, 11, ", "(Error::IsRoot, 12, ", (rust.TESTED,)),
+    Planted(rust.TESTED, "    (Error::IsRoot, 11, ErrorKind::Other),\n", "", (rust.TESTED,)),
     Planted(rust.TESTED, '    (Limit::Marks, "marks"),\n', "", (rust.TESTED,)),
     Planted(docs.OF_EVENTS[0], "Each of the 32 events", "Each of the 31 events", (docs.OF_EVENTS[0],)),
     Planted(docs.OF_EVENTS[1], "each of the 32 events", "each of the 33 events", (docs.OF_EVENTS[1],)),
@@ -78,7 +76,7 @@ OF_OTHERS = [
 ALL_OF_A_REFUSAL = (HEADER, python.ERRORS, python.NAMES, rust.SYS, rust.ERRORS, docs.ERRORS)
 # A fault, or something new, of a source.
 OF_SOURCES = [
-    Planted(facts.REFUSAL, "Refusal::IsRoot => 11,", "Refusal::IsRoot => 42,", tuple(it for it in ALL_OF_A_REFUSAL if it != python.NAMES)),
+    Planted(facts.REFUSAL, "Refusal::IsRoot => 11,", "Refusal::IsRoot => 42,", (HEADER, python.ERRORS, rust.SYS, rust.TESTED, docs.ERRORS)),
     Planted(facts.REFUSAL, 'Refusal::IsRoot => "IsRoot"', 'Refusal::IsRoot => "Root"', ALL_OF_A_REFUSAL),
     Planted(facts.REFUSAL, "    /// The root has no name.", "    /// The root is none.", (HEADER, python.ERRORS, rust.ERRORS)),
     Planted(facts.ERRORS, "the root can't be made, moved", "the root can't be moved", (docs.ERRORS,)),
@@ -89,9 +87,10 @@ OF_SOURCES = [
     Planted(facts.CODES, "pub const NO_ROOM: i32 = 70;", "pub const NO_ROOM: i32 = 72;", (HEADER,)),
     Planted(facts.CODES, "Which::Marks => 8,", "Which::Marks => 9,", (HEADER, rust.SYS)),
     Planted(facts.CODES, "Refusal::Full(which) => Some", "Refusal::TooBig(which) => Some", (HEADER,)),
-    Planted(facts.LIMITS, "        marks: 10_000,", "        marks: 20_000,", (docs.SCRIPT, "the most of marks", facts.HELP_PAGES)),
+    Planted(facts.LIMITS, "        marks: 10_000,", "        marks: 20_000,", (docs.SCRIPT, HEADER, python.ANSWERS, rust.VALUES, "help")),
     Planted(facts.HELP_PAGES, "1,048,576      no 17 TooBig", "1,048,577      no 17 TooBig", (facts.HELP_PAGES,)),
-    Planted(facts.FIELDS, "    pub policy: u64,", "    pub size: u64,\n    pub policy: u64,", ("elephant_stat_row",)),
+    Planted(facts.FIELDS, "    pub policy: u64,", "    pub size: u64,\n    pub policy: u64,", (HEADER, rust.SYS, python.LIBRARY)),
+    Planted(facts.FIELDS, "    pub since: u64,\n    pub file: u64,", "    pub file: u64,\n    pub since: u64,", (HEADER, rust.SYS)),
     Planted(facts.FIELD_RULES, "kind_number policy.All = 1", "kind_number policy.All = 4", ("ELEPHANT_KEEP_ALL",)),
     Planted(facts.TAGS, "1 => moment(number).map(Tag::At)", "3 => moment(number).map(Tag::At)", ("ELEPHANT_AT",)),
     Planted(
@@ -107,7 +106,7 @@ OF_SOURCES = [
     Planted(facts.STEP, "(Unless (nat_le w.limits.files w.made.files) (Full which.Files)", "(id", ("`create`",)),
     Planted(f"{facts.EXPORTS}/rows.rt", "row: &mut VersionFields,", "row: &mut NameFields,", ("elephant_row_version",)),
 ]
-PLANTED = [*OF_FILES, *OF_OTHERS, *OF_SOURCES]
+PLANTED = [*OF_FILES, *OF_SOURCES]
 
 
 def run(tree: Tree) -> list[str]:
