@@ -22,6 +22,7 @@ TABLES = {
 # What the program prints in an answer, and the words for the kinds of policies.
 PRINTED = re.compile(r"(?:ok|stop|-) .*?(?=,? (?:then|or|and|in order|by)\b|, (?=ok|stop)|$)")
 KINDS = re.compile(r"(?<=the same for ).*")
+ROWS_FOLLOW = re.compile(r"After ((?:`ok [^`]*`(?:, | and )?)+), K rows follow")
 LISTS = re.compile(r"ok (\w+)((?: F)?) (?:K|4), then ")
 # Refusals of looking something up: a path, a version, a handle. They don't stand in a command's own line of the plan.
 OF_LOOK_UPS = {"IsRoot", "NoEntry", "NotDirectory", "IsDirectory", "Future", "NoVersion", "Forgotten", "NoHandle", "NotWriter"}
@@ -104,7 +105,16 @@ def script(tree: Tree, facts: Facts) -> str:
     for name, explains in (("the commands", False), ("the questions", True)):
         table = commands(facts, region_in(SCRIPT, text, name), explains)
         text = with_region(SCRIPT, text, name, FROM_COMMANDS, table)
+    sentence = match_in(ROWS_FOLLOW, text)
+    text = text.replace(sentence[0], f"After {followed(facts, sentence[1])}, K rows follow")
     return with_region(SCRIPT, text, "the limits", FROM_LIMITS, limits(facts))
+
+
+def followed(facts: Facts, told: str) -> str:
+    """Returns the answers with rows, in the order in which a sentence has told them. New ones are at its end."""
+    found = re.findall("`[^`]*`", told)
+    wanted = [f"`ok {word} {letters}`" for word, letters in lists_of(facts) if word != "answers"]
+    return joined([*(it for it in found if it in wanted), *(it for it in wanted if it not in found)])
 
 
 # Errors, and the program of docs/DRIVE.md.
@@ -148,7 +158,6 @@ def made(tree: Tree, facts: Facts) -> dict[str, str]:
 
 def complaints(tree: Tree, facts: Facts) -> Iterator[str]:
     yield from refusals_by_hand(tree, facts)
-    yield from lists_by_hand(tree, facts)
     yield from limits_of_help(tree, facts)
     for code in facts.codes:
         if code.kind in TABLES and not code.meaning:
@@ -175,15 +184,6 @@ def of_another(told: list[str], listed: dict[str, str], checked: set[str]) -> se
     """Returns the refusals of the rows that a cell names."""
     named = [listed.get(it, "") for cell in told for it in re.findall(r"those of (`[^`]+`)", cell)]
     return {it for cell in named for it in re.findall(r"\bFull \w+|\b[A-Z]\w+", cell) if it in checked}
-
-
-def lists_by_hand(tree: Tree, facts: Facts) -> Iterator[str]:
-    """Yields a line if the sentence on answers with rows has others than the table."""
-    sentence = match_in(r"After ((?:`ok [^`]*`(?:, | and )?)+), K rows follow", tree[SCRIPT])[1]
-    wanted = {f"ok {word} {letters}" for word, letters in lists_of(facts) if word != "answers"}
-    found = set(re.findall("`([^`]*)`", sentence))
-    if found != wanted:
-        yield f"{SCRIPT}: answers with rows are {sorted(found)}, and the commands have {sorted(wanted)}"
 
 
 def limits_of_help(tree: Tree, facts: Facts) -> Iterator[str]:

@@ -57,7 +57,7 @@ OF_FILES = [
     Planted(docs.SCRIPT, "NoGroup; NotPast; NotAhead; MarkExists", "NoGroup; NotAhead; NotPast; MarkExists", ("`mark`",)),
     Planted(docs.SCRIPT, "| `unmark G M` | `ok done` | NoGroup; NoMark |\n", "", (docs.SCRIPT, "`unmark`")),
     Planted(docs.SCRIPT, "| marks ever made | 10,000 |", "| marks ever made | 10,001 |", (docs.SCRIPT,)),
-    Planted(docs.SCRIPT, "`ok usage K`, `ok groups K`", "`ok usage K`", ("answers with rows",)),
+    Planted(docs.SCRIPT, "`ok usage K`, `ok groups K`", "`ok usage K`", (docs.SCRIPT,)),
     Planted(docs.ERRORS, "| 11 | IsRoot |", "| 12 | IsRoot |", (docs.ERRORS,)),
     Planted(docs.DRIVE, 'QUESTIONS = {"due", ', "QUESTIONS = {", (docs.DRIVE,)),
     Planted(docs.DRIVE, 'WITH_ROWS = {"ahead", ', "WITH_ROWS = {", (docs.DRIVE,)),

@@ -211,7 +211,7 @@ class Forgotten(Refused, number=13):
 
 
 class Full(Refused, number=27):
-    """A limit is reached. `what` is its name: `files`, `directories`, `names`, `versions`, `handles`, `groups`, `members`, `marks`."""
+    """A limit is reached. `what` is its name, as `Limits` has it: `files`, `versions`, .."""
 
     what: str = ""
 
