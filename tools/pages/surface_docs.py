@@ -9,7 +9,7 @@ from pages.surface_facts import ERRORS as HELP_ERRORS, HELP_PAGES, Command, Fact
 from pages.surface_python import questions
 from pages.surface_regions import Tree, joined, region_in, with_region
 
-SCRIPT, ERRORS, DRIVE = (f"docs/{it}.md" for it in ("SCRIPT", "ERRORS", "DRIVE"))
+SCRIPT, ERRORS, DRIVE, LIBRARY = (f"docs/{it}.md" for it in ("SCRIPT", "ERRORS", "DRIVE", "LIBRARY"))
 FROM_COMMANDS = "ROWS and HELP of ele_commands/src/command.rt; the last column is kept by hand"
 FROM_LIMITS = "ele_model/src/limits.rt and the limits of lines, runs, names and contents"
 FROM_ERRORS = "ele_help/src/errors.rt"
@@ -150,6 +150,8 @@ def drive(tree: Tree, facts: Facts) -> str:
 def made(tree: Tree, facts: Facts) -> dict[str, str]:
     """Returns each page with its printed regions."""
     counted = {it: re.sub(r"\b([Ee]ach of the) \d+ events", rf"\1 {facts.events} events", tree[it]) for it in OF_EVENTS}
+    most = joined(f"{it.most:,} {it.word}" for it in facts.limits)
+    counted[LIBRARY] = re.sub(r"(?<=\. The largest are )\d[^.]*", most, tree[LIBRARY])
     return {SCRIPT: script(tree, facts), ERRORS: errors(tree, facts), DRIVE: drive(tree, facts), **counted}
 
 

@@ -33,6 +33,7 @@ CONSTANTS = {
     "line": ("crates/ele_script/src/reading.rt", r"const LONGEST_LINE: usize = ([\d_]+);"),
     "names": ("crates/ele_path/src/path.rt", r"const MOST_NAMES: usize = ([\d_]+);"),
     "name": ("crates/ele_moment/src/name.rt", r"const MOST_BYTES: usize = ([\d_]+);"),
+    "moment": ("crates/ele_moment/src/moment.rt", r"const LAST: u64 = (\d+);"),
     "content": ("crates/ele_content/src/longest.rt", r"const LONGEST_CONTENT: u64 = ([\d_]+);"),
 }
 SOURCES = [

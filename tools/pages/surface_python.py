@@ -7,12 +7,12 @@ from gate.building import match_in
 from pages import surface_words as words
 from pages.surface_facts import Call, Code, Command, Facts
 from pages.surface_header import CODES_FROM, HEADER, Declared, declared
-from pages.surface_regions import Tree, with_region, wrapped
+from pages.surface_regions import HEAD, Tree, place_of, with_region, wrapped
 
 PACKAGE = "clients/python/src/elephant"
-LIBRARY, ERRORS, NAMES, REPLAY = (f"{PACKAGE}/{it}.py" for it in ("_library", "_errors", "__init__", "_replay"))
-CONTROL, COUNTS = (f"{PACKAGE}/mount/{it}.py" for it in ("control", "counts"))
-ANSWERS = f"{PACKAGE}/_answers.py"
+LIBRARY, ERRORS, NAMES = (f"{PACKAGE}/{it}.py" for it in ("_library", "_errors", "__init__"))
+REPLAY, CONTROL, COUNTS = (place_of(PACKAGE, f"{HEAD}: {it}, from ") for it in ("the questions", "the lines", "the counts"))
+ANSWERS = place_of(PACKAGE, "class Limits(NamedTuple):")
 FROM_COMMANDS = "ele_commands/src/command.rt and ele_model/specs/NothingChanges.antt"
 # What an exception is by the kind of its number.
 BASES = {"stop": ["Stop"], "refusal": ["Refused"], "line": ["Refused", "ValueError"], "handle": ["ElephantError", "ValueError"]}
