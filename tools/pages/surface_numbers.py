@@ -1,5 +1,6 @@
 """Numbers of the sources that pages, the header and programs say again in sentences of their own. None is printed; each is compared."""
 
+import functools
 import re
 from collections.abc import Iterator
 
@@ -53,6 +54,12 @@ NUMBERS = {
 COMPARED = sorted({path for places in NUMBERS.values() for path, _ in places})
 
 
+@functools.lru_cache(maxsize=100)
+def spaced(text: str) -> str:
+    """Returns a text with one space for white space and the margins of comments."""
+    return re.sub(r"\s+(?:\*|///?)? *", " ", text)
+
+
 def number_of(text: str) -> int:
     """Returns the number that a text spells, as `1,000`, `1_000` or `1 << 20`."""
     base, _, shift = re.sub("[,_]", "", text).partition("<<")
@@ -70,6 +77,6 @@ def complaints(tree: Tree, facts: Facts) -> Iterator[str]:
     wanted = wanted_of(facts)
     for name, places in NUMBERS.items():
         for path, form in places:
-            found = {number_of(it) for it in re.findall(form, re.sub(r"\s+(?:\*|///?)? *", " ", tree[path]))}
+            found = {number_of(it) for it in re.findall(form, spaced(tree[path]))}
             if found != {wanted[name]}:
                 yield f"{path}: as {form!r} it says {sorted(found) or 'nothing'}, and the sources {wanted[name]}"
