@@ -80,11 +80,13 @@ def errors(tree: Tree, facts: Facts, _: Declared) -> str:
 
 
 def names(tree: Tree, facts: Facts, of_c: Declared) -> str:
-    """Returns the list of the package's names, with each exception."""
+    """Returns the package's imports and names: each exception, and what else it imports."""
     listed = sorted(re.findall(r"^class (\w+)", errors(tree, facts, of_c), re.M), key=str.casefold)
     imported = "".join(f"    {it},\n" for it in listed)
     text = with_region(NAMES, tree[NAMES], "the errors", "_errors.py", f"from ._errors import (\n{imported})\n")
-    return with_region(NAMES, text, "the names of errors", "_errors.py", wrapped(map(quoted, listed)))
+    imports = re.findall(r"^from \.\w+ import (?:\(([^)]*)\)|(.*))$", text, re.M)
+    given = sorted({it for pair in imports for it in re.findall(r"\w+", " ".join(pair))}, key=lambda it: (not it.isupper(), it.casefold()))
+    return with_region(NAMES, text, "all names", "the imports", f"__all__ = [\n{wrapped(map(quoted, given))}]\n")
 
 
 def numbers_by_hand(tree: Tree, facts: Facts) -> Iterator[str]:

@@ -91,15 +91,15 @@ from ._sessions import Reader, Session
 from ._store import Store
 from ._times import Time, read_time
 
+# Printed by tools/pages/surface --write: all names, from the imports.
 __all__ = [
-    "LAST_MOMENT", "ClosedSession", "Current", "DeadName", "DirectoryStat", "Due", "Entry", "Fate", "File", "FileStat", "Group", "History",
-    "KeepAll", "KeepOne", "KeepSafe", "Kept", "Landmarks", "Limits", "Mark", "Marked", "Moment", "Open", "Pass", "Policy", "Reader",
-    "Recovered", "Removable", "Session", "Store", "TextFile", "Time", "Usage", "Version", "read_time",
-    # Printed by tools/pages/surface --write: the names of errors, from _errors.py.
-    "AlreadyMember", "BadLadder", "BadLimits", "BadMoment", "BadName", "BadPath", "BadTime", "ClockBack", "ClockDoubt", "ClockEnd",
-    "Closed", "Drafting", "ElephantError", "Exists", "Forgotten", "Full", "Future", "GroupExists", "HistoryFull", "IntoItself",
-    "IsDirectory", "IsRoot", "JournalDamaged", "JournalError", "JournalLocked", "JournalLost", "MarkExists", "MassRemoval", "NoEntry",
-    "NoGroup", "NoHandle", "NoHistory", "NoMark", "NoMemory", "NotAhead", "NotDirectory", "NotEmpty", "NotMember", "NotPast",
-    "NotRestorable", "NotWriter", "NoVersion", "ReadOnly", "Refused", "Stop", "Syntax", "TooBig", "Untold",
-    # End of the names of errors.
+    "LAST_MOMENT", "AlreadyMember", "BadLadder", "BadLimits", "BadMoment", "BadName", "BadPath", "BadTime", "ClockBack", "ClockDoubt",
+    "ClockEnd", "Closed", "ClosedSession", "Current", "DeadName", "DirectoryStat", "Drafting", "Due", "ElephantError", "Entry", "Exists",
+    "Fate", "File", "FileStat", "Forgotten", "Full", "Future", "Group", "GroupExists", "History", "HistoryFull", "IntoItself",
+    "IsDirectory", "IsRoot", "JournalDamaged", "JournalError", "JournalLocked", "JournalLost", "KeepAll", "KeepOne", "KeepSafe", "Kept",
+    "Landmarks", "Limits", "Mark", "Marked", "MarkExists", "MassRemoval", "Moment", "NoEntry", "NoGroup", "NoHandle", "NoHistory", "NoMark",
+    "NoMemory", "NotAhead", "NotDirectory", "NotEmpty", "NotMember", "NotPast", "NotRestorable", "NotWriter", "NoVersion", "Open", "Pass",
+    "Policy", "read_time", "Reader", "ReadOnly", "Recovered", "Refused", "Removable", "Session", "Stop", "Store", "Syntax", "TextFile",
+    "Time", "TooBig", "Untold", "Usage", "Version",
 ]
+# End of all names.
