@@ -49,7 +49,8 @@ TYPES = {
 
 class Command(NamedTuple):
     """A command: its words, the kinds of the words after it, whether only a run that explains has it, its topic and its answer; whether it
-    only asks, the counts that it always raises by one, and the refusals that its own line of the plan names, in their order."""
+    only asks, the counts that it always raises by one, and the refusals that its own line of the plan names, in their order. What is no
+    event has no such line. `changes` says whether the line makes a change."""
 
     words: str
     kinds: list[str]
@@ -59,6 +60,7 @@ class Command(NamedTuple):
     asks: bool
     takes: tuple[str, ...]
     refusals: list[str] | None
+    changes: bool
 
     def first(self) -> str:
         return self.words.split()[0]
@@ -199,7 +201,7 @@ def commands_of(tree: Tree, limits: list[Limit], refusals: list[str]) -> list[Co
         equation = plan[event] if event else ""
         words, listed, takes = f"{first} {second}".strip(), re.findall(r"\w+", kinds), takes_of(equation, raised, order)
         own = refusals_of(equation, refusals) if event else None
-        found.append(Command(words, listed, when == "Explaining", topic, answer, asks, takes, own))
+        found.append(Command(words, listed, when == "Explaining", topic, answer, asks, takes, own, bool(list(makes_in(equation)))))
     return found
 
 

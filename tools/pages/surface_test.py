@@ -109,6 +109,8 @@ OF_SOURCES = [
     Planted(facts.COMMAND, '"ok trimmed K"', '"ok folded K, then K lines - N"', (docs.SCRIPT, docs.DRIVE)),
     Planted(facts.HELP_SCRIPT, 'WordKind::Name => "G"', 'WordKind::Name => "W"', (docs.SCRIPT,)),
     Planted(facts.ASKS, "asks (Stat tagged) = true\n", "", (python.REPLAY, python.CONTROL, docs.DRIVE)),
+    Planted(facts.ASKS, "asks (Stat tagged) = true\n", "asks (Unlink path) = true\n", ("that `unlink` only asks", "that `stat` changes")),
+    Planted(facts.STEP, "(Unless (nat_le w.limits.marks w.made.marks) (Full which.Marks)", "(id", ("`mark` makes marks",)),
     Planted(facts.CHANGE, COUNTED, "", (python.COUNTS, docs.SCRIPT)),
     Planted(facts.STEP, "Unless (list_any (is_live_in directory) w.names) NotEmpty", "Unless false Exists", ("`rmdir`",)),
     Planted(facts.STEP, "(Unless (nat_le w.limits.files w.made.files) (Full which.Files)", "(id", ("`create`",)),
