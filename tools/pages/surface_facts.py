@@ -161,10 +161,21 @@ def raised_by(tree: Tree) -> dict[str, set[str]]:
     return {change: counts(body, frozenset(["after_change", "after_changes"])) for change, body in equations(text, "after_change")}
 
 
+def term_at(text: str, place: int) -> str:
+    """Returns the term that begins at a place: a word, or all in brackets."""
+    depth = 0
+    for at in range(place, len(text)):
+        depth += (text[at] == "(") - (text[at] == ")")
+        if depth <= 0 and (at + 1 == len(text) or text[at] == ")" or text[at + 1] in " )\n"):
+            return text[place:at + 1]
+    raise LookupError(f"no bracket ends {text[place:place + 60]!r}")
+
+
 def makes_in(equation: str) -> Iterator[str]:
-    """Yields the changes of each outcome of an equation of the plan, as they are spelled there."""
-    for found in re.finditer(r"\bMake (\((?:[^()]|\([^()]*\))*\)|\w+) \(((?:[^()]|\([^()]*\))*)\)", equation):
-        yield found[2]
+    """Yields the changes of each outcome of an equation of the plan, as they are spelled there. A reply precedes them."""
+    for found in re.finditer(r"\bMake ", equation):
+        reply = term_at(equation, found.end())
+        yield term_at(equation, found.end() + len(reply) + 1)
 
 
 def takes_of(equation: str, raised: dict[str, set[str]], order: list[str]) -> tuple[str, ...]:
