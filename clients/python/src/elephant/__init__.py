@@ -11,14 +11,19 @@ docs/EMBED.md of the repository describes all of it.
 """
 
 from ._answers import (
+    Answered,
+    Answers,
+    Cause,
     ClosedSession,
     Current,
     DeadName,
+    DeletedName,
     DirectoryStat,
     Due,
     Entry,
     Fate,
     FileStat,
+    Gone,
     Group,
     History,
     Kept,
@@ -26,12 +31,17 @@ from ._answers import (
     Mark,
     Marked,
     Open,
+    OpenHandle,
     Pass,
+    PathEntry,
     Recovered,
     Removable,
+    Removal,
+    Removed,
     Usage,
     Version,
 )
+from ._audit import UnknownAnswer
 from ._errors import (
     AlreadyMember,
     BadLadder,
@@ -90,7 +100,8 @@ from ._store import Store
 from ._times import Time, read_time
 
 __all__ = [
-    "LAST_MOMENT", "AlreadyMember", "BadLadder", "BadLimits", "BadMoment", "BadName", "BadPath", "BadTime", "ClockBack", "ClockDoubt",
+    "LAST_MOMENT", "AlreadyMember", "Answered", "Answers", "Cause", "DeletedName", "Gone", "OpenHandle", "PathEntry", "Removal", "Removed",
+    "UnknownAnswer", "BadLadder", "BadLimits", "BadMoment", "BadName", "BadPath", "BadTime", "ClockBack", "ClockDoubt",
     "ClockEnd", "Closed", "ClosedSession", "DeadName", "DirectoryStat", "Drafting", "ElephantError", "Entry", "Exists", "Fate", "File",
     "FileStat", "Forgotten", "Full", "Future", "Group", "GroupExists", "History", "HistoryFull", "IntoItself", "Current", "IsDirectory",
     "Due", "Kept", "Marked", "Open", "IsRoot", "JournalDamaged", "JournalError", "JournalLocked", "JournalLost", "KeepAll", "KeepOne",
