@@ -140,7 +140,12 @@ class Saves(Parents):
                 self._keep(*lines)
             raise
         self._keep(*lines)
-        return version or int(core.stat(path, name).version)
+        if version:
+            return version
+        row = core.stat(path, name)
+        if row.length != size:  # the draft has a session that a line of a store with a history opened
+            raise Drafting(f"{path_of(name)}, and the draft has the content")
+        return int(row.version)
 
     def _refuse_draft(self, core: Core, path: Path, name: bytes) -> None:
         if UNKNOWN in self._drafts:
