@@ -80,7 +80,7 @@ impl Store {
     /// [`Error::NoHistory`], [`Error::Untold`].
     pub fn history(&self) -> Result<History, Error> {
         let answer = self.audited("history")?;
-        read_history(&answer).ok_or(Error::UnknownAnswer)
+        read_history(&answer)
     }
 
     /// Folds the entries into the base, which frees their memory, and returns how many they were.
@@ -112,7 +112,7 @@ impl Store {
     /// [`Error::NoHistory`], [`Error::NoMemory`].
     pub fn gone(&self) -> Result<Gone, Error> {
         let answer = self.audited("gone")?;
-        read_gone(&answer).ok_or(Error::UnknownAnswer)
+        read_gone(&answer)
     }
 
     /// Returns the open handles, by number.
@@ -121,7 +121,7 @@ impl Store {
     /// [`Error::NoHistory`], [`Error::NoMemory`].
     pub fn handles(&self) -> Result<Vec<OpenHandle>, Error> {
         let answer = self.audited("handles")?;
-        read_handles(&answer).ok_or(Error::UnknownAnswer)
+        read_handles(&answer)
     }
 
     /// Returns the lines of all answered events with their answers.
@@ -130,7 +130,7 @@ impl Store {
     /// [`Error::NoHistory`], [`Error::Untold`].
     pub fn answers(&self) -> Result<Answers, Error> {
         let answer = self.audited("answers")?;
-        read_answers(&answer).ok_or(Error::UnknownAnswer)
+        read_answers(&answer)
     }
 
     // Returns when and why a version was removed, or the refusal of the typed call if no stored event removed it.
@@ -140,7 +140,7 @@ impl Store {
             return Err(forgotten);
         }
         refused(&answer)?;
-        read_removed(&answer).ok_or(Error::UnknownAnswer)
+        read_removed(&answer)
     }
 
     // Returns the answer to a line of a store with a history.

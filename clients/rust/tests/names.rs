@@ -1,7 +1,9 @@
 //! Names: the directories above a path, walks, the paths of a file, and which of two paths a refusal is about.
 
-use elephant::{at, version, Error, Limit, Limits, Node, Options, PathEntry, Policy, Store};
+use elephant::{at, version, Error, Limit, Limits, Node, Options, PathEntry, PathError, Policy, Store};
 use std::io;
+
+type Move = fn(&Store, &str, &str) -> Result<(), PathError>;
 
 /// The paths below a directory, each with a slash after it if it is a directory's.
 fn paths(entries: &[PathEntry]) -> Vec<String> {
@@ -118,7 +120,6 @@ fn a_refusal_of_two_paths_has_the_one_that_it_is_about() {
     store.mkdir("/d").unwrap();
     store.create("/d/f").unwrap();
     store.create("/f").unwrap();
-    type Move = fn(&Store, &str, &str) -> Result<(), elephant::PathError>;
     let (link, rename): (Move, Move) = (|it, from, to| it.link(from, to), |it, from, to| it.rename(from, to));
     let rows: [(Move, &str, &str, Error, &str); 22] = [
         (link, "/n", "/m", Error::NoEntry, "/n"),
