@@ -93,7 +93,7 @@ class Parents(unittest.TestCase):
             for path, made in (("/a/b/c/f", 0), ("/a/b/x/f", 1), ("/f", 0), ("/", 0), ("/a/b", 0)):
                 self.assertEqual(store.make_parents(path), made, path)
             self.assertEqual(store.save(PurePosixPath("/n/o/f"), b"x", parents=True), 2)
-            self.assertEqual((store.create("/p/q/f", parents=True), store.mkdir("/r/s/t", parents=True)), (2, 10))
+            self.assertEqual((store.create("/p/q/f", parents=True), store.mkdir("/r/s/t", parents=True)), (2, 11))
             self.assertRaises(elephant.Exists, store.mkdir, "/r/s", parents=True)
             self.assertRaises(elephant.Exists, store.create, "/p/q/f", parents=True)
             self.assertEqual(store.save("/n/o/f", b"y", parents=True), 3)
