@@ -207,6 +207,36 @@ mod tests {
     const GONE: &str = "ok gone 7 4\n- 5 1 1 /f due 5 at once\n- 9 1 2 - due 5 by age 3\n\
                         - 30 2 2 /d/a%20b due 28 by 3 level 1\n- 31 9 1 - due 4\n";
 
+    // Each is no row of `gone`.
+    const OTHER_ROWS: [&str; 26] = [
+        "",
+        "-",
+        "- 5 1 1 /f",
+        "- 5 1 1 /f due",
+        "- 5 1 1 /f due 5 at  once",
+        "- 5 1 1 /f due 5 at once ",
+        "- 5 1 1 /f due 5 by age",
+        "- 5 1 1 /f due 5 by age -",
+        "- 5 1 1 /f due 5 by 3 level",
+        "- 5 1 1 /f due 5 later",
+        "- 5 1 1 /f kept",
+        "- 5 1 1 f due 5",
+        "- 5 1 1 / due 5",
+        "- 5 1 1 /f/ due 5",
+        "- 5 1 1 /a@b due 5",
+        "- 5 1 1  due 5",
+        "- 05 1 1 /f due 5",
+        "- 5 -1 1 /f due 5",
+        "- 5 +1 1 /f due 5",
+        "- 5 1 x /f due 5",
+        "- 253402300800 1 1 /f due 5",
+        "- 5 1 1 /f due 253402300800",
+        "- 5 18446744073709551616 1 /f due 5",
+        "5 1 1 /f due 5",
+        " - 5 1 1 /f due 5",
+        "- - 1 1 /f due 5",
+    ];
+
     fn removal(moment: u64, version: (u64, u64), path: Option<&str>, since: u64, cause: Cause) -> Removal {
         let (file, number) = version;
         Removal { moment, file, number, path: path.map(str::to_owned), since, cause }
@@ -228,35 +258,7 @@ mod tests {
 
     #[test]
     fn a_row_of_another_form_is_no_row() {
-        let rows = [
-            "",
-            "-",
-            "- 5 1 1 /f",
-            "- 5 1 1 /f due",
-            "- 5 1 1 /f due 5 at  once",
-            "- 5 1 1 /f due 5 at once ",
-            "- 5 1 1 /f due 5 by age",
-            "- 5 1 1 /f due 5 by age -",
-            "- 5 1 1 /f due 5 by 3 level",
-            "- 5 1 1 /f due 5 later",
-            "- 5 1 1 /f kept",
-            "- 5 1 1 f due 5",
-            "- 5 1 1 / due 5",
-            "- 5 1 1 /f/ due 5",
-            "- 5 1 1 /a@b due 5",
-            "- 5 1 1  due 5",
-            "- 05 1 1 /f due 5",
-            "- 5 -1 1 /f due 5",
-            "- 5 +1 1 /f due 5",
-            "- 5 1 x /f due 5",
-            "- 253402300800 1 1 /f due 5",
-            "- 5 1 1 /f due 253402300800",
-            "- 5 18446744073709551616 1 /f due 5",
-            "5 1 1 /f due 5",
-            " - 5 1 1 /f due 5",
-            "- - 1 1 /f due 5",
-        ];
-        for row in rows {
+        for row in OTHER_ROWS {
             assert_eq!(read_gone(&format!("ok gone 0 1\n{row}\n")), Err(Error::UnknownAnswer), "{row:?}");
         }
         for answer in
