@@ -295,22 +295,31 @@ mod tests {
 
     #[test]
     fn the_rows_of_a_stored_answer_are_counted() {
-        let answer =
-            "ok answers 10 4\n- create /g\nok file 2\n- list /\nok names 2\n- f file 1\n- g file 2\n- read /h\nno 5 NoEntry\n\
-                      - due\nok due 0\n";
-        let answered = |line: &str, answer: &str| Answered { line: line.to_owned(), answer: answer.to_owned() };
-        let wanted = vec![
-            answered("create /g", "ok file 2\n"),
-            answered("list /", "ok names 2\n- f file 1\n- g file 2\n"),
-            answered("read /h", "no 5 NoEntry\n"),
-            answered("due", "ok due 0\n"),
+        let stored = [
+            ("create /g", "ok file 2\n"),
+            ("list /", "ok names 2\n- f file 1\n- g file 2\n"),
+            ("read /h", "no 5 NoEntry\n"),
+            ("due", "ok due 0\n"),
+            ("due", "ok due 1\n- 5 1 1\n"),
+            ("versions /f", "ok versions 1\n- 1 0 0 - 0\n"),
+            ("restorable", "ok restorable 1\n- 0 d directory 1\n"),
+            ("usage", "ok usage 4\n- one 0 0 0 0\n- all 0 0 0 0\n- safe 0 0 0 0\n- landmarks 0 0 0 0\n"),
+            ("groups", "ok groups 1\n- g members - marks -\n"),
+            ("undelete /f", "ok version 2\n"),
         ];
-        assert_eq!(read_answers(answer), Ok(Answers { folded: 10, answered: wanted }));
+        let rows: String = stored.iter().map(|(line, answer)| format!("- {line}\n{answer}")).collect();
+        let answered = stored.map(|(line, answer)| Answered { line: line.to_owned(), answer: answer.to_owned() }).to_vec();
+        assert_eq!(read_answers(&format!("ok answers 10 10\n{rows}")), Ok(Answers { folded: 10, answered }));
+    }
+
+    #[test]
+    fn answers_that_do_not_come_out_even_are_none() {
         let wrong = [
             "ok answers 0 1\n- list /\nok names 2\n- f file 1\n",
             "ok answers 0 1\n- list /\nok names x\n",
             "ok answers 0 1\n- list /\n",
             "ok answers 0 1\n- list /\nok names 0\n- create /f\n",
+            "ok answers 0 1\n- list /\nok names 1\nf file 1\n",
             "ok answers 0 2\n- list /\nok names 0\n",
             "ok answers 0 1\ncreate /f\nok file 1\n",
             "ok answers 0 1\n- create /f\nfile 1\n",
