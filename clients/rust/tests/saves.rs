@@ -80,6 +80,10 @@ fn a_save_into_the_draft_of_a_line_says_so() {
     assert_eq!(store.read("/f").unwrap(), b"one");
     assert_eq!(store.save("/f", b""), Err(Error::Drafting));
     assert_eq!(store.line("close 2").unwrap(), "ok closed version 3\n");
+    // Also of a file that is empty.
+    store.create("/e").unwrap();
+    store.line("open write /e").unwrap();
+    assert_eq!(store.save("/e", b"x"), Err(Error::Drafting));
 }
 
 #[test]
