@@ -11,14 +11,19 @@ docs/EMBED.md of the repository describes all of it.
 """
 
 from ._answers import (
+    Answered,
+    Answers,
+    Cause,
     ClosedSession,
     Current,
     DeadName,
+    DeletedName,
     DirectoryStat,
     Due,
     Entry,
     Fate,
     FileStat,
+    Gone,
     Group,
     History,
     Kept,
@@ -26,12 +31,17 @@ from ._answers import (
     Mark,
     Marked,
     Open,
+    OpenHandle,
     Pass,
+    PathEntry,
     Recovered,
     Removable,
+    Removal,
+    Removed,
     Usage,
     Version,
 )
+from ._audit import UnknownAnswer
 # Printed by tools/pages/surface --write: the errors, from _errors.py.
 from ._errors import (
     AlreadyMember,
@@ -93,13 +103,14 @@ from ._times import Time, read_time
 
 # Printed by tools/pages/surface --write: all names, from the imports.
 __all__ = [
-    "LAST_MOMENT", "AlreadyMember", "BadLadder", "BadLimits", "BadMoment", "BadName", "BadPath", "BadTime", "ClockBack", "ClockDoubt",
-    "ClockEnd", "Closed", "ClosedSession", "Current", "DeadName", "DirectoryStat", "Drafting", "Due", "ElephantError", "Entry", "Exists",
-    "Fate", "File", "FileStat", "Forgotten", "Full", "Future", "Group", "GroupExists", "History", "HistoryFull", "IntoItself",
-    "IsDirectory", "IsRoot", "JournalDamaged", "JournalError", "JournalLocked", "JournalLost", "KeepAll", "KeepOne", "KeepSafe", "Kept",
-    "Landmarks", "Limits", "Mark", "Marked", "MarkExists", "MassRemoval", "Moment", "NoEntry", "NoGroup", "NoHandle", "NoHistory", "NoMark",
-    "NoMemory", "NotAhead", "NotDirectory", "NotEmpty", "NotMember", "NotPast", "NotRestorable", "NotWriter", "NoVersion", "Open", "Pass",
-    "Policy", "read_time", "Reader", "ReadOnly", "Recovered", "Refused", "Removable", "Session", "Stop", "Store", "Syntax", "TextFile",
-    "Time", "TooBig", "Untold", "Usage", "Version",
+    "LAST_MOMENT", "AlreadyMember", "Answered", "Answers", "BadLadder", "BadLimits", "BadMoment", "BadName", "BadPath", "BadTime", "Cause",
+    "ClockBack", "ClockDoubt", "ClockEnd", "Closed", "ClosedSession", "Current", "DeadName", "DeletedName", "DirectoryStat", "Drafting",
+    "Due", "ElephantError", "Entry", "Exists", "Fate", "File", "FileStat", "Forgotten", "Full", "Future", "Gone", "Group", "GroupExists",
+    "History", "HistoryFull", "IntoItself", "IsDirectory", "IsRoot", "JournalDamaged", "JournalError", "JournalLocked", "JournalLost",
+    "KeepAll", "KeepOne", "KeepSafe", "Kept", "Landmarks", "Limits", "Mark", "Marked", "MarkExists", "MassRemoval", "Moment", "NoEntry",
+    "NoGroup", "NoHandle", "NoHistory", "NoMark", "NoMemory", "NotAhead", "NotDirectory", "NotEmpty", "NotMember", "NotPast",
+    "NotRestorable", "NotWriter", "NoVersion", "Open", "OpenHandle", "Pass", "PathEntry", "Policy", "read_time", "Reader", "ReadOnly",
+    "Recovered", "Refused", "Removable", "Removal", "Removed", "Session", "Stop", "Store", "Syntax", "TextFile", "Time", "TooBig",
+    "UnknownAnswer", "Untold", "Usage", "Version",
 ]
 # End of all names.
