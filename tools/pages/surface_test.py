@@ -22,7 +22,7 @@ class Planted(NamedTuple):
 # A fault of a file that is printed or compared.
 OF_FILES = [
     Planted(HEADER, "    ELEPHANT_NO_ENTRY = 5,", "    ELEPHANT_NO_ENTRY = 6,", (HEADER,)),
-    Planted(HEADER, "    ELEPHANT_IS_ROOT = 11,         /* the root has no name */\n", "", (HEADER,)),
+    Planted(HEADER, "    ELEPHANT_IS_ROOT = 11,         /* the root can't be made, moved or removed */\n", "", (HEADER,)),
     Planted(HEADER, "    ELEPHANT_LIMIT_MARKS = 8\n", "    ELEPHANT_LIMIT_MARKS = 8,\n    ELEPHANT_LIMIT_PINS = 9\n", (HEADER,)),
     Planted(HEADER, "at most 200,000", "at most 200,001", (HEADER,)),
     Planted(HEADER, "ELEPHANT_KEEP_ALL = 1", "ELEPHANT_KEEP_ALL = 2", ("ELEPHANT_KEEP_ALL",)),
@@ -39,7 +39,7 @@ OF_FILES = [
     Planted(HEADER, "#define ELEPHANT_NEVER UINT64_MAX", "#define ELEPHANT_NEVER 0", ("ELEPHANT_NEVER",)),
     Planted(rust.SYS, "pub const ELEPHANT_NO_ENTRY: i32 = 5;", "pub const ELEPHANT_NO_ENTRY: i32 = 6;", (rust.SYS,)),
     Planted(rust.SYS, "pub fn elephant_tick(e: *mut elephant, seconds: u64)", "pub fn elephant_tick(e: *mut elephant)", (rust.SYS,)),
-    Planted(rust.ERRORS, "    IsRoot = ELEPHANT_IS_ROOT, \"the root has no name\";\n", "", (rust.ERRORS,)),
+    Planted(rust.ERRORS, "    IsRoot = ELEPHANT_IS_ROOT, \"the root can't be made, moved or removed\";\n", "", (rust.ERRORS,)),
     Planted(rust.ERRORS, "    /// Marks ever made.\n", "    /// Pins ever made.\n    Pins,\n    /// Marks ever made.\n", (rust.ERRORS,)),
     Planted(python.LIBRARY, '"KeyRow", "since file number"', '"KeyRow", "file since number"', (python.LIBRARY,)),
     Planted(python.LIBRARY, '"tick": "number",', '"tick": "out",', (python.LIBRARY,)),
@@ -78,7 +78,7 @@ ALL_OF_A_REFUSAL = (HEADER, python.ERRORS, python.NAMES, rust.SYS, rust.ERRORS, 
 OF_SOURCES = [
     Planted(facts.REFUSAL, "Refusal::IsRoot => 11,", "Refusal::IsRoot => 42,", (HEADER, python.ERRORS, rust.SYS, rust.TESTED, docs.ERRORS)),
     Planted(facts.REFUSAL, 'Refusal::IsRoot => "IsRoot"', 'Refusal::IsRoot => "Root"', ALL_OF_A_REFUSAL),
-    Planted(facts.REFUSAL, "    /// The root has no name.", "    /// The root is none.", (HEADER, python.ERRORS, rust.ERRORS)),
+    Planted(facts.ERRORS, "the root can't be made,", "the root can't be lost,", (HEADER, python.ERRORS, rust.ERRORS, docs.ERRORS)),
     Planted(facts.ERRORS, "the root can't be made, moved", "the root can't be moved", (docs.ERRORS,)),
     Planted(facts.ERRORS, "Refusal::IsRoot =>", "Refusal::Root =>", ("doesn't say what 11 IsRoot means",)),
     Planted(facts.LINE_FAULT, "LineFault::BadPath => 29", "LineFault::BadPath => 43", (HEADER, docs.ERRORS, docs.SCRIPT, facts.HELP_PAGES)),
