@@ -208,13 +208,16 @@ int32_t elephant_rmdir(elephant *e, const void *path, size_t len);
 /* Makes a file with an empty version 1. *file: its number. EXISTS, FULL. */
 int32_t elephant_create(elephant *e, const void *path, size_t len, uint64_t *file);
 
-/* Gives the file at `from` the path `to` as another name. EXISTS, IS_DIRECTORY, FULL. */
+/* Gives the file at `from` the path `to` as another name. EXISTS, IS_DIRECTORY, FULL. EXISTS and IS_ROOT are about `to`, IS_DIRECTORY
+ * about `from`. `from` is looked up first: NO_ENTRY, NOT_DIRECTORY, BAD_PATH and BAD_NAME are about `from` if elephant_read_into of
+ * `from` returns the same code, else about `to`. */
 int32_t elephant_link(elephant *e, const void *from, size_t from_len, const void *to, size_t to_len);
 
 /* Removes the name of a file; with the last name the current version ends. IS_DIRECTORY. */
 int32_t elephant_unlink(elephant *e, const void *path, size_t len);
 
-/* Moves the file or directory at `from` to `to`. EXISTS, INTO_ITSELF, FULL. */
+/* Moves the file or directory at `from` to `to`. EXISTS, INTO_ITSELF, FULL. EXISTS and INTO_ITSELF are about `to`, IS_ROOT about
+ * `from` if that is "/", else about `to`, and the others as those of elephant_link. */
 int32_t elephant_rename(elephant *e, const void *from, size_t from_len, const void *to, size_t to_len);
 
 /* Restores a dead name. A file without a live name gets a version: its number at *version, else 0. NOT_RESTORABLE, EXISTS,

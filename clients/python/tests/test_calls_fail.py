@@ -104,25 +104,31 @@ LINES = (
 )
 ROWS: dict[type, dict[str, list[Call]]] = {
     Store: {
-        "ahead": [lambda it: it.store.ahead(LASTING)], "clean": [lambda it: it.store.clean()], "clock": [lambda it: it.store.clock(30)],
-        "close": [lambda it: it.store.close()], "create": [lambda it: it.store.create("/n")], "due": [lambda it: it.store.due()],
-        "dump": [lambda it: it.store.dump()],
+        "ahead": [lambda it: it.store.ahead(LASTING)], "answers": [], "clean": [lambda it: it.store.clean()],
+        "clock": [lambda it: it.store.clock(30)],
+        "close": [lambda it: it.store.close()],
+        "create": [lambda it: it.store.create("/n")],
+        "due": [lambda it: it.store.due()], "dump": [lambda it: it.store.dump()], "gone": [],
         "group_add": [lambda it: it.store.group_add("k", "/d/f")], "group_drop": [lambda it: it.store.group_drop("k")],
         "group_make": [lambda it: it.store.group_make("m")], "group_remove": [lambda it: it.store.group_remove("k", "/t")],
-        "groups": [lambda it: it.store.groups()], "history": [], "line": [asks(line) for line in LINES],
+        "groups": [lambda it: it.store.groups()], "handles": [], "history": [], "line": [asks(line) for line in LINES],
         "link": [lambda it: it.store.link("/d/f", "/n")], "list": [lambda it: it.store.list("/d")],
+        "make_parents": [lambda it: it.store.make_parents("/d/m/f"), lambda it: it.store.make_parents("/d/f")],
         "mark": [lambda it: it.store.mark("k", 6, 90)],
         "mkdir": [lambda it: it.store.mkdir("/n")],
         "open": [
             opened("wb"), opened("w"), opened("r+b"), opened("ab"), opened("rb"), opened("xb", "/n"), opened("wb", "/n"),
             opened("wb", "/n", b""),
         ],
-        "pass_": [lambda it: it.store.pass_(), lambda it: it.store.pass_(1)], "read": [lambda it: it.store.read("/d/f", version=2)],
+        "pass_": [lambda it: it.store.pass_(), lambda it: it.store.pass_(1)],
+        "path_of": [lambda it: it.store.path_of(2)], "paths_of": [lambda it: it.store.paths_of(1)],
+        "read": [lambda it: it.store.read("/d/f", version=2)],
         "reader": [lambda it: it.store.reader("/d/f", at=10)], "rename": [lambda it: it.store.rename("/d", "/e")],
         "restorable": [lambda it: it.store.restorable()], "revert": [lambda it: it.store.revert("/d/f", 2)],
         "rmdir": [lambda it: it.store.rmdir("/empty")],
         "save": [
-            lambda it: it.store.save("/d/f", b"three"), lambda it: it.store.save("/n", b"new"), lambda it: it.store.save("/n", b""),
+            lambda it: it.store.save("/d/m/f", b"new", parents=True), lambda it: it.store.save("/d/f", b"three"),
+            lambda it: it.store.save("/n", b"new"), lambda it: it.store.save("/n", b""),
             lambda it: it.store.save("/d/f", b""), lambda it: it.store.save("/s", b"taken"),
             lambda it: it.store.save("/d/f", b"longer than before" * 500),
         ],
@@ -133,7 +139,7 @@ ROWS: dict[type, dict[str, list[Call]]] = {
         "trust_clock": [lambda it: it.store.trust_clock()],
         "undelete": [lambda it: it.store.undelete("/g")], "unlink": [lambda it: it.store.unlink("/d/f")],
         "unmark": [lambda it: it.store.unmark("k", 5)], "usage": [lambda it: it.store.usage()],
-        "versions": [lambda it: it.store.versions("/d/f")],
+        "versions": [lambda it: it.store.versions("/d/f")], "walk": [lambda it: it.store.walk()],
         "why": [lambda it: it.store.why("/d/f", version=2)],
     },
     Session: {
@@ -147,7 +153,8 @@ ROWS: dict[type, dict[str, list[Call]]] = {
 NO_CALLS: dict[type, set[str]] = {
     Store: {"clock_fault", "is_closed", "is_read_only", "may_remove", "now"}, Session: {"version"}, Reader: set(),
 }
-# These may leave a part that docs/EMBED.md names: an empty new file, or one more version with the content before.
+# These may leave a part that docs/EMBED.md names: an empty new file, one more version with the content before, or directories that
+# `parents=True` made.
 MAY_LEAVE_MORE = {"save", "open"}
 
 

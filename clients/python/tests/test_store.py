@@ -14,7 +14,7 @@ from typing import Any, BinaryIO, Callable, Union, cast
 import elephant
 from elephant import (
     Current,
-    DeadName,
+    DeletedName,
     DirectoryStat,
     Due,
     Entry,
@@ -376,7 +376,7 @@ class Names(unittest.TestCase):
             self.assertRaises(elephant.IntoItself, store.rename, "/d", "/d/e")
             self.assertEqual(store.mkdir("/x"), 2)
             store.rmdir("/x")
-            self.assertEqual(store.restorable(), [DeadName(0, "x", True, 2, b"x"), DeadName(1, "g", False, 1, b"g")])
+            self.assertEqual(store.restorable(), [DeletedName(0, "x", True, 2, b"x"), DeletedName(1, "g", False, 1, b"g")])
             self.assertRaises(elephant.Exists, store.link, "/f", "/g")
             self.assertRaises(elephant.IsRoot, store.rmdir, "/")
             self.assertRaises(elephant.NotRestorable, self._lost, store)

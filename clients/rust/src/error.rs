@@ -92,16 +92,20 @@ macro_rules! errors {
             Full(Limit),
             /// A code that no call of this crate should return.
             Unexpected(i32),
+            /// The library answered in a form that this crate doesn't know: they are of different versions.
+            UnknownAnswer,
         }
 
         impl Error {
-            /// Returns its number, as in `elephant.h` and in the answers of the script language.
+            /// Returns its number, as in `elephant.h` and in the answers of the script language. [`Error::UnknownAnswer`] has 0.
+            #[must_use]
             pub fn code(self) -> i32 {
                 match self {
                     $(Error::$name => sys::$code,)*
                     Error::Forgotten { .. } => sys::ELEPHANT_FORGOTTEN,
                     Error::Full(_) => sys::ELEPHANT_FULL,
                     Error::Unexpected(code) => code,
+                    Error::UnknownAnswer => 0,
                 }
             }
 
@@ -124,6 +128,7 @@ macro_rules! errors {
                     Error::Forgotten { last: None } => f.write_str("the version was removed, and none before it is held"),
                     Error::Full(limit) => write!(f, "a limit is reached, for good: {limit}"),
                     Error::Unexpected(code) => write!(f, "the library answered the unexpected code {code}"),
+                    Error::UnknownAnswer => f.write_str("the library answered in a form that this crate doesn't know"),
                 }
             }
         }

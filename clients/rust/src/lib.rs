@@ -8,16 +8,16 @@
 //! fn main() -> Result<(), Box<dyn std::error::Error>> {
 //!     let store = Store::new()?;
 //!     store.set_default("/", &Policy::keep_days(7))?;
-//!     store.create("/notes")?;
+//!     store.create("/notes")?; // its version 1 is empty
 //!
 //!     // A session makes one version when it is closed.
-//!     let mut session = store.open_write("/notes")?;
+//!     let mut session = store.session("/notes")?;
 //!     session.write_all(b"buy milk")?;
 //!     session.close()?;
 //!
-//!     // You move the store's clock.
+//!     // You move the store's clock. A save makes one version too.
 //!     store.tick(60)?;
-//!     store.save("/notes", b"oops")?;
+//!     assert_eq!(store.save("/notes", b"oops")?, 3);
 //!     assert_eq!(store.read(at("/notes", 59))?, b"buy milk");
 //!     assert_eq!(store.read(version("/notes", 2))?, b"buy milk");
 //!
@@ -32,7 +32,12 @@
 //! proved. It links the library statically, and depends on no other crate. `docs/EMBED.md` of the
 //! repository has a table of all calls and their limits.
 
+mod answers;
+mod audit;
+mod contents;
 mod error;
+mod names;
+mod path_error;
 mod questions;
 mod reader;
 mod retention;
@@ -43,11 +48,14 @@ mod store;
 mod sys;
 mod types;
 
+pub use audit::{Answered, Answers, Gone, History, OpenHandle, Removal};
+pub use contents::LARGEST_CONTENT;
 pub use error::{Error, Limit};
+pub use path_error::PathError;
 pub use reader::Reader;
 pub use session::Session;
-pub use store::{Options, Store, LARGEST_CONTENT};
+pub use store::{Options, Store};
 pub use types::{
-    at, moment, version, Cause, DeadName, Due, Entry, Fate, Group, Limits, Mark, Node, Pass, PassEnd, Policy, Rung, Stat, Target,
-    Usage, Usages, Version,
+    at, moment, version, Cause, DeletedName, Entry, Fate, Group, Limits, Mark, Node, Pass, PassEnd, PathEntry, Policy, Removable,
+    Rung, Stat, Target, Usage, Usages, Version, LAST_MOMENT,
 };

@@ -2,7 +2,9 @@
 
 use crate::store::parts;
 use crate::sys;
-use crate::{Cause, DeadName, Due, Entry, Error, Fate, Mark, Node, Policy, Rung, Stat, Store, Target, Usage, Usages, Version};
+use crate::{
+    Cause, DeletedName, Entry, Error, Fate, Mark, Node, Policy, Removable, Rung, Stat, Store, Target, Usage, Usages, Version,
+};
 
 // The longest name of a path or a group.
 const LONGEST_NAME: usize = 64;
@@ -76,15 +78,15 @@ impl Store {
         read_rows(rows, |index| self.name_row(index).map(|(_, name, node)| Entry { name, node }))
     }
 
-    /// Returns the dead names that [`undelete`](Store::undelete) can restore, by directory and
+    /// Returns the deleted names that [`undelete`](Store::undelete) can restore, by directory and
     /// name.
     ///
     /// # Errors
     /// [`Error::NoMemory`].
-    pub fn restorable(&self) -> Result<Vec<DeadName>, Error> {
+    pub fn restorable(&self) -> Result<Vec<DeletedName>, Error> {
         // SAFETY: see `call`.
         let rows = self.number(|e, rows| unsafe { sys::elephant_restorable(e, rows) })?;
-        read_rows(rows, |index| self.name_row(index).map(|(directory, name, node)| DeadName { directory, name, node }))
+        read_rows(rows, |index| self.name_row(index).map(|(parent, name, node)| DeletedName { parent, name, node }))
     }
 
     fn name_row(&self, index: u64) -> Result<(u64, String, Node), Error> {
@@ -111,7 +113,7 @@ impl Store {
     ///
     /// # Errors
     /// [`Error::NoMemory`].
-    pub fn due(&self) -> Result<Vec<Due>, Error> {
+    pub fn due(&self) -> Result<Vec<Removable>, Error> {
         // SAFETY: see `call`.
         let rows = self.number(|e, rows| unsafe { sys::elephant_due(e, rows) })?;
         read_rows(rows, |index| self.due_row(index))
@@ -121,13 +123,13 @@ impl Store {
     ///
     /// # Errors
     /// [`Error::NotAhead`], [`Error::BadMoment`].
-    pub fn ahead(&self, moment: u64) -> Result<Vec<Due>, Error> {
+    pub fn ahead(&self, moment: u64) -> Result<Vec<Removable>, Error> {
         // SAFETY: see `call`.
         let rows = self.number(|e, rows| unsafe { sys::elephant_ahead(e, moment, rows) })?;
         read_rows(rows, |index| self.due_row(index))
     }
 
-    fn due_row(&self, index: u64) -> Result<Due, Error> {
+    fn due_row(&self, index: u64) -> Result<Removable, Error> {
         // SAFETY: see `call`.
         self.row(|e, key| unsafe { sys::elephant_row_key(e, index, key) }).map(|key| due_of(&key))
     }
@@ -153,15 +155,25 @@ impl Store {
         Ok(Usage { files: row.files, versions: row.versions, bytes: row.bytes, blocks: row.blocks })
     }
 
-    /// Returns why a version is held, or due.
+    /// Returns why a version is held, or due. In a store with a history it also returns when and why a version was removed, if you ask
+    /// by its number: [`Fate::Removed`].
     ///
     /// # Errors
     /// Those of [`read`](Store::read).
     pub fn why<'a>(&self, target: impl Into<Target<'a>>) -> Result<Fate, Error> {
         let (path, tag, number) = parts(target.into());
-        let row: sys::elephant_why_row =
-            // SAFETY: see `call`.
-            self.row(|e, row| unsafe { sys::elephant_why(e, path.as_ptr(), path.len(), tag, number, row) })?;
+        // SAFETY: see `call`.
+        let found = self.row(|e, row| unsafe { sys::elephant_why(e, path.as_ptr(), path.len(), tag, number, row) });
+        match found {
+            Ok(row) => self.fate_of(&row),
+            Err(error @ Error::Forgotten { .. }) if tag == sys::ELEPHANT_VERSION && self.has_history => {
+                self.why_removed(path, number, error)
+            }
+            Err(error) => Err(error),
+        }
+    }
+
+    fn fate_of(&self, row: &sys::elephant_why_row) -> Result<Fate, Error> {
         Ok(match row.fate {
             sys::ELEPHANT_IS_CURRENT => Fate::Current,
             sys::ELEPHANT_IS_OPEN => Fate::Open,
@@ -169,10 +181,10 @@ impl Store {
                 // SAFETY: see `call`.
                 let group =
                     self.name(|e, into, length| unsafe { sys::elephant_why_group(e, into.as_mut_ptr(), into.len(), length) })?;
-                Fate::Marked { group, mark: Mark { moment: row.moment, until: unless_never(row.until) } }
+                Fate::Marked { group, mark: Mark { at: row.moment, until: unless_never(row.until) } }
             }
             sys::ELEPHANT_IS_KEPT => Fate::Kept { until: unless_never(row.until), level: unless_never(row.level) },
-            _ => Fate::Due { since: row.moment, cause: cause_of(&row) },
+            _ => Fate::Due { since: row.moment, cause: cause_of(row) },
         })
     }
 }
@@ -191,8 +203,8 @@ pub(crate) fn unless_never(number: u64) -> Option<u64> {
     Some(number).filter(|it| *it != sys::ELEPHANT_NEVER)
 }
 
-pub(crate) fn due_of(key: &sys::elephant_key) -> Due {
-    Due { since: key.since, file: key.file, number: key.number }
+pub(crate) fn due_of(key: &sys::elephant_key) -> Removable {
+    Removable { since: key.since, file: key.file, number: key.number }
 }
 
 fn cause_of(row: &sys::elephant_why_row) -> Cause {

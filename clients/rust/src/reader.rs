@@ -14,9 +14,8 @@ use std::io::{self, BufRead, Read, Seek, SeekFrom};
 /// # fn main() -> Result<(), Box<dyn std::error::Error>> {
 /// let store = Store::new()?;
 /// store.set_default("/", &Policy::KeepOne)?;
-/// store.create("/notes")?;
 /// store.save("/notes", b"first")?;
-/// let mut reader = store.open_read("/notes")?;
+/// let mut reader = store.reader("/notes")?;
 /// store.save("/notes", b"second")?;
 /// let _ = store.pass(u64::MAX);
 /// let mut text = String::new();

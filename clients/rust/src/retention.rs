@@ -1,8 +1,8 @@
-//! Policies, groups, marks and removals, and the history.
+//! Policies, groups, marks and removals.
 
 use crate::questions::{due_of, read_rows, unless_never};
 use crate::sys;
-use crate::{Due, Error, Group, Mark, Pass, PassEnd, Policy, Store};
+use crate::{Error, Group, Mark, Pass, PassEnd, Policy, Removable, Store};
 
 /// Policies.
 impl Store {
@@ -72,19 +72,19 @@ impl Store {
     ///
     /// # Errors
     /// [`Error::NotPast`], [`Error::NotAhead`], [`Error::MarkExists`], [`Error::BadMoment`], [`Error::Full`].
-    pub fn mark(&self, group: &str, moment: u64, until: Option<u64>) -> Result<(), Error> {
+    pub fn mark(&self, group: &str, at: u64, until: Option<u64>) -> Result<(), Error> {
         let until = until.unwrap_or(sys::ELEPHANT_NEVER);
         // SAFETY: see `call`.
-        self.call(|e| unsafe { sys::elephant_mark(e, group.as_ptr(), group.len(), moment, until) })
+        self.call(|e| unsafe { sys::elephant_mark(e, group.as_ptr(), group.len(), at, until) })
     }
 
     /// Removes a mark.
     ///
     /// # Errors
     /// [`Error::NoMark`].
-    pub fn unmark(&self, group: &str, moment: u64) -> Result<(), Error> {
+    pub fn unmark(&self, group: &str, at: u64) -> Result<(), Error> {
         // SAFETY: see `call`.
-        self.call(|e| unsafe { sys::elephant_unmark(e, group.as_ptr(), group.len(), moment) })
+        self.call(|e| unsafe { sys::elephant_unmark(e, group.as_ptr(), group.len(), at) })
     }
 
     /// Returns the groups with their files and marks, in order of making.
@@ -97,29 +97,29 @@ impl Store {
         read_rows(rows, |index| {
             // SAFETY: see `call`.
             let row: sys::elephant_group_row = self.row(|e, row| unsafe { sys::elephant_row_group(e, index, row) })?;
-            let files = read_rows(row.members, |member| {
+            let members = read_rows(row.members, |member| {
                 // SAFETY: see `call`.
                 self.number(|e, file| unsafe { sys::elephant_row_member(e, index, member, file) })
             })?;
             let marks = read_rows(row.marks, |mark| self.mark_row(index, mark))?;
-            Ok(Group { name: self.row_bytes(index)?, files, marks })
+            Ok(Group { name: self.row_bytes(index)?, members, marks })
         })
     }
 
     fn mark_row(&self, group: u64, mark: u64) -> Result<Mark, Error> {
         // SAFETY: see `call`.
         let row: sys::elephant_mark_row = self.row(|e, row| unsafe { sys::elephant_row_mark(e, group, mark, row) })?;
-        Ok(Mark { moment: row.moment, until: unless_never(row.until) })
+        Ok(Mark { at: row.moment, until: unless_never(row.until) })
     }
 }
 
-/// Forgetting, and the history.
+/// Forgetting.
 impl Store {
     /// Removes the first due version, and returns it. None if no version is due.
     ///
     /// # Errors
     /// [`Error::NoMemory`].
-    pub fn clean(&self) -> Result<Option<Due>, Error> {
+    pub fn clean(&self) -> Result<Option<Removable>, Error> {
         // SAFETY: see `call`.
         let removed = self.row(|e, removed| unsafe { sys::elephant_clean(e, removed) })?;
         Ok(Some(due_of(&removed)).filter(|it| it.file != 0))
@@ -136,26 +136,5 @@ impl Store {
             (Ok(()), _) => PassEnd::Finished,
         };
         Pass { removed, end }
-    }
-
-    /// Returns how many events are folded, and how many entries follow them. The line `history`
-    /// also prints the entries.
-    ///
-    /// # Errors
-    /// [`Error::NoHistory`].
-    pub fn history(&self) -> Result<(u64, u64), Error> {
-        let (mut folded, mut entries) = (0, 0);
-        // SAFETY: see `call`.
-        self.call(|e| unsafe { sys::elephant_history(e, &mut folded, &mut entries) })?;
-        Ok((folded, entries))
-    }
-
-    /// Folds the entries into the base, which frees their memory, and returns how many they were.
-    ///
-    /// # Errors
-    /// [`Error::NoHistory`], [`Error::NoMemory`].
-    pub fn trim(&self) -> Result<u64, Error> {
-        // SAFETY: see `call`.
-        self.number(|e, folded| unsafe { sys::elephant_trim(e, folded) })
     }
 }

@@ -15,7 +15,7 @@ use std::io::{self, Seek, SeekFrom, Write};
 /// # fn main() -> Result<(), Box<dyn std::error::Error>> {
 /// let store = Store::new()?;
 /// store.create("/notes")?;
-/// let mut session = store.open_write("/notes")?;
+/// let mut session = store.session("/notes")?;
 /// writeln!(session, "milk")?;
 /// writeln!(session, "bread")?;
 /// assert_eq!(session.close()?, Some(2));

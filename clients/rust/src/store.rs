@@ -2,12 +2,11 @@
 
 use crate::sys;
 use crate::types::Tag;
-use crate::{Error, Limits, Reader, Session, Target};
+use crate::{Error, Limits, Target};
+use std::cell::RefCell;
+use std::collections::BTreeMap;
 use std::fmt;
 use std::ptr::{self, NonNull};
-
-/// The longest content, in bytes.
-pub const LARGEST_CONTENT: usize = 1 << 20;
 
 /// How to open a store.
 ///
@@ -56,7 +55,8 @@ impl Options {
         let mut raw = ptr::null_mut();
         // SAFETY: it writes a pointer to `raw`.
         unsafe { sys::elephant_new(&mut raw) };
-        let store = Store { raw: NonNull::new(raw).ok_or(Error::NoMemory)? };
+        let raw = NonNull::new(raw).ok_or(Error::NoMemory)?;
+        let store = Store { raw, has_history: self.history, writers: RefCell::default() };
         let limits = sys::elephant_limits {
             events: self.limits.events,
             files: self.limits.files,
@@ -85,7 +85,6 @@ impl Options {
 ///
 /// # fn main() -> Result<(), elephant::Error> {
 /// let store = Store::new()?;
-/// store.create("/plan")?;
 /// store.save("/plan", b"walk")?;
 /// store.tick(60)?;
 /// store.save("/plan", b"run")?;
@@ -104,6 +103,9 @@ impl Options {
 pub struct Store {
     // The open handle from `elephant_new`.
     raw: NonNull<sys::elephant>,
+    pub(crate) has_history: bool,
+    // The file that each open session writes.
+    pub(crate) writers: RefCell<BTreeMap<u64, u64>>,
 }
 
 // SAFETY: the library keeps no state of a thread, and takes a handle's calls from any thread, one
@@ -140,10 +142,15 @@ impl Store {
     // has no callbacks. A pointer with a length points into a slice, and each other pointer is a
     // reference to one object. The call borrows mutably what it writes, so nothing overlaps it.
     pub(crate) fn call(&self, made: impl FnOnce(*mut sys::elephant) -> i32) -> Result<(), Error> {
-        match made(self.raw.as_ptr()) {
+        match self.code(made) {
             sys::ELEPHANT_OK => Ok(()),
             code => Err(Error::from_code(code, || self.detail())),
         }
+    }
+
+    // Makes one call of the library, and returns its code.
+    pub(crate) fn code(&self, made: impl FnOnce(*mut sys::elephant) -> i32) -> i32 {
+        made(self.raw.as_ptr())
     }
 
     // Makes a call that writes one number.
@@ -201,7 +208,11 @@ impl Store {
     }
 
     // Copies so many bytes out.
-    fn copied(&self, length: u64, made: impl FnOnce(*mut sys::elephant, &mut [u8], &mut u64) -> i32) -> Result<Vec<u8>, Error> {
+    pub(crate) fn copied(
+        &self,
+        length: u64,
+        made: impl FnOnce(*mut sys::elephant, &mut [u8], &mut u64) -> i32,
+    ) -> Result<Vec<u8>, Error> {
         let mut bytes = Vec::new();
         let length = usize::try_from(length).map_err(|_| Error::NoMemory)?;
         bytes.try_reserve_exact(length).map_err(|_| Error::NoMemory)?;
@@ -237,191 +248,6 @@ impl Store {
     pub fn tick(&self, seconds: u64) -> Result<(), Error> {
         // SAFETY: see `call`.
         self.call(|e| unsafe { sys::elephant_tick(e, seconds) })
-    }
-}
-
-/// Names.
-///
-/// Each of these calls may fail for its path: [`Error::NoEntry`], [`Error::NotDirectory`], [`Error::BadPath`], [`Error::BadName`].
-impl Store {
-    /// Makes a directory, and returns its number.
-    ///
-    /// # Errors
-    /// [`Error::Exists`], [`Error::IsRoot`], [`Error::Full`].
-    pub fn create_dir(&self, path: &str) -> Result<u64, Error> {
-        // SAFETY: see `call`.
-        self.number(|e, directory| unsafe { sys::elephant_mkdir(e, path.as_ptr(), path.len(), directory) })
-    }
-
-    /// Removes the name of a directory that has no live name in it.
-    ///
-    /// # Errors
-    /// [`Error::NotEmpty`], [`Error::IsRoot`].
-    pub fn remove_dir(&self, path: &str) -> Result<(), Error> {
-        // SAFETY: see `call`.
-        self.call(|e| unsafe { sys::elephant_rmdir(e, path.as_ptr(), path.len()) })
-    }
-
-    /// Makes a file with an empty version 1, and returns its number.
-    ///
-    /// # Errors
-    /// [`Error::Exists`], [`Error::IsRoot`], [`Error::Full`].
-    pub fn create(&self, path: &str) -> Result<u64, Error> {
-        // SAFETY: see `call`.
-        self.number(|e, file| unsafe { sys::elephant_create(e, path.as_ptr(), path.len(), file) })
-    }
-
-    /// Gives the file at `from` the name `to` too.
-    ///
-    /// # Errors
-    /// [`Error::Exists`], [`Error::IsDirectory`], [`Error::IsRoot`], [`Error::Full`].
-    pub fn link(&self, from: &str, to: &str) -> Result<(), Error> {
-        // SAFETY: see `call`.
-        self.call(|e| unsafe { sys::elephant_link(e, from.as_ptr(), from.len(), to.as_ptr(), to.len()) })
-    }
-
-    /// Removes a name of a file. With its last name its current version ends.
-    ///
-    /// # Errors
-    /// [`Error::IsDirectory`], [`Error::IsRoot`].
-    pub fn unlink(&self, path: &str) -> Result<(), Error> {
-        // SAFETY: see `call`.
-        self.call(|e| unsafe { sys::elephant_unlink(e, path.as_ptr(), path.len()) })
-    }
-
-    /// Moves a file or a directory.
-    ///
-    /// # Errors
-    /// [`Error::Exists`], [`Error::IntoItself`], [`Error::IsRoot`], [`Error::Full`].
-    pub fn rename(&self, from: &str, to: &str) -> Result<(), Error> {
-        // SAFETY: see `call`.
-        self.call(|e| unsafe { sys::elephant_rename(e, from.as_ptr(), from.len(), to.as_ptr(), to.len()) })
-    }
-
-    /// Restores a dead name. If the file had no live name, it gets a version, and the call returns
-    /// its number.
-    ///
-    /// # Errors
-    /// [`Error::NotRestorable`], [`Error::Exists`], [`Error::Drafting`], [`Error::Full`].
-    pub fn undelete(&self, path: &str) -> Result<Option<u64>, Error> {
-        // SAFETY: see `call`.
-        self.number(|e, version| unsafe { sys::elephant_undelete(e, path.as_ptr(), path.len(), version) }).map(version_of)
-    }
-}
-
-// A version's number, with 0 for none.
-fn version_of(number: u64) -> Option<u64> {
-    Some(number).filter(|it| *it != 0)
-}
-
-/// Contents.
-impl Store {
-    /// Makes the file's next version of these bytes, and returns its number. The file must exist,
-    /// and no session should write it: an open session shares the draft, and the version is made
-    /// when that session closes.
-    ///
-    /// # Errors
-    /// [`Error::TooBig`], [`Error::NoEntry`], [`Error::IsDirectory`], [`Error::Full`]. If memory
-    /// runs out between the steps ([`Error::NoMemory`]), the draft gets the file's content again,
-    /// so one more version may have that content. If there is no memory for that either, the new
-    /// version mixes both contents; you can still read the one before it.
-    pub fn save(&self, path: &str, bytes: &[u8]) -> Result<Option<u64>, Error> {
-        if bytes.len() > LARGEST_CONTENT {
-            return Err(Error::TooBig);
-        }
-        let session = self.open_write(path)?;
-        // If this fails the draft is unchanged, and makes no version.
-        session.write_at(0, bytes)?;
-        let made = session.set_len(bytes.len() as u64).and_then(|()| self.close_handle(session.handle()));
-        if made.is_ok() {
-            std::mem::forget(session);
-        } else {
-            // The first error is returned. The drop closes the session.
-            let _ = self.restore(path, &session);
-        }
-        made
-    }
-
-    // Sets a draft to the content of its file.
-    fn restore(&self, path: &str, session: &Session<'_>) -> Result<(), Error> {
-        let held = self.read(path)?;
-        session.write_at(0, &held)?;
-        session.set_len(held.len() as u64)
-    }
-
-    /// Opens a session, which writes a file.
-    ///
-    /// # Errors
-    /// [`Error::NoEntry`], [`Error::IsDirectory`], [`Error::Full`].
-    pub fn open_write(&self, path: &str) -> Result<Session<'_>, Error> {
-        // SAFETY: see `call`.
-        let handle = self.number(|e, handle| unsafe { sys::elephant_open_write(e, path.as_ptr(), path.len(), handle) })?;
-        Ok(Session::new(self, handle))
-    }
-
-    /// Opens a reader of a version, which keeps it from being removed.
-    ///
-    /// # Errors
-    /// Those of [`read`](Store::read), and [`Error::Full`].
-    pub fn open_read<'a>(&self, target: impl Into<Target<'a>>) -> Result<Reader<'_>, Error> {
-        let (path, tag, number) = parts(target.into());
-        // SAFETY: see `call`.
-        let handle =
-            self.number(|e, handle| unsafe { sys::elephant_open_read(e, path.as_ptr(), path.len(), tag, number, handle) })?;
-        Ok(Reader::new(self, handle))
-    }
-
-    /// Reads a version: what the path holds now, or what [`at`](crate::at) or [`version`](crate::version) mean.
-    ///
-    /// # Errors
-    /// [`Error::NoEntry`], [`Error::IsDirectory`], [`Error::Future`], [`Error::NoVersion`], and
-    /// [`Error::Forgotten`] if the version was removed: it never returns another version in its
-    /// place.
-    pub fn read<'a>(&self, target: impl Into<Target<'a>>) -> Result<Vec<u8>, Error> {
-        let (path, tag, number) = parts(target.into());
-        // SAFETY: see `call`.
-        let length = self.number(|e, length| unsafe { sys::elephant_read(e, path.as_ptr(), path.len(), tag, number, length) })?;
-        self.taken(length)
-    }
-
-    /// Makes a new version of a file, with the content of the version of that number. Returns the
-    /// new number.
-    ///
-    /// # Errors
-    /// [`Error::NoVersion`], [`Error::Forgotten`], [`Error::Drafting`], [`Error::Full`].
-    pub fn revert(&self, path: &str, number: u64) -> Result<u64, Error> {
-        // SAFETY: see `call`.
-        self.number(|e, version| unsafe { sys::elephant_revert(e, path.as_ptr(), path.len(), number, version) })
-    }
-
-    fn taken(&self, length: u64) -> Result<Vec<u8>, Error> {
-        // SAFETY: see `call`.
-        self.copied(length, |e, into, copied| unsafe { sys::elephant_take(e, 0, into.as_mut_ptr(), into.len(), copied) })
-    }
-
-    pub(crate) fn write(&self, handle: u64, offset: u64, bytes: &[u8]) -> Result<(), Error> {
-        // SAFETY: see `call`.
-        self.call(|e| unsafe { sys::elephant_write(e, handle, offset, bytes.as_ptr(), bytes.len()) })
-    }
-
-    pub(crate) fn truncate(&self, handle: u64, size: u64) -> Result<(), Error> {
-        // SAFETY: see `call`.
-        self.call(|e| unsafe { sys::elephant_truncate(e, handle, size) })
-    }
-
-    pub(crate) fn close_handle(&self, handle: u64) -> Result<Option<u64>, Error> {
-        // SAFETY: see `call`.
-        self.number(|e, version| unsafe { sys::elephant_close_handle(e, handle, version) }).map(version_of)
-    }
-
-    pub(crate) fn length_of_handle(&self, handle: u64) -> Result<u64, Error> {
-        // SAFETY: see `call`.
-        self.number(|e, length| unsafe { sys::elephant_read_handle(e, handle, length) })
-    }
-
-    pub(crate) fn read_handle(&self, handle: u64) -> Result<Vec<u8>, Error> {
-        let length = self.length_of_handle(handle)?;
-        self.taken(length)
     }
 }
 

@@ -3,6 +3,9 @@
 use std::fmt;
 use std::time::{SystemTime, UNIX_EPOCH};
 
+/// The last moment that a store takes, in the year 9999.
+pub const LAST_MOMENT: u64 = 253_402_300_799;
+
 /// Returns the seconds since 1970-01-01T00:00:00Z of a system time, and 0 for an earlier one. Pass
 /// it to [`Store::clock`](crate::Store::clock), since a store never reads the machine's clock.
 #[must_use]
@@ -90,6 +93,7 @@ impl Default for Limits {
 
 /// When a file's versions may be removed.
 #[derive(Clone, Debug, PartialEq, Eq, Hash)]
+#[non_exhaustive]
 pub enum Policy {
     /// As soon as they have ended.
     KeepOne,
@@ -209,11 +213,20 @@ pub struct Entry {
     pub node: Node,
 }
 
-/// A dead name that [`Store::undelete`](crate::Store::undelete) can restore.
+/// A path below a directory.
 #[derive(Clone, Debug, PartialEq, Eq, Hash)]
-pub struct DeadName {
+pub struct PathEntry {
+    /// The path, which begins with a slash.
+    pub path: String,
+    /// Its file or directory.
+    pub node: Node,
+}
+
+/// A deleted name that [`Store::undelete`](crate::Store::undelete) can restore.
+#[derive(Clone, Debug, PartialEq, Eq, Hash)]
+pub struct DeletedName {
     /// The number of its directory; the root's is 0.
-    pub directory: u64,
+    pub parent: u64,
     /// The name, without slashes.
     pub name: String,
     /// Its last file or directory.
@@ -222,7 +235,7 @@ pub struct DeadName {
 
 /// A version that may be removed, or was.
 #[derive(Clone, Copy, Debug, PartialEq, Eq, Hash, PartialOrd, Ord)]
-pub struct Due {
+pub struct Removable {
     /// The moment from which it is due.
     pub since: u64,
     /// The file's number.
@@ -263,7 +276,7 @@ pub struct Group {
     /// Its name.
     pub name: String,
     /// The numbers of its files, in the order in which they were added.
-    pub files: Vec<u64>,
+    pub members: Vec<u64>,
     /// Its marks, in the order in which they were made.
     pub marks: Vec<Mark>,
 }
@@ -273,13 +286,14 @@ pub struct Group {
 #[derive(Clone, Copy, Debug, PartialEq, Eq, Hash)]
 pub struct Mark {
     /// The marked moment.
-    pub moment: u64,
+    pub at: u64,
     /// The moment at which the mark ends. None if it has no end.
     pub until: Option<u64>,
 }
 
-/// Why a version is held, or may be removed.
+/// Why a version is held, may be removed, or was.
 #[derive(Clone, Debug, PartialEq, Eq, Hash)]
+#[non_exhaustive]
 pub enum Fate {
     /// It has not ended.
     Current,
@@ -306,10 +320,20 @@ pub enum Fate {
         /// For what reason.
         cause: Cause,
     },
+    /// It was removed. Only a store with a history knows it.
+    Removed {
+        /// When.
+        moment: u64,
+        /// Since when it was due.
+        since: u64,
+        /// For what reason.
+        cause: Cause,
+    },
 }
 
 /// Why a policy lets a version go.
 #[derive(Clone, Copy, Debug, PartialEq, Eq, Hash)]
+#[non_exhaustive]
 pub enum Cause {
     /// [`Policy::KeepOne`] keeps no version that has ended.
     AtOnce,
@@ -325,6 +349,8 @@ pub enum Cause {
         /// The number of the newer version.
         by: u64,
     },
+    /// The history was trimmed, and doesn't know it. Only of a removed version.
+    Unknown,
 }
 
 /// The result of a pass.
@@ -339,6 +365,7 @@ pub struct Pass {
 
 /// How a pass ended.
 #[derive(Clone, Copy, Debug, PartialEq, Eq, Hash)]
+#[non_exhaustive]
 pub enum PassEnd {
     /// No version is due any more.
     Finished,

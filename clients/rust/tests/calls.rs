@@ -1,8 +1,8 @@
 //! Each call once on its happy path, and each error that a store can answer.
 
 use elephant::{
-    at, moment, version, Cause, DeadName, Due, Entry, Error, Fate, Group, Limit, Limits, Mark, Node, Options, PassEnd, Policy,
-    Rung, Stat, Store, Usage, Version, LARGEST_CONTENT,
+    at, moment, version, Cause, DeletedName, Entry, Error, Fate, Group, History, Limit, Limits, Mark, Node, Options, PassEnd,
+    Policy, Removable, Rung, Stat, Store, Usage, Version, LARGEST_CONTENT,
 };
 use std::io::{self, BufRead, Read, Seek, SeekFrom, Write};
 use std::sync::{Arc, Mutex};
@@ -16,9 +16,9 @@ fn with_file() -> Store {
     let store = Store::new().unwrap();
     store.set_default("/", &Policy::KeepAll).unwrap();
     assert_eq!(store.create("/f"), Ok(1));
-    assert_eq!(store.save("/f", b"one"), Ok(Some(2)));
+    assert_eq!(store.save("/f", b"one"), Ok(2));
     store.clock(10).unwrap();
-    assert_eq!(store.save("/f", b"two"), Ok(Some(3)));
+    assert_eq!(store.save("/f", b"two"), Ok(3));
     store
 }
 
@@ -44,7 +44,7 @@ fn the_clock_goes_where_it_is_set_and_never_back() {
 #[test]
 fn names_are_made_moved_ended_and_brought_back() {
     let store = Store::new().unwrap();
-    assert_eq!(store.create_dir("/d"), Ok(1));
+    assert_eq!(store.mkdir("/d"), Ok(1));
     assert_eq!(store.create("/d/a"), Ok(1));
     store.link("/d/a", "/d/b").unwrap();
     store.rename("/d/a", "/c").unwrap();
@@ -54,12 +54,12 @@ fn names_are_made_moved_ended_and_brought_back() {
     store.unlink("/d/b").unwrap();
     store.tick(1).unwrap();
     store.unlink("/c").unwrap();
-    store.remove_dir("/d").unwrap();
+    store.rmdir("/d").unwrap();
     assert_eq!(store.list("/"), Ok(vec![]));
     assert_eq!(store.list(at("/", 0)), Ok(vec![entry("c", Node::File(1)), entry("d", Node::Directory(1))]));
-    let dead = |directory, name: &str, node| DeadName { directory, name: name.to_string(), node };
+    let deleted = |parent, name: &str, node| DeletedName { parent, name: name.to_string(), node };
     let restorable = store.restorable().unwrap();
-    assert!(restorable.contains(&dead(0, "c", Node::File(1))), "{restorable:?}");
+    assert!(restorable.contains(&deleted(0, "c", Node::File(1))), "{restorable:?}");
     assert_eq!(store.undelete("/c"), Ok(Some(2)));
     assert_eq!(store.undelete("/d"), Ok(None));
     assert_eq!(store.undelete("/d/b"), Ok(None));
@@ -68,15 +68,15 @@ fn names_are_made_moved_ended_and_brought_back() {
 #[test]
 fn names_are_refused_for_the_reason_that_holds() {
     let store = Store::new().unwrap();
-    store.create_dir("/d").unwrap();
+    store.mkdir("/d").unwrap();
     store.create("/d/f").unwrap();
     assert_eq!(store.create("/x/y"), Err(Error::NoEntry));
     assert_eq!(store.create("/d/f/y"), Err(Error::NotDirectory));
     assert_eq!(store.create("/d"), Err(Error::Exists));
     assert_eq!(store.create("/"), Err(Error::IsRoot));
     assert_eq!(store.unlink("/d"), Err(Error::IsDirectory));
-    assert_eq!(store.remove_dir("/d"), Err(Error::NotEmpty));
-    assert_eq!(store.rename("/d", "/d/e"), Err(Error::IntoItself));
+    assert_eq!(store.rmdir("/d"), Err(Error::NotEmpty));
+    assert_eq!(store.rename("/d", "/d/e").map_err(Error::from), Err(Error::IntoItself));
     assert_eq!(store.undelete("/d/g"), Err(Error::NoEntry));
     for path in ["", "f", "//", "/f/"] {
         assert!(matches!(store.create(path), Err(Error::BadPath | Error::BadName)), "{path:?}");
@@ -89,7 +89,7 @@ fn names_are_refused_for_the_reason_that_holds() {
 #[test]
 fn some_names_do_not_come_back() {
     let store = Store::new().unwrap();
-    store.create_dir("/d").unwrap();
+    store.mkdir("/d").unwrap();
     store.rename("/d", "/e").unwrap();
     assert_eq!(store.undelete("/d"), Err(Error::NotRestorable));
     store.set_default("/", &Policy::KeepOne).unwrap();
@@ -102,7 +102,7 @@ fn some_names_do_not_come_back() {
 #[test]
 fn a_session_makes_one_version_and_an_unchanged_one_none() {
     let store = with_file();
-    let mut session = store.open_write("/f").unwrap();
+    let mut session = store.session("/f").unwrap();
     session.write_all(b"a").unwrap();
     session.write_all(b"bc").unwrap();
     assert_eq!(session.contents().unwrap(), b"abc");
@@ -118,13 +118,13 @@ fn a_session_makes_one_version_and_an_unchanged_one_none() {
     assert_eq!(store.read("/f").unwrap(), b"two");
     assert_eq!(session.close(), Ok(Some(4)));
     assert_eq!(store.read("/f").unwrap(), b"aBde\0\0!");
-    assert_eq!(store.open_write("/f").unwrap().close(), Ok(None));
+    assert_eq!(store.session("/f").unwrap().close(), Ok(None));
 }
 
 #[test]
 fn a_session_that_is_dropped_keeps_what_was_written() {
     let store = with_file();
-    store.open_write("/f").unwrap().write_at(0, b"T").unwrap();
+    store.session("/f").unwrap().write_at(0, b"T").unwrap();
     assert_eq!(store.read("/f").unwrap(), b"Two");
     assert_eq!(store.revert("/f", 3), Ok(5));
 }
@@ -132,7 +132,7 @@ fn a_session_that_is_dropped_keeps_what_was_written() {
 #[test]
 fn the_last_session_of_a_draft_makes_the_version() {
     let store = with_file();
-    let (first, second) = (store.open_write("/f").unwrap(), store.open_write("/f").unwrap());
+    let (first, second) = (store.session("/f").unwrap(), store.session("/f").unwrap());
     assert_ne!(first.handle(), second.handle());
     first.write_at(0, b"x").unwrap();
     assert_eq!(second.contents().unwrap(), b"xwo");
@@ -145,10 +145,10 @@ fn the_last_session_of_a_draft_makes_the_version() {
 fn a_content_has_a_mebibyte_at_most() {
     let store = with_file();
     let whole = vec![7; LARGEST_CONTENT];
-    assert_eq!(store.save("/f", &whole), Ok(Some(4)));
+    assert_eq!(store.save("/f", &whole), Ok(4));
     assert_eq!(store.read("/f").unwrap(), whole);
     assert_eq!(store.save("/f", &vec![7; LARGEST_CONTENT + 1]), Err(Error::TooBig));
-    let mut session = store.open_write("/f").unwrap();
+    let mut session = store.session("/f").unwrap();
     assert_eq!(session.write_at(LARGEST_CONTENT as u64, b"x"), Err(Error::TooBig));
     assert_eq!(session.set_len(LARGEST_CONTENT as u64 + 1), Err(Error::TooBig));
     session.seek(SeekFrom::End(0)).unwrap();
@@ -169,17 +169,17 @@ fn a_version_is_read_by_moment_and_by_number_or_not_at_all() {
     assert_eq!(store.read("/"), Err(Error::IsDirectory));
     assert_eq!(store.read("/g"), Err(Error::NoEntry));
     store.set_policy("/f", &Policy::KeepOne).unwrap();
-    assert_eq!(store.clean(), Ok(Some(Due { since: 0, file: 1, number: 1 })));
+    assert_eq!(store.clean(), Ok(Some(Removable { since: 0, file: 1, number: 1 })));
     assert_eq!(store.read(version("/f", 1)), Err(Error::Forgotten { last: None }));
     store.set_policy("/f", &Policy::KeepAll).unwrap();
     store.tick(1).unwrap();
     store.save("/f", b"three").unwrap();
     store.set_policy("/f", &Policy::KeepOne).unwrap();
-    let reader = store.open_read(version("/f", 2)).unwrap();
-    assert_eq!(store.clean(), Ok(Some(Due { since: 11, file: 1, number: 3 })));
+    let reader = store.reader(version("/f", 2)).unwrap();
+    assert_eq!(store.clean(), Ok(Some(Removable { since: 11, file: 1, number: 3 })));
     assert_eq!(store.read(version("/f", 3)), Err(Error::Forgotten { last: Some(2) }));
     reader.close().unwrap();
-    assert_eq!(store.clean(), Ok(Some(Due { since: 10, file: 1, number: 2 })));
+    assert_eq!(store.clean(), Ok(Some(Removable { since: 10, file: 1, number: 2 })));
     assert_eq!(store.clean(), Ok(None));
 }
 
@@ -187,7 +187,7 @@ fn a_version_is_read_by_moment_and_by_number_or_not_at_all() {
 fn a_reader_reads_its_version_and_holds_it() {
     let store = with_file();
     store.save("/f", b"first\nsecond\n").unwrap();
-    let mut reader = store.open_read("/f").unwrap();
+    let mut reader = store.reader("/f").unwrap();
     assert_ne!(reader.handle(), 0);
     store.save("/f", b"other").unwrap();
     store.set_policy("/f", &Policy::KeepOne).unwrap();
@@ -249,7 +249,7 @@ fn what_is_used_is_told_by_kind_of_policy() {
 fn versions_become_due_and_a_pass_removes_them() {
     let store = with_file();
     store.set_policy("/f", &Policy::KeepSafe { seconds: 5, floor: 0 }).unwrap();
-    let (first, second) = (Due { since: 5, file: 1, number: 1 }, Due { since: 15, file: 1, number: 2 });
+    let (first, second) = (Removable { since: 5, file: 1, number: 1 }, Removable { since: 15, file: 1, number: 2 });
     assert_eq!(store.due(), Ok(vec![first]));
     assert_eq!(store.ahead(15), Ok(vec![first, second]));
     assert_eq!(store.ahead(9), Err(Error::NotAhead));
@@ -289,8 +289,8 @@ fn a_mark_keeps_what_was_current() {
     assert_eq!(store.mark("release", 10, None), Err(Error::NotPast));
     assert_eq!(store.mark("release", 7, Some(10)), Err(Error::NotAhead));
     assert_eq!(store.mark("other", 5, None), Err(Error::NoGroup));
-    let (forever, ending) = (Mark { moment: 5, until: None }, Mark { moment: 6, until: Some(99) });
-    let group = Group { name: "release".to_string(), files: vec![1], marks: vec![forever, ending] };
+    let (forever, ending) = (Mark { at: 5, until: None }, Mark { at: 6, until: Some(99) });
+    let group = Group { name: "release".to_string(), members: vec![1], marks: vec![forever, ending] };
     assert_eq!(store.groups(), Ok(vec![group]));
     store.set_policy("/f", &Policy::KeepOne).unwrap();
     assert_eq!(store.why(version("/f", 2)), Ok(Fate::Marked { group: "release".to_string(), mark: forever }));
@@ -309,8 +309,8 @@ fn each_limit_is_told_by_its_name() {
     let store = one(Limits { files: 1, directories: 1, groups: 1, members: 1, marks: 1, ..Limits::default() });
     store.create("/f").unwrap();
     assert_eq!(store.create("/g"), full(Limit::Files));
-    store.create_dir("/d").unwrap();
-    assert_eq!(store.create_dir("/e"), full(Limit::Directories));
+    store.mkdir("/d").unwrap();
+    assert_eq!(store.mkdir("/e"), full(Limit::Directories));
     store.group_make("g").unwrap();
     assert_eq!(store.group_make("h").unwrap_err(), Error::Full(Limit::Groups));
     store.group_add("g", "/f").unwrap();
@@ -322,8 +322,8 @@ fn each_limit_is_told_by_its_name() {
     let store = one(Limits { names: 1, versions: 2, handles: 1, ..Limits::default() });
     store.create("/f").unwrap();
     assert_eq!(store.create("/g"), full(Limit::Names));
-    assert_eq!(store.save("/f", b"x"), Ok(Some(2)));
-    assert_eq!(store.open_write("/f").unwrap_err(), Error::Full(Limit::Handles));
+    assert_eq!(store.save("/f", b"x"), Ok(2));
+    assert_eq!(store.session("/f").unwrap_err(), Error::Full(Limit::Handles));
     assert_eq!(store.revert("/f", 1), full(Limit::Versions));
     let too_many = Limits { files: 100_001, ..Limits::default() };
     assert_eq!(Options::new().limits(too_many).open().unwrap_err(), Error::BadLimits);
@@ -334,10 +334,11 @@ fn a_history_is_kept_and_folded_where_it_is_asked_for() {
     let store = Options::new().history(true).limits(Limits { events: 3, ..Limits::default() }).open().unwrap();
     store.create("/f").unwrap();
     assert_eq!(store.read("/g"), Err(Error::NoEntry));
-    assert_eq!(store.history(), Ok((0, 2)));
+    let lines = vec!["create /f".to_string(), "read /g".to_string()];
+    assert_eq!(store.history(), Ok(History { folded: 0, lines }));
     assert_eq!(store.line("history").unwrap(), "ok history 0 2\n- create /f\n- read /g\n");
     assert_eq!(store.trim(), Ok(2));
-    assert_eq!(store.history(), Ok((2, 0)));
+    assert_eq!(store.history(), Ok(History { folded: 2, lines: vec![] }));
     store.tick(1).unwrap();
     assert_eq!(store.tick(1), Err(Error::HistoryFull));
     let pass = store.pass(1);

@@ -2,7 +2,7 @@
 //! a test asks for it: `tools/library/rust_client` makes it, and sets this condition.
 #![cfg(faulty_library)]
 
-use elephant::{at, version, Error, Fate, PassEnd, Policy, Rung, Store};
+use elephant::{at, version, Error, Fate, Options, PassEnd, Policy, Rung, Store};
 use std::collections::BTreeSet;
 use std::fmt::Debug;
 
@@ -12,6 +12,8 @@ extern "C" {
 }
 
 const NO_MEMORY: i32 = 1;
+const NO_ENTRY: i32 = 5;
+const EXISTS: i32 = 8;
 const UNTOLD: i32 = 71;
 // The two codes whose errors have a detail.
 const FORGOTTEN: i32 = 13;
@@ -43,8 +45,8 @@ fn scene() -> Store {
     fail_none();
     let store = Store::new().unwrap();
     store.set_default("/", &Policy::KeepAll).unwrap();
-    store.create_dir("/d").unwrap();
-    store.create_dir("/empty").unwrap();
+    store.mkdir("/d").unwrap();
+    store.mkdir("/empty").unwrap();
     store.create("/d/f").unwrap();
     store.save("/d/f", &FIRST).unwrap();
     store.clock(10).unwrap();
@@ -90,29 +92,35 @@ fn text<T: Debug>(result: Result<T, Error>) -> Result<String, Error> {
 }
 
 // The methods that change nothing if a call fails.
-const METHODS: [(&str, Method); 40] = [
+const METHODS: [(&str, Method); 46] = [
     ("clock", |it| text(it.clock(11))),
     ("tick", |it| text(it.tick(1))),
-    ("create_dir", |it| text(it.create_dir("/n"))),
-    ("remove_dir", |it| text(it.remove_dir("/empty"))),
+    ("mkdir", |it| text(it.mkdir("/n"))),
+    ("rmdir", |it| text(it.rmdir("/empty"))),
     ("create", |it| text(it.create("/n"))),
-    ("link", |it| text(it.link("/d/f", "/n"))),
+    ("link", |it| text(it.link("/d/f", "/n").map_err(Error::from))),
     ("unlink", |it| text(it.unlink("/d/f"))),
-    ("rename", |it| text(it.rename("/d", "/n"))),
+    ("rename", |it| text(it.rename("/d", "/n").map_err(Error::from))),
     ("undelete", |it| text(it.undelete("/gone"))),
     ("revert", |it| text(it.revert("/d/f", 2))),
-    ("open_write", |it| text(it.open_write("/d/f").map(drop))),
-    ("write_at", |it| text(it.open_write("/d/f").and_then(|it| it.write_at(0, b"x")))),
-    ("set_len", |it| text(it.open_write("/d/f").and_then(|it| it.set_len(1)))),
-    ("contents of a session", |it| text(it.open_write("/d/f").and_then(|it| it.contents()))),
-    ("open_read", |it| text(it.open_read(version("/d/f", 2)).map(drop))),
-    ("contents of a reader", |it| text(it.open_read(version("/d/f", 2)).and_then(|mut it| it.contents().map(<[u8]>::to_vec)))),
+    ("session", |it| text(it.session("/d/f").map(drop))),
+    ("write_at", |it| text(it.session("/d/f").and_then(|it| it.write_at(0, b"x")))),
+    ("set_len", |it| text(it.session("/d/f").and_then(|it| it.set_len(1)))),
+    ("contents of a session", |it| text(it.session("/d/f").and_then(|it| it.contents()))),
+    ("reader", |it| text(it.reader(version("/d/f", 2)).map(drop))),
+    ("contents of a reader", |it| text(it.reader(version("/d/f", 2)).and_then(|mut it| it.contents().map(<[u8]>::to_vec)))),
     ("read", |it| text(it.read("/d/f"))),
     ("stat of a file", |it| text(it.stat("/d/f"))),
     ("stat of a directory", |it| text(it.stat("/d"))),
     ("versions", |it| text(it.versions("/d/f"))),
     ("list", |it| text(it.list("/"))),
     ("list of the past", |it| text(it.list(at("/", 9)))),
+    ("walk", |it| text(it.walk("/"))),
+    ("walk of the past", |it| text(it.walk(at("/", 9)))),
+    ("path_of", |it| text(it.path_of(1))),
+    ("paths_of", |it| text(it.paths_of(1))),
+    ("make_parents of a file that is there", |it| text(it.make_parents("/d/f"))),
+    ("make_parents of one directory", |it| text(it.make_parents("/d/n/f"))),
     ("restorable", |it| text(it.restorable())),
     ("due", |it| text(it.due())),
     ("ahead", |it| text(it.ahead(100))),
@@ -146,7 +154,7 @@ fn a_call_that_is_refused_memory_leaves_the_store_as_it_was() {
             let before = state(&store);
             fail(at, NO_MEMORY, false);
             let found = method(&store);
-            let is_closing = at + 1 == calls && (name.starts_with("open_") || name.contains("contents"));
+            let is_closing = at + 1 == calls && (["session", "reader"].contains(&name) || name.contains("contents"));
             let is_write = at + 1 == calls && ["write_at", "set_len"].contains(&name);
             fail_none();
             if is_closing || is_write {
@@ -161,29 +169,140 @@ fn a_call_that_is_refused_memory_leaves_the_store_as_it_was() {
     }
 }
 
+/// The contents of the versions of a file.
+fn contents(store: &Store, path: &str) -> Vec<Vec<u8>> {
+    store.versions(path).unwrap().iter().map(|it| store.read(version(path, it.number)).unwrap()).collect()
+}
+
 #[test]
-fn a_save_that_is_refused_memory_makes_no_version_of_its_content() {
-    for content in [&b""[..], b"short", &[3; 4_999], &[3; 12_345]] {
+fn a_save_that_is_refused_leaves_the_file_as_it_was() {
+    for (content, calls) in [(&b""[..], 3), (b"short", 4), (&[3; 4_999], 4), (&[3; 12_345], 4)] {
         let whole: BTreeSet<Vec<u8>> = [vec![], FIRST.to_vec(), CURRENT.to_vec()].into();
-        fail_none();
         let store = scene();
         fail_none();
-        assert_eq!(store.save("/d/f", content), Ok(Some(4)));
-        let calls = calls_made();
-        assert_eq!(calls, 4);
-        for at in 0..calls {
+        assert_eq!((store.save("/d/f", content), calls_made()), (Ok(4), calls));
+        for (at, code) in (0..calls).flat_map(|at| CODES.map(|code| (at, code))) {
             let store = scene();
-            fail(at, NO_MEMORY, false);
-            assert_eq!(store.save("/d/f", content), Err(Error::NoMemory), "call {at}");
+            fail(at, code, false);
+            // A file that isn't there is made, and here it is.
+            let wanted = if at == 0 && code == NO_ENTRY { EXISTS } else { code };
+            assert_eq!(store.save("/d/f", content).unwrap_err().code(), wanted, "call {at}, code {code}");
             fail_none();
-            assert_eq!(store.read("/d/f").unwrap(), CURRENT, "call {at}");
-            for it in store.versions("/d/f").unwrap() {
-                assert!(whole.contains(&store.read(version("/d/f", it.number)).unwrap()), "call {at}, version {}", it.number);
-            }
-            assert!(store.save("/d/f", content).unwrap().is_some(), "call {at}");
-            assert_eq!(store.read("/d/f").unwrap(), content, "call {at}");
-            // An open session would refuse it.
-            assert!(store.revert("/d/f", 2).is_ok(), "call {at}");
+            assert_eq!(store.read("/d/f").unwrap(), CURRENT, "call {at}, code {code}");
+            assert!(contents(&store, "/d/f").iter().all(|it| whole.contains(it)), "call {at}, code {code}");
+            assert!(store.save("/d/f", content).is_ok(), "call {at}, code {code}");
+            assert_eq!(store.read("/d/f").unwrap(), content, "call {at}, code {code}");
+            // An open draft would refuse it.
+            assert!(store.revert("/d/f", 2).is_ok(), "call {at}, code {code}");
+        }
+    }
+}
+
+#[test]
+fn a_save_of_a_new_file_that_is_refused_leaves_none_or_an_empty_one() {
+    // The refused opening, the making, the opening, the write, the truncation, the close.
+    for at in 1..6 {
+        let store = scene();
+        fail(at, NO_MEMORY, false);
+        assert_eq!(store.save("/n", b"new"), Err(Error::NoMemory), "call {at}");
+        fail_none();
+        if at == 1 {
+            assert_eq!(store.read("/n"), Err(Error::NoEntry));
+        } else {
+            assert!(contents(&store, "/n").iter().all(Vec::is_empty), "call {at}");
+        }
+        assert!(store.save("/n", b"new").is_ok(), "call {at}");
+        assert_eq!(store.read("/n").unwrap(), b"new", "call {at}");
+    }
+}
+
+#[test]
+fn an_empty_save_of_an_empty_file_asks_for_its_version() {
+    let store = scene();
+    assert_eq!(store.save("/e", b""), Ok(1));
+    fail_none();
+    assert_eq!((store.save("/e", b""), calls_made()), (Ok(1), 4));
+    for at in 0..4 {
+        fail(at, NO_MEMORY, false);
+        assert_eq!(store.save("/e", b""), Err(Error::NoMemory), "call {at}");
+        fail_none();
+        assert_eq!((contents(&store, "/e"), store.save("/e", b"")), (vec![vec![]], Ok(1)), "call {at}");
+    }
+}
+
+#[test]
+fn a_save_under_an_open_session_changes_nothing_whatever_fails() {
+    for at in 0..2 {
+        let store = scene();
+        let session = store.session("/d/f").unwrap();
+        session.write_at(0, b"draft").unwrap();
+        fail(at, NO_MEMORY, false);
+        let found = store.save("/d/f", b"other");
+        let made = calls_made();
+        fail_none();
+        assert_eq!(found, Err(if at == 0 { Error::NoMemory } else { Error::Drafting }));
+        assert_eq!(made, 1, "it only asks for the file's number");
+        assert_eq!(session.contents().unwrap()[..6], *b"draft\x02");
+        assert_eq!(session.close(), Ok(Some(4)));
+    }
+}
+
+#[test]
+fn make_parents_that_is_refused_midway_keeps_what_it_made() {
+    let path = "/d/x/y/f";
+    let store = scene();
+    fail_none();
+    // It looks at the path, at /d and at /d/x, and makes two.
+    assert_eq!((store.make_parents(path), calls_made()), (Ok(2), 5));
+    for at in 0..5 {
+        let store = scene();
+        fail(at, NO_MEMORY, false);
+        assert_eq!(store.make_parents(path), Err(Error::NoMemory), "call {at}");
+        fail_none();
+        assert_eq!(store.list("/d/x").is_ok(), at == 4, "call {at}");
+        assert_eq!(store.make_parents(path), Ok(if at == 4 { 1 } else { 2 }), "call {at}");
+    }
+}
+
+#[test]
+fn a_refusal_whose_path_cannot_be_asked_for_has_none() {
+    let store = scene();
+    // The second call asks which path it is.
+    for (from, to, error) in [("/none", "/n", Error::NoEntry), ("/d/f", "/none/n", Error::NoEntry), ("/one", "n", Error::BadPath)]
+    {
+        fail(1, NO_MEMORY, false);
+        let refused = store.link(from, to).unwrap_err();
+        assert_eq!((refused.error, refused.path, calls_made()), (error, None, 2));
+        fail_none();
+    }
+}
+
+#[test]
+fn an_audit_that_is_refused_memory_is_an_error() {
+    let store = Options::new().history(true).open().unwrap();
+    store.set_default("/", &Policy::KeepOne).unwrap();
+    store.save("/f", b"one").unwrap();
+    store.clean().unwrap();
+    let methods: [(&str, Method); 5] = [
+        ("gone", |it| text(it.gone())),
+        ("handles", |it| text(it.handles())),
+        ("answers", |it| text(it.answers())),
+        ("history", |it| text(it.history())),
+        ("why", |it| text(it.why(version("/f", 1)))),
+    ];
+    for (name, method) in methods {
+        fail_none();
+        let wanted = method(&store);
+        let calls = calls_made();
+        assert!(wanted.is_ok() && calls > 1, "{name}: {wanted:?} by {calls} calls");
+        for at in 0..calls {
+            fail(at, NO_MEMORY, false);
+            let found = method(&store);
+            fail_none();
+            // The second call of `why` asks for the detail of Forgotten, which isn't used.
+            let is_detail = name == "why" && at == 1;
+            assert_eq!(found, if is_detail { wanted.clone() } else { Err(Error::NoMemory) }, "{name}, call {at}");
+            assert_eq!(method(&store), wanted, "{name}, again after call {at}");
         }
     }
 }
@@ -191,14 +310,14 @@ fn a_save_that_is_refused_memory_makes_no_version_of_its_content() {
 #[test]
 fn a_close_that_is_refused_memory_is_made_again() {
     let store = scene();
-    let session = store.open_write("/d/f").unwrap();
+    let session = store.session("/d/f").unwrap();
     session.write_at(0, b"new").unwrap();
     fail(0, NO_MEMORY, false);
     assert_eq!(session.close(), Err(Error::NoMemory));
     assert_eq!(calls_made(), 2);
     fail_none();
     assert_eq!(store.read("/d/f").unwrap()[..4], *b"new\x02");
-    let reader = store.open_read("/d/f").unwrap();
+    let reader = store.reader("/d/f").unwrap();
     store.save("/d/f", b"newer").unwrap();
     store.set_policy("/d/f", &Policy::KeepOne).unwrap();
     assert_eq!(store.why(version("/d/f", 4)), Ok(Fate::Open));

@@ -2,8 +2,8 @@
 //! fields of answers that are equal in simple stores.
 
 use elephant::{
-    at, version, DeadName, Due, Entry, Error, Fate, Group, Limits, Mark, Node, Options, Policy, Rung, Stat, Store, Usages,
-    Version,
+    at, version, DeletedName, Entry, Error, Fate, Group, Limits, Mark, Node, Options, Policy, Removable, Rung, Stat, Store,
+    Usages, Version,
 };
 use std::io::{Read, Seek, SeekFrom, Write};
 
@@ -18,8 +18,8 @@ fn longest_name() -> String {
 fn an_empty_save_leaves_no_byte() {
     let store = Store::new().unwrap();
     store.create("/f").unwrap();
-    assert_eq!(store.save("/f", b"one"), Ok(Some(2)));
-    assert_eq!(store.save("/f", b""), Ok(Some(3)));
+    assert_eq!(store.save("/f", b"one"), Ok(2));
+    assert_eq!(store.save("/f", b""), Ok(3));
     assert_eq!(store.read("/f").unwrap(), b"");
     let lengths: Vec<u64> = store.versions("/f").unwrap().iter().map(|it| it.length).collect();
     assert_eq!(lengths, [0, 3, 0]);
@@ -45,28 +45,28 @@ fn the_longest_name_is_read_whole() {
     store.group_add(&name, &path).unwrap();
     store.tick(1).unwrap();
     store.mark(&name, 0, None).unwrap();
-    let mark = Mark { moment: 0, until: None };
-    assert_eq!(store.groups(), Ok(vec![Group { name: name.clone(), files: vec![1], marks: vec![mark] }]));
+    let mark = Mark { at: 0, until: None };
+    assert_eq!(store.groups(), Ok(vec![Group { name: name.clone(), members: vec![1], marks: vec![mark] }]));
     store.unlink(&path).unwrap();
-    let dead = DeadName { directory: 0, name: name.clone(), node: Node::File(1) };
-    assert_eq!(store.restorable(), Ok(vec![dead]));
+    let deleted = DeletedName { parent: 0, name: name.clone(), node: Node::File(1) };
+    assert_eq!(store.restorable(), Ok(vec![deleted]));
     assert_eq!(store.undelete(&path), Ok(Some(2)));
     store.set_policy(&path, &Policy::KeepOne).unwrap();
     assert_eq!(store.why(at(&path, 0)), Ok(Fate::Marked { group: name, mark }));
 }
 
 #[test]
-fn a_dead_name_is_told_with_its_directory() {
+fn a_deleted_name_has_its_directory() {
     let store = Store::new().unwrap();
-    assert_eq!(store.create_dir("/a"), Ok(1));
-    assert_eq!(store.create_dir("/a/b"), Ok(2));
+    assert_eq!(store.mkdir("/a"), Ok(1));
+    assert_eq!(store.mkdir("/a/b"), Ok(2));
     store.create("/a/f").unwrap();
     store.create("/a/b/g").unwrap();
     store.unlink("/a/f").unwrap();
     store.unlink("/a/b/g").unwrap();
-    store.remove_dir("/a/b").unwrap();
-    let dead = |directory, name: &str, node| DeadName { directory, name: name.to_string(), node };
-    let wanted = vec![dead(1, "b", Node::Directory(2)), dead(1, "f", Node::File(1)), dead(2, "g", Node::File(2))];
+    store.rmdir("/a/b").unwrap();
+    let deleted = |parent, name: &str, node| DeletedName { parent, name: name.to_string(), node };
+    let wanted = vec![deleted(1, "b", Node::Directory(2)), deleted(1, "f", Node::File(1)), deleted(2, "g", Node::File(2))];
     assert_eq!(store.restorable(), Ok(wanted));
 }
 
@@ -74,15 +74,16 @@ fn a_dead_name_is_told_with_its_directory() {
 fn each_handle_is_closed_once() {
     let store = Options::new().history(true).limits(Limits::default()).open().unwrap();
     store.create("/f").unwrap();
-    let entries = |after: u64| assert_eq!(store.history(), Ok((0, after)));
-    store.open_read("/f").unwrap().close().unwrap();
+    let entries = |after: usize| assert_eq!(store.history().unwrap().lines.len(), after);
+    store.reader("/f").unwrap().close().unwrap();
     entries(3);
-    drop(store.open_read("/f").unwrap());
+    drop(store.reader("/f").unwrap());
     entries(5);
-    assert_eq!(store.open_write("/f").unwrap().close(), Ok(None));
-    entries(7);
-    drop(store.open_write("/f").unwrap());
-    entries(9);
+    // A session first asks for the file's number.
+    assert_eq!(store.session("/f").unwrap().close(), Ok(None));
+    entries(8);
+    drop(store.session("/f").unwrap());
+    entries(11);
 }
 
 #[test]
@@ -123,7 +124,7 @@ fn with_moments() -> Store {
     store.create("/f").unwrap();
     for (opened, closed, content) in [(3, 5, &b"old"[..]), (7, 9, b"content")] {
         store.clock(opened).unwrap();
-        let session = store.open_write("/f").unwrap();
+        let session = store.session("/f").unwrap();
         session.write_at(0, content).unwrap();
         store.clock(closed).unwrap();
         session.close().unwrap();
@@ -147,12 +148,12 @@ fn each_moment_of_a_version_is_its_own() {
 fn a_reader_and_a_session_seek_from_where_they_are() {
     let store = Store::new().unwrap();
     store.create("/f").unwrap();
-    let mut session = store.open_write("/f").unwrap();
+    let mut session = store.session("/f").unwrap();
     session.write_all(b"abc").unwrap();
     assert_eq!(session.seek(SeekFrom::Current(2)).unwrap(), 5);
     session.write_all(b"f").unwrap();
     session.close().unwrap();
-    let mut reader = store.open_read(&"/f".to_string()).unwrap();
+    let mut reader = store.reader(&"/f".to_string()).unwrap();
     let mut piece = [9; 2];
     reader.read_exact(&mut piece).unwrap();
     assert_eq!((piece, reader.seek(SeekFrom::Current(1)).unwrap()), (*b"ab", 3));
@@ -201,9 +202,9 @@ fn each_group_has_its_own_files_and_marks() {
         }
     }
     let group =
-        |name: &str, files: &[u64], marks: &[Mark]| Group { name: name.to_string(), files: files.into(), marks: marks.into() };
-    let (ending, lasting) = (Mark { moment: 4, until: Some(99) }, Mark { moment: 6, until: None });
-    let other = Mark { moment: 5, until: Some(50) };
+        |name: &str, files: &[u64], marks: &[Mark]| Group { name: name.to_string(), members: files.into(), marks: marks.into() };
+    let (ending, lasting) = (Mark { at: 4, until: Some(99) }, Mark { at: 6, until: None });
+    let other = Mark { at: 5, until: Some(50) };
     assert_eq!(store.groups(), Ok(vec![group("a", &[1], &[ending]), group("b", &[2, 1], &[lasting, other])]));
     // At 4 version 1 was current, at 5 and 6 version 2.
     assert_eq!(store.why(version("/f", 1)), Ok(Fate::Marked { group: "a".to_string(), mark: ending }));
@@ -218,7 +219,7 @@ fn a_key_has_its_moment_its_file_and_its_number() {
     store.save("/g", b"x").unwrap();
     store.set_policy("/f", &Policy::KeepSafe { seconds: 4, floor: 0 }).unwrap();
     store.set_policy("/g", &Policy::KeepOne).unwrap();
-    let wanted = [(9, 1, 1), (13, 1, 2), (20, 2, 1)].map(|(since, file, number)| Due { since, file, number });
+    let wanted = [(9, 1, 1), (13, 1, 2), (20, 2, 1)].map(|(since, file, number)| Removable { since, file, number });
     assert_eq!(store.due(), Ok(wanted.to_vec()));
     assert_eq!(store.ahead(20), Ok(wanted.to_vec()));
     assert_eq!([store.clean(), store.clean(), store.clean()], wanted.map(|it| Ok(Some(it))));

@@ -11,14 +11,19 @@ docs/EMBED.md of the repository describes all of it.
 """
 
 from ._answers import (
+    Answered,
+    Answers,
+    Cause,
     ClosedSession,
     Current,
     DeadName,
+    DeletedName,
     DirectoryStat,
     Due,
     Entry,
     Fate,
     FileStat,
+    Gone,
     Group,
     History,
     Kept,
@@ -26,12 +31,17 @@ from ._answers import (
     Mark,
     Marked,
     Open,
+    OpenHandle,
     Pass,
+    PathEntry,
     Recovered,
     Removable,
+    Removal,
+    Removed,
     Usage,
     Version,
 )
+from ._audit import UnknownAnswer
 # Printed by tools/pages/surface --write: the errors, from _errors.py.
 from ._errors import (
     AlreadyMember,
@@ -92,9 +102,10 @@ from ._store import Store
 from ._times import Time, read_time
 
 __all__ = [
-    "LAST_MOMENT", "ClosedSession", "Current", "DeadName", "DirectoryStat", "Due", "Entry", "Fate", "File", "FileStat", "Group", "History",
-    "KeepAll", "KeepOne", "KeepSafe", "Kept", "Landmarks", "Limits", "Mark", "Marked", "Moment", "Open", "Pass", "Policy", "Reader",
-    "Recovered", "Removable", "Session", "Store", "TextFile", "Time", "Usage", "Version", "read_time",
+    "LAST_MOMENT", "Answered", "Answers", "Cause", "ClosedSession", "Current", "DeadName", "DeletedName", "DirectoryStat", "Due", "Entry",
+    "Fate", "File", "FileStat", "Gone", "Group", "History", "KeepAll", "KeepOne", "KeepSafe", "Kept", "Landmarks", "Limits", "Mark",
+    "Marked", "Moment", "Open", "OpenHandle", "Pass", "PathEntry", "Policy", "Reader", "Recovered", "Removable", "Removal", "Removed",
+    "Session", "Store", "TextFile", "Time", "UnknownAnswer", "Usage", "Version", "read_time",
     # Printed by tools/pages/surface --write: the names of errors, from _errors.py.
     "AlreadyMember", "BadLadder", "BadLimits", "BadMoment", "BadName", "BadPath", "BadTime", "ClockBack", "ClockDoubt", "ClockEnd",
     "Closed", "Drafting", "ElephantError", "Exists", "Forgotten", "Full", "Future", "GroupExists", "HistoryFull", "IntoItself",

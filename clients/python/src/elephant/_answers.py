@@ -2,6 +2,7 @@
 
 from __future__ import annotations
 
+from enum import Enum
 from typing import NamedTuple, Optional, Union
 
 from ._moments import Moment
@@ -60,14 +61,27 @@ class Entry(NamedTuple):
     spelled: bytes
 
 
-class DeadName(NamedTuple):
-    """A name that `undelete` can restore. `parent` is the number of its directory."""
+class PathEntry(NamedTuple):
+    """A path below a directory, and the number of its file or directory. `spelled` is how the store spells the path."""
+
+    path: str
+    is_directory: bool
+    number: int
+    spelled: bytes
+
+
+class DeletedName(NamedTuple):
+    """A name that `undelete` can restore. `parent` is the number of its directory; the root's is 0."""
 
     parent: int
     name: str
     is_directory: bool
     number: int
     spelled: bytes
+
+
+# Its older name.
+DeadName = DeletedName
 
 
 class Removable(NamedTuple):
@@ -153,6 +167,26 @@ class Kept(NamedTuple):
         return "kept" + ("" if self.until is None else f" until {self.until}") + ("" if self.level is None else f" level {self.level}")
 
 
+class Cause(Enum):
+    """Why a policy lets a version go."""
+
+    AT_ONCE = "at once"
+    """Its policy is KeepOne, which keeps no version that has ended."""
+    BY_AGE = "by age"
+    """It ended `age` seconds ago."""
+    DISPLACED = "displaced"
+    """Version `by` closed in the same span, at `level` of the ladder."""
+    UNKNOWN = "unknown"
+    """The history was trimmed, and doesn't know it. Only of a removed version."""
+
+
+def _cause_words(cause: Cause, age: Optional[int], by: Optional[int], level: Optional[int]) -> str:
+    """Returns a cause as the script language prints it, with a space before."""
+    return {
+        Cause.AT_ONCE: " at once", Cause.BY_AGE: f" by age {age}", Cause.DISPLACED: f" by {by} level {level}", Cause.UNKNOWN: "",
+    }[cause]
+
+
 class Due(NamedTuple):
     """The version may be removed since a moment.
 
@@ -165,12 +199,87 @@ class Due(NamedTuple):
     by: Optional[int] = None
     level: Optional[int] = None
 
+    @property
+    def cause(self) -> Cause:
+        """Which of the three it is."""
+        if self.by is not None:
+            return Cause.DISPLACED
+        return Cause.AT_ONCE if self.age is None else Cause.BY_AGE
+
     def __str__(self) -> str:
-        cause = "at once" if self.age is None else f"by age {self.age}"
-        return f"due {self.since} " + (cause if self.by is None else f"by {self.by} level {self.level}")
+        return f"due {self.since}{_cause_words(self.cause, self.age, self.by, self.level)}"
 
 
-Fate = Union[Current, Open, Marked, Kept, Due]
+class Removed(NamedTuple):
+    """The version was removed at a moment, and was due since another one, for a cause as that of `Due`.
+
+    Only a store with a history knows it. If the history was trimmed, the cause is `Cause.UNKNOWN`.
+    """
+
+    moment: Moment
+    since: Moment
+    cause: Cause
+    age: Optional[int] = None
+    by: Optional[int] = None
+    level: Optional[int] = None
+
+    def __str__(self) -> str:
+        return f"removed {self.moment} due {self.since}{_cause_words(self.cause, self.age, self.by, self.level)}"
+
+
+Fate = Union[Current, Open, Marked, Kept, Due, Removed]
+
+
+class Removal(NamedTuple):
+    """A version that a stored event removed: when, the numbers of its file and its own, the path that led to the file just before (None: no
+    live names did, or the history was trimmed), since when it was due, and the cause, as `Removed` has it."""
+
+    moment: Moment
+    file: int
+    number: int
+    path: Optional[str]
+    since: Moment
+    cause: Cause
+    age: Optional[int] = None
+    by: Optional[int] = None
+    level: Optional[int] = None
+    spelled: Optional[bytes] = None
+
+
+class Gone(NamedTuple):
+    """How many events are folded, and what the stored ones removed, in order."""
+
+    folded: int
+    removals: tuple[Removal, ...]
+
+
+class OpenHandle(NamedTuple):
+    """An open handle, and the numbers of its file and of the version that it reads (None: it writes the draft).
+
+    `since` is when the draft was opened, or when the handle was that reads (None: a folded event opened it). `path` leads to the file now
+    (None: no live names do), and `spelled` is how the store spells it.
+    """
+
+    handle: int
+    file: int
+    version: Optional[int]
+    since: Optional[Moment]
+    path: Optional[str]
+    spelled: Optional[bytes]
+
+
+class Answered(NamedTuple):
+    """A stored event: its line, and its answer as `Store.line` returns it, with a line feed at the end of each line."""
+
+    line: str
+    answer: str
+
+
+class Answers(NamedTuple):
+    """How many events are folded, and the stored ones with their answers, in order."""
+
+    folded: int
+    answered: tuple[Answered, ...]
 
 
 class ClosedSession(NamedTuple):

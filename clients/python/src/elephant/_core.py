@@ -7,11 +7,27 @@ import operator
 import weakref
 from collections.abc import Callable, Iterator
 from ctypes import byref, c_uint64, c_void_p
-from typing import TYPE_CHECKING, Any, SupportsIndex
+from typing import TYPE_CHECKING, Any, Optional, SupportsIndex
 
 from ._answers import Limits, Version
-from ._errors import BadLimits, ElephantError, Forgotten, Full, NoMemory, Untold, error_of
-from ._library import FILE_NAME, KeyRow, LimitsRow, StatRow, VersionRow, library
+from ._errors import (
+    BadLimits,
+    BadName,
+    BadPath,
+    ElephantError,
+    Exists,
+    Forgotten,
+    Full,
+    IntoItself,
+    IsDirectory,
+    IsRoot,
+    NoEntry,
+    NoMemory,
+    NotDirectory,
+    Untold,
+    error_of,
+)
+from ._library import FILE_NAME, NOW, KeyRow, LimitsRow, StatRow, VersionRow, library
 from ._moments import Moment, moment_or_none
 from ._names import MOST_NAME
 from ._policies import KeepAll, KeepOne, KeepSafe, Landmarks, Policy
@@ -21,6 +37,9 @@ if TYPE_CHECKING:
 
 Call = Callable[..., int]
 _TOLD_MORE = (Forgotten.number, Full.number)
+# Of `link` and `rename`: refusals of the path that is first found to be wrong, and those of a path that only one of the two may be.
+_OF_EITHER = (NoEntry.number, NotDirectory.number, BadPath.number, BadName.number)
+_OF_FIRST, _OF_SECOND = (IsDirectory.number,), (Exists.number, IntoItself.number)
 _LEAST_ROOM = 1 << 12
 
 
@@ -84,6 +103,30 @@ class Core:
         if code:
             self.refuse(code, subject)
         self.is_ahead = True
+
+    def do_between(self, call: Call, paths: tuple[object, object], first: bytes, second: bytes) -> None:
+        """Makes the call of a link or a rename. The subject of its refusal is the path that it is about, or both if it is about neither."""
+        code = call(self.handle, first, len(first), second, len(second))
+        if code:
+            at = self._path_at_fault(code, first)
+            self.refuse(code, paths if at is None else paths[at])
+        self.is_ahead = True
+
+    def _path_at_fault(self, code: int, first: bytes) -> Optional[int]:
+        """Returns 0 or 1 for the path that a refusal of a link or a rename is about. The first path is looked up before the second one."""
+        if code in _OF_EITHER:
+            of_first = self.code_at(first)
+            return None if of_first == NoMemory.number else int(of_first != code)
+        if code == IsRoot.number:
+            return int(first != b"/")
+        return 0 if code in _OF_FIRST else 1 if code in _OF_SECOND else None
+
+    def code_at(self, name: bytes) -> int:
+        """Returns the code of a read of a path. It leaves the kept result and the last detail, and is no event."""
+        code: int = self.library.elephant_read_into(
+            self.handle, name, len(name), NOW, 0, 0, self._room, 0, self.number_at, byref(self._second)
+        )
+        return code
 
     def ask(self, call: Call, subject: object, *words: object) -> int:
         """Makes a call that may change something and returns one number, and returns it."""

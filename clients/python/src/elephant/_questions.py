@@ -2,39 +2,48 @@
 
 from __future__ import annotations
 
-from collections.abc import Callable
+from collections.abc import Callable, Iterator
 from typing import Any, Optional, SupportsIndex, Union
 
 from ._answers import (
+    Answers,
     Current,
-    DeadName,
+    DeletedName,
     DirectoryStat,
     Due,
     Entry,
     Fate,
     FileStat,
+    Gone,
     Group,
     History,
     Kept,
     Mark,
     Marked,
     Open,
+    OpenHandle,
+    PathEntry,
     Removable,
     Usage,
     Version,
 )
+from ._audit import read_answers, read_gone, read_handles, read_history, read_why
 from ._core import Core, natural
-from ._errors import NoHistory
+from ._errors import Forgotten, NoHistory
 from ._library import AT, NOW, VERSION, GroupRow, MarkRow, NameRow, UsageRow, WhyRow
 from ._moments import NEVER, Moment, MomentLike, moment_or_none
 from ._names import Path, name_of, spell
 from ._turns import Turns
+from ._walk import walk
 
 _KINDS = ("one", "all", "safe", "landmarks")
 
 # In the class `list` is a method.
 Entries = list[Entry]
-DeadNames = list[DeadName]
+DeletedNames = list[DeletedName]
+PathEntries = list[PathEntry]
+Paths = list[str]
+OpenHandles = list[OpenHandle]
 Versions = list[Version]
 Removables = list[Removable]
 Usages = list[Usage]
@@ -95,16 +104,44 @@ class Questions(Turns):
         """Returns the names in a directory, now or at a moment, in the order of their bytes."""
         name, (tag, number) = spell(path), self._tag(at)
         with self._lock:
-            core = self._begin()
-            rows = self._names(core, core.look(core.library.elephant_list, path, name, len(name), tag, number))
+            return self._list(self._begin(), path, name, tag, number)
+
+    def _list(self, core: Core, path: Path, name: bytes, tag: int, number: int) -> Entries:
+        rows = self._names(core, core.look(core.library.elephant_list, path, name, len(name), tag, number))
         return [Entry(name_of(spelled), is_directory, target, spelled) for _, is_directory, target, spelled in rows]
 
-    def restorable(self) -> DeadNames:
+    def walk(self, path: Path = "/", *, at: Optional[MomentLike] = None) -> PathEntries:
+        """Returns the paths of all files and directories below a directory, now or at a moment.
+
+        Each directory comes before what is in it, and the names of one directory are in the order of their bytes. It asks `list` for each
+        directory, and no other thread changes the store meanwhile. A path of more than 32 names, which no call takes, is left out.
+        """
+        name, (tag, number) = spell(path), self._tag(at)
+        with self._lock:
+            return list(self._walk(path, name, tag, number))
+
+    def _walk(self, path: Path, name: bytes, tag: int = NOW, number: int = 0) -> Iterator[PathEntry]:
+        core = self._begin()
+        return walk(lambda below: self._list(core, path if below == name else below, below, tag, number), name)
+
+    def paths_of(self, number: SupportsIndex) -> Paths:
+        """Returns the paths that lead to the file of that number, in the order of `walk`. None is a file without a live name."""
+        file = natural(number, "the number of a file")
+        with self._lock:
+            return [it.path for it in self._walk("/", b"/") if not it.is_directory and it.number == file]
+
+    def path_of(self, number: SupportsIndex) -> Optional[str]:
+        """Returns the first of `paths_of`, or None if no path leads to the file."""
+        file = natural(number, "the number of a file")
+        with self._lock:
+            return next((it.path for it in self._walk("/", b"/") if not it.is_directory and it.number == file), None)
+
+    def restorable(self) -> DeletedNames:
         """Returns the names that `undelete` can restore, by directory and name."""
         with self._lock:
             core = self._begin()
             rows = self._names(core, core.look(core.library.elephant_restorable, ""))
-        return [DeadName(parent, name_of(spelled), is_directory, target, spelled) for parent, is_directory, target, spelled in rows]
+        return [DeletedName(parent, name_of(spelled), is_directory, target, spelled) for parent, is_directory, target, spelled in rows]
 
     @staticmethod
     def _names(core: Core, count: int) -> NameRows:
@@ -127,11 +164,18 @@ class Questions(Turns):
         return [Removable(Moment(since), file, number) for since, file, number in keys]
 
     def why(self, path: Path, *, at: Optional[MomentLike] = None, version: Optional[SupportsIndex] = None) -> Fate:
-        """Returns why a version stays, or since when it may be removed."""
+        """Returns why a version stays, or since when it may be removed. In a store with a history also when and why `version` was removed.
+        """
         name, (tag, number) = spell(path), self._tag(at, version)
         with self._lock:
             core = self._begin()
-            row = core.row(core.library.elephant_why, WhyRow, path, name, len(name), tag, number)
+            try:
+                row = core.row(core.library.elephant_why, WhyRow, path, name, len(name), tag, number)
+            except Forgotten:
+                answer = core.line(b"why %b#%d" % (name, number)) if tag == VERSION and self._has_history else b"no "
+                if answer.startswith(b"no "):
+                    raise
+                return read_why(answer)
             fate: Fate = _FATES[row.fate](core, row)
             return fate
 
@@ -159,12 +203,27 @@ class Questions(Turns):
 
     def history(self) -> History:
         """Returns the lines of all answered events, also of questions. The store needs `history=True`."""
+        return read_history(self._audited(b"history"))
+
+    def answers(self) -> Answers:
+        """Returns the lines of all answered events with their answers. The store needs `history=True`."""
+        return read_answers(self._audited(b"answers"))
+
+    def gone(self) -> Gone:
+        """Returns which versions the stored events removed, when and why. The store needs `history=True`."""
+        return read_gone(self._audited(b"gone"))
+
+    def handles(self) -> OpenHandles:
+        """Returns the open handles, by number. The store needs `history=True`."""
+        return read_handles(self._audited(b"handles"))
+
+    def _audited(self, line: bytes) -> bytes:
+        """Returns the answer to a line of a store with a history."""
         with self._lock:
             core = self._begin()
-            first, *rows = core.line(b"history").decode("ascii").splitlines()
-        if not first.startswith("ok history "):
-            raise NoHistory("history")
-        return History(int(first.split()[2]), tuple(row[2:] for row in rows))
+            if not self._has_history:
+                raise NoHistory(line.decode("ascii"))
+            return core.line(line)
 
 
 def _marked(core: Core, row: Any) -> Fate:

@@ -7,12 +7,13 @@ from functools import partial
 from typing import TYPE_CHECKING, Literal, NamedTuple, Optional, SupportsIndex, Union, overload
 
 from ._core import Core, as_bytes
-from ._drafts import UNKNOWN, Drafts
+from ._drafts import UNKNOWN
 from ._errors import Drafting, ElephantError, Exists, IsDirectory, NoEntry, TooBig
 from ._files import MOST_BYTES, File, Mode, TextFile, mode_of
 from ._library import NO_ENTRY, NOW
 from ._moments import MomentLike
 from ._names import Path, path_of, require_shown, spell
+from ._parents import Parents
 from ._replay import write_lines
 
 if TYPE_CHECKING:
@@ -35,7 +36,7 @@ class _Base(NamedTuple):
 _CUT_OFF = _Base(0, 0, b"")
 
 
-class Saves(Drafts):
+class Saves(Parents):
     """A store whose files you write and read as Python's."""
 
     @overload
@@ -99,14 +100,21 @@ class Saves(Drafts):
             file, version = row.id, row.version
             return _Base(file, version, core.read(path, name, NOW, 0))
 
-    def save(self, path: Path, content: ReadableBuffer) -> int:
-        """Makes the content the file's newest version, whole or not at all, and returns its number. Makes the file if it doesn't exist.
+    def save(self, path: Path, content: ReadableBuffer, *, parents: bool = False) -> int:
+        """Makes the content the file's newest version, whole or not at all, and returns its number. Makes the file if it doesn't exist, and
+        with `parents` the directories above it that are missing.
 
-        An empty content makes no version of an empty file. If memory runs out after the file was made, the file is empty.
+        It makes a version also if the content is that of the version before. Only an empty content makes none of an empty file, and
+        returns the number of the version that the file has. If the save of a new file is refused after the file was made, the file is
+        empty.
         """
         name, data = spell(path), as_bytes(content)
-        with self._lock, self._change as core:
-            return self._save(core, path, name, data, 0, len(data))
+        _refuse_size(name, len(data))
+        with self._lock:
+            if parents:
+                self.make_parents(path)
+            with self._change as core:
+                return self._save(core, path, name, data, 0, len(data))
 
     def _commit(self, path: Path, name: bytes, kind: str, base: Optional[_Base], content: bytes) -> int:
         """Makes a version of a file object's content. If the file has not changed since it was opened, it writes only the difference."""
@@ -120,8 +128,7 @@ class Saves(Drafts):
 
     def _save(self, core: Core, path: Path, name: bytes, data: bytes, offset: int, size: int, must_create: bool = False) -> int:
         """Writes data into the draft of a file, sets its length, and closes it. All of it is one change of the journal."""
-        if size > MOST_BYTES:
-            raise TooBig(f"{path_of(name)}: a content has at most {MOST_BYTES} bytes")
+        _refuse_size(name, size)
         if self._drafts:
             self._refuse_draft(core, path, name)
         lines: list[bytes] = []
@@ -133,16 +140,21 @@ class Saves(Drafts):
                 self._keep(*lines)
             raise
         self._keep(*lines)
-        return version or int(core.stat(path, name).version)
+        if version:
+            return version
+        row = core.stat(path, name)
+        if row.length != size:  # the draft has a session that a line of a store with a history opened
+            raise Drafting(f"{path_of(name)}, and the draft has the content")
+        return int(row.version)
 
     def _refuse_draft(self, core: Core, path: Path, name: bytes) -> None:
         if UNKNOWN in self._drafts:
             self._flush(self._drafts[UNKNOWN])
         try:
-            file = core.stat(path, name).id
+            row = core.stat(path, name)
         except NoEntry:
             return
-        if file in self._drafts:
+        if not row.is_directory and row.id in self._drafts:
             raise Drafting(path_of(name))
 
     @staticmethod
@@ -203,6 +215,11 @@ class Saves(Drafts):
             self._fail("there was no memory to undo a save")
             self._add_writer(_file_of(core, path, name), handle)
             raise
+
+
+def _refuse_size(name: bytes, size: int) -> None:
+    if size > MOST_BYTES:
+        raise TooBig(f"{path_of(name)}: a content has at most {MOST_BYTES} bytes")
 
 
 def _file_of(core: Core, path: Path, name: bytes) -> int:

@@ -122,14 +122,14 @@ class Store(Saves):
 
     # Names.
 
-    def mkdir(self, path: Path) -> int:
-        """Makes a directory, and returns its number."""
+    def mkdir(self, path: Path, *, parents: bool = False) -> int:
+        """Makes a directory, and returns its number. With `parents` it first makes the directories above it that are missing."""
         name = spell(path)
         require_shown(name)
-        with self._lock, self._change as core:
-            number = core.ask(core.library.elephant_mkdir, path, name, len(name))
-            self._keep(b"mkdir " + name)
-            return number
+        with self._lock:
+            if parents:
+                self.make_parents(path)
+            return self._make_directory(path, name)
 
     def rmdir(self, path: Path) -> None:
         """Removes the name of a directory that has no names."""
@@ -138,21 +138,28 @@ class Store(Saves):
             core.do(core.library.elephant_rmdir, path, name, len(name))
             self._keep(b"rmdir " + name)
 
-    def create(self, path: Path) -> int:
-        """Makes a file, whose version 1 is empty, and returns its number."""
+    def create(self, path: Path, *, parents: bool = False) -> int:
+        """Makes a file, whose version 1 is empty, and returns its number. With `parents` it first makes the directories above it that are
+        missing."""
         name = spell(path)
         require_shown(name)
-        with self._lock, self._change as core:
+        with self._lock:
+            if parents:
+                self.make_parents(path)
+            return self._make_file(path, name)
+
+    def _make_file(self, path: Path, name: bytes) -> int:
+        with self._change as core:
             number = core.ask(core.library.elephant_create, path, name, len(name))
             self._keep(b"create " + name)
             return number
 
     def link(self, path: Path, new: Path) -> None:
-        """Gives a file another name."""
+        """Gives a file another name. The subject of a refusal is the path that it is about: an Exists is about `new`."""
         name, other = spell(path), spell(new)
         require_shown(name, other)
         with self._lock, self._change as core:
-            core.do(core.library.elephant_link, (path, new), name, len(name), other, len(other))
+            core.do_between(core.library.elephant_link, (path, new), name, other)
             self._keep(b"link %b %b" % (name, other))
 
     def unlink(self, path: Path) -> None:
@@ -163,15 +170,16 @@ class Store(Saves):
             self._keep(b"unlink " + name)
 
     def rename(self, path: Path, new: Path) -> None:
-        """Moves a file or a directory to a new path. It never replaces anything."""
+        """Moves a file or a directory to a new path. It never replaces anything. The subject of a refusal is the path that it is about: an
+        Exists is about `new`."""
         name, other = spell(path), spell(new)
         require_shown(name, other)
         with self._lock, self._change as core:
-            core.do(core.library.elephant_rename, (path, new), name, len(name), other, len(other))
+            core.do_between(core.library.elephant_rename, (path, new), name, other)
             self._keep(b"rename %b %b" % (name, other))
 
     def undelete(self, path: Path) -> Optional[int]:
-        """Restores a dead name. Returns the number of the version that a file without a name gets, else None."""
+        """Restores a deleted name. Returns the number of the version that a file without a name gets, else None."""
         name = spell(path)
         with self._lock, self._change as core:
             version = core.ask(core.library.elephant_undelete, path, name, len(name))

@@ -1,0 +1,339 @@
+//! Reads the answers to an audit, and a history. It is strict: a row of an unknown form is an error, and nothing is guessed or left out.
+
+use crate::types::LAST_MOMENT;
+use crate::{Answered, Answers, Cause, Error, Fate, Gone, History, OpenHandle, Removal};
+use std::str::Split;
+
+// That something has not just the form that it has.
+const OTHER: Error = Error::UnknownAnswer;
+
+/// Returns the error of an answer that is a refusal or a stop.
+pub(crate) fn refused(answer: &str) -> Result<(), Error> {
+    let mut words = Words::of(answer.trim_end_matches('\n'));
+    if !matches!(words.next()?, "no" | "bad" | "stop") {
+        return Ok(());
+    }
+    let code = i32::try_from(words.number()?).map_err(|_| OTHER)?;
+    Err(Error::from_code(code, || None))
+}
+
+// Returns what follows a word in the first line of an answer, and the other lines.
+fn lines<'a>(answer: &'a str, word: &str) -> Result<(Words<'a>, Vec<&'a str>), Error> {
+    let mut lines = answer.strip_suffix('\n').ok_or(OTHER)?.split('\n');
+    let first = lines.next().and_then(|it| it.strip_prefix(word)).ok_or(OTHER)?;
+    Ok((Words::of(first), lines.collect()))
+}
+
+// Reads the lines of so many rows.
+fn rows<T>(lines: &[&str], count: u64, read: impl Fn(&str) -> Result<T, Error>) -> Result<Vec<T>, Error> {
+    if lines.len() as u64 != count {
+        return Err(OTHER);
+    }
+    lines.iter().map(|row| read(row.strip_prefix("- ").ok_or(OTHER)?)).collect()
+}
+
+pub(crate) fn read_history(answer: &str) -> Result<History, Error> {
+    let (mut words, others) = lines(answer, "ok history ")?;
+    let (folded, count) = words.two()?;
+    let lines = rows(&others, count, |line| Some(line.to_owned()).filter(|it| !it.is_empty()).ok_or(OTHER))?;
+    Ok(History { folded, lines })
+}
+
+pub(crate) fn read_gone(answer: &str) -> Result<Gone, Error> {
+    let (mut words, others) = lines(answer, "ok gone ")?;
+    let (folded, count) = words.two()?;
+    let removals = rows(&others, count, |row| {
+        let mut words = Words::of(row);
+        let (moment, file, number) = (words.moment()?, words.number()?, words.number()?);
+        let path = words.path()?;
+        let (since, cause) = words.due()?;
+        Ok(Removal { moment, file, number, path, since, cause })
+    })?;
+    Ok(Gone { folded, removals })
+}
+
+pub(crate) fn read_handles(answer: &str) -> Result<Vec<OpenHandle>, Error> {
+    let (mut words, others) = lines(answer, "ok handles ")?;
+    let count = words.number()?;
+    words.end()?;
+    rows(&others, count, |row| {
+        let mut words = Words::of(row);
+        let (handle, file) = (words.number()?, words.number()?);
+        let version = words.unless("draft", number_of)?;
+        let since = words.unless("-", moment_of)?;
+        let path = words.path()?;
+        words.end()?;
+        Ok(OpenHandle { handle, file, version, since, path })
+    })
+}
+
+pub(crate) fn read_removed(answer: &str) -> Result<Fate, Error> {
+    let (mut words, others) = lines(answer, "ok why removed ")?;
+    let moment = words.moment()?;
+    let (since, cause) = words.due()?;
+    others.is_empty().then_some(Fate::Removed { moment, since, cause }).ok_or(OTHER)
+}
+
+// The rows of a stored answer begin as those of events do, so they are counted.
+pub(crate) fn read_answers(answer: &str) -> Result<Answers, Error> {
+    let (mut words, others) = lines(answer, "ok answers ")?;
+    let (folded, count) = words.two()?;
+    let (mut left, mut answered) = (others.into_iter(), Vec::new());
+    while let Some(row) = left.next() {
+        let line = row.strip_prefix("- ").ok_or(OTHER)?.to_owned();
+        answered.push(Answered { line, answer: stored_answer(&mut left)? });
+    }
+    if answered.len() as u64 == count {
+        Ok(Answers { folded, answered })
+    } else {
+        Err(OTHER)
+    }
+}
+
+// Takes the answer of one event off the lines that are left.
+fn stored_answer<'a>(left: &mut impl Iterator<Item = &'a str>) -> Result<String, Error> {
+    let first = left.next().ok_or(OTHER)?;
+    if !first.starts_with("ok ") && !first.starts_with("no ") {
+        return Err(OTHER);
+    }
+    let mut answer = format!("{first}\n");
+    for _ in 0..rows_after(first)? {
+        let row = left.next().filter(|it| it.starts_with("- ")).ok_or(OTHER)?;
+        answer.push_str(row);
+        answer.push('\n');
+    }
+    Ok(answer)
+}
+
+// How many rows follow the first line of an event's answer.
+fn rows_after(first: &str) -> Result<u64, Error> {
+    let mut words = Words::of(first);
+    match (words.next()?, words.next()?) {
+        ("ok", "versions" | "names" | "restorable" | "due" | "usage" | "groups") => {
+            let count = words.number()?;
+            words.end().map(|()| count)
+        }
+        _ => Ok(0),
+    }
+}
+
+// The words of a line, with one space between two.
+struct Words<'a>(Split<'a, char>);
+
+impl<'a> Words<'a> {
+    fn of(line: &'a str) -> Words<'a> {
+        Words(line.split(' '))
+    }
+
+    fn next(&mut self) -> Result<&'a str, Error> {
+        self.0.next().ok_or(OTHER)
+    }
+
+    fn end(&mut self) -> Result<(), Error> {
+        self.0.next().map_or(Ok(()), |_| Err(OTHER))
+    }
+
+    fn number(&mut self) -> Result<u64, Error> {
+        self.next().and_then(number_of)
+    }
+
+    fn moment(&mut self) -> Result<u64, Error> {
+        self.next().and_then(moment_of)
+    }
+
+    // Two numbers, and nothing after them.
+    fn two(&mut self) -> Result<(u64, u64), Error> {
+        let found = (self.number()?, self.number()?);
+        self.end().map(|()| found)
+    }
+
+    // None for the word that stands for none.
+    fn unless(&mut self, none: &str, read: fn(&str) -> Result<u64, Error>) -> Result<Option<u64>, Error> {
+        match self.next()? {
+            word if word == none => Ok(None),
+            word => read(word).map(Some),
+        }
+    }
+
+    // A path, or None for none.
+    fn path(&mut self) -> Result<Option<String>, Error> {
+        match self.next()? {
+            "-" => Ok(None),
+            word if is_path(word) => Ok(Some(word.to_owned())),
+            _ => Err(OTHER),
+        }
+    }
+
+    // Since when a version was due and for what cause, and nothing after it.
+    fn due(&mut self) -> Result<(u64, Cause), Error> {
+        if self.next()? != "due" {
+            return Err(OTHER);
+        }
+        let since = self.moment()?;
+        let rest: Vec<&str> = self.0.by_ref().collect();
+        let cause = match rest[..] {
+            [] => Cause::Unknown,
+            ["at", "once"] => Cause::AtOnce,
+            ["by", "age", seconds] => Cause::ByAge { seconds: number_of(seconds)? },
+            ["by", by, "level", level] => Cause::Displaced { level: number_of(level)?, by: number_of(by)? },
+            _ => return Err(OTHER),
+        };
+        Ok((since, cause))
+    }
+}
+
+// A number as the store prints it: digits without a leading zero.
+fn number_of(word: &str) -> Result<u64, Error> {
+    let is_plain = word.bytes().all(|it| it.is_ascii_digit()) && (word == "0" || !word.starts_with('0'));
+    word.parse().ok().filter(|_| is_plain).ok_or(OTHER)
+}
+
+fn moment_of(word: &str) -> Result<u64, Error> {
+    number_of(word).and_then(|it| if it <= LAST_MOMENT { Ok(it) } else { Err(OTHER) })
+}
+
+// Whether each name of a path is one.
+fn is_path(word: &str) -> bool {
+    let is_of_name = |it: u8| it.is_ascii_graphic() && !matches!(it, b'@' | b'#');
+    let is_name = |name: &str| (1..=64).contains(&name.len()) && name.bytes().all(is_of_name);
+    word.strip_prefix('/').map_or(false, |names| names.split('/').all(is_name))
+}
+
+#[cfg(test)]
+mod tests {
+    use super::{read_answers, read_gone, read_handles, read_history, read_removed, refused};
+    use crate::{Answered, Answers, Cause, Error, Fate, Gone, History, OpenHandle, Removal};
+
+    const GONE: &str = "ok gone 7 4\n- 5 1 1 /f due 5 at once\n- 9 1 2 - due 5 by age 3\n\
+                        - 30 2 2 /d/a%20b due 28 by 3 level 1\n- 31 9 1 - due 4\n";
+
+    fn removal(moment: u64, version: (u64, u64), path: Option<&str>, since: u64, cause: Cause) -> Removal {
+        let (file, number) = version;
+        Removal { moment, file, number, path: path.map(str::to_owned), since, cause }
+    }
+
+    #[test]
+    fn each_cause_of_a_removal_is_read() {
+        let removals = vec![
+            removal(5, (1, 1), Some("/f"), 5, Cause::AtOnce),
+            removal(9, (1, 2), None, 5, Cause::ByAge { seconds: 3 }),
+            removal(30, (2, 2), Some("/d/a%20b"), 28, Cause::Displaced { level: 1, by: 3 }),
+            removal(31, (9, 1), None, 4, Cause::Unknown),
+        ];
+        assert_eq!(read_gone(GONE), Ok(Gone { folded: 7, removals }));
+        assert_eq!(read_gone("ok gone 0 0\n"), Ok(Gone { folded: 0, removals: vec![] }));
+        let removed = Fate::Removed { moment: 30, since: 18, cause: Cause::AtOnce };
+        assert_eq!(read_removed("ok why removed 30 due 18 at once\n"), Ok(removed));
+    }
+
+    #[test]
+    fn a_row_of_another_form_is_no_row() {
+        let rows = [
+            "",
+            "-",
+            "- 5 1 1 /f",
+            "- 5 1 1 /f due",
+            "- 5 1 1 /f due 5 at  once",
+            "- 5 1 1 /f due 5 at once ",
+            "- 5 1 1 /f due 5 by age",
+            "- 5 1 1 /f due 5 by age -",
+            "- 5 1 1 /f due 5 by 3 level",
+            "- 5 1 1 /f due 5 later",
+            "- 5 1 1 /f kept",
+            "- 5 1 1 f due 5",
+            "- 5 1 1 / due 5",
+            "- 5 1 1 /f/ due 5",
+            "- 5 1 1 /a@b due 5",
+            "- 5 1 1  due 5",
+            "- 05 1 1 /f due 5",
+            "- 5 -1 1 /f due 5",
+            "- 5 +1 1 /f due 5",
+            "- 5 1 x /f due 5",
+            "- 253402300800 1 1 /f due 5",
+            "- 5 1 1 /f due 253402300800",
+            "- 5 18446744073709551616 1 /f due 5",
+            "5 1 1 /f due 5",
+            " - 5 1 1 /f due 5",
+            "- - 1 1 /f due 5",
+        ];
+        for row in rows {
+            assert_eq!(read_gone(&format!("ok gone 0 1\n{row}\n")), Err(Error::UnknownAnswer), "{row:?}");
+        }
+        for answer in
+            ["", "\n", "ok gone 0 0", "ok gone 0 1\n", "ok gone 0\n", "ok gone 0 0 0\n", "ok gone 0 0\n\n", "ok gone x 0\n"]
+        {
+            assert_eq!(read_gone(answer), Err(Error::UnknownAnswer), "{answer:?}");
+        }
+        for answer in ["ok why removed 30\n", "ok why removed - due 18\n", "ok why removed 30 due 18\n- 1\n", "ok why current\n"]
+        {
+            assert_eq!(read_removed(answer), Err(Error::UnknownAnswer), "{answer:?}");
+        }
+    }
+
+    #[test]
+    fn a_handle_is_read_with_what_it_has_and_has_not() {
+        let handle = |handle, version, since, path: Option<&str>| {
+            let path = path.map(str::to_owned);
+            OpenHandle { handle, file: 4, version, since, path }
+        };
+        let answer = "ok handles 3\n- 1 4 draft 0 /f\n- 2 4 11 262 -\n- 3 4 1 - /d/f\n";
+        let wanted = vec![
+            handle(1, None, Some(0), Some("/f")),
+            handle(2, Some(11), Some(262), None),
+            handle(3, Some(1), None, Some("/d/f")),
+        ];
+        assert_eq!(read_handles(answer), Ok(wanted));
+        for row in ["- 1 4 drafts 0 /f", "- 1 4 - 0 /f", "- 1 4 1 draft /f", "- 1 4 1 0", "- 1 4 1 0 /f -", "- - 4 1 0 /f"] {
+            assert_eq!(read_handles(&format!("ok handles 1\n{row}\n")), Err(Error::UnknownAnswer), "{row:?}");
+        }
+        for answer in ["ok handles 0 0\n", "ok handles\n", "ok handles 1\n", "ok handle 1\n- 1 4 draft 0 /f\n"] {
+            assert_eq!(read_handles(answer), Err(Error::UnknownAnswer), "{answer:?}");
+        }
+    }
+
+    #[test]
+    fn the_rows_of_a_stored_answer_are_counted() {
+        let answer =
+            "ok answers 10 4\n- create /g\nok file 2\n- list /\nok names 2\n- f file 1\n- g file 2\n- read /h\nno 5 NoEntry\n\
+                      - due\nok due 0\n";
+        let answered = |line: &str, answer: &str| Answered { line: line.to_owned(), answer: answer.to_owned() };
+        let wanted = vec![
+            answered("create /g", "ok file 2\n"),
+            answered("list /", "ok names 2\n- f file 1\n- g file 2\n"),
+            answered("read /h", "no 5 NoEntry\n"),
+            answered("due", "ok due 0\n"),
+        ];
+        assert_eq!(read_answers(answer), Ok(Answers { folded: 10, answered: wanted }));
+        let wrong = [
+            "ok answers 0 1\n- list /\nok names 2\n- f file 1\n",
+            "ok answers 0 1\n- list /\nok names x\n",
+            "ok answers 0 1\n- list /\n",
+            "ok answers 0 1\n- list /\nok names 0\n- create /f\n",
+            "ok answers 0 2\n- list /\nok names 0\n",
+            "ok answers 0 1\ncreate /f\nok file 1\n",
+            "ok answers 0 1\n- create /f\nfile 1\n",
+            "ok answers 0 0\n- create /f\nok file 1\n",
+        ];
+        for answer in wrong {
+            assert_eq!(read_answers(answer), Err(Error::UnknownAnswer), "{answer:?}");
+        }
+    }
+
+    #[test]
+    fn a_history_has_as_many_lines_as_it_says() {
+        let lines = vec!["create /f".to_owned(), "read /g".to_owned()];
+        assert_eq!(read_history("ok history 3 2\n- create /f\n- read /g\n"), Ok(History { folded: 3, lines }));
+        for answer in ["ok history 3 1\n- create /f\n- read /g\n", "ok history 3 1\ncreate /f\n", "ok history 3\n"] {
+            assert_eq!(read_history(answer), Err(Error::UnknownAnswer), "{answer:?}");
+        }
+    }
+
+    #[test]
+    fn a_refusal_or_a_stop_is_its_error() {
+        assert_eq!(refused("stop 1 NoMemory\n"), Err(Error::NoMemory));
+        assert_eq!(refused("bad 32 Syntax\n"), Err(Error::Syntax));
+        assert_eq!(refused("no 5 NoEntry\n"), Err(Error::NoEntry));
+        assert_eq!(refused("no\n"), Err(Error::UnknownAnswer));
+        assert_eq!(refused("ok gone 0 0\n"), Ok(()));
+    }
+}
