@@ -42,7 +42,7 @@ ROWS_OF_GONE = (
 )
 WRONG: tuple[tuple[Reads, tuple[str, ...]], ...] = (
     (read_gone, (
-        "", "\n", "ok gone 0 0", "ok gone 0 1\n", "ok gone 0\n", "ok gone 0 0 0\n", "ok gone 0 0\n\n", "ok gone x 0\n",
+        "", "\n", "ok gone 0 0", "ok gone 0 0\n-", "ok gone 0 1\n", "ok gone 0\n", "ok gone 0 0 0\n", "ok gone 0 0\n\n", "ok gone x 0\n",
         *(f"ok gone 0 1\n{row}\n" for row in ROWS_OF_GONE),
     )),
     (read_why, (
@@ -56,7 +56,7 @@ WRONG: tuple[tuple[Reads, tuple[str, ...]], ...] = (
     )),
     (read_answers, (
         "ok answers 0 1\n- list /\nok names 2\n- f file 1\n", "ok answers 0 1\n- list /\nok names x\n- f file 1\n",
-        "ok answers 0 1\n- list /\n",
+        "ok answers 0 1\n- list /\n", "ok answers 0 1\n- list /\nok names 1\nf file 1\n",
         "ok answers 0 1\n- list /\nok names 0\n- create /f\n", "ok answers 0 2\n- list /\nok names 0\n",
         "ok answers 0 1\ncreate /f\nok file 1\n", "ok answers 0 1\n- create /f\nfile 1\n", "ok answers 0 0\n- create /f\nok file 1\n",
     )),
@@ -106,9 +106,12 @@ class Rows(unittest.TestCase):
     def test_the_rows_of_a_stored_answer_are_counted(self) -> None:
         stored = (
             Answered("create /g", "ok file 2\n"), Answered("list /", "ok names 2\n- f file 1\n- g file 2\n"),
-            Answered("read /h", "no 5 NoEntry\n"), Answered("due", "ok due 0\n"),
+            Answered("read /h", "no 5 NoEntry\n"), Answered("due", "ok due 0\n"), Answered("due", "ok due 1\n- 5 1 1\n"),
+            Answered("versions /f", "ok versions 1\n- 1 0 0 - 0\n"), Answered("restorable", "ok restorable 1\n- 0 d directory 1\n"),
+            Answered("usage", "ok usage 4\n- one 0 0 0 0\n- all 0 0 0 0\n- safe 0 0 0 0\n- landmarks 0 0 0 0\n"),
+            Answered("groups", "ok groups 1\n- g members - marks -\n"), Answered("undelete /f", "ok version 2\n"),
         )
-        answer = "ok answers 10 4\n" + "".join(f"- {it.line}\n{it.answer}" for it in stored)
+        answer = f"ok answers 10 {len(stored)}\n" + "".join(f"- {it.line}\n{it.answer}" for it in stored)
         self.assertEqual(read_answers(answer.encode()), Answers(10, stored))
 
     def test_a_row_of_another_form_is_an_error(self) -> None:
@@ -186,7 +189,8 @@ class Audits(unittest.TestCase):
             store.save("/f", b"two")
             store.pass_()
             self.assertEqual(store.why("/f", version=1), Removed(at(5), at(0), Cause.AT_ONCE))
-            self.assertRaises(Forgotten, store.why, "/f", at=0)
+            # At 1 it is version 2, which was removed too.
+            self.assertRaises(Forgotten, store.why, "/f", at=1)
 
     def test_what_open_handles_read(self) -> None:
         with audited() as store:

@@ -8,6 +8,7 @@ import unittest
 from collections.abc import Callable
 from pathlib import Path, PurePosixPath
 from typing import Any
+from unittest import mock
 
 import elephant
 from elephant import ElephantError, Full, KeepAll, Limits, PathEntry, ReadOnly, Store
@@ -142,7 +143,8 @@ class Parents(unittest.TestCase):
                 self.assertEqual(paths(store), ["/a/", "/a/b/", "/a/b/f", "/a/c/", "/a/c/g"])
                 self.assertEqual((store.read("/a/b/f"), store.path_of(number)), (b"x", "/a/c/g"))
             with Store(journal=journal, read_only=True) as store:
-                self.assertRaises(ReadOnly, store.make_parents, "/x/y")
+                for path in ("/x/y", "/a/b/f"):
+                    self.assertRaises(ReadOnly, store.make_parents, path)
                 self.assertEqual(len(store.walk()), 5)
 
 
@@ -177,6 +179,13 @@ class Pairs(unittest.TestCase):
         with manual(limits=Limits(names=1)) as store:
             store.create("/f")
             self.assertEqual(str(_raised(store.link, "/f", "/g")), "27 Full names: ('/f', '/g')")
+
+    def test_without_memory_for_the_question_it_is_about_both(self) -> None:
+        with manual() as store:
+            core = store._core
+            assert core is not None
+            with mock.patch.object(core, "code_at", return_value=elephant.NoMemory.number):
+                self.assertEqual(str(_raised(store.link, "/n", "/m")), "5 NoEntry: ('/n', '/m')")
 
     def test_the_question_is_no_event(self) -> None:
         with manual(history=True) as store:

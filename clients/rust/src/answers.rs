@@ -207,6 +207,36 @@ mod tests {
     const GONE: &str = "ok gone 7 4\n- 5 1 1 /f due 5 at once\n- 9 1 2 - due 5 by age 3\n\
                         - 30 2 2 /d/a%20b due 28 by 3 level 1\n- 31 9 1 - due 4\n";
 
+    // Each is no row of `gone`.
+    const OTHER_ROWS: [&str; 26] = [
+        "",
+        "-",
+        "- 5 1 1 /f",
+        "- 5 1 1 /f due",
+        "- 5 1 1 /f due 5 at  once",
+        "- 5 1 1 /f due 5 at once ",
+        "- 5 1 1 /f due 5 by age",
+        "- 5 1 1 /f due 5 by age -",
+        "- 5 1 1 /f due 5 by 3 level",
+        "- 5 1 1 /f due 5 later",
+        "- 5 1 1 /f kept",
+        "- 5 1 1 f due 5",
+        "- 5 1 1 / due 5",
+        "- 5 1 1 /f/ due 5",
+        "- 5 1 1 /a@b due 5",
+        "- 5 1 1  due 5",
+        "- 05 1 1 /f due 5",
+        "- 5 -1 1 /f due 5",
+        "- 5 +1 1 /f due 5",
+        "- 5 1 x /f due 5",
+        "- 253402300800 1 1 /f due 5",
+        "- 5 1 1 /f due 253402300800",
+        "- 5 18446744073709551616 1 /f due 5",
+        "5 1 1 /f due 5",
+        " - 5 1 1 /f due 5",
+        "- - 1 1 /f due 5",
+    ];
+
     fn removal(moment: u64, version: (u64, u64), path: Option<&str>, since: u64, cause: Cause) -> Removal {
         let (file, number) = version;
         Removal { moment, file, number, path: path.map(str::to_owned), since, cause }
@@ -228,35 +258,7 @@ mod tests {
 
     #[test]
     fn a_row_of_another_form_is_no_row() {
-        let rows = [
-            "",
-            "-",
-            "- 5 1 1 /f",
-            "- 5 1 1 /f due",
-            "- 5 1 1 /f due 5 at  once",
-            "- 5 1 1 /f due 5 at once ",
-            "- 5 1 1 /f due 5 by age",
-            "- 5 1 1 /f due 5 by age -",
-            "- 5 1 1 /f due 5 by 3 level",
-            "- 5 1 1 /f due 5 later",
-            "- 5 1 1 /f kept",
-            "- 5 1 1 f due 5",
-            "- 5 1 1 / due 5",
-            "- 5 1 1 /f/ due 5",
-            "- 5 1 1 /a@b due 5",
-            "- 5 1 1  due 5",
-            "- 05 1 1 /f due 5",
-            "- 5 -1 1 /f due 5",
-            "- 5 +1 1 /f due 5",
-            "- 5 1 x /f due 5",
-            "- 253402300800 1 1 /f due 5",
-            "- 5 1 1 /f due 253402300800",
-            "- 5 18446744073709551616 1 /f due 5",
-            "5 1 1 /f due 5",
-            " - 5 1 1 /f due 5",
-            "- - 1 1 /f due 5",
-        ];
-        for row in rows {
+        for row in OTHER_ROWS {
             assert_eq!(read_gone(&format!("ok gone 0 1\n{row}\n")), Err(Error::UnknownAnswer), "{row:?}");
         }
         for answer in
@@ -293,22 +295,31 @@ mod tests {
 
     #[test]
     fn the_rows_of_a_stored_answer_are_counted() {
-        let answer =
-            "ok answers 10 4\n- create /g\nok file 2\n- list /\nok names 2\n- f file 1\n- g file 2\n- read /h\nno 5 NoEntry\n\
-                      - due\nok due 0\n";
-        let answered = |line: &str, answer: &str| Answered { line: line.to_owned(), answer: answer.to_owned() };
-        let wanted = vec![
-            answered("create /g", "ok file 2\n"),
-            answered("list /", "ok names 2\n- f file 1\n- g file 2\n"),
-            answered("read /h", "no 5 NoEntry\n"),
-            answered("due", "ok due 0\n"),
+        let stored = [
+            ("create /g", "ok file 2\n"),
+            ("list /", "ok names 2\n- f file 1\n- g file 2\n"),
+            ("read /h", "no 5 NoEntry\n"),
+            ("due", "ok due 0\n"),
+            ("due", "ok due 1\n- 5 1 1\n"),
+            ("versions /f", "ok versions 1\n- 1 0 0 - 0\n"),
+            ("restorable", "ok restorable 1\n- 0 d directory 1\n"),
+            ("usage", "ok usage 4\n- one 0 0 0 0\n- all 0 0 0 0\n- safe 0 0 0 0\n- landmarks 0 0 0 0\n"),
+            ("groups", "ok groups 1\n- g members - marks -\n"),
+            ("undelete /f", "ok version 2\n"),
         ];
-        assert_eq!(read_answers(answer), Ok(Answers { folded: 10, answered: wanted }));
+        let rows: String = stored.iter().map(|(line, answer)| format!("- {line}\n{answer}")).collect();
+        let answered = stored.map(|(line, answer)| Answered { line: line.to_owned(), answer: answer.to_owned() }).to_vec();
+        assert_eq!(read_answers(&format!("ok answers 10 10\n{rows}")), Ok(Answers { folded: 10, answered }));
+    }
+
+    #[test]
+    fn answers_that_do_not_come_out_even_are_none() {
         let wrong = [
             "ok answers 0 1\n- list /\nok names 2\n- f file 1\n",
             "ok answers 0 1\n- list /\nok names x\n",
             "ok answers 0 1\n- list /\n",
             "ok answers 0 1\n- list /\nok names 0\n- create /f\n",
+            "ok answers 0 1\n- list /\nok names 1\nf file 1\n",
             "ok answers 0 2\n- list /\nok names 0\n",
             "ok answers 0 1\ncreate /f\nok file 1\n",
             "ok answers 0 1\n- create /f\nfile 1\n",

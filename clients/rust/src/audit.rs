@@ -117,6 +117,18 @@ impl Store {
 
     /// Returns the open handles, by number.
     ///
+    /// ```
+    /// # use elephant::{Error, Options};
+    /// # fn main() -> Result<(), Error> {
+    /// let store = Options::new().history(true).open()?;
+    /// store.save("/plan", b"walk")?;
+    /// let reader = store.reader("/plan")?;
+    /// let open = store.handles()?;
+    /// assert_eq!((open[0].handle, open[0].version), (reader.handle(), Some(2)));
+    /// # Ok(())
+    /// # }
+    /// ```
+    ///
     /// # Errors
     /// [`Error::NoHistory`], [`Error::NoMemory`].
     pub fn handles(&self) -> Result<Vec<OpenHandle>, Error> {
@@ -125,6 +137,17 @@ impl Store {
     }
 
     /// Returns the lines of all answered events with their answers.
+    ///
+    /// ```
+    /// # use elephant::{Error, Options};
+    /// # fn main() -> Result<(), Error> {
+    /// let store = Options::new().history(true).open()?;
+    /// store.mkdir("/d")?;
+    /// let first = &store.answers()?.answered[0];
+    /// assert_eq!((&*first.line, &*first.answer), ("mkdir /d", "ok directory 1\n"));
+    /// # Ok(())
+    /// # }
+    /// ```
     ///
     /// # Errors
     /// [`Error::NoHistory`], [`Error::Untold`].

@@ -190,9 +190,12 @@ impl Store {
 
     pub(crate) fn close_handle(&self, handle: u64) -> Result<Option<u64>, Error> {
         // SAFETY: see `call`.
-        let version = self.number(|e, version| unsafe { sys::elephant_close_handle(e, handle, version) })?;
-        self.writers.borrow_mut().remove(&handle);
-        Ok(version_of(version))
+        let closed = self.number(|e, version| unsafe { sys::elephant_close_handle(e, handle, version) });
+        // A line may have closed it.
+        if closed.is_ok() || closed == Err(Error::NoHandle) {
+            self.writers.borrow_mut().remove(&handle);
+        }
+        closed.map(version_of)
     }
 
     pub(crate) fn length_of_handle(&self, handle: u64) -> Result<u64, Error> {

@@ -40,8 +40,8 @@ impl Options {
         self
     }
 
-    /// Sets whether the store keeps each event and question with its answer. Use it only for a
-    /// short time, or call [`Store::trim`] now and then.
+    /// Sets whether the store keeps each event and question with its answer, this crate's own questions too: a session first asks
+    /// for its file's number. Use it only for a short time, or call [`Store::trim`] now and then.
     pub fn history(mut self, is_kept: bool) -> Options {
         self.history = is_kept;
         self

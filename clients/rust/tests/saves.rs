@@ -76,6 +76,17 @@ fn a_save_into_the_draft_of_a_line_says_so() {
 }
 
 #[test]
+fn a_session_that_a_line_closed_is_over() {
+    let store = keeping(Limits::default());
+    store.save("/f", b"one").unwrap();
+    let session = store.session("/f").unwrap();
+    assert_eq!(store.line("close 2").unwrap(), "ok closed\n");
+    assert_eq!(store.save("/f", b"two"), Err(Error::Drafting));
+    assert_eq!(session.close(), Err(Error::NoHandle));
+    assert_eq!(store.save("/f", b"two"), Ok(3));
+}
+
+#[test]
 fn a_new_file_that_finds_no_room_for_its_content_is_empty() {
     let store = keeping(Limits { versions: 1, ..Limits::default() });
     assert_eq!(store.save("/f", b"one"), Err(Error::Full(Limit::Versions)));

@@ -129,7 +129,7 @@ def read_answers(answer: bytes) -> Answers:
     (folded, count), rows = _counted(answer, "ok answers N N")
     left, answered = iter(rows), list[Answered]()
     for row in left:
-        if not row.startswith("- ") or len(answered) == count:
+        if not row.startswith("- "):
             _fail(row)
         answered.append(Answered(row[2:], _stored_answer(left, row)))
     if len(answered) != count:
