@@ -4,7 +4,7 @@ from collections.abc import Iterator
 from typing import NamedTuple
 
 from gate.building import ROOT
-from pages import surface_docs, surface_header, surface_python, surface_rust
+from pages import surface_docs, surface_header, surface_numbers, surface_python, surface_rust
 from pages.surface_facts import EXPORTS, SOURCES, facts_of
 from pages.surface_header import HEADER
 from pages.surface_regions import Tree
@@ -12,7 +12,7 @@ from pages.surface_regions import Tree
 PARTS = (surface_python, surface_rust, surface_docs)
 PRINTED = [
     HEADER, *surface_python.PRINTED, *surface_rust.PRINTED, surface_docs.SCRIPT, surface_docs.ERRORS, surface_docs.DRIVE,
-    *surface_docs.OF_EVENTS,
+    surface_docs.LIBRARY, *surface_docs.OF_EVENTS,
 ]
 
 
@@ -31,7 +31,7 @@ class Outcome(NamedTuple):
 def read_tree() -> dict[str, str]:
     """Returns the files of this repository that have a part in the surface."""
     exports = sorted(str(it.relative_to(ROOT)) for it in (ROOT / EXPORTS).glob("*.rt"))
-    return {path: (ROOT / path).read_text(encoding="utf-8") for path in [*SOURCES, *exports, *PRINTED]}
+    return {path: (ROOT / path).read_text(encoding="utf-8") for path in [*SOURCES, *exports, *PRINTED, *surface_numbers.COMPARED]}
 
 
 def outcome_of(tree: Tree) -> Outcome:
@@ -43,7 +43,7 @@ def outcome_of(tree: Tree) -> Outcome:
     for part in PARTS:
         printed.update(part.made(with_header, facts))
     whole = {**tree, **printed}
-    complaints = [it for part in (surface_header, surface_python, surface_docs) for it in part.complaints(whole, facts)]
+    complaints = [it for part in (surface_header, surface_python, surface_docs, surface_numbers) for it in part.complaints(whole, facts)]
     columns = sum(len(it) for it in facts.rows.values())
     counted = (
         f"{len(facts.commands)} commands, {len(facts.codes)} numbers of errors, {len(facts.limits)} limits, {columns} columns, "

@@ -5,11 +5,11 @@ from collections.abc import Iterator
 
 from gate.building import match_in
 from pages import surface_words as words
-from pages.surface_facts import ERRORS as HELP_ERRORS, HELP_PAGES, Command, Facts
+from pages.surface_facts import ASKS, ERRORS as HELP_ERRORS, HELP_PAGES, STEP, Command, Facts
 from pages.surface_python import questions
 from pages.surface_regions import Tree, joined, region_in, with_region
 
-SCRIPT, ERRORS, DRIVE = (f"docs/{it}.md" for it in ("SCRIPT", "ERRORS", "DRIVE"))
+SCRIPT, ERRORS, DRIVE, LIBRARY = (f"docs/{it}.md" for it in ("SCRIPT", "ERRORS", "DRIVE", "LIBRARY"))
 FROM_COMMANDS = "ROWS and HELP of ele_commands/src/command.rt; the last column is kept by hand"
 FROM_LIMITS = "ele_model/src/limits.rt and the limits of lines, runs, names and contents"
 FROM_ERRORS = "ele_help/src/errors.rt"
@@ -150,6 +150,8 @@ def drive(tree: Tree, facts: Facts) -> str:
 def made(tree: Tree, facts: Facts) -> dict[str, str]:
     """Returns each page with its printed regions."""
     counted = {it: re.sub(r"\b([Ee]ach of the) \d+ events", rf"\1 {facts.events} events", tree[it]) for it in OF_EVENTS}
+    most = joined(f"{it.most:,} {it.word}" for it in facts.limits)
+    counted[LIBRARY] = re.sub(r"(?<=\. The largest are )\d[^.]*", most, tree[LIBRARY])
     return {SCRIPT: script(tree, facts), ERRORS: errors(tree, facts), DRIVE: drive(tree, facts), **counted}
 
 
@@ -159,6 +161,7 @@ def made(tree: Tree, facts: Facts) -> dict[str, str]:
 def complaints(tree: Tree, facts: Facts) -> Iterator[str]:
     yield from refusals_by_hand(tree, facts)
     yield from limits_of_help(tree, facts)
+    yield from plans_apart(facts)
     for code in facts.codes:
         if code.kind in TABLES and not code.meaning:
             yield f"{HELP_ERRORS}: the help doesn't say what {code.number} {code.name} means"
@@ -178,6 +181,18 @@ def refusals_by_hand(tree: Tree, facts: Facts) -> Iterator[str]:
             yield f"{SCRIPT}: the refusals of `{command.words}` are {found}, and the plan has {command.refusals}"
         if not all(told):
             yield f"{SCRIPT}: the refusals of `{command.words}` are missing"
+
+
+def plans_apart(facts: Facts) -> Iterator[str]:
+    """Yields the commands of which `asks` says something else than their line of the plan, or that raise a count without a limit there."""
+    for command in facts.commands:
+        if command.refusals is None:
+            continue
+        if command.asks == command.changes:
+            yield f"{ASKS}: it says that `{command.words}` {'only asks' if command.asks else 'changes something'}, and the plan doesn't"
+        unlimited = [it for it in command.takes if f"Full {it}" not in command.refusals]
+        if unlimited:
+            yield f"{STEP}: `{command.words}` makes {', '.join(unlimited)}, and its line has no limit of these"
 
 
 def of_another(told: list[str], listed: dict[str, str], checked: set[str]) -> set[str]:

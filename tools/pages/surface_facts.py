@@ -34,6 +34,7 @@ CONSTANTS = {
     "line": ("crates/ele_script/src/reading.rt", r"const LONGEST_LINE: usize = ([\d_]+);"),
     "names": ("crates/ele_path/src/path.rt", r"const MOST_NAMES: usize = ([\d_]+);"),
     "name": ("crates/ele_moment/src/name.rt", r"const MOST_BYTES: usize = ([\d_]+);"),
+    "moment": ("crates/ele_moment/src/moment.rt", r"const LAST: u64 = (\d+);"),
     "content": ("crates/ele_content/src/longest.rt", r"const LONGEST_CONTENT: u64 = ([\d_]+);"),
 }
 SOURCES = [
@@ -49,7 +50,8 @@ TYPES = {
 
 class Command(NamedTuple):
     """A command: its words, the kinds of the words after it, whether only a run that explains has it, its topic and its answer; whether it
-    only asks, the counts that it always raises by one, and the refusals that its own line of the plan names, in their order."""
+    only asks, the counts that it always raises by one, and the refusals that its own line of the plan names, in their order. What is no
+    event has no such line. `changes` says whether the line makes a change."""
 
     words: str
     kinds: list[str]
@@ -59,6 +61,7 @@ class Command(NamedTuple):
     asks: bool
     takes: tuple[str, ...]
     refusals: list[str] | None
+    changes: bool
 
     def first(self) -> str:
         return self.words.split()[0]
@@ -165,10 +168,21 @@ def raised_by(tree: Tree) -> dict[str, set[str]]:
     return {change: counts(body, frozenset(["after_change", "after_changes"])) for change, body in equations(text, "after_change")}
 
 
+def term_at(text: str, place: int) -> str:
+    """Returns the term that begins at a place: a word, or all in brackets."""
+    depth = 0
+    for at in range(place, len(text)):
+        depth += (text[at] == "(") - (text[at] == ")")
+        if depth <= 0 and (at + 1 == len(text) or text[at] == ")" or text[at + 1] in " )\n"):
+            return text[place:at + 1]
+    raise LookupError(f"no bracket ends {text[place:place + 60]!r}")
+
+
 def makes_in(equation: str) -> Iterator[str]:
-    """Yields the changes of each outcome of an equation of the plan, as they are spelled there."""
-    for found in re.finditer(r"\bMake (\((?:[^()]|\([^()]*\))*\)|\w+) \(((?:[^()]|\([^()]*\))*)\)", equation):
-        yield found[2]
+    """Yields the changes of each outcome of an equation of the plan, as they are spelled there. A reply precedes them."""
+    for found in re.finditer(r"\bMake ", equation):
+        reply = term_at(equation, found.end())
+        yield term_at(equation, found.end() + len(reply) + 1)
 
 
 def takes_of(equation: str, raised: dict[str, set[str]], order: list[str]) -> tuple[str, ...]:
@@ -205,7 +219,7 @@ def commands_of(tree: Tree, limits: list[Limit], refusals: list[str]) -> list[Co
         equation = plan[event] if event else ""
         words, listed, takes = f"{first} {second}".strip(), re.findall(r"\w+", kinds), takes_of(equation, raised, order)
         own = refusals_of(equation, refusals) if event else None
-        found.append(Command(words, listed, when == "Explaining", topic, answer, asks, takes, own))
+        found.append(Command(words, listed, when == "Explaining", topic, answer, asks, takes, own, bool(list(makes_in(equation)))))
     return found
 
 

@@ -7,12 +7,12 @@ from gate.building import match_in
 from pages import surface_words as words
 from pages.surface_facts import Call, Code, Command, Facts
 from pages.surface_header import CODES_FROM, HEADER, Declared, declared
-from pages.surface_regions import Tree, with_region, wrapped
+from pages.surface_regions import HEAD, Tree, place_of, with_region, wrapped
 
 PACKAGE = "clients/python/src/elephant"
-LIBRARY, ERRORS, NAMES, REPLAY = (f"{PACKAGE}/{it}.py" for it in ("_library", "_errors", "__init__", "_replay"))
-CONTROL, COUNTS = (f"{PACKAGE}/mount/{it}.py" for it in ("control", "counts"))
-ANSWERS = f"{PACKAGE}/_answers.py"
+LIBRARY, ERRORS, NAMES = (f"{PACKAGE}/{it}.py" for it in ("_library", "_errors", "__init__"))
+REPLAY, CONTROL, COUNTS = (place_of(PACKAGE, f"{HEAD}: {it}, from ") for it in ("the questions", "the lines", "the counts"))
+ANSWERS = place_of(PACKAGE, "class Limits(NamedTuple):")
 FROM_COMMANDS = "ele_commands/src/command.rt and ele_model/specs/NothingChanges.antt"
 # What an exception is by the kind of its number.
 BASES = {"stop": ["Stop"], "refusal": ["Refused"], "line": ["Refused", "ValueError"], "handle": ["ElephantError", "ValueError"]}
@@ -80,11 +80,13 @@ def errors(tree: Tree, facts: Facts, _: Declared) -> str:
 
 
 def names(tree: Tree, facts: Facts, of_c: Declared) -> str:
-    """Returns the list of the package's names, with each exception."""
+    """Returns the package's imports and names: each exception, and what else it imports."""
     listed = sorted(re.findall(r"^class (\w+)", errors(tree, facts, of_c), re.M), key=str.casefold)
     imported = "".join(f"    {it},\n" for it in listed)
     text = with_region(NAMES, tree[NAMES], "the errors", "_errors.py", f"from ._errors import (\n{imported})\n")
-    return with_region(NAMES, text, "the names of errors", "_errors.py", wrapped(map(quoted, listed)))
+    imports = re.findall(r"^from \.\w+ import (?:\(([^)]*)\)|(.*))$", text, re.M)
+    given = sorted({it for pair in imports for it in re.findall(r"\w+", " ".join(pair))}, key=lambda it: (not it.isupper(), it.casefold()))
+    return with_region(NAMES, text, "all names", "the imports", f"__all__ = [\n{wrapped(map(quoted, given))}]\n")
 
 
 def numbers_by_hand(tree: Tree, facts: Facts) -> Iterator[str]:

@@ -4,11 +4,22 @@ import re
 from collections.abc import Iterable, Mapping
 from pathlib import PurePosixPath
 
+from gate.building import ROOT
+
 # The text of each file, by its path from the top of the repository.
 Tree = Mapping[str, str]
 COMMENTS = {".h": ("/* ", " */"), ".rs": ("// ", ""), ".py": ("# ", ""), ".md": ("<!-- ", " -->")}
 HEAD = "Printed by tools/pages/surface --write"
 WIDTH = 140
+
+
+def place_of(folder: str, words: str) -> str:
+    """Returns the file below a folder that has these words, wherever it was moved to."""
+    paths = (it for it in sorted((ROOT / folder).rglob("*")) if it.suffix in COMMENTS)
+    found = [str(it.relative_to(ROOT)) for it in paths if words in it.read_text(encoding="utf-8")]
+    if len(found) != 1:
+        raise LookupError(f"below {folder} {', '.join(found) or 'no file'} has {words!r}, and one file should")
+    return found[0]
 
 
 def with_region(path: str, text: str, name: str, sources: str, body: str) -> str:

@@ -8,11 +8,12 @@ from gate.building import match_in
 from pages import surface_words as words
 from pages.surface_facts import Call, Code, Facts, Limit
 from pages.surface_header import CODES_FROM, HEADER, Declared, declared
-from pages.surface_regions import HEAD, Tree, with_region
+from pages.surface_regions import HEAD, Tree, place_of, with_region
 
 CRATE = "clients/rust"
-SYS, ERRORS, VALUES, STORE = (f"{CRATE}/src/{it}.rs" for it in ("sys", "error", "types", "store"))
-TESTED = f"{CRATE}/tests/errors.rs"
+SYS, ERRORS = (f"{CRATE}/src/{it}.rs" for it in ("sys", "error"))
+VALUES, STORE = (place_of(f"{CRATE}/src", it) for it in ("pub struct Limits {", "sys::elephant_limits {"))
+TESTED = place_of(f"{CRATE}/tests", "const BARE: [(Error, i32, ErrorKind)")
 # The width of clients/rust/rustfmt.toml.
 WIDTH = 130
 TYPES = {

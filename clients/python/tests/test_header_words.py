@@ -1,5 +1,4 @@
-"""What include/elephant.h says beside its declarations: the numbers in comments, and the codes of each call. No compiler looks at them.
-tools/pages/surface compares the declarations."""
+"""The codes of each call in the comments of include/elephant.h. No compiler looks at them. tools/pages/surface compares the rest."""
 
 import re
 import unittest
@@ -19,17 +18,6 @@ OF_ARGUMENTS = {
 }
 # Any call may be stopped.
 STOPS = {"NO_MEMORY", "HISTORY_FULL"}
-# The constant of each number that comments name, and how they name it.
-NUMBERS = [
-    ("ele_moment/src/moment.rt", "LAST", r"from 0 to (\d+)"), ("ele_moment/src/moment.rt", "LAST", r"past (\d+)"),
-    ("ele_content/src/longest.rt", "LONGEST_CONTENT", r"content has at most ([\d,]+) bytes"),
-    ("ele_content/src/longest.rt", "LONGEST_CONTENT", r"longer than ([\d,]+) bytes"),
-    ("ele_moment/src/name.rt", "MOST_BYTES", r"name has 1 to (\d+) bytes"), ("ele_path/src/path.rt", "MOST_NAMES", r"at most (\d+) names"),
-]
-
-
-def number(digits: str) -> int:
-    return int(digits.replace(",", "").replace("_", ""))
 
 
 def refusals_of_script(codes: dict[str, str]) -> dict[str, set[str]]:
@@ -56,15 +44,6 @@ class HeaderWords(unittest.TestCase):
 
     def test_never(self) -> None:
         self.assertEqual(_moments.NEVER, (1 << 64) - 1)
-
-    def test_numbers_in_comments(self) -> None:
-        words = re.sub(r"\s+\*?\s*", " ", self.text)
-        for source, name, form in NUMBERS:
-            constant = re.search(rf"const {name}: u\w+ = ([\d_]+);", (CRATES / source).read_text(encoding="utf-8"))
-            assert constant is not None, name
-            named = re.findall(form, words)
-            self.assertTrue(named, form)
-            self.assertEqual({number(it) for it in named}, {number(constant[1])}, form)
 
     def test_codes_in_comments(self) -> None:
         """Codes that a comment names are codes, and those with a detail are told by their numbers."""

@@ -101,16 +101,16 @@ from ._sessions import Reader, Session
 from ._store import Store
 from ._times import Time, read_time
 
+# Printed by tools/pages/surface --write: all names, from the imports.
 __all__ = [
-    "LAST_MOMENT", "Answered", "Answers", "Cause", "ClosedSession", "Current", "DeadName", "DeletedName", "DirectoryStat", "Due", "Entry",
-    "Fate", "File", "FileStat", "Gone", "Group", "History", "KeepAll", "KeepOne", "KeepSafe", "Kept", "Landmarks", "Limits", "Mark",
-    "Marked", "Moment", "Open", "OpenHandle", "Pass", "PathEntry", "Policy", "Reader", "Recovered", "Removable", "Removal", "Removed",
-    "Session", "Store", "TextFile", "Time", "UnknownAnswer", "Usage", "Version", "read_time",
-    # Printed by tools/pages/surface --write: the names of errors, from _errors.py.
-    "AlreadyMember", "BadLadder", "BadLimits", "BadMoment", "BadName", "BadPath", "BadTime", "ClockBack", "ClockDoubt", "ClockEnd",
-    "Closed", "Drafting", "ElephantError", "Exists", "Forgotten", "Full", "Future", "GroupExists", "HistoryFull", "IntoItself",
-    "IsDirectory", "IsRoot", "JournalDamaged", "JournalError", "JournalLocked", "JournalLost", "MarkExists", "MassRemoval", "NoEntry",
+    "LAST_MOMENT", "AlreadyMember", "Answered", "Answers", "BadLadder", "BadLimits", "BadMoment", "BadName", "BadPath", "BadTime", "Cause",
+    "ClockBack", "ClockDoubt", "ClockEnd", "Closed", "ClosedSession", "Current", "DeadName", "DeletedName", "DirectoryStat", "Drafting",
+    "Due", "ElephantError", "Entry", "Exists", "Fate", "File", "FileStat", "Forgotten", "Full", "Future", "Gone", "Group", "GroupExists",
+    "History", "HistoryFull", "IntoItself", "IsDirectory", "IsRoot", "JournalDamaged", "JournalError", "JournalLocked", "JournalLost",
+    "KeepAll", "KeepOne", "KeepSafe", "Kept", "Landmarks", "Limits", "Mark", "Marked", "MarkExists", "MassRemoval", "Moment", "NoEntry",
     "NoGroup", "NoHandle", "NoHistory", "NoMark", "NoMemory", "NotAhead", "NotDirectory", "NotEmpty", "NotMember", "NotPast",
-    "NotRestorable", "NotWriter", "NoVersion", "ReadOnly", "Refused", "Stop", "Syntax", "TooBig", "Untold",
-    # End of the names of errors.
+    "NotRestorable", "NotWriter", "NoVersion", "Open", "OpenHandle", "Pass", "PathEntry", "Policy", "read_time", "Reader", "ReadOnly",
+    "Recovered", "Refused", "Removable", "Removal", "Removed", "Session", "Stop", "Store", "Syntax", "TextFile", "Time", "TooBig",
+    "UnknownAnswer", "Untold", "Usage", "Version",
 ]
+# End of all names.
