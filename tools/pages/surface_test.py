@@ -76,7 +76,7 @@ OF_FILES = [
     Planted("docs/MOUNT.md", "| 1,000,000 each |", "| 1,000,001 each |", ("docs/MOUNT.md",)),
     Planted("docs/DRIVE.md", "PIECE = 1_048_576, 1_000_000,", "PIECE = 1_048_577, 1_000_001,", ("sources 1048576", "sources 1000000")),
     Planted(HEADER, "content has at most 1,048,576 bytes", "content has few bytes", ("it says nothing, and the sources 1048576",)),
-    Planted(HEADER, "/* past 253402300799 */", "/* past 253402300798 */", (HEADER,)),
+    Planted(HEADER, "; past 253402300799 */", "; past 253402300798 */", (HEADER,)),
     Planted(facts.ERRORS, "the line has more than 8,192 bytes", "the line has more than 8,193 bytes", ("sources 8192",)),
     Planted(docs.OF_EVENTS[0], "Each of the 32 events", "Each of the 31 events", (docs.OF_EVENTS[0],)),
     Planted(docs.OF_EVENTS[1], "each of the 32 events", "each of the 33 events", (docs.OF_EVENTS[1],)),
