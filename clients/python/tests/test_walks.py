@@ -233,6 +233,11 @@ class Saves(unittest.TestCase):
             self.assertRaises(elephant.Drafting, store.save, "/f", b"")
             self.assertEqual(store.read("/f"), b"one")
 
+    def test_a_new_empty_file_takes_no_handle(self) -> None:
+        with manual(limits=Limits(handles=0)) as store:
+            self.assertEqual(store.save("/e", b""), 1)
+            self.assertEqual(str(_raised(store.save, "/f", b"x")), "27 Full handles: /f")
+
     def test_a_new_file_that_finds_no_room_for_its_content_is_empty(self) -> None:
         with manual(limits=Limits(versions=1)) as store:
             self.assertEqual(str(_raised(store.save, "/f", b"one")), "27 Full versions: /f")

@@ -189,7 +189,10 @@ fn a_save_that_is_refused_leaves_the_file_as_it_was() {
             assert_eq!(store.save("/d/f", content).unwrap_err().code(), wanted, "call {at}, code {code}");
             fail_none();
             assert_eq!(store.read("/d/f").unwrap(), CURRENT, "call {at}, code {code}");
-            assert!(contents(&store, "/d/f").iter().all(|it| whole.contains(it)), "call {at}, code {code}");
+            let held = contents(&store, "/d/f");
+            assert!(held.iter().all(|it| whole.contains(it)), "call {at}, code {code}");
+            // Before a call that changes the draft succeeds, no version is made.
+            assert!(held.len() == 3 || at + 2 >= calls && !content.is_empty() || at + 1 == calls, "call {at}, code {code}");
             assert!(store.save("/d/f", content).is_ok(), "call {at}, code {code}");
             assert_eq!(store.read("/d/f").unwrap(), content, "call {at}, code {code}");
             // An open draft would refuse it.
@@ -245,6 +248,21 @@ fn a_save_under_an_open_session_changes_nothing_whatever_fails() {
         assert_eq!(session.contents().unwrap()[..6], *b"draft\x02");
         assert_eq!(session.close(), Ok(Some(4)));
     }
+}
+
+#[test]
+fn a_session_whose_drop_is_refused_still_holds_its_file() {
+    let store = scene();
+    let session = store.session("/d/f").unwrap();
+    session.write_at(0, b"draft").unwrap();
+    let handle = session.handle();
+    fail(0, NO_MEMORY, false);
+    drop(session);
+    fail_none();
+    assert_eq!(store.save("/d/f", b"other"), Err(Error::Drafting));
+    assert_eq!(store.read("/d/f").unwrap(), CURRENT);
+    assert_eq!(store.line(&format!("close {handle}")).unwrap(), "ok closed version 4\n");
+    assert_eq!(store.read("/d/f").unwrap()[..6], *b"draft\x02");
 }
 
 #[test]

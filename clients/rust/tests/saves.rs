@@ -36,6 +36,13 @@ fn an_unchanged_content_makes_a_version_and_an_empty_one_of_an_empty_file_none()
 }
 
 #[test]
+fn a_new_empty_file_takes_no_handle() {
+    let store = keeping(Limits { handles: 0, ..Limits::default() });
+    assert_eq!(store.save("/e", b""), Ok(1));
+    assert_eq!(store.save("/f", b"x"), Err(Error::Full(Limit::Handles)));
+}
+
+#[test]
 fn a_content_that_is_too_big_makes_no_file() {
     let store = keeping(Limits::default());
     assert_eq!(store.save("/f", &vec![1; LARGEST_CONTENT + 1]), Err(Error::TooBig));
@@ -73,6 +80,10 @@ fn a_save_into_the_draft_of_a_line_says_so() {
     assert_eq!(store.read("/f").unwrap(), b"one");
     assert_eq!(store.save("/f", b""), Err(Error::Drafting));
     assert_eq!(store.line("close 2").unwrap(), "ok closed version 3\n");
+    // Also of a file that is empty.
+    store.create("/e").unwrap();
+    store.line("open write /e").unwrap();
+    assert_eq!(store.save("/e", b"x"), Err(Error::Drafting));
 }
 
 #[test]
