@@ -307,9 +307,9 @@ mod tests {
             ("groups", "ok groups 1\n- g members - marks -\n"),
             ("undelete /f", "ok version 2\n"),
         ];
-        let rows: String = stored.iter().map(|(line, answer)| format!("- {line}\n{answer}")).collect();
+        let rows: Vec<String> = stored.iter().map(|(line, answer)| format!("- {line}\n{answer}")).collect();
         let answered = stored.map(|(line, answer)| Answered { line: line.to_owned(), answer: answer.to_owned() }).to_vec();
-        assert_eq!(read_answers(&format!("ok answers 10 10\n{rows}")), Ok(Answers { folded: 10, answered }));
+        assert_eq!(read_answers(&format!("ok answers 10 10\n{}", rows.concat())), Ok(Answers { folded: 10, answered }));
     }
 
     #[test]
