@@ -67,53 +67,53 @@ enum elephant_code {
     ELEPHANT_OK = 0,
 
     /* The command was not run. Without a history elephant_clock, elephant_tick, elephant_clean and elephant_pass never stop. */
-    ELEPHANT_NO_MEMORY = 1,
-    ELEPHANT_HISTORY_FULL = 2,     /* as many events as the limits allow; only with a history */
+    ELEPHANT_NO_MEMORY = 1,        /* there was no memory */
+    ELEPHANT_HISTORY_FULL = 2,     /* the history has as many events as it may; only with a history */
 
     /* The store refused the command. elephant_detail returns the detail of 13 and 27. */
-    ELEPHANT_CLOCK_BACK = 3,       /* the moment is before now */
-    ELEPHANT_CLOCK_END = 4,        /* the moment would be after the last one */
-    ELEPHANT_NO_ENTRY = 5,         /* a name of the path isn't there */
-    ELEPHANT_NOT_DIRECTORY = 6,    /* the path has a file in place of a directory */
-    ELEPHANT_IS_DIRECTORY = 7,     /* the path has a directory in place of a file */
-    ELEPHANT_EXISTS = 8,           /* the name is taken */
+    ELEPHANT_CLOCK_BACK = 3,       /* the moment is earlier than now */
+    ELEPHANT_CLOCK_END = 4,        /* the moment would be later than the year 9999 */
+    ELEPHANT_NO_ENTRY = 5,         /* the path names nothing */
+    ELEPHANT_NOT_DIRECTORY = 6,    /* the path leads to a file, or through one */
+    ELEPHANT_IS_DIRECTORY = 7,     /* the path leads to a directory */
+    ELEPHANT_EXISTS = 8,           /* the name is in use */
     ELEPHANT_NOT_EMPTY = 9,        /* the directory has names */
-    ELEPHANT_INTO_ITSELF = 10,     /* the directory would be in itself */
-    ELEPHANT_IS_ROOT = 11,         /* the root has no name */
-    ELEPHANT_FUTURE = 12,          /* the moment is after now */
+    ELEPHANT_INTO_ITSELF = 10,     /* the directory would be moved below itself */
+    ELEPHANT_IS_ROOT = 11,         /* the root can't be made, moved or removed */
+    ELEPHANT_FUTURE = 12,          /* the moment is later than now */
     ELEPHANT_FORGOTTEN = 13,       /* the version was removed; detail: the greatest held number before it, or 0 */
-    ELEPHANT_NO_VERSION = 14,      /* the file never had that version */
-    ELEPHANT_NO_HANDLE = 15,       /* no open handle has that number */
-    ELEPHANT_NOT_WRITER = 16,      /* the handle is for reading */
+    ELEPHANT_NO_VERSION = 14,      /* no version has had the number yet */
+    ELEPHANT_NO_HANDLE = 15,       /* no open handle has the number */
+    ELEPHANT_NOT_WRITER = 16,      /* the handle is one that reads */
     ELEPHANT_TOO_BIG = 17,         /* the content would be longer than 1,048,576 bytes */
-    ELEPHANT_DRAFTING = 18,        /* the file has a draft: a handle writes it */
-    ELEPHANT_NOT_RESTORABLE = 19,  /* the name can't be restored */
-    ELEPHANT_NO_GROUP = 20,        /* no group has that name */
-    ELEPHANT_GROUP_EXISTS = 21,    /* the group exists already */
-    ELEPHANT_NO_MARK = 22,         /* the group has no mark at that moment */
-    ELEPHANT_MARK_EXISTS = 23,     /* the group has a mark at that moment already */
-    ELEPHANT_NOT_PAST = 24,        /* the moment is not before now */
-    ELEPHANT_ALREADY_MEMBER = 25,  /* the group has the file already */
-    ELEPHANT_NOT_MEMBER = 26,      /* the group doesn't have the file */
-    ELEPHANT_FULL = 27,            /* a limit is reached; detail: which, an enum elephant_limit */
-    ELEPHANT_NOT_AHEAD = 41,       /* a mark would end now or before, or the moment of elephant_ahead is before now */
+    ELEPHANT_DRAFTING = 18,        /* a handle writes the file */
+    ELEPHANT_NOT_RESTORABLE = 19,  /* nothing can be restored by this name */
+    ELEPHANT_NO_GROUP = 20,        /* no group has the name */
+    ELEPHANT_GROUP_EXISTS = 21,    /* a group has the name already */
+    ELEPHANT_NO_MARK = 22,         /* the group has no mark for the moment */
+    ELEPHANT_MARK_EXISTS = 23,     /* the group has a mark for the moment already */
+    ELEPHANT_NOT_PAST = 24,        /* the moment of a mark must be earlier than now */
+    ELEPHANT_ALREADY_MEMBER = 25,  /* the file is in the group already */
+    ELEPHANT_NOT_MEMBER = 26,      /* the file isn't in the group */
+    ELEPHANT_FULL = 27,            /* a limit is reached, for good; detail: which, an enum elephant_limit */
+    ELEPHANT_NOT_AHEAD = 41,       /* the end of a mark must be later than now, and the moment of 'ahead' not earlier */
 
     /* An argument is not valid. If several are not, the code is that of the first one. */
-    ELEPHANT_BAD_NAME = 28,
-    ELEPHANT_BAD_PATH = 29,
-    ELEPHANT_BAD_MOMENT = 30,      /* past 253402300799 */
-    ELEPHANT_BAD_LADDER = 31,      /* no interval, floor or ladder has these numbers */
-    ELEPHANT_SYNTAX = 32,          /* a word that is no policy, or a tag that is none of enum elephant_tag */
+    ELEPHANT_BAD_NAME = 28,        /* a name has 1 to 64 bytes without /, @ and #, and isn't . or .. */
+    ELEPHANT_BAD_PATH = 29,        /* a path begins with /, has no empty name and at most 32 names, and a number after # */
+    ELEPHANT_BAD_MOMENT = 30,      /* no moment has this form, or it is too late; past 253402300799 */
+    ELEPHANT_BAD_LADDER = 31,      /* no policy has these numbers */
+    ELEPHANT_SYNTAX = 32,          /* the line is no command, or a word is missing, too many or of another form */
 
     /* The handle itself. */
-    ELEPHANT_CLOSED = 64,          /* the store is not open */
+    ELEPHANT_CLOSED = 64,          /* the store, or the handle, is closed */
     ELEPHANT_OPENED = 65,          /* the store is open already */
     ELEPHANT_BAD_LIMITS = 66,      /* a limit is above its largest */
     ELEPHANT_NO_HISTORY = 67,      /* the store was opened without a history */
     ELEPHANT_NO_RESULT = 68,       /* the handle keeps nothing of that kind */
     ELEPHANT_NO_ROW = 69,          /* the kept list has no row of that index */
     ELEPHANT_NO_ROOM = 70,         /* the buffer is too small, and nothing is copied */
-    ELEPHANT_UNTOLD = 71           /* the line was run, but there is no memory for the text of its answer */
+    ELEPHANT_UNTOLD = 71           /* the line was run, but there was no memory for the text of its answer */
 };
 /* End of the codes. */
 

@@ -8,6 +8,7 @@ from collections.abc import Iterator
 from typing import NamedTuple
 
 from gate.building import match_in
+from pages import surface_words as words
 from pages.surface_regions import Tree
 
 COMMAND, PARTS = "crates/ele_commands/src/command.rt", "crates/ele_commands/specs/Parts.antt"
@@ -75,6 +76,12 @@ class Code(NamedTuple):
     name: str
     says: str
     meaning: str
+
+    def sentence(self) -> str:
+        """Returns the first sentence of what the help says, or what its source says, without a full stop."""
+        if not self.meaning:
+            return words.OF_HANDLES.get(self.name) or self.says[:1].lower() + self.says[1:]
+        return re.split(r"(?<=\.\.) (?=[A-Z])|(?<!\.)\. (?=[A-Z'])", self.meaning)[0]
 
     def in_c(self) -> str:
         """Returns its name in C, without ELEPHANT_."""

@@ -58,7 +58,7 @@ def lines_of_codes(facts: Facts) -> list[str]:
     for kind, text in GROUPS.items():
         rows += [("", ""), (f"/* {text.format(detailed=detailed)} */", "")]
         listed = [it for it in facts.of(kind) if it.name not in words.NEVER_IN_C]
-        rows += [(f"ELEPHANT_{it.in_c()} = {it.number},", words.in_c(it.name, it.says)) for it in listed]
+        rows += [(f"ELEPHANT_{it.in_c()} = {it.number},", words.in_c(it.name, it.sentence())) for it in listed]
     last, comment = rows[-1]
     rows[-1] = last.removesuffix(","), comment
     width = max(len(it) for it, comment in rows if comment) + 2

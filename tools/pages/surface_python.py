@@ -66,7 +66,7 @@ def exception(code: Code) -> str:
     """Returns the class of a code."""
     own = words.OWN_BASES.get(code.name)
     bases = [*BASES[code.kind][:1], own] if own else BASES[code.kind]
-    lines = [f"class {code.name}({', '.join(bases)}, number={code.number}):", f'    """{words.in_python(code.name, code.says)}."""']
+    lines = [f"class {code.name}({', '.join(bases)}, number={code.number}):", f'    """{words.full_stop(code.sentence())}"""']
     lines += ["", f"    errno = errno.{words.SYSTEM[code.name]}"] if code.name in words.SYSTEM else []
     return "".join(f"{it}\n" for it in lines)
 

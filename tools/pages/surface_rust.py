@@ -80,7 +80,7 @@ def sys_of(tree: Tree, facts: Facts) -> str:
 
 def errors(tree: Tree, facts: Facts) -> str:
     listed = [it for it in codes(facts) if it.name not in words.BY_HAND]
-    rows = [f'    {it.name} = ELEPHANT_{it.in_c()}, "{words.in_rust(it.name, it.says)}";\n' for it in listed]
+    rows = [f'    {it.name} = ELEPHANT_{it.in_c()}, "{it.sentence()}";\n' for it in listed]
     text = with_region(ERRORS, tree[ERRORS], "the codes", CODES_FROM, f"errors! {{\n{''.join(rows)}}}\n")
     return with_region(ERRORS, text, "the limits", "ele_c_values/src/codes.rt and ele_help/src/pages.rt", limits(facts.limits))
 

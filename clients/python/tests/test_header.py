@@ -11,7 +11,8 @@ from unittest import mock
 from elephant import Current, Due, KeepAll, KeepOne, KeepSafe, Kept, Moment, Open, _errors, _moments, _questions
 from elephant._core import Core
 
-HEADER = Path(__file__).resolve().parents[3] / "include" / "elephant.h"
+TOP = Path(__file__).resolve().parents[3]
+HEADER, PAGE = TOP / "include" / "elephant.h", TOP / "docs" / "ERRORS.md"
 
 
 @unittest.skipUnless(HEADER.is_file(), "there is no include/elephant.h")
@@ -45,6 +46,21 @@ class Header(unittest.TestCase):
         for name, due in causes.items():
             self.assertEqual(fate("IS_DUE", self.number(name)), due)
         self.assertEqual(len(_questions._FATES), len(re.findall(r"ELEPHANT_IS_(?:CURRENT|OPEN|MARKED|KEPT|DUE) = ", self.text)))
+
+    @unittest.skipUnless(PAGE.is_file(), "there is no docs/ERRORS.md")
+    def test_each_error_means_what_the_page_says(self) -> None:
+        rows = re.findall(r"^\| (\d+) \| \w+ \| ([^|]*) \|$", PAGE.read_text(encoding="utf-8"), re.M)
+        meanings = {int(number): text for number, text in rows}
+        tested = 0
+        for number, kind in _errors.BY_NUMBER.items():
+            meaning = kind("/f").meaning
+            self.assertTrue(meaning[0].isupper() and meaning[-1] == ".", meaning)
+            if number in meanings:
+                sentence = meaning[0].lower() + meaning[1:]
+                self.assertTrue(f"{meanings[number]}.".startswith(sentence), f"{meaning} {meanings[number]}")
+                tested += 1
+        self.assertEqual(tested, 33)
+        self.assertEqual(_errors.JournalLocked().meaning, "Another store has the journal.")
 
     def test_bases(self) -> None:
         # As docs/EMBED.md says, with the numbers of the system.

@@ -65,7 +65,8 @@ macro_rules! errors {
         /// Why a call was refused or stopped. Nothing has changed then, unless the variant or the call says
         /// otherwise; a store with a history keeps a refusal as an entry.
         ///
-        /// A function that adds to an error what it was about can look at the variant:
+        /// Its text is the sentence of its number in `docs/ERRORS.md`. A function that adds to an error what it was about can look at
+        /// the variant:
         ///
         /// ```
         /// # use elephant::{Error, Store};
@@ -87,7 +88,7 @@ macro_rules! errors {
                 /// The greatest held number of the file's versions before it.
                 last: Option<u64>,
             },
-            /// `ELEPHANT_FULL`: a limit is reached.
+            /// `ELEPHANT_FULL`: a limit is reached, for good.
             Full(Limit),
             /// A code that no call of this crate should return.
             Unexpected(i32),
@@ -125,7 +126,7 @@ macro_rules! errors {
                     $(Error::$name => f.write_str($text),)*
                     Error::Forgotten { last: Some(last) } => write!(f, "the version was removed; before it version {last} is held"),
                     Error::Forgotten { last: None } => f.write_str("the version was removed, and none before it is held"),
-                    Error::Full(limit) => write!(f, "as many {limit} were made as the limits allow"),
+                    Error::Full(limit) => write!(f, "a limit is reached, for good: {limit}"),
                     Error::Unexpected(code) => write!(f, "the library answered the unexpected code {code}"),
                     Error::UnknownAnswer => f.write_str("the library answered in a form that this crate doesn't know"),
                 }
@@ -136,40 +137,40 @@ macro_rules! errors {
 
 // Printed by tools/pages/surface --write: the codes, from refusal.rt of ele_model, fault.rt of ele_printer and codes.rt of ele_c_values.
 errors! {
-    NoMemory = ELEPHANT_NO_MEMORY, "there is no memory";
-    HistoryFull = ELEPHANT_HISTORY_FULL, "as many events were answered as the limits allow";
+    NoMemory = ELEPHANT_NO_MEMORY, "there was no memory";
+    HistoryFull = ELEPHANT_HISTORY_FULL, "the history has as many events as it may";
     ClockBack = ELEPHANT_CLOCK_BACK, "the moment is earlier than now";
-    ClockEnd = ELEPHANT_CLOCK_END, "the moment would be past the last one";
-    NoEntry = ELEPHANT_NO_ENTRY, "there is no such name";
-    NotDirectory = ELEPHANT_NOT_DIRECTORY, "a file is where a directory is wanted";
-    IsDirectory = ELEPHANT_IS_DIRECTORY, "a directory is where a file is wanted";
-    Exists = ELEPHANT_EXISTS, "the name is taken";
+    ClockEnd = ELEPHANT_CLOCK_END, "the moment would be later than the year 9999";
+    NoEntry = ELEPHANT_NO_ENTRY, "the path names nothing";
+    NotDirectory = ELEPHANT_NOT_DIRECTORY, "the path leads to a file, or through one";
+    IsDirectory = ELEPHANT_IS_DIRECTORY, "the path leads to a directory";
+    Exists = ELEPHANT_EXISTS, "the name is in use";
     NotEmpty = ELEPHANT_NOT_EMPTY, "the directory has names";
-    IntoItself = ELEPHANT_INTO_ITSELF, "the directory would come to lie in itself";
-    IsRoot = ELEPHANT_IS_ROOT, "the root has no name";
+    IntoItself = ELEPHANT_INTO_ITSELF, "the directory would be moved below itself";
+    IsRoot = ELEPHANT_IS_ROOT, "the root can't be made, moved or removed";
     Future = ELEPHANT_FUTURE, "the moment is later than now";
-    NoVersion = ELEPHANT_NO_VERSION, "the file never had that version";
-    NoHandle = ELEPHANT_NO_HANDLE, "there is no such handle";
-    NotWriter = ELEPHANT_NOT_WRITER, "the handle is one for reading";
+    NoVersion = ELEPHANT_NO_VERSION, "no version has had the number yet";
+    NoHandle = ELEPHANT_NO_HANDLE, "no open handle has the number";
+    NotWriter = ELEPHANT_NOT_WRITER, "the handle is one that reads";
     TooBig = ELEPHANT_TOO_BIG, "the content would be longer than 1,048,576 bytes";
-    Drafting = ELEPHANT_DRAFTING, "the file is being written";
-    NotRestorable = ELEPHANT_NOT_RESTORABLE, "the name can't be restored";
-    NoGroup = ELEPHANT_NO_GROUP, "there is no such group";
-    GroupExists = ELEPHANT_GROUP_EXISTS, "the group is there already";
-    NoMark = ELEPHANT_NO_MARK, "the group has no mark at that moment";
-    MarkExists = ELEPHANT_MARK_EXISTS, "the group has a mark at that moment already";
-    NotPast = ELEPHANT_NOT_PAST, "the moment is not earlier than now";
+    Drafting = ELEPHANT_DRAFTING, "a handle writes the file";
+    NotRestorable = ELEPHANT_NOT_RESTORABLE, "nothing can be restored by this name";
+    NoGroup = ELEPHANT_NO_GROUP, "no group has the name";
+    GroupExists = ELEPHANT_GROUP_EXISTS, "a group has the name already";
+    NoMark = ELEPHANT_NO_MARK, "the group has no mark for the moment";
+    MarkExists = ELEPHANT_MARK_EXISTS, "the group has a mark for the moment already";
+    NotPast = ELEPHANT_NOT_PAST, "the moment of a mark must be earlier than now";
     AlreadyMember = ELEPHANT_ALREADY_MEMBER, "the file is in the group already";
-    NotMember = ELEPHANT_NOT_MEMBER, "the file is not in the group";
-    NotAhead = ELEPHANT_NOT_AHEAD, "the moment is too early";
-    BadName = ELEPHANT_BAD_NAME, "not a name: 1 to 64 bytes from `!` to `~` without `/`, `@` and `#`, and neither `.` nor `..`";
-    BadPath = ELEPHANT_BAD_PATH, "not a path: `/`, or at most 32 names with a slash before each";
-    BadMoment = ELEPHANT_BAD_MOMENT, "not a moment: it is past 253402300799";
-    BadLadder = ELEPHANT_BAD_LADDER, "no interval, floor or ladder has these numbers";
-    Syntax = ELEPHANT_SYNTAX, "the argument is none of its kind";
+    NotMember = ELEPHANT_NOT_MEMBER, "the file isn't in the group";
+    NotAhead = ELEPHANT_NOT_AHEAD, "the end of a mark must be later than now, and the moment of 'ahead' not earlier";
+    BadName = ELEPHANT_BAD_NAME, "a name has 1 to 64 bytes without /, @ and #, and isn't . or ..";
+    BadPath = ELEPHANT_BAD_PATH, "a path begins with /, has no empty name and at most 32 names, and a number after #";
+    BadMoment = ELEPHANT_BAD_MOMENT, "no moment has this form, or it is too late";
+    BadLadder = ELEPHANT_BAD_LADDER, "no policy has these numbers";
+    Syntax = ELEPHANT_SYNTAX, "the line is no command, or a word is missing, too many or of another form";
     BadLimits = ELEPHANT_BAD_LIMITS, "a limit is above its largest";
     NoHistory = ELEPHANT_NO_HISTORY, "the store was opened without a history";
-    Untold = ELEPHANT_UNTOLD, "the line was run, and there was no memory for the text of its answer";
+    Untold = ELEPHANT_UNTOLD, "the line was run, but there was no memory for the text of its answer";
 }
 // End of the codes.
 

@@ -368,7 +368,7 @@ fn an_error_has_its_number_its_text_and_its_kind() {
     assert_eq!(Error::NoEntry.code(), 5);
     assert_eq!(Error::Forgotten { last: None }.code(), 13);
     assert_eq!(Error::Full(Limit::Names).code(), 27);
-    assert_eq!(Error::Full(Limit::Names).to_string(), "as many names were made as the limits allow");
+    assert_eq!(Error::Full(Limit::Names).to_string(), "a limit is reached, for good: names");
     assert_eq!(Error::Forgotten { last: Some(2) }.to_string(), "the version was removed; before it version 2 is held");
     assert_eq!(io::Error::from(Error::NoEntry).kind(), io::ErrorKind::NotFound);
     assert_eq!(io::Error::from(Error::Exists).kind(), io::ErrorKind::AlreadyExists);

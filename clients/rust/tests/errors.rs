@@ -71,7 +71,7 @@ fn each_error_has_its_number_and_its_kind() {
     for (limit, name) in LIMITS {
         let error = Error::Full(limit);
         assert_eq!((error.code(), kind_of(error)), (27, ErrorKind::Other), "{limit}");
-        assert_eq!(error.to_string(), format!("as many {name} were made as the limits allow"));
+        assert_eq!(error.to_string(), format!("a limit is reached, for good: {name}"));
     }
     assert_eq!((Error::Unexpected(99).code(), kind_of(Error::Unexpected(99))), (99, ErrorKind::Other));
 }

@@ -3,7 +3,11 @@
 from __future__ import annotations
 
 import errno
+import re
 from typing import Optional
+
+# Between the sentences of a comment.
+_SENTENCE_END = re.compile(r"(?<!\.)\. (?=[A-Z`])")
 
 
 class ElephantError(Exception):
@@ -19,6 +23,12 @@ class ElephantError(Exception):
     def __init__(self, subject: str = "") -> None:
         super().__init__(subject)
         self.subject = subject
+
+    @property
+    def meaning(self) -> str:
+        """The error as a sentence: for a number of the store that of docs/ERRORS.md."""
+        first = _SENTENCE_END.split((type(self).__doc__ or type(self).__name__).partition("\n")[0])[0]
+        return first if first.endswith(".") else f"{first}."
 
     def __init_subclass__(cls, number: int = 0) -> None:
         super().__init_subclass__()
@@ -51,41 +61,41 @@ class Refused(ElephantError):
 
 
 class NoMemory(Stop, MemoryError, number=1):
-    """There was no memory for the command."""
+    """There was no memory."""
 
 
 class HistoryFull(Stop, number=2):
-    """The history has as many events as the limits allow."""
+    """The history has as many events as it may."""
 
 
 class ClockBack(Refused, number=3):
-    """The moment is before now."""
+    """The moment is earlier than now."""
 
 
 class ClockEnd(Refused, number=4):
-    """The moment would be after the last one."""
+    """The moment would be later than the year 9999."""
 
 
 class NoEntry(Refused, FileNotFoundError, number=5):
-    """There is no such name."""
+    """The path names nothing."""
 
     errno = errno.ENOENT
 
 
 class NotDirectory(Refused, NotADirectoryError, number=6):
-    """The path has a file in place of a directory."""
+    """The path leads to a file, or through one."""
 
     errno = errno.ENOTDIR
 
 
 class IsDirectory(Refused, IsADirectoryError, number=7):
-    """The path has a directory in place of a file."""
+    """The path leads to a directory."""
 
     errno = errno.EISDIR
 
 
 class Exists(Refused, FileExistsError, number=8):
-    """The name is taken."""
+    """The name is in use."""
 
     errno = errno.EEXIST
 
@@ -95,27 +105,27 @@ class NotEmpty(Refused, number=9):
 
 
 class IntoItself(Refused, number=10):
-    """The directory would be in itself."""
+    """The directory would be moved below itself."""
 
 
 class IsRoot(Refused, number=11):
-    """The root has no name."""
+    """The root can't be made, moved or removed."""
 
 
 class Future(Refused, number=12):
-    """The moment is after now."""
+    """The moment is later than now."""
 
 
 class NoVersion(Refused, number=14):
-    """The file never had that version."""
+    """No version has had the number yet."""
 
 
 class NoHandle(Refused, number=15):
-    """There is no such handle."""
+    """No open handle has the number."""
 
 
 class NotWriter(Refused, number=16):
-    """The handle is for reading."""
+    """The handle is one that reads."""
 
 
 class TooBig(Refused, number=17):
@@ -123,55 +133,55 @@ class TooBig(Refused, number=17):
 
 
 class Drafting(Refused, number=18):
-    """A session has a draft of the file."""
+    """A handle writes the file."""
 
 
 class NotRestorable(Refused, number=19):
-    """The name can't be restored."""
+    """Nothing can be restored by this name."""
 
 
 class NoGroup(Refused, number=20):
-    """There is no such group."""
+    """No group has the name."""
 
 
 class GroupExists(Refused, number=21):
-    """The group exists already."""
+    """A group has the name already."""
 
 
 class NoMark(Refused, number=22):
-    """The group has no mark at that moment."""
+    """The group has no mark for the moment."""
 
 
 class MarkExists(Refused, number=23):
-    """The group has a mark at that moment already."""
+    """The group has a mark for the moment already."""
 
 
 class NotPast(Refused, number=24):
-    """The moment of the mark is not before now."""
+    """The moment of a mark must be earlier than now."""
 
 
 class AlreadyMember(Refused, number=25):
-    """The group has the file already."""
+    """The file is in the group already."""
 
 
 class NotMember(Refused, number=26):
-    """The group doesn't have the file."""
+    """The file isn't in the group."""
 
 
 class NotAhead(Refused, number=41):
-    """The end of a mark is not after now, or the moment of `ahead` is before now."""
+    """The end of a mark must be later than now, and the moment of 'ahead' not earlier."""
 
 
 class BadName(Refused, ValueError, number=28):
-    """A name is empty or has more than 64 bytes as it is spelled, or no folder can show it."""
+    """A name has 1 to 64 bytes without /, @ and #, and isn't . or .."""
 
 
 class BadPath(Refused, ValueError, number=29):
-    """A path begins without a slash, or has an empty name or more than 32 names."""
+    """A path begins with /, has no empty name and at most 32 names, and a number after #."""
 
 
 class BadMoment(Refused, ValueError, number=30):
-    """A moment is before 1970 or after 9999."""
+    """No moment has this form, or it is too late."""
 
 
 class BadLadder(Refused, ValueError, number=31):
@@ -179,7 +189,7 @@ class BadLadder(Refused, ValueError, number=31):
 
 
 class Syntax(Refused, ValueError, number=32):
-    """An argument doesn't have the form of its kind."""
+    """The line is no command, or a word is missing, too many or of another form."""
 
 
 class Closed(ElephantError, ValueError, number=64):
@@ -211,7 +221,7 @@ class Forgotten(Refused, number=13):
 
 
 class Full(Refused, number=27):
-    """A limit is reached. `what` is its name, as `Limits` has it: `files`, `versions`, .."""
+    """A limit is reached, for good. `what` is its name, as `Limits` has it: `files`, `versions`, .."""
 
     what: str = ""
 
