@@ -7,12 +7,8 @@ import time
 from collections.abc import Sequence
 from typing import Optional
 
-from .._answers import Due, Removable
-from .._clock import span
-from .._errors import ElephantError
-from .._library import AT, VERSION
-from .._moments import LAST_MOMENT
-from .._store import MANY
+from .. import LAST_MOMENT, Due, ElephantError, Removable
+from ..keeping import AT, MANY, VERSION, span
 from .guard import DAY, Guard, Name, named
 from .log import Log, local
 from .names import name_in, shown
@@ -226,14 +222,14 @@ class Cleaner:
         node, last = self.operations.tree.files.get(key.file), self.store.departed.get(key.file)
         try:
             if node is not None:
-                handle = self.store.open_reader(node.path, VERSION, key.number)
+                handle = self.store.drafts.open_reader(node.path, VERSION, key.number)
             elif last is None or not last.closed < last.ended:
                 return
             else:
                 row = self.store.stat_row(last.path, AT, last.ended - 1)
                 if (row.id, row.version) != named(key):
                     return
-                handle = self.store.open_reader(last.path, AT, last.ended - 1)
+                handle = self.store.drafts.open_reader(last.path, AT, last.ended - 1)
         except (ElephantError, OSError):
             return  # what became due later waits with it
         self._held[named(key)] = key, handle
@@ -253,7 +249,7 @@ class Cleaner:
             if name in names:
                 _, handle = self._held.pop(name)
                 self.operations.kept_readers.discard(handle)
-                self.store.close_draft(handle)
+                self.store.drafts.close(handle)
 
     # Causes.
 

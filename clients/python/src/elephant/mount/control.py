@@ -17,12 +17,10 @@ from contextlib import suppress
 from typing import Optional
 from zlib import crc32
 
-from .._errors import BadName, ClockDoubt, ElephantError, Refused
-from .._names import require_shown
-from .._times import read_time, told_time
+from .. import BadName, ClockDoubt, ElephantError, Refused, read_time
+from ..keeping import NoSpace, require_shown, told_time
 from .names import name_in
 from .operations import Operations
-from .store import NoSpace
 from .tree import Directory, File, Node
 from .undo import Undo
 from .whereabouts import Nothing

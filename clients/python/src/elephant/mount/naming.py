@@ -8,8 +8,8 @@ import time
 from collections.abc import Sequence
 from typing import Optional, Union
 
-from .._errors import ElephantError
-from .._names import MOST_NAMES
+from .. import ElephantError
+from ..keeping import MOST_NAMES
 from . import records
 from .contents import Limited
 from .going_on import GoingOn, key_of
@@ -91,7 +91,7 @@ class Naming(GoingOn):
         made = self._new(parent, stat.S_IFLNK | 0o777, owner, group)
         with self.store.together():
             number = self.store.run((b"create", path), remarks=lambda it: [records.made(file_key(it), key_of(parent), made)])
-            version = self.store.close_draft(self.store.write_draft(path, None, target, True, ()))
+            version = self.store.drafts.save(path, target)
         node = self._added(parent, name, number, made)
         node.size, node.version = len(target), version
         return node
@@ -287,15 +287,12 @@ class Naming(GoingOn):
         self.contents.forget_read()
         node.attributes.ctime = found.attributes.ctime = now
         number, new_number = node.number, found.number
-        new_version = self._save_as(new_path, contents[0], records.everything(file_key(new_number), node.attributes))
-        version = self._save_as(path, contents[1], records.everything(file_key(number), found.attributes))
+        new_version = self.store.drafts.save(new_path, contents[0], records.everything(file_key(new_number), node.attributes))
+        version = self.store.drafts.save(path, contents[1], records.everything(file_key(number), found.attributes))
         node.version, found.version = new_version or found.version, version or node.version
         node.born, found.born = found.born, node.born
         self.tree.give_number(node, new_number)
         self.tree.give_number(found, number)
-
-    def _save_as(self, path: bytes, content: bytes, remarks: list[bytes]) -> int:
-        return self.store.close_draft(self.store.write_draft(path, None, content, True, remarks))
 
     def _exchange_names(self, parent: Directory, name: bytes, new_parent: Directory, new_name: bytes, now: int) -> None:
         """Renames twice by a third name, which no program sees, since the three renames are one change."""

@@ -10,7 +10,7 @@ from typing import Any, NamedTuple, Optional, Union
 
 import pyfuse3
 
-from .._errors import ElephantError, Forgotten
+from .. import ElephantError, Forgotten
 from .answering import Answering, answered, changing
 from .contents import Contents
 from .log import Log
@@ -415,7 +415,7 @@ class Operations(Answering):
         opened.node.opens -= 1
         self.past.forget(opened.node)
         if opened.reader is not None:
-            self.store.close_draft(opened.reader)
+            self.store.drafts.close(opened.reader)
 
     @answered
     def fsync(self, handle: int, only_data: bool) -> None:
@@ -437,7 +437,7 @@ class Operations(Answering):
             source = opened.source
             if opened.reader is None and source is not None:
                 try:
-                    opened.reader = self.store.open_reader(self._path_now(source), source.tag, source.number)
+                    opened.reader = self.store.drafts.open_reader(self._path_now(source), source.tag, source.number)
                     is_another = True
                 except (ElephantError, OSError):
                     opened.source = None  # it stays readable, from the copy in memory

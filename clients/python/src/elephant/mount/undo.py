@@ -10,10 +10,8 @@ from functools import cache
 from itertools import chain
 from typing import NamedTuple, Optional, Union
 
-from .._answers import DeadName
-from .._errors import Forgotten, Refused
-from .._library import AT, VERSION
-from .._times import told_time
+from .. import DeadName, Forgotten, Refused
+from ..keeping import AT, VERSION, told_time
 from .chronicle import begin_of_last
 from .contents import Contents
 from .plans import Plan, Step
@@ -93,7 +91,7 @@ class Undo:
             return f"ok would make a version of {text}\n"
         with self.store.together():
             if found.until:
-                version = self.store.close_draft(self.store.write_draft(path, None, found.content, True, ()))
+                version = self.store.drafts.save(path, found.content)
             else:
                 version = self.store.revert(path, found.version)
         return f"ok version {version}: {text}\n"
