@@ -16,7 +16,7 @@ from .contents import Contents
 from .log import Log
 from .names import NAME, shown
 from .naming import Naming
-from .past import Past, PastNode, Source, is_lasting
+from .past import Past, PastNode, Row, is_lasting
 from .store import MountStore
 from .tree import ROOT, Directory, File, Node, Tree
 
@@ -34,7 +34,7 @@ class PastHandle:
 
     __slots__ = ("node", "source", "content", "reader")
 
-    def __init__(self, node: PastNode, source: Optional[Source], content: bytes) -> None:
+    def __init__(self, node: PastNode, source: Optional[Row], content: bytes) -> None:
         self.node, self.source, self.content = node, source, content
         self.reader: Optional[int] = None
 
@@ -443,7 +443,7 @@ class Operations(Answering):
                     opened.source = None  # it stays readable, from the copy in memory
         return is_another
 
-    def _path_now(self, source: Source) -> bytes:
+    def _path_now(self, source: Row) -> bytes:
         """Returns the path that finds a version: a version's number means the file that has the name now."""
         if source.tag != 2:
             return source.path
