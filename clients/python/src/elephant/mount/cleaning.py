@@ -153,7 +153,7 @@ class Cleaner:
         if len(self.waits) > LONG_LIST and steady < self._listed_at + LONG_EVERY:
             return set()
         self._listed_at = steady
-        self.operations.hold_past()
+        self.operations.readers.hold()
         now = self.store.removal_moment
         due = sorted([key for key in self.store.due() if key.since <= now] + self.held_keys)
         held = sum(it.versions for it in self.store.usage())
@@ -166,7 +166,7 @@ class Cleaner:
 
     def _keep_announced(self, guard: Guard, announce: list[Removable], due: Sequence[Removable], now: int) -> None:
         """Logs what the guard announces, and puts it into the journal."""
-        names = {named(key) for key in due} | {node.key[-2:] for node in self.operations.open_past()}
+        names = {named(key) for key in due} | {node.key[-2:] for node in self.operations.readers.nodes()}
         gone = guard.announced.since.keys() - names
         if gone or announce:
             self.store.reserve(REMARK_BYTES * (len(gone) + len(announce)))
@@ -186,7 +186,7 @@ class Cleaner:
     def _remove_some(self, may_go: Optional[set[Name]]) -> int:
         deadline, removed = time.monotonic() + MOST_AT_ONCE, 0
         keys = self.store.first_due(MOST_KEYS)
-        if keys and self.operations.hold_past():
+        if keys and self.operations.readers.hold():
             keys = self.store.first_due(MOST_KEYS)
         for key in keys:
             if (may_go is not None and named(key) not in may_go) or key.since > self.store.removal_moment:
@@ -233,7 +233,7 @@ class Cleaner:
         except (ElephantError, OSError):
             return  # what became due later waits with it
         self._held[named(key)] = key, handle
-        self.operations.kept_readers.add(handle)
+        self.operations.readers.kept.add(handle)
 
     @property
     def held_keys(self) -> list[Removable]:
@@ -248,7 +248,7 @@ class Cleaner:
         for name in list(self._held):
             if name in names:
                 _, handle = self._held.pop(name)
-                self.operations.kept_readers.discard(handle)
+                self.operations.readers.kept.discard(handle)
                 self.store.drafts.close(handle)
 
     # Causes.
