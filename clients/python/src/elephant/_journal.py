@@ -53,6 +53,8 @@ class Journal:
         self.path, self._syncs_each = path, syncs_each
         self.file = -1
         """The number of the open file, or -1."""
+        self.size = 0
+        """The length up to the end of the last whole change, in bytes."""
         self.read_only, self._repairs = read_only, repair
         self.cut, self.copy = 0, ""
         """How many bytes after the last whole change were cut off or left out, and the path of their copy."""
@@ -122,7 +124,6 @@ class Journal:
         """Reads the header, or writes what a new journal or one with a part of a header lacks of it."""
         found = os.pread(self.file, len(HEADER), 0)
         self._checksum, self.size = _HEADER_SUM, len(HEADER)
-        """`size` is the length up to the end of the last whole change, in bytes."""
         if found == HEADER:
             return
         if not HEADER.startswith(found):

@@ -11,7 +11,6 @@ from typing import Optional, Union
 from .. import ElephantError
 from ..keeping import MOST_NAMES
 from . import records
-from .contents import Limited
 from .going_on import GoingOn, key_of
 from .names import TooLong, shown
 from .records import Attributes, directory_key, file_key
@@ -234,7 +233,7 @@ class Naming(GoingOn):
     ) -> None:
         """Removes what has the new name, and gives the name to the other node: two commands that are one change."""
         node, found = parent.children[name], new_parent.children[new_name]
-        self._require_names(1)
+        self.contents.require_limits(names=1)
         if isinstance(found, File) and len(found.names) == 1:
             self.contents.hold(found)
         ends = b"rmdir" if isinstance(found, Directory) else b"unlink"
@@ -254,11 +253,6 @@ class Naming(GoingOn):
             for _ in self.tree.refresh():
                 pass
             raise
-
-    def _require_names(self, count: int) -> None:
-        lacking = self.store.counts.lacking(names=count)
-        if lacking:
-            raise Limited(lacking, getattr(self.store.counts.limits, lacking))
 
     # Exchanging.
 
@@ -296,7 +290,7 @@ class Naming(GoingOn):
 
     def _exchange_names(self, parent: Directory, name: bytes, new_parent: Directory, new_name: bytes, now: int) -> None:
         """Renames twice by a third name, which no program sees, since the three renames are one change."""
-        self._require_names(3)
+        self.contents.require_limits(names=3)
         node, found = parent.children[name], new_parent.children[new_name]
         third = next(it for it in (b".exchange%d" % number for number in range(len(parent.children) + 1)) if it not in parent.children)
         path, new_path, aside = parent.path_of(name), new_parent.path_of(new_name), parent.path_of_new(third)
