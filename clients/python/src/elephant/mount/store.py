@@ -95,7 +95,7 @@ class MountStore(KeepingStore):
         return iter(self.drafts.deferred.values())
 
     def reserve(self, content: int = 0) -> None:
-        """Does the same with memory for the content, and raises NoMemory."""
+        """Makes sure that there is memory for a content, and space on the disk for it. Raises NoMemory, or NoSpace."""
         if content:
             self.memory.require(SAVING * content + SAVING // 2 * self.pending, content, KEPT)
         super().reserve(content)
