@@ -130,7 +130,7 @@ class Drafts:
                 lines.pop()
                 raise
             self._store.counts.take(b"open")
-            if file not in self._files.values():  # else the draft is older: a file that lost its last name while it was written
+            if file not in self._files.values():  # else there is a draft already, which may differ from the version
                 self._note_held(file, version, length, base)
             self._files[handle] = file
         self._store.opposites.append(Opposite(partial(self._end, file, handle), handle, path))
