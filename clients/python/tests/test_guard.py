@@ -8,7 +8,7 @@ from typing import Optional
 
 from elephant import Removable
 from elephant._moments import Moment
-from elephant._store import MANY
+from elephant.keeping import MANY
 from elephant.mount.guard import DAY, MOST_REMARK, SETTLE, Announced, Decision, Guard, Name, named
 
 START = 1_795_942_800

@@ -12,21 +12,19 @@ import unittest
 from pathlib import Path
 from typing import Callable, Optional
 from unittest import mock
-from zlib import crc32
 
 import elephant
 from clocks import clock_at
 from elephant import Full, JournalLocked, Limits, Store
-from elephant._journal import HEADER, PREFIX
-from elephant._turns import Clock
-from elephant.mount import store as stores
+from elephant.keeping import HEADER, Clock, NoSpace, changes_in
 from elephant.mount.contents import MOST_BYTES, Contents, Limited, TooBig
+from elephant.mount.drafts import BLOCK, changed_parts
 from elephant.mount.names import TooLong, name_in, spelled
 from elephant.mount.naming import NO_REPLACE, Naming
 from elephant.mount.past import Past, moment_of
 from elephant.mount.records import Attributes, Records, file_key, made, names_changed, saved, whole
-from elephant.mount.shorter import changes_in, shorten
-from elephant.mount.store import MountStore, NoSpace, changed_parts
+from elephant.mount.shorter import shorten
+from elephant.mount.store import MountStore
 from elephant.mount.tree import Directory, File, Tree
 
 SOURCE = str(Path(elephant.__file__).parent.parent)
@@ -161,14 +159,14 @@ class Attribute(unittest.TestCase):
             records.apply(remark)
 
     def test_parts(self) -> None:
-        block = stores.BLOCK
-        self.assertEqual(changed_parts(b"", b"", True), [])
-        self.assertEqual(changed_parts(b"abc", b"abc", True), [(0, 1)])
-        self.assertEqual(changed_parts(b"abc", b"abc", False), [])
-        old = bytes(3 * block)
-        self.assertEqual(changed_parts(old, old[:block] + b"x" + old[block + 1:], True), [(block, 2 * block)])
-        self.assertEqual(changed_parts(old, old + b"y", True), [(3 * block, 3 * block + 1)])
-        self.assertEqual(changed_parts(old, old[:block + 5], False), [])
+        self.assertEqual(changed_parts(b"", b""), [])
+        self.assertEqual(changed_parts(b"abc", b"abc"), [(0, 1)])
+        self.assertEqual(changed_parts(b"abc", b""), [])
+        old = bytes(3 * BLOCK)
+        self.assertEqual(changed_parts(old, old[:BLOCK] + b"x" + old[BLOCK + 1:]), [(BLOCK, 2 * BLOCK)])
+        self.assertEqual(changed_parts(old, old + b"y"), [(3 * BLOCK, 3 * BLOCK + 1)])
+        self.assertEqual(changed_parts(old, old[:BLOCK + 5]), [(0, 1)])  # what is cut off is no part
+        self.assertEqual(changed_parts(old, b"x" + old[1:BLOCK] + b"y" + old[:BLOCK]), [(0, 2 * BLOCK)])
 
 
 class Saving(Case):
@@ -349,7 +347,7 @@ class Limits_(Case):
     def test_a_full_disk_refuses_before_it_changes_anything(self) -> None:
         it = self.mount()
         node = it.open(it.save(b"f", b"one"))
-        with mock.patch.object(stores, "_allocate", lambda *_: errno.ENOSPC), self.assertRaises(NoSpace):
+        with mock.patch("elephant._journal.allocate", lambda *_: errno.ENOSPC), self.assertRaises(NoSpace):
             it.contents.write(node, 0, bytes(MOST_BYTES))
         it.contents.closed(node, True)
         self.assertEqual(it.read(b"f"), b"one")
@@ -510,9 +508,9 @@ class Anew(Case):
         it.save(b"f", b"one")
         size = it.store.journal_size
         it.save(b"g", b"two")
-        whole_ = list(changes_in(str(self.journal), len(HEADER), it.store.journal_size, crc32(HEADER[PREFIX - 2:])))
-        first = list(changes_in(str(self.journal), len(HEADER), size, crc32(HEADER[PREFIX - 2:])))
-        rest = list(changes_in(str(self.journal), size, it.store.journal_size, it.store.checksum_at(size)))
+        whole_ = list(changes_in(str(self.journal), it.store.journal_size))
+        first = list(changes_in(str(self.journal), size))
+        rest = list(changes_in(str(self.journal), it.store.journal_size, size))
         self.assertEqual(first + rest, whole_)
         self.assertTrue(first and rest)
 

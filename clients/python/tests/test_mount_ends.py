@@ -17,8 +17,8 @@ from unittest import mock
 import elephant
 from elephant import Full, JournalError, JournalLost, KeepOne, KeepSafe, Limits, Moment, NoMemory
 from elephant._errors import LIMIT_NAMES
-from elephant._replay import write_lines
-from elephant.mount import store as stores
+from elephant.keeping import Core, Journal, changes_in, write_lines
+from elephant.mount import drafts, memory
 from elephant.mount.ages import Ages
 from elephant.mount.contents import MOST_BYTES, Limited
 from elephant.mount.counts import Counts
@@ -34,7 +34,7 @@ from test_mount import FOLDER, SOURCE, Case, Mounted
 
 
 def no_memory() -> AbstractContextManager[Any]:
-    return mock.patch.object(stores, "has_memory", lambda _: False)
+    return mock.patch.object(memory, "has_memory", lambda _: False)
 
 
 # What a mount shows: for each file its path, the beginning of its content and its length, and for each folder its path.
@@ -46,9 +46,9 @@ class Memory(Case):
         it = self.mount()
         node = it.open(it.save(b"f", b"one"))
         size = it.store.journal_size
-        it.store._memory = 0
+        it.store.memory.left = 0
         with no_memory():
-            changes: list[Callable[[], object]] = [lambda: it.contents.write(node, 0, b"two"), it.store.require_memory]
+            changes: list[Callable[[], object]] = [lambda: it.contents.write(node, 0, b"two"), it.store.memory.require]
             for change in changes:
                 with self.assertRaises(NoMemory):
                     change()
@@ -67,18 +67,18 @@ class Memory(Case):
             looks.append(size)
             return True
 
-        with mock.patch.object(stores, "has_memory", look):
-            it.store._memory = 0
+        with mock.patch.object(memory, "has_memory", look):
+            it.store.memory.left = 0
             for _ in range(200):
-                it.store.require_memory()
+                it.store.memory.require()
             self.assertEqual(len(looks), 1)
             it.store.reserve(MOST_BYTES)
-        self.assertGreaterEqual(looks[0], stores.MEMORY_LEAST + stores.MEMORY_OF_CHANGE)
+        self.assertGreaterEqual(looks[0], memory.LEAST + memory.OF_CHANGE)
 
     def test_a_process_of_a_hundred_megabytes_has_no_more(self) -> None:
         program = """
 import resource
-from elephant.mount.disk import has_memory
+from elephant.mount.memory import has_memory
 with open("/proc/self/statm", "rb") as file:
     now = int(file.read().split()[0]) * resource.getpagesize()
 resource.setrlimit(resource.RLIMIT_AS, (now + (100 << 20),) * 2)
@@ -115,7 +115,7 @@ print(has_memory(50 << 20), has_memory(200 << 20), has_memory(50 << 20))
                 raise MemoryError
             return write_lines(handle, offset, data)
 
-        with mock.patch.object(stores, "write_lines", some), self.assertRaises(NoMemory):
+        with mock.patch.object(drafts, "write_lines", some), self.assertRaises(NoMemory):
             it.contents.save(node)
         copy = self.journal.with_name("copy")
         copy.write_bytes(self.journal.read_bytes())
@@ -449,13 +449,10 @@ class Anew(Case):
         new, size = self.shortened(), it.store.journal_size
         it.contents.write(node, 7, b"YY")
         it.contents.closed(node, True)
-        from elephant._journal import Journal
-        from elephant.mount.shorter import changes_in
-
         journal = Journal(str(new), False, 0.0)
         for _ in journal.changes():
             pass
-        for change in changes_in(str(self.journal), size, it.store.journal_size, it.store.checksum_at(size)):
+        for change in changes_in(str(self.journal), it.store.journal_size, size):
             journal.append(change)
         journal.close()
         before = it.all(), it.versions(b"f")
@@ -466,17 +463,15 @@ class Anew(Case):
     def test_a_session_without_a_change_makes_no_version_in_it(self) -> None:
         it = self.mount()
         it.save(b"f", b"one")
-        core = it.store._core
-        assert core is not None
-        core.ask(core.library.elephant_open_write, "", b"/f", 2)
-        it.store._keep(b"open write /f")
+        with it.store.changing() as (core, lines):
+            core.ask(core.library.elephant_open_write, "", b"/f", 2)
+            lines.append(b"open write /f")
         again = Mounted(self.shortened())
         self.addCleanup(again.store.close)
         self.assertEqual(again.versions(b"f"), [b"", b"one"])
 
     def test_each_difference_is_found(self) -> None:
         """Journals that differ in one thing, of each kind that a new journal has to keep."""
-        from elephant._core import Core
         from elephant.mount.comparing import Side, compare
         from elephant.mount.records import Records
         from elephant.mount.witness import Witness
@@ -584,7 +579,7 @@ class Moves(Case):
             move(str(self.journal), str(new))
         with MountStore(str(self.journal)), self.assertRaises(elephant.JournalLocked):
             move(str(self.journal), str(new.with_name("other")))
-        with mock.patch.object(MountStore, "write_draft", side_effect=NoMemory("")), self.assertRaises(NoMemory):
+        with mock.patch.object(drafts.Drafts, "write", side_effect=NoMemory("")), self.assertRaises(NoMemory):
             move(str(self.journal), str(new.with_name("other")))
         with mock.patch("elephant.mount.moving._Copy._remarks", lambda *_: []), self.assertRaises(JournalError):
             move(str(self.journal), str(new.with_name("other")))
@@ -651,7 +646,7 @@ class Looks(Case):
         self.assertEqual((look.read(b"f"), look.versions(b"f"), int(look.store.now)), (b"two", [b"", b"one", b"two"], 2_000_000_009))
         changes: list[Callable[[], object]] = [
             lambda: look.make(b"g"), look.store.clean, lambda: look.store.line("clean"), lambda: look.store.keep(b"# x"),
-            lambda: look.naming.unlink(look.top, b"f"), lambda: look.store.open_reader(b"/f", 0, 0),
+            lambda: look.naming.unlink(look.top, b"f"), lambda: look.store.drafts.open_reader(b"/f", 0, 0),
         ]
         for change in changes:
             with self.assertRaises(elephant.ElephantError):

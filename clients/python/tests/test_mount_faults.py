@@ -12,12 +12,11 @@ from unittest import mock
 
 import elephant
 from clocks import clock_at
-from elephant.mount import store as stores
+from elephant.keeping import NoSpace, changes_in
 from elephant.mount.contents import MOST_BYTES, Limited
 from elephant.mount.naming import EXCHANGE, MOST_EXTENDED, TooMuch
 from elephant.mount.past import PastNode
-from elephant.mount.shorter import changes_in, shorten
-from elephant.mount.store import NoSpace
+from elephant.mount.shorter import shorten
 from elephant.mount.tree import Directory
 from test_mount import FOLDER, Case, Mounted
 
@@ -27,7 +26,7 @@ def fails(number: int) -> mock.Mock:
 
 
 def changes_since(journal: Path, it: Mounted, size: int) -> list[object]:
-    return list(changes_in(str(journal), size, it.store.journal_size, it.store.checksum_at(size)))
+    return list(changes_in(str(journal), it.store.journal_size, size))
 
 
 class Journals(Case):
@@ -64,21 +63,21 @@ class Journals(Case):
     def test_a_full_quota_refuses_before_anything_changes(self) -> None:
         it = self.mount()
         node = it.open(it.save(b"f", b"one"))
-        with mock.patch.object(stores, "_allocate", lambda *_: errno.EDQUOT), self.assertRaises(NoSpace):
+        with mock.patch("elephant._journal.allocate", lambda *_: errno.EDQUOT), self.assertRaises(NoSpace):
             it.contents.write(node, 0, bytes(MOST_BYTES))
 
     def test_a_draft_that_can_not_be_saved_keeps_no_other_back(self) -> None:
         it = self.mount()
         for name in (b"a", b"b", b"c"):
             it.contents.write(it.open(it.make(name)), 0, name)
-        write = it.store.write_draft
+        write = it.store.drafts.write
 
         def refuses(path: bytes, *words: Any) -> int:
             if path == b"/b":
                 raise elephant.NoMemory("/b")
             return write(path, *words)
 
-        with mock.patch.object(it.store, "write_draft", refuses):
+        with mock.patch.object(it.store.drafts, "write", refuses):
             faults = it.contents.settle_all()
         self.assertEqual([node.path for node, _ in faults], [b"/b"])
         self.assertEqual([it.versions(name) for name in (b"a", b"b", b"c")], [[b"", b"a"], [b""], [b"", b"c"]])
@@ -90,7 +89,7 @@ class Journals(Case):
         it = self.mount()
         node = it.open(it.make(b"f"))
         it.contents.write(node, 0, b"one")
-        with mock.patch.object(it.store, "close_draft", side_effect=elephant.NoMemory("")), self.assertRaises(elephant.NoMemory):
+        with mock.patch.object(it.store.drafts, "close", side_effect=elephant.NoMemory("")), self.assertRaises(elephant.NoMemory):
             it.contents.closed(node, True)
         self.assertEqual(it.read(b"f"), b"one")
         it.contents.settle_all(is_every=False)

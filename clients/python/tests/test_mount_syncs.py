@@ -34,7 +34,7 @@ class Syncs(unittest.TestCase):
         self.file = file.fileno()
         self.calls: list[str] = []
         self.store = store = MountStore.__new__(MountStore)
-        journal = types.SimpleNamespace(_file=self.file, check=lambda: self.calls.append("check"), close=lambda: None, path="journal")
+        journal = types.SimpleNamespace(file=self.file, check=lambda: self.calls.append("check"), close=lambda: None, path="journal")
         vars(store).update(_lock=threading.RLock(), _journal=journal, _is_sync_lost=False, _is_broken=False, stopped="", unsynced=True)
         self.operations = operations = Operations.__new__(Operations)
         save = mock.Mock(side_effect=lambda _: self.calls.append("save"))

@@ -11,6 +11,7 @@ from typing import Optional, Union
 from unittest import mock
 
 from elephant import Limits
+from elephant.keeping import Journal
 from elephant.mount.naming import EXCHANGE
 from elephant.mount.tree import Directory, File
 from elephant.mount.undo import Undo
@@ -533,7 +534,7 @@ class Folders(Undoing):
         first = self.later()
         self.fill({b"/m/%d" % number: b"two" for number in range(200)})
         self.later()
-        with mock.patch.object(type(self.it.store._journal), "append", autospec=True) as append:
+        with mock.patch.object(Journal, "append", autospec=True) as append:
             self.undo(b"/m", first)
         self.assertLess(append.call_count, 4)
 

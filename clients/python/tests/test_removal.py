@@ -275,10 +275,10 @@ class Waits(Case):
             self.cleaner.look()
         self.pass_by(2 * HOUR)
         self.assertEqual(self.held(), ([204], ["g"]))
-        self.assertEqual(len(self.operations.kept_readers), 1)
+        self.assertEqual(len(self.operations.readers.kept), 1)
         self.assertTrue(any("deleted /g" in row for row in self.soon()))
         self.pass_by(DAY)
-        self.assertEqual((self.held(), self.operations.kept_readers), (([204], []), set()))
+        self.assertEqual((self.held(), self.operations.readers.kept), (([204], []), set()))
 
     def test_the_rest_of_a_save_by_a_new_file_does_not_wait(self) -> None:
         it = self.filled()

@@ -59,7 +59,7 @@ def as_bytes(data: ReadableBuffer) -> bytes:
 class Core:
     """An open store of the library. One call at a time.
 
-    `is_ahead` is set by `do`, `ask` and `line`, the calls that may change something. Who has stored the change clears it.
+    `is_ahead` is set by `do`, `ask`, `clean` and `line`, the calls that may change something. Who has stored the change clears it.
     """
 
     def __init__(self, limits: Limits, history: bool) -> None:
@@ -214,6 +214,12 @@ class Core:
     def keys(self, count: int) -> list[tuple[int, int, int]]:
         """Returns the rows of the kept list of versions that may be removed."""
         return [(row.since, row.file, row.number) for row in self.rows(self.library.elephant_row_key, KeyRow, count)]
+
+    def clean(self) -> tuple[int, int, int]:
+        """Removes the first version that may be removed. Returns its row as `keys` does; if there is none, the file is 0."""
+        row = self.row(self.library.elephant_clean, KeyRow, "")
+        self.is_ahead = self.is_ahead or bool(row.file)
+        return row.since, row.file, row.number
 
     def line(self, line: bytes) -> bytes:
         """Runs a line of the script language, and returns its answer."""

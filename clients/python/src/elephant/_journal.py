@@ -16,10 +16,11 @@ import time
 from collections.abc import Generator, Iterator, Sequence
 from contextlib import suppress
 from itertools import count
-from typing import Optional
+from typing import BinaryIO, Optional
 from zlib import crc32
 
 from ._errors import ElephantError, JournalDamaged, JournalError, JournalLocked, JournalLost, ReadOnly
+from ._space import FULL, NoSpace, allocate
 
 FORM = b"# elephant journal 1"
 PREFIX = len("00000000 = ")
@@ -34,7 +35,7 @@ _CUT_LINE = {
 # How often a journal that another process writes is read again, if a line seems damaged: its writer may have taken back a failed change
 # and written another one meanwhile.
 _TRIES, _PAUSE = 5, 0.02
-_COPIED_AT_ONCE = 1 << 20
+_COPIED_AT_ONCE, _RESERVED_AT_ONCE = 1 << 20, 1 << 20
 
 _HEADER_SUM = crc32(b"%b%b\n" % (ONE, FORM))
 HEADER = b"%08x %b%b\n" % (_HEADER_SUM, ONE, FORM)
@@ -49,7 +50,11 @@ class Journal:
     """
 
     def __init__(self, path: str, syncs_each: bool, wait: float, read_only: bool = False, repair: bool = False) -> None:
-        self.path, self._syncs_each, self._file = path, syncs_each, -1
+        self.path, self._syncs_each = path, syncs_each
+        self.file = -1
+        """The number of the open file, or -1."""
+        self.size = 0
+        """The length up to the end of the last whole change, in bytes."""
         self.read_only, self._repairs = read_only, repair
         self.cut, self.copy = 0, ""
         """How many bytes after the last whole change were cut off or left out, and the path of their copy."""
@@ -57,6 +62,8 @@ class Journal:
         """The lines up to the end of the last whole change."""
         self._is_torn = False
         """Whether a part of a change that failed follows it."""
+        self._reserved = 0
+        """Up to which byte the disk has space for it."""
         try:
             self.path = os.path.realpath(path)
             is_new = self._open(time.monotonic() + wait)
@@ -77,7 +84,7 @@ class Journal:
         opens the new one."""
         while True:
             is_new = self._open_file()
-            found = os.fstat(self._file)
+            found = os.fstat(self.file)
             self._identity = found.st_ino, found.st_dev
             if not stat.S_ISREG(found.st_mode):
                 raise JournalError(f"{self.path} is no regular file")
@@ -95,19 +102,19 @@ class Journal:
         flags = os.O_CLOEXEC | os.O_NONBLOCK | (os.O_RDONLY if self.read_only else os.O_RDWR | os.O_APPEND)
         while True:
             try:
-                self._file = os.open(self.path, flags)
+                self.file = os.open(self.path, flags)
                 return False
             except FileNotFoundError:
                 if self.read_only:
                     raise
             with suppress(FileExistsError):
-                self._file = os.open(self.path, flags | os.O_CREAT | os.O_EXCL, 0o600)
+                self.file = os.open(self.path, flags | os.O_CREAT | os.O_EXCL, 0o600)
                 return True
 
     def _lock(self, deadline: float) -> None:
         while True:
             try:
-                return fcntl.flock(self._file, fcntl.LOCK_EX | fcntl.LOCK_NB)
+                return fcntl.flock(self.file, fcntl.LOCK_EX | fcntl.LOCK_NB)
             except BlockingIOError:
                 if time.monotonic() >= deadline:
                     raise JournalLocked(f"another store has {self.path}") from None
@@ -115,28 +122,28 @@ class Journal:
 
     def _begin(self, is_new: bool) -> None:
         """Reads the header, or writes what a new journal or one with a part of a header lacks of it."""
-        found = os.pread(self._file, len(HEADER), 0)
-        self._checksum, self._size = _HEADER_SUM, len(HEADER)
+        found = os.pread(self.file, len(HEADER), 0)
+        self._checksum, self.size = _HEADER_SUM, len(HEADER)
         if found == HEADER:
             return
         if not HEADER.startswith(found):
             raise JournalDamaged(f"{self.path} does not begin as a journal", line=1)
         self.cut = len(found)
         if self.read_only:
-            self._size = len(found)
+            self.size = len(found)
             return
         try:
             self._write(HEADER[len(found):])
-            os.fsync(self._file)
-            self._sync_folder()
+            os.fsync(self.file)
+            self.sync_folder()
         except OSError:
             with suppress(OSError):
-                os.ftruncate(self._file, len(found))
+                os.ftruncate(self.file, len(found))
                 if is_new:
                     os.unlink(self.path)
             raise
 
-    def _sync_folder(self) -> None:
+    def sync_folder(self) -> None:
         folder = os.open(os.path.dirname(self.path), os.O_RDONLY)
         try:
             os.fsync(folder)
@@ -148,7 +155,7 @@ class Journal:
     @property
     def next_place(self) -> tuple[int, int]:
         """The line and the byte at which the next change begins. Within a loop over `changes`, those of the change of this turn."""
-        return self._lines + 1, self._size
+        return self._lines + 1, self.size
 
     def changes(self) -> Iterator[list[bytes]]:
         """Yields each whole change as its lines. Cuts off a change that was not written to its end. Raises JournalDamaged if what follows
@@ -175,9 +182,9 @@ class Journal:
     def _whole_changes(self) -> Whole:
         """Yields the whole changes that follow. Returns None if nothing follows the last of them, or a part of a change; else the number
         of the line that is damaged."""
-        number, sum_now, size = self._lines, self._checksum, self._size
+        number, sum_now, size = self._lines, self._checksum, self.size
         change: list[bytes] = []
-        with os.fdopen(os.dup(self._file), "rb", buffering=1 << 20) as file:
+        with os.fdopen(os.dup(self.file), "rb", buffering=1 << 20) as file:
             file.seek(size)
             while True:
                 raw = file.readline(MOST_LINE + 1)
@@ -196,26 +203,26 @@ class Journal:
                 if mark in (ONE, LAST):
                     yield change
                     change = []
-                    self._checksum, self._size, self._lines = sum_now, size, number
+                    self._checksum, self.size, self._lines = sum_now, size, number
 
     def again(self) -> Iterator[list[bytes]]:
         """Yields all changes once more, up to the one that was appended last. Raises JournalLost if they are no longer there."""
-        end = self._lines, self._checksum, self._size
-        self._lines, self._checksum, self._size = 1, _HEADER_SUM, len(HEADER)
+        end = self._lines, self._checksum, self.size
+        self._lines, self._checksum, self.size = 1, _HEADER_SUM, len(HEADER)
         try:
             for change in self._whole_changes():
-                if self._size >= end[2]:
+                if self.size >= end[2]:
                     break
                 yield change
-            if (self._lines, self._checksum, self._size) != end:
+            if (self._lines, self._checksum, self.size) != end:
                 raise JournalLost(f"{self.path} no longer has what was written to it")
         finally:
-            self._lines, self._checksum, self._size = end
+            self._lines, self._checksum, self.size = end
 
     def damage(self, line: int, reason: str = "is damaged") -> JournalDamaged:
         """Returns the error of a damaged line of the change that follows the last whole one."""
-        place = f"line {line} of {self.path}, in the change that begins at byte {self._size}"
-        return JournalDamaged(f"{place}, {reason}", line, self._size)
+        place = f"line {line} of {self.path}, in the change that begins at byte {self.size}"
+        return JournalDamaged(f"{place}, {reason}", line, self.size)
 
     def _copy_rest(self) -> None:
         """Copies what follows the last whole change into a new file beside the journal."""
@@ -225,29 +232,29 @@ class Journal:
                 file = os.open(copy, os.O_WRONLY | os.O_CREAT | os.O_EXCL | os.O_CLOEXEC, 0o600)
                 break
         try:
-            place = self._size
-            while piece := os.pread(self._file, _COPIED_AT_ONCE, place):
+            place = self.size
+            while piece := os.pread(self.file, _COPIED_AT_ONCE, place):
                 _write_all(file, piece)
                 place += len(piece)
             os.fsync(file)
-            self._sync_folder()
+            self.sync_folder()
         except OSError as fault:
             os.unlink(copy)
-            raise JournalError(f"what follows byte {self._size} of {self.path} can't be copied, so it stays there: {fault}") from fault
+            raise JournalError(f"what follows byte {self.size} of {self.path} can't be copied, so it stays there: {fault}") from fault
         finally:
             os.close(file)
         self.copy = copy
 
     def _cut_off(self) -> None:
         """Cuts off what follows the last whole change."""
-        end = os.fstat(self._file).st_size
-        if end <= self._size:
+        end = os.fstat(self.file).st_size
+        if end <= self.size:
             return
-        self.cut += end - self._size
+        self.cut += end - self.size
         if not self.read_only:
             try:
-                os.ftruncate(self._file, self._size)
-                os.fsync(self._file)
+                os.ftruncate(self.file, self.size)
+                os.fsync(self.file)
             except OSError as fault:
                 raise JournalError(f"{self.path} can't be cut after its last whole change: {fault}") from fault
 
@@ -259,7 +266,7 @@ class Journal:
         if self._is_torn:
             raise JournalError(f"{self.path} still has a part of a change that failed")
         if not self.read_only:
-            self._check_length(self._size)
+            self._check_length(self.size)
 
     def _check_length(self, size: int) -> None:
         """Does so with one question for the path, as each change asks it."""
@@ -283,8 +290,8 @@ class Journal:
                 self.take_back()
             self._write(text)
             if self._syncs_each:
-                os.fdatasync(self._file)
-            self._check_length(self._size + len(text))
+                os.fdatasync(self.file)
+            self._check_length(self.size + len(text))
         except JournalLost:
             self._take_back_from_lost(len(text))
             raise
@@ -294,15 +301,16 @@ class Journal:
         except BaseException:
             self._take_back_quietly()
             raise
-        self._checksum, self._size, self._lines = checksum, self._size + len(text), self._lines + len(lines)
+        self._checksum, self.size, self._lines = checksum, self.size + len(text), self._lines + len(lines)
 
     def _write(self, text: bytes) -> None:
-        _write_all(self._file, text)
+        _write_all(self.file, text)
 
     def take_back(self) -> None:
         """Cuts off what a failed append left. Raises JournalLost if the file is shorter than what was written, and OSError."""
-        if os.fstat(self._file).st_size > self._size:
-            os.ftruncate(self._file, self._size)
+        self._reserved = 0
+        if os.fstat(self.file).st_size > self.size:
+            os.ftruncate(self.file, self.size)
         self._is_torn = False
         self.check()
 
@@ -315,8 +323,8 @@ class Journal:
     def _take_back_from_lost(self, length: int) -> None:
         """Takes a change out of a file that has another name now, if nothing else was changed in it."""
         with suppress(OSError):
-            if os.fstat(self._file).st_size == self._size + length:
-                os.ftruncate(self._file, self._size)
+            if os.fstat(self.file).st_size == self.size + length:
+                os.ftruncate(self.file, self.size)
 
     def sync(self) -> None:
         """Writes all changes to the disk."""
@@ -324,18 +332,67 @@ class Journal:
             return
         self.check()
         try:
-            os.fdatasync(self._file)
+            os.fdatasync(self.file)
         except OSError as fault:
             raise JournalError(f"{self.path} can't be synced: {fault}") from fault
 
+    def reserve(self, length: int) -> None:
+        """Makes sure that the disk has space for so many bytes after the last change, if it can reserve space. Raises NoSpace."""
+        wanted = self.size + length
+        if wanted <= self._reserved:
+            return
+        for end in (wanted + _RESERVED_AT_ONCE, wanted):
+            # Some file systems can't reserve: there, only an append finds out that the disk is full.
+            if allocate(self.file, self.size, end - self.size) not in FULL:
+                self._reserved = end
+                return
+        raise NoSpace
+
+    def release(self) -> None:
+        """Gives back the reserved space that isn't used."""
+        os.ftruncate(self.file, self.size)
+        self._reserved = 0
+
     def close(self) -> None:
         """Closes the file, and frees the lock."""
-        if self._file >= 0:
-            os.close(self._file)
-            self._file = -1
+        if self.file >= 0:
+            os.close(self.file)
+            self.file = -1
 
     def __del__(self) -> None:
         self.close()
+
+
+def changes_in(path: str, end: int, start: int = len(HEADER)) -> Iterator[list[bytes]]:
+    """Yields the whole changes between two places of a journal, each the end of a change. Raises JournalError for a line that is damaged.
+
+    It takes no lock, so the journal's owner may append to it meanwhile.
+    """
+    change: list[bytes] = []
+    with open(path, "rb", buffering=1 << 20) as file:
+        checksum = _checksum_before(file, start)
+        file.seek(start)
+        while start < end:
+            raw = file.readline()
+            body, start = raw[PREFIX - 2:], start + len(raw)
+            checksum = crc32(body, checksum)
+            if raw[:PREFIX - 2] != b"%08x " % checksum or raw[-1:] != b"\n" or (body[:2] in (ONE, FIRST)) == bool(change):
+                raise JournalError(f"{path} is damaged before byte {start}")
+            change.append(body[2:-1])
+            if body[:2] in (ONE, LAST):
+                yield change
+                change = []
+    if change or start != end:
+        raise JournalError(f"{path} has no end of a change at byte {end}")
+
+
+def _checksum_before(file: BinaryIO, end: int) -> int:
+    """Returns the checksum of a journal's lines up to a place."""
+    if end == len(HEADER):
+        return _HEADER_SUM
+    file.seek(max(end - MOST_LINE, 0))
+    last = file.read(end - file.tell()).rstrip(b"\n").rpartition(b"\n")[2]
+    return int(last[:8], 16)
 
 
 def _write_all(file: int, text: bytes) -> None:

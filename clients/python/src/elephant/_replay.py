@@ -24,10 +24,13 @@ def write_lines(handle: int, offset: int, data: bytes) -> list[bytes]:
 
 
 class Replay:
-    """Runs the changes of a journal in a fresh store, and notes which handles they leave open."""
+    """Runs the changes of a journal in a fresh store, and notes which handles they leave open.
+
+    A program that notes more overrides `remark`, and `open_write`, `close` and `command`, which return the code of the library.
+    """
 
     def __init__(self, core: Core) -> None:
-        self._core, self._library, self._e = core, core.library, core.handle
+        self.core, self.library, self._e = core, core.library, core.handle
         self.writers: dict[int, bytes] = {}
         """The handles that write, each with the path at which it was opened."""
         self.readers: set[int] = set()
@@ -44,13 +47,13 @@ class Replay:
                 self.remark(rest)
                 continue
             elif word == b"open" and words[0] == b"write" and len(words) == 2:
-                code = self._open_write(words[1])
+                code = self.open_write(words[1])
             elif word == b"close" and _are_numbers(words) and len(words) == 1:
-                code = self._close(int(rest))
+                code = self.close(int(rest))
             elif word == b"truncate" and _are_numbers(words) and len(words) == 2:
-                code = self._library.elephant_truncate(self._e, int(words[0]), int(words[1]))
+                code = self.library.elephant_truncate(self._e, int(words[0]), int(words[1]))
             else:
-                code = self._other(line)
+                code = self.command(line)
             if code:
                 self._refuse(code, line, at)
 
@@ -61,24 +64,27 @@ class Replay:
         try:
             data = unhexlify(digits)
         except ValueError:
-            return self._other(b"write %b %b %b" % (handle, offset, digits))
-        code: int = self._library.elephant_write(self._e, int(handle), int(offset), data, len(data))
+            return self.command(b"write %b %b %b" % (handle, offset, digits))
+        code: int = self.library.elephant_write(self._e, int(handle), int(offset), data, len(data))
         return code
 
-    def _open_write(self, path: bytes) -> int:
-        code: int = self._library.elephant_open_write(self._e, path, len(path), self._core.number_at)
+    def open_write(self, path: bytes) -> int:
+        """Opens a handle that writes."""
+        code: int = self.library.elephant_open_write(self._e, path, len(path), self.core.number_at)
         if not code:
-            self.writers[self._core.number] = path
+            self.writers[self.core.number] = path
         return code
 
-    def _close(self, handle: int) -> int:
+    def close(self, handle: int) -> int:
+        """Closes a handle."""
         if self.writers.pop(handle, None) is None:
             self.readers.discard(handle)
-        code: int = self._library.elephant_close_handle(self._e, handle, self._core.number_at)
+        code: int = self.library.elephant_close_handle(self._e, handle, self.core.number_at)
         return code
 
-    def _other(self, line: bytes) -> int:
-        answer = self._core.line(line)
+    def command(self, line: bytes) -> int:
+        """Runs any other line."""
+        answer = self.core.line(line)
         if not answer.startswith(b"ok "):
             return int(answer.split()[1])
         if line.startswith(b"open read "):
@@ -88,7 +94,7 @@ class Replay:
     def _refuse(self, code: int, line: bytes, at: int) -> None:
         if code == NoMemory.number:
             raise NoMemory("the journal's store")
-        reason = f"{line[:80]!r}, is refused: {self._core.error(code)}"
+        reason = f"{line[:80]!r}, is refused: {self.core.error(code)}"
         if code in (Full.number, HistoryFull.number):
             raise JournalError(f"a line, {reason}; was the journal made with larger limits?")
         raise JournalDamaged(reason, at)

@@ -13,7 +13,6 @@ from ._core import Core, natural
 from ._drafts import UNKNOWN
 from ._dump import dump
 from ._errors import BadName, ClockDoubt, ElephantError, MassRemoval, Refused, Stop, Untold, error_of
-from ._library import KeyRow
 from ._moments import NEVER, Moment, MomentLike
 from ._names import Path, require_shown, spell, spell_name
 from ._policies import Policy
@@ -266,12 +265,11 @@ class Store(Saves):
         with self._lock, self._change as core:
             if self._most_removed(core) == 0:
                 return None
-            key = core.row(core.library.elephant_clean, KeyRow, "")
-            if not key.file:
+            since, file, number = core.clean()
+            if not file:
                 return None
-            core.is_ahead = True
             self._keep(b"clean")
-            return Removable(Moment(key.since), key.file, key.number)
+            return Removable(Moment(since), file, number)
 
     def pass_(self, budget: Optional[SupportsIndex] = None, *, confirm: bool = False) -> Pass:
         """Removes versions until none may be removed, or as many as the budget says. A Stop has in `removed` how many it removed

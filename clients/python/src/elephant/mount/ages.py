@@ -14,8 +14,8 @@ import stat
 from bisect import bisect_right
 from typing import Optional
 
-from .._moments import LAST_MOMENT
-from .past import FIRST_INO, Past, PastNode, Shown, Source
+from .. import LAST_MOMENT
+from .past import FIRST_INO, Past, PastNode, Row, Shown
 from .store import MountStore
 from .tree import Tree
 
@@ -101,7 +101,7 @@ class Ages(Past):
             return Shown(stat.S_IFDIR | 0o555, 0, int((owner or self).store.now), root.owner, root.group)
         return super().show(node) if owner is None else owner.show(node)
 
-    def source(self, node: PastNode) -> Source:
+    def source(self, node: PastNode) -> Row:
         owner = self._owner(node)
         return super().source(node) if owner is None else owner.source(node)
 

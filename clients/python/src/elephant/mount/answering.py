@@ -11,13 +11,13 @@ from typing import Any, Callable
 
 import pyfuse3
 
-from .._errors import ElephantError, Full, JournalError, ReadOnly
+from .. import ElephantError, Full, JournalError, ReadOnly
+from ..keeping import FULL, NoSpace
 from .contents import Limited, TooBig
-from .disk import FULL
 from .log import Log
 from .names import TooLong, shown
 from .naming import TooMuch
-from .store import MountStore, NoSpace
+from .store import MountStore
 
 _ERRNOS = {
     5: errno.ENOENT, 6: errno.ENOTDIR, 7: errno.EISDIR, 8: errno.EEXIST, 9: errno.ENOTEMPTY, 10: errno.EINVAL, 11: errno.EBUSY,
@@ -71,7 +71,7 @@ class Answering(pyfuse3.Operations):
             raise OSError(errno.EIO if self.store.is_lost else errno.EROFS, self.store.stopped)
         if self._is_behind:
             self.catch_up()
-        self.store.require_memory()
+        self.store.memory.require()
         self.store.reserve(0)
         self.say_ends()
 

@@ -7,12 +7,8 @@ import time
 from collections.abc import Sequence
 from typing import Optional
 
-from .._answers import Due, Removable
-from .._clock import span
-from .._errors import ElephantError
-from .._library import AT, VERSION
-from .._moments import LAST_MOMENT
-from .._store import MANY
+from .. import LAST_MOMENT, Due, ElephantError, Removable
+from ..keeping import AT, MANY, VERSION, span
 from .guard import DAY, Guard, Name, named
 from .log import Log, local
 from .names import name_in, shown
@@ -157,7 +153,7 @@ class Cleaner:
         if len(self.waits) > LONG_LIST and steady < self._listed_at + LONG_EVERY:
             return set()
         self._listed_at = steady
-        self.operations.hold_past()
+        self.operations.readers.hold()
         now = self.store.removal_moment
         due = sorted([key for key in self.store.due() if key.since <= now] + self.held_keys)
         held = sum(it.versions for it in self.store.usage())
@@ -170,7 +166,7 @@ class Cleaner:
 
     def _keep_announced(self, guard: Guard, announce: list[Removable], due: Sequence[Removable], now: int) -> None:
         """Logs what the guard announces, and puts it into the journal."""
-        names = {named(key) for key in due} | {node.key[-2:] for node in self.operations.open_past()}
+        names = {named(key) for key in due} | {node.key[-2:] for node in self.operations.readers.nodes()}
         gone = guard.announced.since.keys() - names
         if gone or announce:
             self.store.reserve(REMARK_BYTES * (len(gone) + len(announce)))
@@ -190,7 +186,7 @@ class Cleaner:
     def _remove_some(self, may_go: Optional[set[Name]]) -> int:
         deadline, removed = time.monotonic() + MOST_AT_ONCE, 0
         keys = self.store.first_due(MOST_KEYS)
-        if keys and self.operations.hold_past():
+        if keys and self.operations.readers.hold():
             keys = self.store.first_due(MOST_KEYS)
         for key in keys:
             if (may_go is not None and named(key) not in may_go) or key.since > self.store.removal_moment:
@@ -226,18 +222,18 @@ class Cleaner:
         node, last = self.operations.tree.files.get(key.file), self.store.departed.get(key.file)
         try:
             if node is not None:
-                handle = self.store.open_reader(node.path, VERSION, key.number)
+                handle = self.store.drafts.open_reader(node.path, VERSION, key.number)
             elif last is None or not last.closed < last.ended:
                 return
             else:
                 row = self.store.stat_row(last.path, AT, last.ended - 1)
                 if (row.id, row.version) != named(key):
                     return
-                handle = self.store.open_reader(last.path, AT, last.ended - 1)
+                handle = self.store.drafts.open_reader(last.path, AT, last.ended - 1)
         except (ElephantError, OSError):
             return  # what became due later waits with it
         self._held[named(key)] = key, handle
-        self.operations.kept_readers.add(handle)
+        self.operations.readers.kept.add(handle)
 
     @property
     def held_keys(self) -> list[Removable]:
@@ -252,8 +248,8 @@ class Cleaner:
         for name in list(self._held):
             if name in names:
                 _, handle = self._held.pop(name)
-                self.operations.kept_readers.discard(handle)
-                self.store.close_draft(handle)
+                self.operations.readers.kept.discard(handle)
+                self.store.drafts.close(handle)
 
     # Causes.
 

@@ -7,8 +7,7 @@ import socket
 import time
 from contextlib import suppress
 
-from .._errors import BadTime
-from .._times import read_time
+from .. import BadTime, read_time
 from .names import spelled
 
 

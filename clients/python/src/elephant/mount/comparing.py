@@ -10,10 +10,8 @@ from hashlib import sha256
 from itertools import zip_longest
 from typing import NamedTuple
 
-from .._core import Core
-from .._errors import ElephantError, JournalError
-from .._moments import LAST_MOMENT
-from .._replay import Replay
+from .. import LAST_MOMENT, ElephantError, JournalError
+from ..keeping import Core, Replay
 from .counts import Counts
 from .records import Attributes, Records
 

@@ -9,13 +9,15 @@ from __future__ import annotations
 import errno
 from typing import Optional
 
-from .._errors import ElephantError
+from .. import ElephantError
 from . import records
+from .drafts import Base, NotKept
 from .records import file_key, now_ns, saved
-from .store import MountStore, NotKept
+from .store import MountStore
 from .tree import File, Tree
 
 MOST_BYTES = 1_048_576
+_NONE = Base(0, 0, b"")
 
 
 class Limited(OSError):
@@ -33,7 +35,8 @@ class Contents:
         self.store, self.tree = store, tree
         self.drafts: set[File] = set()
         """The files that have a draft."""
-        self._last: tuple[Optional[File], int, bytes] = (None, 0, b"")
+        self._last = _NONE
+        """The version that was read last."""
 
     # Reading.
 
@@ -50,15 +53,19 @@ class Contents:
         """Returns the whole content of a file."""
         if node.draft is not None:
             return bytes(node.draft)
-        file, version, content = self._last
-        if file is not node or version != node.version:
-            content = self.store.content(node.path)
-            self._last = node, node.version, content
-        return content
+        return (self._read_last(node) or self._read(node)).content
+
+    def _read_last(self, node: File) -> Optional[Base]:
+        """Returns a file's version, if it was read last."""
+        return self._last if self._last[:2] == (node.number, node.version) else None
+
+    def _read(self, node: File) -> Base:
+        self._last = Base(node.number, node.version, self.store.content(node.path))
+        return self._last
 
     def forget_read(self) -> None:
         """Drops the content that was read last. Call it if a node is about to get another file."""
-        self._last = None, 0, b""
+        self._last = _NONE
 
     # Writing.
 
@@ -67,12 +74,14 @@ class Contents:
         if node.draft is None:
             if node.names:
                 self.require_limits(versions=1, handles=1)
-            self._set_draft(node, bytearray() if is_cut else bytearray(self.whole(node)))
+            base = self._read_last(node) or (None if is_cut else self._read(node))
+            self._set_draft(node, bytearray() if is_cut or base is None else bytearray(base.content))
+            node.base = base
         assert node.draft is not None
         return node.draft
 
     def _set_draft(self, node: File, draft: Optional[bytearray]) -> None:
-        node.draft = draft
+        node.draft, node.base = draft, None
         if draft is None:
             self.drafts.discard(node)
             self._set_pending(node, 0)
@@ -153,11 +162,16 @@ class Contents:
         # A program may have set the time of the content since.
         remark = saved(file_key(node.number), it.mtime) if it.mtime == it.ctime else records.whole(file_key(node.number), it)
         try:
-            node.handle = self.store.write_draft(node.path, node.handle, bytes(draft), True, (remark,))
+            node.handle = self.store.drafts.write(node.path, node.handle, bytes(draft), (remark,), node.base)
         except NotKept as fault:
-            node.handle, node.is_unsaved = fault.number, False
+            self._saved(node, fault.number)
             raise
-        node.is_unsaved = False
+        self._saved(node, node.handle)
+
+    @staticmethod
+    def _saved(node: File, handle: int) -> None:
+        """Notes that the store has a file's draft, and so knows what to compare the next one with."""
+        node.handle, node.is_unsaved, node.base = handle, False, None
 
     def settle(self, node: File) -> None:
         """Makes a file's draft a version, and keeps the draft if that fails. The draft of a file without a name is dropped."""
@@ -167,7 +181,7 @@ class Contents:
         if node.handle is None:
             return self._settled(node, node.size, 0)
         try:
-            self._settled(node, len(node.draft), self.store.close_draft(node.handle))
+            self._settled(node, len(node.draft), self.store.drafts.close(node.handle))
         except NotKept as fault:
             self._settled(node, len(node.draft), fault.number)
             raise

@@ -17,12 +17,10 @@ from contextlib import suppress
 from typing import Optional
 from zlib import crc32
 
-from .._errors import BadName, ClockDoubt, ElephantError, Refused
-from .._names import require_shown
-from .._times import read_time, told_time
+from .. import BadName, ClockDoubt, ElephantError, Refused, read_time
+from ..keeping import NoSpace, require_shown, told_time
 from .names import name_in
 from .operations import Operations
-from .store import NoSpace
 from .tree import Directory, File, Node
 from .undo import Undo
 from .whereabouts import Nothing
@@ -114,7 +112,7 @@ class Lines:
             self.operations.require_writable()
             self._prepare(words)
         if word in ("clean", "pass", "due", "why"):
-            self.operations.hold_past()
+            self.operations.readers.hold()
         answer = self.store.line(" ".join(words))
         if word in ("clean", "pass"):
             self.store.forget_names()
@@ -124,9 +122,8 @@ class Lines:
         return answer
 
     def _own_handles(self) -> set[str]:
-        drafts = {str(it.handle) for it in self.contents.drafts if it.handle is not None}
-        readers = {str(it.reader) for it in self.operations.past_handles.values() if it.reader is not None}
-        return drafts | readers | {str(it) for it in self.operations.kept_readers}
+        drafts = {it.handle for it in self.contents.drafts if it.handle is not None}
+        return set(map(str, self.operations.readers.handles() | drafts))
 
     def _prepare(self, words: list[str]) -> None:
         """Prepares for a line that ends a name: keeps the contents of open files for their programs, and makes versions of drafts

@@ -6,7 +6,7 @@ from collections.abc import Iterator, Sequence
 from contextlib import contextmanager
 from typing import Optional
 
-from .._answers import Limits
+from .. import Limits
 
 # The counts that each command raises by one.
 # Printed by tools/pages/surface --write: the counts, from ele_model/specs/Step.antt and ele_model/specs/Change.antt.

@@ -13,11 +13,12 @@ from collections.abc import Iterator
 from contextlib import contextmanager
 from typing import Optional, Union
 
-from .._errors import ElephantError, Refused
+from .. import ElephantError, Refused
+from ..keeping import NoSpace
 from . import records
 from .contents import Contents
 from .records import Attributes, directory_key, file_key
-from .store import MountStore, NoSpace
+from .store import MountStore
 from .tree import Directory, File, Node, Tree
 
 # How long after the end of a name a new file of that name continues the past of the old one, in seconds.
@@ -104,10 +105,9 @@ class GoingOn:
     def _revive(self, path: bytes, number: int) -> bool:
         """Restores a name. Returns whether it is again that of the file with this number."""
         try:
-            version = self.store.run((b"undelete", path))
+            self.store.run((b"undelete", path))
         except Refused:
             return False
-        self.store.counts.used["versions"] += bool(version)
         row = self.store.stat_row(path)
         if not row.is_directory and row.id == number:
             return True
@@ -129,8 +129,7 @@ class GoingOn:
         self.tree.give_number(old, copy)
         old.version = 1
         if content:
-            handle = self.store.write_draft(away, None, content, True, (records.whole(file_key(copy), kept),))
-            old.version = self.store.close_draft(handle)
+            old.version = self.store.drafts.save(away, content, (records.whole(file_key(copy), kept),))
 
     # New contents.
 
@@ -218,7 +217,7 @@ class GoingOn:
         )
         source, is_new = node.number, self._is_new(node)
         others = [folder.path_of(word) for folder, word in node.names if (folder, word) != (parent, name)]
-        handle, version = self.store.replace_content(new_path, path, content, is_new, remarks, keeps_open=is_written)
+        handle, version = self.store.drafts.replace(new_path, path, content, is_new, remarks, keeps_open=is_written)
         if others:
             self.store.run(*(step for it in others for step in ((b"unlink", it), (b"link", new_path, it))))
         if new_name in new_parent.children:
@@ -253,7 +252,7 @@ class GoingOn:
             content = self.contents.whole(node)
             self.contents.forget_read()
             node.attributes.ctime = now
-            _, version = self.store.replace_content(path, own, content, True, (
+            _, version = self.store.drafts.replace(path, own, content, True, (
                 records.names_changed(now, key_of(parent)), *records.everything(file_key(number), node.attributes),
             ))
             self.store.run((b"link", path, own))

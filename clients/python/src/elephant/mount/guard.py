@@ -13,8 +13,8 @@ from collections.abc import Collection, Iterable, Iterator, Sequence
 from contextlib import suppress
 from typing import NamedTuple
 
-from .._answers import Removable
-from .._store import is_much
+from .. import Removable
+from ..keeping import is_much
 
 DAY = 86_400
 # How long nothing is removed after a mount and after a gap, and the least gap, in seconds.

@@ -7,13 +7,13 @@ import time
 import traceback
 from collections.abc import Callable
 
-from .._errors import ElephantError
+from .. import ElephantError
+from ..keeping import NoSpace
 from .cleaning import Cleaner
 from .control import Changes
 from .log import Log
 from .operations import Operations
 from .rewriting import Rewriting
-from .store import NoSpace
 from .tree import File
 
 SYNC_EVERY, RETRY_EVERY, REWRITE_EVERY, LOOK_EVERY, FORETELL_EVERY = 5.0, 2.0, 600.0, 1.0, 3600.0

@@ -11,8 +11,7 @@ import subprocess
 import sys
 from typing import Optional
 
-from .._answers import Limits
-from .._errors import ElephantError, JournalLocked
+from .. import ElephantError, JournalLocked, Limits
 from .client import ask, undo_line
 from .wording import line_of, words_of
 

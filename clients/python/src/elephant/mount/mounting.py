@@ -10,8 +10,8 @@ from typing import NamedTuple, Optional
 
 import pyfuse3
 
-from .._answers import Limits
-from .._errors import ClockDoubt, ElephantError
+from .. import ClockDoubt, ElephantError, Limits
+from ..keeping import NoSpace
 from .ages import Ages
 from .contents import Contents
 from .control import Changes, Control, Lines
@@ -25,7 +25,7 @@ from .operations import Operations
 from .past import text_of
 from .rewriting import Rewriting
 from .soon import Soon
-from .store import CLOCK_IS_RIGHT, READ_ONLY, MountStore, NoSpace
+from .store import CLOCK_IS_RIGHT, READ_ONLY, MountStore
 from .tree import Directory, Tree
 
 
@@ -158,7 +158,7 @@ class Mount:
             if self.store.stopped:
                 self.store.retry()
             faults = [f"{shown(node.path)}: {fault}" for node, fault in self.contents.settle_all()]
-            for last in (self._close_readers, self.keeper.cleaner.release_all, self.store.release_reserve, self.store.close):
+            for last in (self.operations.readers.close, self.keeper.cleaner.release_all, self.store.release_reserve, self.store.close):
                 try:
                     last()
                 except (ElephantError, NoSpace, OSError) as fault:
@@ -166,11 +166,6 @@ class Mount:
         for text in faults:
             self.log.say(f"the journal may lack the last changes: {text}")
         return not faults and not self.store.stopped
-
-    def _close_readers(self) -> None:
-        for opened in self.operations.past_handles.values():
-            if opened.reader is not None:
-                self.store.close_draft(opened.reader)
 
     def _tell_kernel(self, changes: Changes) -> None:
         """Makes the kernel drop its cache of what a line changed. Call it without the lock: the kernel may send requests meanwhile."""

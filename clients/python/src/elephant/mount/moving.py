@@ -14,7 +14,7 @@ from contextlib import contextmanager, suppress
 from itertools import zip_longest
 from typing import Any
 
-from .._errors import JournalError, JournalLocked
+from .. import JournalError, JournalLocked
 from .comparing import plain
 from .records import directory_key, everything, file_key
 from .store import MountStore
@@ -137,7 +137,7 @@ class _Copy:
             if wanted != _policy(self.new, path):
                 self.new.run((b"policy", path, wanted.encode()))
             if content:
-                self.new.close_draft(self.new.write_draft(path, None, content, True, ()))
+                self.new.drafts.save(path, content)
             self.new.keep(*self._remarks(file_key(number), file_key(made)))
 
     def _remarks(self, old: int, new: int) -> list[bytes]:

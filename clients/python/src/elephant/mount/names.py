@@ -7,7 +7,7 @@ import functools
 import re
 from collections.abc import Iterable
 
-from .._names import HIDDEN, MOST_NAME, is_shown, name_of
+from ..keeping import HIDDEN, MOST_NAME, is_shown, name_of
 
 NAME = HIDDEN.encode()
 """The name of the folder of the past, at the top."""

@@ -8,10 +8,9 @@ import time
 from collections.abc import Sequence
 from typing import Optional, Union
 
-from .._errors import ElephantError
-from .._names import MOST_NAMES
+from .. import ElephantError
+from ..keeping import MOST_NAMES
 from . import records
-from .contents import Limited
 from .going_on import GoingOn, key_of
 from .names import TooLong, shown
 from .records import Attributes, directory_key, file_key
@@ -91,7 +90,7 @@ class Naming(GoingOn):
         made = self._new(parent, stat.S_IFLNK | 0o777, owner, group)
         with self.store.together():
             number = self.store.run((b"create", path), remarks=lambda it: [records.made(file_key(it), key_of(parent), made)])
-            version = self.store.close_draft(self.store.write_draft(path, None, target, True, ()))
+            version = self.store.drafts.save(path, target)
         node = self._added(parent, name, number, made)
         node.size, node.version = len(target), version
         return node
@@ -234,7 +233,7 @@ class Naming(GoingOn):
     ) -> None:
         """Removes what has the new name, and gives the name to the other node: two commands that are one change."""
         node, found = parent.children[name], new_parent.children[new_name]
-        self._require_names(1)
+        self.contents.require_limits(names=1)
         if isinstance(found, File) and len(found.names) == 1:
             self.contents.hold(found)
         ends = b"rmdir" if isinstance(found, Directory) else b"unlink"
@@ -254,11 +253,6 @@ class Naming(GoingOn):
             for _ in self.tree.refresh():
                 pass
             raise
-
-    def _require_names(self, count: int) -> None:
-        lacking = self.store.counts.lacking(names=count)
-        if lacking:
-            raise Limited(lacking, getattr(self.store.counts.limits, lacking))
 
     # Exchanging.
 
@@ -287,19 +281,16 @@ class Naming(GoingOn):
         self.contents.forget_read()
         node.attributes.ctime = found.attributes.ctime = now
         number, new_number = node.number, found.number
-        new_version = self._save_as(new_path, contents[0], records.everything(file_key(new_number), node.attributes))
-        version = self._save_as(path, contents[1], records.everything(file_key(number), found.attributes))
+        new_version = self.store.drafts.save(new_path, contents[0], records.everything(file_key(new_number), node.attributes))
+        version = self.store.drafts.save(path, contents[1], records.everything(file_key(number), found.attributes))
         node.version, found.version = new_version or found.version, version or node.version
         node.born, found.born = found.born, node.born
         self.tree.give_number(node, new_number)
         self.tree.give_number(found, number)
 
-    def _save_as(self, path: bytes, content: bytes, remarks: list[bytes]) -> int:
-        return self.store.close_draft(self.store.write_draft(path, None, content, True, remarks))
-
     def _exchange_names(self, parent: Directory, name: bytes, new_parent: Directory, new_name: bytes, now: int) -> None:
         """Renames twice by a third name, which no program sees, since the three renames are one change."""
-        self._require_names(3)
+        self.contents.require_limits(names=3)
         node, found = parent.children[name], new_parent.children[new_name]
         third = next(it for it in (b".exchange%d" % number for number in range(len(parent.children) + 1)) if it not in parent.children)
         path, new_path, aside = parent.path_of(name), new_parent.path_of(new_name), parent.path_of_new(third)

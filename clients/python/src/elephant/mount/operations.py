@@ -10,13 +10,14 @@ from typing import Any, NamedTuple, Optional, Union
 
 import pyfuse3
 
-from .._errors import ElephantError, Forgotten
+from .. import ElephantError
 from .answering import Answering, answered, changing
 from .contents import Contents
 from .log import Log
 from .names import NAME, shown
 from .naming import Naming
-from .past import Past, PastNode, Source, is_lasting
+from .past import Past, PastNode, is_lasting
+from .readers import Readers
 from .store import MountStore
 from .tree import ROOT, Directory, File, Node, Tree
 
@@ -27,16 +28,6 @@ NAME_MAX = 64
 USER = b"user."
 MOST_SAID = 5
 _CHANGES = os.O_ACCMODE | os.O_TRUNC
-
-
-class PastHandle:
-    """An open file of the past: its content, and the store's handle that holds the version, if there is one already."""
-
-    __slots__ = ("node", "source", "content", "reader")
-
-    def __init__(self, node: PastNode, source: Optional[Source], content: bytes) -> None:
-        self.node, self.source, self.content = node, source, content
-        self.reader: Optional[int] = None
 
 
 class Listing(NamedTuple):
@@ -56,9 +47,7 @@ class Operations(Answering):
         super().__init__(store, log)
         self.tree, self.contents, self.naming, self.past = tree, contents, naming, past
         self.by_ino = tree.by_ino
-        self.past_handles: dict[int, PastHandle] = {}
-        self.kept_readers: set[int] = set()
-        """The store's handles for versions that wait for their removal."""
+        self.readers = Readers(store, tree, past)
         self._listings: dict[int, Listing] = {}
         self.untold: list[tuple[Node, Optional[bytes]]] = []
         """Changes of the tree without a request of the kernel. Another thread has to report them, as the kernel may send requests
@@ -370,18 +359,10 @@ class Operations(Answering):
             raise OSError(errno.EISDIR, "")
         if flags & os.O_ACCMODE != os.O_RDONLY or flags & os.O_TRUNC:
             raise OSError(errno.EROFS, "")
-        try:
-            source = None if node.key[0] in self.past.texts else self.past.source(node)
-            content = self.past.content(node)
-        except (ElephantError, OSError) as fault:
-            if node.key[0] == "dead" and not node.key[-1] and not isinstance(fault, Forgotten):
-                raise OSError(errno.ENODATA, "") from fault
-            raise
         self._next_handle += 1
-        self.past_handles[self._next_handle] = PastHandle(node, source if self.past.can_lose(node) else None, content)
-        node.opens += 1
-        # The kernel caches no page of the only text that changes.
-        return pyfuse3.FileInfo(fh=self._next_handle, keep_cache=True) if source else pyfuse3.FileInfo(fh=self._next_handle, direct_io=True)
+        stays = self.readers.open(self._next_handle, node)
+        # The kernel caches no page of a text that changes.
+        return pyfuse3.FileInfo(fh=self._next_handle, keep_cache=True, direct_io=not stays)
 
     @changing
     def create(self, ino: int, name: bytes, mode: int, flags: int, context: Any) -> Any:
@@ -394,7 +375,7 @@ class Operations(Answering):
     @answered
     def read(self, handle: int, offset: int, size: int) -> bytes:
         if handle >= FIRST_PAST_HANDLE:
-            return self.past_handles[handle].content[offset:offset + size]
+            return self.readers.opened[handle].content[offset:offset + size]
         return self.contents.read(self._file(handle), offset, size)
 
     @changing
@@ -411,44 +392,13 @@ class Operations(Answering):
         if handle < FIRST_PAST_HANDLE:
             self.contents.closed(self._file(handle), bool(handle & 1))
             return
-        opened = self.past_handles.pop(handle)
-        opened.node.opens -= 1
-        self.past.forget(opened.node)
-        if opened.reader is not None:
-            self.store.close_draft(opened.reader)
+        self.readers.release(handle)
 
     @answered
     def fsync(self, handle: int, only_data: bool) -> None:
         if handle < FIRST_PAST_HANDLE:
             self.contents.save(self._file(handle))
             self.store.sync_journal()
-
-    def open_past(self) -> list[PastNode]:
-        """Returns the nodes of the past that programs have open."""
-        return [opened.node for opened in self.past_handles.values()]
-
-    def hold_past(self) -> bool:
-        """Opens handles of the store for the versions that open files of the past read. Returns whether it opened another one.
-
-        Call it before a removal.
-        """
-        is_another = False
-        for opened in self.past_handles.values():
-            source = opened.source
-            if opened.reader is None and source is not None:
-                try:
-                    opened.reader = self.store.open_reader(self._path_now(source), source.tag, source.number)
-                    is_another = True
-                except (ElephantError, OSError):
-                    opened.source = None  # it stays readable, from the copy in memory
-        return is_another
-
-    def _path_now(self, source: Source) -> bytes:
-        """Returns the path that finds a version: a version's number means the file that has the name now."""
-        if source.tag != 2:
-            return source.path
-        node = self.tree.files.get(source.file)
-        return node.path if node is not None else source.path
 
     # Directories.
 

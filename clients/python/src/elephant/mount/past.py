@@ -20,9 +20,8 @@ import time
 from datetime import datetime, timezone
 from typing import Any, NamedTuple, Optional
 
-from .._errors import BadTime, ElephantError, Forgotten, NoEntry
-from .._library import AT, VERSION
-from .._times import read_time
+from .. import BadTime, ElephantError, Forgotten, NoEntry, read_time
+from ..keeping import AT, NOW, VERSION
 from .names import TooLong, name_in, names_of, spelled
 from .records import DIRECTORY_MODE, FILE_MODE, Attributes, directory_key, file_key
 from .store import MountStore
@@ -43,11 +42,14 @@ class PastNode:
     inode always has one content, though a path may get another. `shown` is the last answer about an open node.
     """
 
-    __slots__ = ("ino", "key", "lookups", "opens", "shown")
+    __slots__ = ("ino", "key", "lookups", "opens", "shown", "row", "asked")
 
     def __init__(self, ino: int, key: Key) -> None:
         self.ino, self.key, self.lookups, self.opens = ino, key, 0, 0
         self.shown: Optional[Shown] = None
+        self.row: Optional[Row] = None
+        self.asked = 0
+        """The count of the store's changes when it was asked for the row."""
 
 
 class Shown(NamedTuple):
@@ -60,13 +62,17 @@ class Shown(NamedTuple):
     group: int
 
 
-class Source(NamedTuple):
-    """The content of a node in the store: the file, and how a read finds the version."""
+class Row(NamedTuple):
+    """The store's row of a file or a directory of the past, and how a read finds it. It holds until the store is changed."""
 
-    file: int
     path: bytes
     tag: int
     number: int
+    file: int
+    version: int
+    length: int
+    closed: int
+    is_directory: bool
 
 
 def moment_of(name: bytes, now: Optional[int] = None) -> int:
@@ -130,38 +136,34 @@ class Past:
     def find(self, node: PastNode, name: bytes) -> PastNode:
         """Does the same, also for a forgotten version, which can't be read."""
         kind, *words = node.key
-        key: Optional[Key] = None
         if kind == "root" and name in PARTS:
-            key = name.decode(), *_WORDS.get(name, ())
-        elif kind == "at":
-            key = self._find_at(words, name)
-        elif kind == "versions":
-            key = self._find_versions(words[0], name)
-        elif kind == "file":
-            key = self._file_key("version", words[0], _number(name))
-        elif kind == "restorable":
-            key = self._dead_names(words[0]).get(name)
-            if key and key[0] == "dead":
-                key = self._file_key(*key)
+            return self.node(name.decode(), *_WORDS.get(name, ()))
+        if kind == "at":
+            return self._find_at(words, name)
+        if kind == "versions":
+            return self._find_versions(words[0], name)
+        if kind == "file":
+            return self._file("version", words[0], _number(name))
+        key = self._dead_names(words[0]).get(name) if kind == "restorable" else None
         if key is None:
             raise FileNotFoundError(errno.ENOENT, "")
-        return self.node(*key)
+        return self._file(*key) if key[0] == "dead" else self.node(*key)
 
-    def _find_at(self, words: list[object], name: bytes) -> Key:
+    def _find_at(self, words: list[object], name: bytes) -> PastNode:
         if not words:
             moment = moment_of(name, int(self.store.now))
             if moment > self.store.now:
                 raise FileNotFoundError(errno.ENOENT, "the moment is to come")
-            return "at", moment, b""
+            return self.node("at", moment, b"")
         at, path = words
         folder = _path(path)
         try:
-            return self._file_key("then", at, folder + b"/" + spelled(name))
+            return self._file("then", at, folder + b"/" + spelled(name))
         except (NoEntry, TooLong):
             found = self._names_at(at, folder).get(name) if b"%" in name else None  # only then it may have another spelling
             if found is None:
                 raise
-            return self._file_key("then", at, folder + b"/" + found)
+            return self._file("then", at, folder + b"/" + found)
 
     def _names_at(self, moment: object, path: bytes) -> dict[bytes, bytes]:
         """Returns the spellings in a folder at a moment, by the names that are shown."""
@@ -176,53 +178,63 @@ class Past:
             directory = child
         return directory
 
-    def _find_versions(self, path: object, name: bytes) -> Optional[Key]:
+    def _find_versions(self, path: object, name: bytes) -> PastNode:
         directory = self._directory(path)
         child = directory.children.get(name)
         if child is None:
-            return None
-        return "versions" if isinstance(child, Directory) else "file", directory.path_of(name)
+            raise FileNotFoundError(errno.ENOENT, "")
+        return self.node("versions" if isinstance(child, Directory) else "file", directory.path_of(name))
 
-    def _place(self, kind: object, first: Any, second: Any) -> tuple[bytes, int, int]:
-        """Returns how a read finds a file of the past."""
-        if kind == "then":
-            return second, AT, first
-        if kind == "version":
-            return first, VERSION, second
-        return self._dead_path(first) + b"/" + second, AT, max(self.store.chronicle.last_end(first, second) - 1, 0)
-
-    def _file_key(self, kind: object, first: object, second: object, wanted: object = None) -> Key:
-        """Returns the key of the target of a path of the past. If a file's version isn't found, the version is 0."""
-        path, tag, number = self._place(kind, first, second)
+    def _file(self, kind: object, first: object, second: object, wanted: object = None) -> PastNode:
+        """Returns the node of the target of a path of the past. If a file's version isn't found, the version in its key is 0."""
         try:
-            row = self.store.stat_row(path, tag, number)
+            row = self._ask(kind, first, second)
         except ElephantError as fault:
             if wanted is None and not isinstance(fault, Forgotten):
                 raise
-            return kind, first, second, wanted or 0, 0
-        if row.is_directory and kind == "then":
-            return "at", first, second
-        if wanted not in (None, row.id):
+            return self.node(kind, first, second, wanted or 0, 0)
+        if wanted not in (None, row.file):
             # It was made and deleted within one second, or its directory had another name: no moment finds it, but undelete does.
-            return kind, first, second, wanted, 0
-        return kind, first, second, int(row.id), int(row.version)
+            return self.node(kind, first, second, wanted, 0)
+        is_folder = row.is_directory and kind == "then"
+        node = self.node("at", first, second) if is_folder else self.node(kind, first, second, row.file, row.version)
+        node.row, node.asked = row, self.store.changes
+        return node
 
     # Attributes and contents.
 
-    def _row(self, node: PastNode) -> Any:
-        """Returns the store's row of a file. Raises Forgotten, or ESTALE if the row isn't that of the node's version."""
+    def _place(self, kind: object, first: Any, second: Any = None) -> tuple[bytes, int, int]:
+        """Returns how a read finds a file or a directory of the past."""
+        if kind in ("then", "at"):
+            return second, AT, first
+        if kind == "version":
+            return first, VERSION, second
+        if kind == "file":
+            return first, NOW, 0
+        return self._dead_path(first) + b"/" + second, AT, max(self.store.chronicle.last_end(first, second) - 1, 0)
+
+    def _ask(self, *key: object) -> Row:
+        """Asks the store for a row, by the first words of a key."""
+        place = self._place(*key)
+        row = self.store.stat_row(*place)
+        return Row(*place, row.id, row.version, row.length, row.closed, bool(row.is_directory))
+
+    def _row(self, node: PastNode) -> Row:
+        """Returns the store's row of a node. Asks for it only if the store was changed since. Raises Forgotten, or ESTALE if it isn't that
+        of the node's version."""
+        if node.row is None or node.asked != self.store.changes:
+            node.row, asked = None, self.store.changes
+            row = self._ask(*node.key[:3])
+            if node.key[0] in FILES and node.key[3:] != (row.file, row.version):
+                raise OSError(errno.ESTALE, "the name is another file's")
+            node.row, node.asked = row, asked
+        return node.row
+
+    def source(self, node: PastNode) -> Row:
+        """Returns the source of a file's content. Raises IsADirectoryError, or Forgotten."""
         if node.key[0] not in FILES:
             raise IsADirectoryError(errno.EISDIR, "")
-        kind, first, second, file, version = node.key
-        row = self.store.stat_row(*self._place(kind, first, second))
-        if (row.id, row.version) != (file, version):
-            raise OSError(errno.ESTALE, "the name is another file's")
-        return row
-
-    def source(self, node: PastNode) -> Source:
-        """Returns the source of a file's content. Raises IsADirectoryError, or Forgotten."""
-        row = self._row(node)
-        return Source(row.id, *self._place(*node.key[:3]))
+        return self._row(node)
 
     def content(self, node: PastNode) -> bytes:
         """Returns what a file holds."""
@@ -230,8 +242,7 @@ class Past:
             return self.texts[str(node.key[0])]()
         if node.key == ("socket",):
             return self.socket
-        _, path, tag, number = self.source(node)
-        return self.store.content(path, tag, number)
+        return self.store.content(*self.source(node)[:3])
 
     def show(self, node: PastNode) -> Shown:
         """Returns the attributes of a node. Raises Forgotten for a version that was removed."""
@@ -243,12 +254,12 @@ class Past:
             content = self.content(node)
             return Shown((stat.S_IFREG | 0o444) if kind != "socket" else (stat.S_IFLNK | 0o777), len(content), now, root.owner, root.group)
         if kind == "at" and words and words[1]:
-            row = self.store.stat_row(_path(words[1]), AT, _whole(words[0]))
-            return _shown(self.tree.records.of(directory_key(row.id)), True, row.length, _whole(words[0]), root)
+            row = self._row(node)
+            return _shown(self.tree.records.of(directory_key(row.file)), True, row.length, _whole(words[0]), root)
         if kind == "at" and words:
             return _shown(root, True, 0, _whole(words[0]), root)
         if kind == "file":
-            return Shown(DIRECTORY_MODE, 0, self.store.stat_row(_path(words[0])).closed, root.owner, root.group)
+            return Shown(DIRECTORY_MODE, 0, self._row(node).closed, root.owner, root.group)
         if kind == "versions":
             return _shown(self._directory(words[0]).attributes, True, 0, now, root)
         if kind == "restorable" and words[0]:
@@ -265,7 +276,7 @@ class Past:
             if node.key[0] != "dead" or node.key[-1]:
                 raise
             return Shown(FILE_MODE, 0, int(self.store.now), root.owner, root.group)
-        node.shown = _shown(self.tree.records.of(file_key(row.id)), False, row.length, row.closed, root)
+        node.shown = _shown(self.tree.records.of(file_key(row.file)), False, row.length, row.closed, root)
         return node.shown
 
     def is_over(self, node: PastNode) -> bool:

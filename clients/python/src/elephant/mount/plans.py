@@ -9,8 +9,8 @@ from __future__ import annotations
 from collections.abc import Iterator
 from typing import NamedTuple, Optional
 
-from .._errors import Forgotten, Refused
-from .._times import told_time
+from .. import Forgotten, Refused
+from ..keeping import told_time
 from .then import Then
 from .tree import Directory, File
 from .whereabouts import Nothing, Whereabouts, told

@@ -10,12 +10,11 @@ from contextlib import suppress
 from pathlib import Path
 from typing import Optional
 
-from .._errors import ElephantError
-from .._journal import HEADER, Journal
+from .. import ElephantError
+from ..keeping import HEADER, Journal, changes_in
 from .disk import make_private
 from .log import Log
 from .operations import Operations
-from .shorter import changes_in
 
 # A journal is rewritten if it is longer than this, and probably more than twice as long as the new one.
 LEAST_BYTES = 1 << 20
@@ -115,12 +114,12 @@ class Rewriting:
                 if self._is_stopped or self.store.is_closed or not self.store.has_place:
                     return "the folder is unmounted, or its journal isn't at its place"
                 before = self.store.journal_size
-                if journal._size + before - size > 0.9 * before:
+                if journal.size + before - size > 0.9 * before:
                     return NOT_SHORTER
-                for change in changes_in(path, size, before, self.store.checksum_at(size)):
+                for change in changes_in(path, before, size):
                     journal.append(change)
                 journal.sync()
-                _give_rights(path, journal._file)
+                _give_rights(path, journal.file)
                 os.rename(new, path)
                 is_taken = True
                 self.store.change_journal(journal)

@@ -13,42 +13,17 @@ from __future__ import annotations
 
 import os
 import sys
-from collections.abc import Iterator
-from zlib import crc32
 
-from .._answers import Limits
-from .._core import Core
-from .._errors import ElephantError, JournalError
-from .._journal import FIRST, HEADER, LAST, ONE, PREFIX, Journal
-from .._library import KeyRow
-from .._replay import Replay, write_lines
+from .. import ElephantError, JournalError, Limits
+from ..keeping import Core, Journal, Replay, changes_in, write_lines
 from .comparing import Side, compare
 from .counts import Counts
+from .drafts import changed_parts
 from .records import Records, everything, file_key
-from .store import changed_parts
 from .witness import OF_NAMES, Witness
 
 Version = tuple[int, int]
 REMARKS_AT_ONCE = 500
-
-
-def changes_in(path: str, start: int, size: int, checksum: int) -> Iterator[list[bytes]]:
-    """Yields the whole changes between two places of a journal, each as its lines. Raises JournalError for a line that is damaged."""
-    change: list[bytes] = []
-    with open(path, "rb", buffering=1 << 20) as file:
-        file.seek(start)
-        while start < size:
-            raw = file.readline()
-            body, start = raw[PREFIX - 2:], start + len(raw)
-            checksum = crc32(body, checksum)
-            if raw[:PREFIX - 2] != b"%08x " % checksum or raw[-1:] != b"\n" or (body[:2] in (ONE, FIRST)) == bool(change):
-                raise JournalError(f"{path} is damaged before byte {start}")
-            change.append(body[2:-1])
-            if body[:2] in (ONE, LAST):
-                yield change
-                change = []
-    if change or start != size:
-        raise JournalError(f"{path} has no end of a change at byte {size}")
 
 
 class Census(Witness):
@@ -68,56 +43,56 @@ class Census(Witness):
         self.drafted: set[int] = set()
         """The files that have an open session at the end."""
 
-    def _open_write(self, path: bytes) -> int:
-        code = super()._open_write(path)
+    def open_write(self, path: bytes) -> int:
+        code = super().open_write(path)
         if not code:
-            handle = self._core.number
-            self.files[handle] = self._core.stat(path, path).id
+            handle = self.core.number
+            self.files[handle] = self.core.stat(path, path).id
         return code
 
-    def _close(self, handle: int) -> int:
-        code = super()._close(handle)
-        if not code and self._core.number:
-            self.made[handle] = self.files[handle], self._core.number
+    def close(self, handle: int) -> int:
+        code = super().close(handle)
+        if not code and self.core.number:
+            self.made[handle] = self.files[handle], self.core.number
             self.held.add(self.made[handle])
         self.files.pop(handle, None)
         return code
 
-    def _other(self, line: bytes) -> int:
+    def command(self, line: bytes) -> int:
         word, *words = line.split(b" ")
         if word in OF_NAMES:
             self.changes.update((self.moment, path) for path in words)
         if word in (b"clean", b"pass"):
             return self._removals(1 if word == b"clean" else int(words[0]))
-        code = super()._other(line)
+        code = super().command(line)
         if not code and word in (b"create", b"revert"):
-            row = self._core.stat(words[0], words[0])
+            row = self.core.stat(words[0], words[0])
             file, number = int(row.id), int(row.version)
             self.held.add((file, number))
             if word == b"revert":
                 self.copies.append(((file, int(words[1])), (file, number)))
         return code
 
-    def _undelete(self, path: bytes) -> int:
-        code = super()._undelete(path)
-        number = self._core.number
+    def undelete(self, path: bytes) -> int:
+        code = super().undelete(path)
+        number = self.core.number
         if not code and number:
-            file = int(self._core.stat(path, path).id)
+            file = int(self.core.stat(path, path).id)
             self.copies.append(((file, number - 1), (file, number)))
             self.held.add((file, number))
         return code
 
     def _removals(self, count: int) -> int:
         for _ in range(count):
-            key = self._core.row(self._library.elephant_clean, KeyRow, "")
-            self.removed.add((key.file, key.number))
-            self.held.discard((key.file, key.number))
+            _, file, number = self.core.clean()
+            self.removed.add((file, number))
+            self.held.discard((file, number))
         return 0
 
     def end(self) -> None:
         """Frees the store, and keeps the results."""
         self.drafted = set(self.files.values())
-        self._core.free()
+        self.core.free()
 
     def needed(self) -> set[Version]:
         """Returns the versions whose contents the new journal needs: the held ones, and those that they are copies of."""
@@ -163,11 +138,11 @@ class Shortening(Replay):
                 self._changed.discard(file)  # all sessions of a file share the draft
         return self._lines
 
-    def _open_write(self, path: bytes) -> int:
-        code = super()._open_write(path)
+    def open_write(self, path: bytes) -> int:
+        code = super().open_write(path)
         if not code:
-            handle = self._core.number
-            self._files[handle] = int(self._core.stat(path, path).id)
+            handle = self.core.number
+            self._files[handle] = int(self.core.stat(path, path).id)
         return code or self._also(b"open write " + path)
 
     def _also(self, line: bytes) -> int:
@@ -178,14 +153,14 @@ class Shortening(Replay):
         self._lines.append(line)
         return 0
 
-    def _close(self, handle: int) -> int:
+    def close(self, handle: int) -> int:
         made = self._made.get(handle)
         if made is not None:
             self._fill(handle, made in self._needed)
         file = self._files.pop(handle, None)
         if file is not None and file not in self._files.values():
             self._changed.discard(file)
-        code = super()._close(handle)
+        code = super().close(handle)
         return code or self._also(b"close %d" % handle)
 
     def _fill(self, handle: int, is_needed: bool) -> None:
@@ -193,31 +168,25 @@ class Shortening(Replay):
         if not is_needed:
             self._also(b"write %d 0 00" % handle)
             return
-        content, old = (_draft(core, handle) for core in (self._core, self._other_core))
+        content, old = (core.read_handle("", handle) for core in (self.core, self._other_core))
         if not content and not old:  # something was written and cut again
             self._also(b"write %d 0 00" % handle)
             self._also(b"truncate %d 0" % handle)
-        for start, end in changed_parts(old, content, True):
+        for start, end in changed_parts(old, content):
             for line in write_lines(handle, start, content[start:end]):
                 self._also(line)
         if len(content) < len(old):
             self._also(b"truncate %d %d" % (handle, len(content)))
 
-    def _other(self, line: bytes) -> int:
-        code = super()._other(line)
+    def command(self, line: bytes) -> int:
+        code = super().command(line)
         return code or self._also(line)
-
-
-def _draft(core: Core, handle: int) -> bytes:
-    length = core.look(core.library.elephant_read_handle, "", handle)
-    return core.kept_bytes(core.library.elephant_take, length) if length else b""
 
 
 def shorten(old: str, size: int, new: str) -> None:
     """Writes the new journal, and compares the stores of the two."""
-    first = crc32(HEADER[PREFIX - 2:])
     census = Census(Core(Limits(), False))
-    for change in changes_in(old, len(HEADER), size, first):
+    for change in changes_in(old, size):
         census.run(change)
     census.end()
     core = Core(Limits(), False)
@@ -228,7 +197,7 @@ def shorten(old: str, size: int, new: str) -> None:
     finally:
         journal.close()
     made = Witness(Core(Limits(), False), Records(), Counts(Limits()))
-    for change in changes_in(new, len(HEADER), os.path.getsize(new), first):
+    for change in changes_in(new, os.path.getsize(new)):
         made.run(change)
     sides = Side(core, census.records, census.counts, shortening), Side(made.core, made.records, made.counts, made)
     compare(*sides, census.changes)
@@ -236,8 +205,7 @@ def shorten(old: str, size: int, new: str) -> None:
 
 def _write(old: str, size: int, shortening: Shortening, journal: Journal, census: Census) -> None:
     """Writes the lines of the new journal, and the attributes of what the store holds."""
-    first = crc32(HEADER[PREFIX - 2:])
-    for change in changes_in(old, len(HEADER), size, first):
+    for change in changes_in(old, size):
         lines = shortening.shorten(change)
         if lines:
             journal.append(lines)

@@ -4,12 +4,8 @@ from __future__ import annotations
 
 from typing import NamedTuple, Optional
 
-from .._answers import Removable
-from .._clock import span
-from .._errors import ElephantError
-from .._library import AT, NOW
-from .._moments import LAST_MOMENT
-from .._policies import KeepSafe, Landmarks, Policy
+from .. import LAST_MOMENT, ElephantError, KeepSafe, Landmarks, Policy, Removable
+from ..keeping import AT, NOW, span
 from .cleaning import Cleaner, shown_path
 from .guard import DAY, named
 from .log import local

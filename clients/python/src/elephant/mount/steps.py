@@ -6,7 +6,7 @@ from collections.abc import Iterable, Iterator
 from contextlib import suppress
 from typing import Callable, Optional, TypeVar
 
-from .._errors import NoEntry, Refused
+from .. import NoEntry, Refused
 from . import records
 from .plans import IS_WRITTEN, Plan, Step, Wanted, parent_of
 from .records import DIRECTORY_MODE, FILE_MODE, Attributes, directory_key, file_key
@@ -123,7 +123,7 @@ class Steps:
             content = self.then.content(it.then)
             self._written += len(content)
             self.store.reserve(len(content))
-            self.store.close_draft(self.store.write_draft(it.path, None, content, True, ()))
+            self.store.drafts.save(it.path, content)
         self.changed.append(it.path)
 
     def differs(self, it: Wanted, path: Optional[bytes] = None) -> bool:

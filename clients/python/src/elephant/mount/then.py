@@ -5,8 +5,8 @@ from __future__ import annotations
 import os
 from typing import Any, Optional
 
-from .._errors import Refused
-from .._library import AT
+from .. import Refused
+from ..keeping import AT
 from .names import shown
 from .records import Attributes, directory_key, file_key
 from .store import MountStore

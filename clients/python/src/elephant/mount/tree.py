@@ -11,8 +11,9 @@ import stat
 from collections.abc import Iterator
 from typing import Any, Optional, Union
 
-from .._errors import NoEntry
-from .._names import MOST_NAMES
+from .. import NoEntry
+from ..keeping import MOST_NAMES
+from .drafts import Base
 from .names import TooLong, is_spelling_of, name_in, names_of, shown, spelled
 from .records import DIRECTORY_MODE, FILE_MODE, Attributes, directory_key, file_key, saved
 from .store import MountStore
@@ -40,7 +41,7 @@ class File(Node):
     the draft.
     """
 
-    __slots__ = ("names", "size", "version", "draft", "is_unsaved", "handle", "opens", "writers", "pending", "info", "born")
+    __slots__ = ("names", "size", "version", "draft", "is_unsaved", "handle", "base", "opens", "writers", "pending", "info", "born")
 
     def __init__(self, ino: int, number: int, attributes: Attributes, size: int = 0, version: int = 1) -> None:
         super().__init__(ino, number, attributes)
@@ -49,6 +50,8 @@ class File(Node):
         self.draft: Optional[bytearray] = None
         self.is_unsaved = False
         self.handle: Optional[int] = None
+        self.base: Optional[Base] = None
+        """What the file held when the draft was begun, until the store has some of the draft."""
         self.opens = self.writers = self.pending = 0
         self.born = 0.0
         """When this mount made it, by the monotonic clock, if it did."""

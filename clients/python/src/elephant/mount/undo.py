@@ -10,10 +10,8 @@ from functools import cache
 from itertools import chain
 from typing import NamedTuple, Optional, Union
 
-from .._answers import DeadName
-from .._errors import Forgotten, Refused
-from .._library import AT, VERSION
-from .._times import told_time
+from .. import DeadName, Forgotten, Refused
+from ..keeping import AT, VERSION, told_time
 from .chronicle import begin_of_last
 from .contents import Contents
 from .plans import Plan, Step
@@ -93,7 +91,7 @@ class Undo:
             return f"ok would make a version of {text}\n"
         with self.store.together():
             if found.until:
-                version = self.store.close_draft(self.store.write_draft(path, None, found.content, True, ()))
+                version = self.store.drafts.save(path, found.content)
             else:
                 version = self.store.revert(path, found.version)
         return f"ok version {version}: {text}\n"
@@ -211,21 +209,18 @@ class Undo:
                 moments.append(int(self.store.stat_row(node.path).closed))
         if not moments:
             raise Nothing(f"nothing below {told(folder.path)} was ever changed")
-        begin = begin_of_last(moments, CHANGE_PAUSE)
-        while (made := self._made_before(numbers, begin)) is not None:
-            begin = begin_of_last([made, *(it for it in moments if it < made)], CHANGE_PAUSE)
-        return begin - 1
+        return self._making_of(numbers, begin_of_last(moments, CHANGE_PAUSE)) - 1
 
-    def _made_before(self, folders: set[int], begin: int) -> Optional[int]:
-        """Returns when a name was made that has ended since `begin`, if that was shortly before: the copy that `sed -i` writes, for example,
-        belongs to the change that renames it. Returns None if there is no such name."""
+    def _making_of(self, folders: set[int], begin: int) -> int:
+        """Returns when the first of the names was made that have ended since `begin`, if that was shortly before, and else `begin`: the
+        copy that `sed -i` writes, for example, belongs to the change that renames it."""
         path_at, found = cache(self._where.path_at), begin
         for number in folders:
             for name in self.store.chronicle.ended_since(number, begin):
                 moments = range(begin - 1, begin - CHANGE_PAUSE - 2, -1)
                 absent = next((it for it in moments if not self._was_there(path_at(number, it), name, it)), begin)
                 found = min(found, absent + 1)
-        return found if found < begin else None
+        return found
 
     def _was_there(self, folder: Optional[bytes], name: bytes, moment: int) -> bool:
         """Whether a folder had a name at a moment. `folder` is its path of then, or None."""

@@ -5,9 +5,8 @@ from __future__ import annotations
 from collections.abc import Iterator
 from typing import Optional, Union
 
-from .._answers import DeadName
-from .._errors import Forgotten, Refused
-from .._library import AT
+from .. import DeadName, Forgotten, Refused
+from ..keeping import AT
 from .names import name_in, shown
 from .records import file_key
 from .store import MountStore

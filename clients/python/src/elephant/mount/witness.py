@@ -2,8 +2,7 @@
 
 from __future__ import annotations
 
-from .._core import Core
-from .._replay import Replay
+from ..keeping import Core, Replay
 from .counts import Counts
 from .records import Records
 
@@ -19,40 +18,36 @@ class Witness(Replay):
         self.first_moment = self.moment = 0
         """Those of the first change and now."""
 
-    @property
-    def core(self) -> Core:
-        return self._core
-
     def remark(self, text: bytes) -> None:
         self.records.apply(text)
 
-    def _open_write(self, path: bytes) -> int:
-        code = super()._open_write(path)
+    def open_write(self, path: bytes) -> int:
+        code = super().open_write(path)
         if not code:
             self.counts.take(b"open")
         return code
 
-    def _close(self, handle: int) -> int:
-        code = super()._close(handle)
-        if not code and self._core.number:
+    def close(self, handle: int) -> int:
+        code = super().close(handle)
+        if not code and self.core.number:
             self.counts.used["versions"] += 1
         return code
 
-    def _other(self, line: bytes) -> int:
+    def command(self, line: bytes) -> int:
         word, _, rest = line.partition(b" ")
         if word == b"undelete":
-            return self._undelete(rest)
-        code = super()._other(line)
+            return self.undelete(rest)
+        code = super().command(line)
         if not code:
             self.counts.take_line(line)
         if word in (b"clock", b"tick"):
-            self.moment = self._core.now()
+            self.moment = self.core.now()
             self.first_moment = self.first_moment or self.moment
         return code
 
-    def _undelete(self, path: bytes) -> int:
-        code: int = self._library.elephant_undelete(self._e, path, len(path), self._core.number_at)
+    def undelete(self, path: bytes) -> int:
+        code: int = self.library.elephant_undelete(self.core.handle, path, len(path), self.core.number_at)
         if not code:
             self.counts.take(b"undelete")
-            self.counts.used["versions"] += self._core.number > 0
+            self.counts.used["versions"] += self.core.number > 0
         return code
