@@ -429,6 +429,17 @@ class Folders(Undoing):
         self.undo(b"/d")
         self.assertEqual(self.files(), self.CONTENTS)
 
+    def test_names_that_are_there_again_draw_nothing_in(self) -> None:
+        self.fill({b"/d/new": b"new"})
+        self.later(1)
+        self.unlink(b"/d/new")
+        self.undo(b"/d/new")
+        self.later(2)
+        self.fill({b"/d/a": b"oops"})
+        self.later()
+        self.undo(b"/d")
+        self.assertEqual(self.files(), {**self.CONTENTS, b"/d/new": b"new"})
+
     def test_a_file_that_was_made_a_while_before_comes_back(self) -> None:
         self.fill({b"/d/a": b"newer"})
         self.later(1)

@@ -212,11 +212,13 @@ class Undo:
         return self._making_of(numbers, begin_of_last(moments, CHANGE_PAUSE)) - 1
 
     def _making_of(self, folders: set[int], begin: int) -> int:
-        """Returns when the first of the names was made that have ended since `begin`, if that was shortly before, and else `begin`: the
-        copy that `sed -i` writes, for example, belongs to the change that renames it."""
-        path_at, found = cache(self._where.path_at), begin
+        """Returns when the first of the names was made that have ended since `begin` and aren't there now, if that was shortly before, and
+        else `begin`: the copy that `sed -i` writes, for example, belongs to the change that renames it."""
+        path_at, now, found = cache(self._where.path_at), int(self.store.now), begin
         for number in folders:
             for name in self.store.chronicle.ended_since(number, begin):
+                if self._was_there(path_at(number, now), name, now):
+                    continue
                 moments = range(begin - 1, begin - CHANGE_PAUSE - 2, -1)
                 absent = next((it for it in moments if not self._was_there(path_at(number, it), name, it)), begin)
                 found = min(found, absent + 1)
