@@ -1,6 +1,5 @@
 //! The errors of a forecast. A contract sees each error as itself.
 ghost use Rattle.std.specs.Prelude.{◌≡◌};
-ghost use Rattle.ele_output.specs.Front.{WritesText};
 ghost use Rattle.ele_output.specs.Prints.{Prints};
 ghost use Rattle.ele_outlook.specs.Input.{bad_line_text, bad_word};
 
@@ -75,19 +74,8 @@ impl BadLine {
     }
 }
 
-/// Writes the message for a bad line. Returns a fault if the writer fails: then it took a prefix of
-/// the message.
-pub fn write_bad_line<W: Write>(number: u64, why: BadLine, writer: &mut W) -> Result<(), WriteFault>
-    ensures { WritesText (bad_line_text number why) (W.contents writer.old) (W.contents writer.new)
-        result }
-{
-    let mut printer = Printer::new(writer);
-    put_bad_line(number, why, &mut printer);
-    printer.hand_over()
-}
-
-// Prints the message for a bad line.
-fn put_bad_line<W: Write>(number: u64, why: BadLine, printer: &mut Printer<'_, W>)
+/// Prints the message for a bad line.
+pub fn put_bad_line<W: Write>(number: u64, why: BadLine, printer: &mut Printer<'_, W>)
     ensures { Prints W.contents printer.old printer.new (bad_line_text number why) }
 {
     let mut digits = Buffer::new();

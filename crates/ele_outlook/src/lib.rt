@@ -11,6 +11,6 @@ mod options;
 mod sizes;
 mod telling;
 
-pub use fault::{BadLine, ForecastFault, write_bad_line};
+pub use fault::{BadLine, ForecastFault, put_bad_line};
 pub use options::{ForecastOptions, Form, LineForm, MOST_POLICIES};
 pub use telling::write_forecast;

@@ -1,7 +1,7 @@
 -- What a writer holds and what is held for it, piece after piece.
 use Rattle.ele_output.proofs.Basics.{Bool, true, false, ◌≡◌, ℕ, List, [], ◌++◌, Option, Result, Ok, Err, refl, sym, ap, subst, ◌∙◌, append_assoc, append-nil, Appends, Appends-kept, Appends-nil, Keeps, Appends-trans, is_err}
 use Rattle.ele_output.specs.Front.{AppendsFront, WritesText}
-use Rattle.ele_output.specs.Outlet.{HandsOver, IsHandedOver, Outlet, Puts, Sends}
+use Rattle.ele_output.specs.Outlet.{HandsOver, IsHandedOver, Outlet, Puts, Reports, Sends}
 
 -- nothing was put
 pub puts_nil : (a : Outlet) → Puts a a []
@@ -114,6 +114,10 @@ pub handed_over : {A E : Type 0} (a b c : Outlet) {old new : Option (List ℕ)} 
     → a.held ≡ [] → Puts a b text → HandsOver b c [] r → a.known ≡ old → c.known ≡ new → WritesText text old new r
 handed_over a b c (Ok x) none p h was is = rw (sym was, sym is) (all_written none (puts_no_more p h.0) h.1)
 handed_over a b c (Err e) none p h was is = rw (sym was, sym is) (front_written none (puts_no_more p h))
+
+-- bytes were printed, and then the buffer was written
+pub reports_all : {a b c : Outlet} {x : List ℕ} → Puts a b x → Reports b c [] → Reports a c x
+reports_all p q = (puts_no_more p q.0, q.1)
 
 -- prefixes of what is written: all of it
 pub whole_front : (old new : Option (List ℕ)) (bytes : List ℕ) → Appends old new bytes → AppendsFront old new bytes

@@ -21,6 +21,10 @@ pub record Puts (old new : Outlet) (bytes : List ℕ) : Type 0 where
   pub stays : old.has_failed ≡ true → (sent ≡ []) × (new.has_failed ≡ true)
   pub holds : new.has_failed ≡ false → rest ≡ new.held
 
+-- these bytes were printed, and nothing is in the buffer: the writer took all that was printed, unless it failed
+abbrev pub Reports : Outlet → Outlet → List ℕ → Type 0
+Reports old new bytes = Puts old new bytes × (new.held ≡ [])
+
 -- the buffer is empty, and the writer has not failed
 abbrev pub IsHandedOver : Outlet → Type 0
 IsHandedOver o = (o.held ≡ []) × (o.has_failed ≡ false)

@@ -2,7 +2,7 @@
 ghost use Rattle.std.specs.Prelude.{◌≡◌, ◌∷◌, [], false};
 ghost use Rattle.std.specs.Result.{is_err};
 ghost use Rattle.ele_output.specs.Front.{WritesText};
-ghost use Rattle.ele_output.specs.Outlet.{HandsOver, Sends};
+ghost use Rattle.ele_output.specs.Outlet.{HandsOver, Reports, Sends};
 ghost use Rattle.ele_output.specs.Prints.{outlet, Prints};
 
 use crate::fault::WriteFault;
@@ -55,6 +55,17 @@ impl<'w, W: Write> Printer<'w, W> {
     {
         self.send_held();
         self.check()
+    }
+
+    /// Writes the buffer to the writer, and flushes that. The writer has all output then, or it has
+    /// failed, which `check` returns.
+    pub fn flush(&mut self)
+        ensures { Reports (outlet W.contents self.old) (outlet W.contents self.new) [] }
+    {
+        self.send_held();
+        if self.writer.flush().is_err() {
+            self.has_failed = true;
+        }
     }
 
     /// Prints bytes after the others.

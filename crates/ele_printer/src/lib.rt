@@ -15,6 +15,8 @@ mod why;
 
 pub use fault::LineFault;
 pub use history::{put_history, put_trimmed};
-pub use reply::{put_answer, put_fault, put_in_front, put_pass, put_reply, put_stop};
-pub use text::{write_named, write_placed, write_reply};
+pub use reply::{
+    put_answer, put_fault, put_in_front, put_named, put_pass, put_placed, put_reply, put_stop,
+};
+pub use text::write_reply;
 pub use why::{put_ahead, put_fate, put_why};

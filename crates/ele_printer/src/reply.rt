@@ -169,18 +169,31 @@ fn put_usage<W: Write>(kind: &[u8], usage: Usage, printer: &mut Printer<'_, W>)
 }
 
 /// Prints a line of a first word, a number and a name.
-pub(crate) fn put_named<W: Write>(
-    first: &[u8],
-    number: u8,
-    name: &str,
-    printer: &mut Printer<'_, W>,
-)
+pub fn put_named<W: Write>(first: &[u8], number: u8, name: &str, printer: &mut Printer<'_, W>)
     ensures { Prints W.contents printer.old printer.new
         (line_text (first.now ∷ decimal number ∷ name.now ∷ [])) }
 {
     put_line_of(
         first,
         &[Number(number as u64), Plain(name.as_bytes())],
+        printer,
+    );
+}
+
+/// Prints a line of a first word, a number and two other words.
+pub fn put_placed<'w, W: Write>(
+    first: &[u8],
+    number: u64,
+    middle: &'w [u8],
+    last: &'w [u8],
+    printer: &mut Printer<'_, W>,
+)
+    ensures { Prints W.contents printer.old printer.new
+        (line_text (first.now ∷ decimal number ∷ middle.now ∷ last.now ∷ [])) }
+{
+    put_line_of(
+        first,
+        &[Number(number), Plain(middle), Plain(last)],
         printer,
     );
 }

@@ -9,4 +9,4 @@ mod policy_detail;
 mod reasons;
 
 pub use bad_word::reason;
-pub use reasons::{Detail, Hint, Reason};
+pub use reasons::{Detail, Hint, Reason, put_reason};

@@ -1,11 +1,14 @@
-//! The reasons why a line is no command. A contract sees a reason as itself, and as its text.
-ghost use Rattle.std.specs.Prelude.{◌≡◌, Some};
-ghost use Rattle.std.specs.Fmt.{WritesOnOk};
-ghost use Rattle.ele_reasons.specs.ReasonText.{after_text, behind_text, byte_text, count_text, digit_text, first_text, hint_text, is_moment, kind_text, other_text, path_text, reason_text, syntax_text, tag_text, takes_text, word_text};
+//! The reasons why a line is no command. A contract sees a reason as itself, and a printer as its
+//! outlet.
+ghost use Rattle.std.specs.Prelude.{◌≡◌, ◌++◌, codes};
+ghost use Rattle.ele_commands.specs.Command.{kinds_of};
+ghost use Rattle.ele_output.specs.Prints.{Prints};
+ghost use Rattle.ele_reasons.specs.ReasonText.{after_text, behind_text, byte_text, cause_text, count_text, digit_text, first_text, hexadecimal, hint_text, is_moment, kind_text, other_text, path_text, place_text, reason_text, syntax_text, tag_text, takes_text, word_text};
 
 use ele_commands::{Command, WordKind};
+use ele_output::{Printer, put_with_number};
 use ele_printer::LineFault;
-use std::fmt;
+use std::io::Write;
 
 /// What exactly is wrong with a word that isn't of its kind.
 #[derive(Clone, Copy, PartialEq, Eq)]
@@ -61,8 +64,8 @@ pub enum Hint {
     Unknown,
 }
 
-/// Why a line is no command: its first fault, and the number of the word that has it, from 1. It is
-/// displayed as the place and the reason, as `word 2: a moment has no leading zero`.
+/// Why a line is no command: its first fault, and the number of the word that has it, from 1.
+/// `put_reason` prints the place and the reason, as `word 2: a moment has no leading zero`.
 #[derive(Clone, Copy, PartialEq, Eq)]
 pub enum Reason {
     /// The line has more than 8,192 bytes.
@@ -88,42 +91,68 @@ pub enum Reason {
     },
 }
 
-// The words that a command takes, by their kinds. It is displayed as a list.
-#[derive(Drop)]
-struct Takes(&'static [WordKind]);
-
-impl fmt::Display for Takes {
-    ghost output = { λ takes. Some (takes_text takes.0.now) };
-
-    fn fmt<W: fmt::Write>(&self, f: &mut fmt::Formatter<W>) -> fmt::Result {
-        match self.0 {
-            [] => f.write_str("no words"),
-            [WordKind::Path, WordKind::Path] => f.write_str("two paths"),
-            [kind, kinds @ ..] => {
-                f.write_str(kind_name(*kind))?;
-                write_behind(kinds, f)
-            }
-        }
+// Prints the list of the words that a command takes, by their kinds.
+fn put_takes<W: Write>(kinds: &[WordKind], printer: &mut Printer<'_, W>)
+    ensures { Prints W.contents printer.old printer.new (takes_text kinds.now) }
+{
+    match kinds {
+        [] => printer.put(b"no words"),
+        [WordKind::Path, WordKind::Path] => printer.put(b"two paths"),
+        [kind, kinds @ ..] => put_first(*kind, kinds, printer),
     }
 }
 
-// Writes the kinds after the first.
-fn write_behind<W: fmt::Write>(kinds: &[WordKind], f: &mut fmt::Formatter<W>) -> fmt::Result
-    ensures { WritesOnOk W.write_str_gives f.old result (behind_text kinds.now) f.new }
+// Prints the first kind and those after it.
+#[tactic(auto, using(ele_output::proofs::Known::puts_then))]
+fn put_first<W: Write>(kind: WordKind, kinds: &[WordKind], printer: &mut Printer<'_, W>)
+    ensures { Prints W.contents printer.old printer.new (kind_text kind ++ behind_text kinds.now) }
+{
+    put_kind(kind, printer);
+    put_behind(kinds, printer);
+}
+
+// Prints the kinds after the first.
+#[cycle(behind)]
+fn put_behind<W: Write>(kinds: &[WordKind], printer: &mut Printer<'_, W>)
+    ensures { Prints W.contents printer.old printer.new (behind_text kinds.now) }
 {
     match kinds {
-        [] => Ok(()),
-        [WordKind::Moment, WordKind::End] => f.write_str(" and one moment or two"),
-        [last] => {
-            f.write_str(" and ")?;
-            f.write_str(kind_name(*last))
-        }
-        [kind, kinds @ ..] => {
-            f.write_str(", ")?;
-            f.write_str(kind_name(*kind))?;
-            write_behind(kinds, f)
-        }
+        [] => {}
+        [WordKind::Moment, WordKind::End] => printer.put(b" and one moment or two"),
+        [last] => put_last(*last, printer),
+        [kind, kinds @ ..] => put_more(*kind, kinds, printer),
     }
+}
+
+// Prints one of the kinds after the first, and those after it.
+#[cycle(behind)]
+#[tactic(auto, using(ele_output::proofs::Known::puts_then))]
+fn put_more<W: Write>(kind: WordKind, kinds: &[WordKind], printer: &mut Printer<'_, W>)
+    ensures { Prints W.contents printer.old printer.new
+        (codes ", " ++ kind_text kind ++ behind_text kinds.now) }
+{
+    put_next(kind, printer);
+    put_behind(kinds, printer);
+}
+
+fn put_last<W: Write>(kind: WordKind, printer: &mut Printer<'_, W>)
+    ensures { Prints W.contents printer.old printer.new (codes " and " ++ kind_text kind) }
+{
+    printer.put(b" and ");
+    put_kind(kind, printer);
+}
+
+fn put_next<W: Write>(kind: WordKind, printer: &mut Printer<'_, W>)
+    ensures { Prints W.contents printer.old printer.new (codes ", " ++ kind_text kind) }
+{
+    printer.put(b", ");
+    put_kind(kind, printer);
+}
+
+fn put_kind<W: Write>(kind: WordKind, printer: &mut Printer<'_, W>)
+    ensures { Prints W.contents printer.old printer.new (kind_text kind) }
+{
+    printer.put(kind_name(kind).as_bytes());
 }
 
 fn kind_name(kind: WordKind) -> &'static str
@@ -145,26 +174,34 @@ fn kind_name(kind: WordKind) -> &'static str
     }
 }
 
-// A byte that no word may have, displayed as what is wrong with its word.
-#[derive(Drop)]
-struct Unfit(u8);
-
-impl fmt::Display for Unfit {
-    ghost output = { λ unfit. Some (byte_text unfit.0) };
-
-    fn fmt<W: fmt::Write>(&self, f: &mut fmt::Formatter<W>) -> fmt::Result {
-        match self.0 {
-            b'\r' => f.write_str("it has a carriage return: end a line with a line feed alone"),
-            b'\t' => f.write_str("it has a tab: put one space between two words"),
-            byte => {
-                let (high, low) = (hexadecimal_digit(byte / 16), hexadecimal_digit(byte % 16));
-                write!(
-                    f,
-                    "it has the byte {high}{low}, which is none from space to ~: a name may have %{high}{low}"
-                )
-            }
-        }
+// Prints what is wrong with a word that has a byte which no word may have.
+fn put_unfit<W: Write>(byte: u8, printer: &mut Printer<'_, W>)
+    ensures { Prints W.contents printer.old printer.new (byte_text byte) }
+{
+    match byte {
+        b'\r' => printer.put(b"it has a carriage return: end a line with a line feed alone"),
+        b'\t' => printer.put(b"it has a tab: put one space between two words"),
+        byte => put_other(byte, printer),
     }
+}
+
+fn put_other<W: Write>(byte: u8, printer: &mut Printer<'_, W>)
+    ensures { Prints W.contents printer.old printer.new
+        (codes "it has the byte " ++ hexadecimal byte
+        ++ codes ", which is none from space to ~: a name may have %" ++ hexadecimal byte) }
+{
+    printer.put(b"it has the byte ");
+    put_hexadecimal(byte, printer);
+    printer.put(b", which is none from space to ~: a name may have %");
+    put_hexadecimal(byte, printer);
+}
+
+// Prints a byte as two hexadecimal digits.
+fn put_hexadecimal<W: Write>(byte: u8, printer: &mut Printer<'_, W>)
+    ensures { Prints W.contents printer.old printer.new (hexadecimal byte) }
+{
+    printer.put(hexadecimal_digit(byte / 16).as_bytes());
+    printer.put(hexadecimal_digit(byte % 16).as_bytes());
 }
 
 // The digit of a number below 16.
@@ -191,15 +228,15 @@ fn hexadecimal_digit(number: u8) -> &'static str
     }
 }
 
-fn write_hint<W: fmt::Write>(hint: Hint, f: &mut fmt::Formatter<W>) -> fmt::Result
-    ensures { WritesOnOk W.write_str_gives f.old result (hint_text hint) f.new }
+fn put_hint<W: Write>(hint: Hint, printer: &mut Printer<'_, W>)
+    ensures { Prints W.contents printer.old printer.new (hint_text hint) }
 {
     match hint {
         Hint::Instead(command) => {
-            f.write_str("the command for this is ")?;
-            f.write_str(first_word(command))
+            printer.put(b"the command for this is ");
+            printer.put(first_word(command).as_bytes());
         }
-        _ => f.write_str(after_hint(hint)),
+        _ => printer.put(after_hint(hint).as_bytes()),
     }
 }
 
@@ -327,39 +364,59 @@ fn count_why(kinds: &[WordKind], more: bool) -> &'static str
     }
 }
 
-impl fmt::Display for Reason {
-    ghost output = { λ reason. Some (reason_text reason) };
+// Prints which words a command takes.
+fn put_count<W: Write>(command: Command, more: bool, printer: &mut Printer<'_, W>)
+    ensures { Prints W.contents printer.old printer.new
+        (codes "the command takes " ++ takes_text (kinds_of command)
+        ++ count_text (kinds_of command) more) }
+{
+    printer.put(b"the command takes ");
+    put_takes(command.kinds(), printer);
+    printer.put(count_why(command.kinds(), more).as_bytes());
+}
 
-    fn fmt<W: fmt::Write>(&self, f: &mut fmt::Formatter<W>) -> fmt::Result {
-        match *self {
-            Reason::TooLong => f.write_str("length: a line has at most 8192 bytes"),
-            Reason::Cut => f.write_str("end: it has no line feed"),
-            Reason::Empty(number) => write!(f, "word {number}: one space too many stands here"),
-            Reason::ByteOrderMark => {
-                f.write_str("word 1: a byte order mark precedes it: save the script without one")
-            }
-            Reason::Byte(number, byte) => {
-                let why = Unfit(byte);
-                write!(f, "word {number}: {why}")
-            }
-            Reason::NoCommand(number, hint) => {
-                write!(f, "word {number}: ")?;
-                write_hint(hint, f)
-            }
-            Reason::Words(command, more) => {
-                let takes = Takes(command.kinds());
-                let why = count_why(command.kinds(), more);
-                write!(f, "number of words: the command takes {takes}{why}")
-            }
-            Reason::Word {
-                number,
-                kind,
-                fault,
-                detail,
-            } => {
-                let why = word_why(kind, fault, detail);
-                write!(f, "word {number}: {why}")
-            }
-        }
+fn put_place<W: Write>(reason: Reason, printer: &mut Printer<'_, W>)
+    ensures { Prints W.contents printer.old printer.new (place_text reason) }
+{
+    match reason {
+        Reason::TooLong => printer.put(b"length"),
+        Reason::Cut => printer.put(b"end"),
+        Reason::ByteOrderMark => printer.put(b"word 1"),
+        Reason::Empty(number) => put_with_number(b"word ", number, printer),
+        Reason::Byte(number, _) => put_with_number(b"word ", number, printer),
+        Reason::NoCommand(number, _) => put_with_number(b"word ", number, printer),
+        Reason::Words(_, _) => printer.put(b"number of words"),
+        Reason::Word { number, .. } => put_with_number(b"word ", number, printer),
     }
+}
+
+fn put_cause<W: Write>(reason: Reason, printer: &mut Printer<'_, W>)
+    ensures { Prints W.contents printer.old printer.new (cause_text reason) }
+{
+    match reason {
+        Reason::TooLong => printer.put(b"a line has at most 8192 bytes"),
+        Reason::Cut => printer.put(b"it has no line feed"),
+        Reason::ByteOrderMark => {
+            printer.put(b"a byte order mark precedes it: save the script without one");
+        }
+        Reason::Empty(_) => printer.put(b"one space too many stands here"),
+        Reason::Byte(_, byte) => put_unfit(byte, printer),
+        Reason::NoCommand(_, hint) => put_hint(hint, printer),
+        Reason::Words(command, more) => put_count(command, more, printer),
+        Reason::Word {
+            kind,
+            fault,
+            detail,
+            ..
+        } => printer.put(word_why(kind, fault, detail).as_bytes()),
+    }
+}
+
+/// Prints the place and the reason.
+pub fn put_reason<W: Write>(reason: Reason, printer: &mut Printer<'_, W>)
+    ensures { Prints W.contents printer.old printer.new (reason_text reason) }
+{
+    put_place(reason, printer);
+    printer.put(b": ");
+    put_cause(reason, printer);
 }

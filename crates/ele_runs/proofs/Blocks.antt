@@ -137,11 +137,11 @@ heard_next before after line said past fine outcome kept well counts is = rw is 
 })
 
 -- the reason beside the answer, for each text of it
-abbrev Notes : RunState → Option (List ℕ) → Said → Option (List ℕ) → Option (List ℕ) → Type 0
+abbrev Notes : RunState → Option (List ℕ) → Said → Outlet → Outlet → Type 0
 Notes after line said old new = (text : List ℕ) → IsText (answer_of after.past said) text → IsNoted after.options after.number line text old new
 
 -- the text for the next line
-told_next : (before after : RunState) (line : Option (List ℕ)) (said : Said) (text : List ℕ) (old new : Option (List ℕ)) → before.ended ≡ false → HearsNext before line said after
+told_next : (before after : RunState) (line : Option (List ℕ)) (said : Said) (text : List ℕ) (old new : Outlet) → before.ended ≡ false → HearsNext before line said after
     → Notes after line said old new → IsText (answer_of after.past said) text → IsTold (noting before old) line (said_front after.options after.number said ++ text) (noting after new)
 told_next before after line said text old new on hears noted is = record {
   block = text;
@@ -155,7 +155,7 @@ told_next before after line said text old new on hears noted is = record {
 }
 
 -- the line's number and the text were put
-put_here : (before after : RunState) (line : Option (List ℕ)) (said : Said) (old new : Option (List ℕ)) (a b c : Outlet) → before.ended ≡ false → HearsNext before line said after
+put_here : (before after : RunState) (line : Option (List ℕ)) (said : Said) (old new : Outlet) (a b c : Outlet) → before.ended ≡ false → HearsNext before line said after
     → Notes after line said old new → Puts a b (said_front after.options after.number said) → (text : List ℕ) × IsText (answer_of after.past said) text × Puts b c text
     → PutsBlock (noting before old) line (noting after new) a c
 put_here before after line said old new a b c on hears noted front told = record {
@@ -164,7 +164,7 @@ put_here before after line said old new a b c on hears noted front told = record
   put = puts_then front told.2;
 }
 
-pub block_put : (before after view : RunState) (line : Option (List ℕ)) (said : Said) (old new : Option (List ℕ)) (a b c : Outlet) → view ≡ after → before.ended ≡ false → HearsNext before line said after
+pub block_put : (before after view : RunState) (line : Option (List ℕ)) (said : Said) (old new : Outlet) (a b c : Outlet) → view ≡ after → before.ended ≡ false → HearsNext before line said after
     → Notes after line said old new → Puts a b (said_front view.options view.number said) → (text : List ℕ) × IsText (answer_of view.past said) text × Puts b c text
     → PutsBlock (noting before old) line (noting after new) a c
 block_put before after view line said old new a b c is on hears noted front told =

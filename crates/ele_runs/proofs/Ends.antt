@@ -1,6 +1,6 @@
 -- How a run ends.
 use Rattle.ele_runs.proofs.Basics.{◌≡◌, ◌≢◌, true, length-append, ℕ, ◌+◌, ◌≤◌, List, [], ◌∷◌, ◌++◌, length, take, get_or, min, ◌-◌, Option, Some, None, Result, Ok, Err, refl, sym, ap, subst, ◌∙◌, arith, append_assoc, inl, inr, append-nil, length-take, ◌⊎◌, nat_tests, flat_map-append, cases_order, AllByRecursion, Consumes, Keeps, IsAtEnd, Consumes-trans, Consumes-kept}
-use Rattle.ele_runs.proofs.Words.{AppendsFront, Outlet, cut_note, cut_count, cut_told, end_by, most_lines, line_unless_long, IsUnbroken, whole_line, whole_lines, line_count, AreTold, AnswersLast, AnswersSome, RunState}
+use Rattle.ele_runs.proofs.Words.{Outlet, cut_note, cut_count, cut_told, end_by, most_lines, line_unless_long, IsUnbroken, whole_line, whole_lines, line_count, AreTold, AnswersLast, AnswersSome, RunState}
 use Rattle.ele_lists.proofs.Alls.{all-append}
 use Rattle.ele_run_options.specs.declared.fault.ShellFault.{ShellFault}
 use Rattle.ele_run_options.specs.declared.fault.ShellFault.TheVariants.{ReadFault}
@@ -12,8 +12,6 @@ use Rattle.ele_runs.specs.Written.{HadMemory, RunsAt}
 use Rattle.ele_runs.specs.Taken.{TakesPiece}
 use Rattle.std.specs.Prelude.{Bool, false}
 use Rattle.ele_runs.proofs.Courses.{clash, manner_stays, strict_run}
-use Rattle.std.proofs.KnownBytes.{Keeps-refl}
-use Rattle.ele_runs.proofs.Notes.{strict_cut}
 use Rattle.ele_runs.proofs.Joins.{told_append}
 use Rattle.ele_run_options.specs.declared.options.RunOptions.{RunOptions}
 use Rattle.ele_runs.proofs.Ran.{RanSoFar}
@@ -44,7 +42,7 @@ fails_in start state given part text lines input rest e whole told taken =
       input_is = subst (λ (xs : List ℕ). Keeps input (Some xs)) (ap (λ (w : List ℕ). w ++ more.0) e ∙ append_assoc (whole_lines lines) part more.0) more.1;
       whole = whole;
       told = told;
-      reaches = inl (refl, Keeps-refl _);
+      reaches = inl (refl, refl);
     }
 
 -- a last line counts as its block does
@@ -105,7 +103,7 @@ module _ {start state : RunState} {room : ℕ} {buffer input mid : Option (List 
   -- the reader failed
   pub ends_read : (rest : Option (List ℕ)) → Keeps mid rest → ToldToAReadFault start input rest state.notes text
   ends_read rest keeps =
-      record { given = ran.given; lines = ran.lines; part = ran.part; state = state; taken = Consumes-kept input mid rest ran.given ran.taken keeps; is = ran.is; noted = Keeps-refl _ }
+      record { given = ran.given; lines = ran.lines; part = ran.part; state = state; taken = Consumes-kept input mid rest ran.given ran.taken keeps; is = ran.is; noted = refl }
 
   -- a byte follows as much as a script may have
   pub ends_past : (rest : Option (List ℕ)) (piece : List ℕ) (count : ℕ) → min room (most_lines - state.number) ≡ 0 → 1 ≤ length piece → count ≡ 1
@@ -125,7 +123,7 @@ module _ {start state : RunState} {room : ℕ} {buffer input mid : Option (List 
           let all : length ran.lines ≡ most_lines = omega (arith, full, gt, ran.count, ran.is.few_lines) in
           inl (all, none_behind ran.lines ran.part all ran.few)
     ];
-    noted = Keeps-refl _;
+    noted = refl;
   }
 
   -- a last line counts as its block does
@@ -137,14 +135,14 @@ module _ {start state : RunState} {room : ℕ} {buffer input mid : Option (List 
   cut_is : text ++ cut_told state buffer ≡ text ++ cut_told state (line_unless_long ran.part)
   cut_is = ap (λ (b : Option (List ℕ)). text ++ cut_told state b) ran.keeps
 
-  note_is : (notes : Option (List ℕ)) → AppendsFront state.notes notes (cut_note state buffer) → AppendsFront state.notes notes (cut_note state (line_unless_long ran.part))
-  note_is notes told = subst (λ (b : Option (List ℕ)). AppendsFront state.notes notes (cut_note state b)) ran.keeps told
+  note_is : (notes : Outlet) → Puts state.notes notes (cut_note state buffer) → Puts state.notes notes (cut_note state (line_unless_long ran.part))
+  note_is notes told = subst (λ (b : Option (List ℕ)). Puts state.notes notes (cut_note state b)) ran.keeps told
 
   all_taken : (rest : Option (List ℕ)) → Consumes mid rest [] → Consumes input rest ran.given
   all_taken rest took = subst (Consumes input rest) (append-nil ran.given) (Consumes-trans input mid rest ran.given [] ran.taken took)
 
   -- the input ends
-  module _ (rest notes : Option (List ℕ)) (took : Consumes mid rest []) (at_end : IsAtEnd rest) (noted : AppendsFront state.notes notes (cut_note state buffer)) where
+  module _ (rest : Option (List ℕ)) (notes : Outlet) (took : Consumes mid rest []) (at_end : IsAtEnd rest) (noted : Puts state.notes notes (cut_note state buffer)) where
     -- and the writer failed in the block of a last line without its line feed
     pub ends_in_cut : ToldToAWriteFault start input notes (text ++ cut_told state buffer)
     ends_in_cut = record {
@@ -202,7 +200,7 @@ module _ {start state : RunState} {room : ℕ} {buffer input mid : Option (List 
             some = λ h. some (ran.keeps ∙ ap line_unless_long h);
             is = ran.is;
             text_is = cut_is;
-            noted = strict_cut state buffer state.notes notes strict noted;
+            noted = note_is notes noted;
           };
         }
 
@@ -252,7 +250,7 @@ module _ {start state : RunState} {room : ℕ} {buffer input mid : Option (List 
             whole = subst (AllByRecursion IsUnbroken) lines (all-append IsUnbroken ran.lines upto ran.is.are.whole did.whole);
             told = subst (λ (xs : List (List ℕ)). AreTold start xs (text ++ did.text) after) lines (told_append start state after ran.lines upto text did.text ran.is.told did.told);
             ended = did.ended;
-            noted = Keeps-refl _;
+            noted = refl;
           };
         }
 
@@ -262,6 +260,6 @@ module _ {start state : RunState} {room : ℕ} {buffer input mid : Option (List 
         ends_in_piece after rest so_far new piece took (record { lines = upto; rest = did.rest; text = did.text; parts = did.parts; whole = did.whole; told = did.told; put = did.put })
 
 -- the writer holds what the printer's writer holds
-pub told_at : (start : RunState) (input rest : Option (List ℕ)) (a b : Outlet) (old new notes : Option (List ℕ)) (r : Result RunEnd ShellFault) → RunsAt start input rest a b notes r
+pub told_at : (start : RunState) (input rest : Option (List ℕ)) (a b : Outlet) (old new : Option (List ℕ)) (notes : Outlet) (r : Result RunEnd ShellFault) → RunsAt start input rest a b notes r
     → a.known ≡ old → b.known ≡ new → Tells start input rest old new notes r × HadMemory r
 told_at start input rest a b old new notes r h e f = rw (← e, ← f) (h.1, h.2)

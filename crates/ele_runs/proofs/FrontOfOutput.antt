@@ -3,7 +3,7 @@ use Rattle.ele_runs.proofs.Basics.{ℕ, false, zero, suc, List, [], ◌∷◌, �
 use Rattle.ele_runs.proofs.Joins.{blocks_append, lines_before}
 use Rattle.ele_runs.proofs.SomeOutput.{some_blocks, some_lines}
 use Rattle.ele_runs.proofs.Within.{recorded_within, trimmed_within}
-use Rattle.ele_runs.proofs.Words.{AreBlocks, HistoryFull, IsBlock, MayMean, MayPass, MayReply, Removes, Reply, Past, Stop, begun, cut_block, line_unless_long, plain, whole_lines}
+use Rattle.ele_runs.proofs.Words.{AreBlocks, HistoryFull, IsBlock, MayMean, MayPass, MayReply, Outlet, Removes, Reply, Past, Stop, begun, cut_block, line_unless_long, plain, whole_lines}
 use Rattle.ele_script.specs.EveryLine.{EveryLineMeaning}
 use Rattle.ele_model.specs.declared.event.Event.{Event}
 use Rattle.ele_model.specs.declared.event.Event.TheVariants.{CleanOne}
@@ -63,7 +63,7 @@ blocks_within before after (line ∷ lines) text within (block, rest, between, i
 
 module _ (law : EveryLineMeaning) where
   -- the text of a run whose writer failed begins an output
-  begins_output : (start : Past) (input before after : Option (List ℕ)) (text : List ℕ) → IsWithin start → ToldToAWriteFault (begun plain start before) input after text
+  begins_output : (start : Past) (input : Option (List ℕ)) (before after : Outlet) (text : List ℕ) → IsWithin start → ToldToAWriteFault (begun plain start before) input after text
       → (more : List ℕ) × IsOutputOf start input (text ++ more)
   begins_output start input before after text within run =
       let told = plain_output.told start before run.lines run.blocks run.state run.told in elim run.reaches [

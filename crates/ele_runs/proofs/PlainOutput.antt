@@ -1,11 +1,10 @@
 -- The text of a run without options is an output.
-use Rattle.ele_runs.proofs.Basics.{◌≡◌, ℕ, ◌+◌, false, List, [], ◌∷◌, ◌++◌, Option, Some, None, refl, sym, ap, subst, ◌∙◌, Keeps}
-use Rattle.ele_runs.proofs.Words.{AreBlocks, AreTold, RunState, IsBlock, IsNoted, IsTold, Past, begun, cut_block, front_of, heard, is_well, line_unless_long, plain}
+use Rattle.ele_runs.proofs.Basics.{◌≡◌, ℕ, ◌+◌, false, List, [], ◌∷◌, ◌++◌, Option, Some, None, refl, sym, ap, subst, ◌∙◌, inl}
+use Rattle.ele_runs.proofs.Words.{AreBlocks, AreTold, Outlet, RunState, IsBlock, IsNoted, IsTold, Past, begun, cut_block, front_of, heard, is_well, line_unless_long, plain, tells_reasons}
 use Rattle.ele_runs.specs.Note as note
 use Rattle.ele_runs.specs.PlainOutput.{IsPlain, PlainOutput}
 use Rattle.ele_runs.specs.RunState.{advance}
 use Rattle.ele_run_options.specs.declared.options.RunOptions.{RunOptions}
-use Rattle.std.proofs.KnownBytes.{Keeps-refl, Keeps-trans}
 use Rattle.std.specs.Prelude.{not, ◌&&◌}
 
 -- lines have no numbers
@@ -18,8 +17,8 @@ bare : (options : RunOptions) (number : ℕ) (line : Option (List ℕ)) (block :
 bare options number line block is = ap (λ (m : RunOptions). front_of m number line ++ block) is ∙ ap (λ (w : List ℕ). w ++ block) (none_in_front number line)
 
 -- no reason is written
-unnoted : (number : ℕ) (line : Option (List ℕ)) (block : List ℕ) (old new : Option (List ℕ)) → IsNoted plain number line block old new → Keeps old new
-unnoted number line block old new (note.nothing same) = same
+unnoted : (number : ℕ) (line : Option (List ℕ)) (block : List ℕ) (old new : Outlet) → IsNoted plain number line block old new → new ≡ old
+unnoted number line block old new (note.nothing why same) = same
 unnoted number line block old new (note.reason tells fault is why told front) = absurd (let never = tells in cc)
 
 goes_on_after : (options : RunOptions) (block : List ℕ) → options ≡ plain → (options.strict && not (is_well block)) ≡ false
@@ -30,7 +29,7 @@ record IsPlainBlock (before : RunState) (line : Option (List ℕ)) (told : List 
   block : IsBlock false before.past line told after.past
   options : after.options ≡ plain
   goes_on : after.ended ≡ false
-  noted : Keeps before.notes after.notes
+  noted : after.notes ≡ before.notes
 
 plain_block : (before after : RunState) (line : Option (List ℕ)) (told : List ℕ) → before.options ≡ plain → IsTold before line told after → IsPlainBlock before line told after
 plain_block before after line told options is =
@@ -41,17 +40,16 @@ plain_block before after line told options is =
       block = rw (text, past) (subst (λ (m : RunOptions). IsBlock m.explain before.past (heard m line) is.block is.past) options is.is);
       options = ap (λ (c : RunState). c.options) is.after_is ∙ options;
       goes_on = ap (λ (c : RunState). c.ended) is.after_is ∙ goes_on_after before.options is.block options;
-      noted = rw notes (unnoted (before.number + 1) line is.block before.notes is.notes (subst (λ (m : RunOptions). IsNoted m (before.number + 1) line is.block before.notes is.notes) options is.noted));
+      noted = notes ∙ unnoted (before.number + 1) line is.block before.notes is.notes (subst (λ (m : RunOptions). IsNoted m (before.number + 1) line is.block before.notes is.notes) options is.noted);
     }
 
 told : (before after : RunState) (lines : List (List ℕ)) (text : List ℕ) → before.options ≡ plain → before.ended ≡ false → AreTold before lines text after → IsPlain before.past before.notes lines text after
 told before after [] text options goes_on are =
-    let same : before ≡ after = sym are.1 in
     record {
       blocks = (are.0, ap (λ (c : RunState). c.past) are.1);
       cut = λ last. bare after.options (after.number + 1) last (cut_block last) (ap (λ (c : RunState). c.options) are.1 ∙ options);
       goes_on = ap (λ (c : RunState). c.ended) are.1 ∙ goes_on;
-      noted = subst (λ (c : RunState). Keeps before.notes c.notes) same (Keeps-refl before.notes);
+      noted = ap (λ (c : RunState). c.notes) are.1;
     }
 told before after (line ∷ lines) text options goes_on (own, rest, between, is, more, parts) =
     let first = plain_block before between (line_unless_long line) own options is in
@@ -60,7 +58,7 @@ told before after (line ∷ lines) text options goes_on (own, rest, between, is,
       blocks = (own, rest, between.past, first.block, others.blocks, parts);
       cut = others.cut;
       goes_on = others.goes_on;
-      noted = Keeps-trans before.notes between.notes after.notes first.noted others.noted;
+      noted = others.noted ∙ first.noted;
     }
 
 -- so blocks of lines are a text for them
@@ -73,7 +71,7 @@ block_told before line block after options goes_on is = record {
   goes_on = goes_on;
   is = subst (λ (m : RunOptions). IsBlock m.explain before.past (heard m line) block after) (sym options) is;
   told_is = sym (bare before.options (before.number + 1) (heard before.options line) block options);
-  noted = note.nothing (Keeps-refl before.notes);
+  noted = note.nothing (inl (ap tells_reasons options)) refl;
   after_is = refl;
 }
 

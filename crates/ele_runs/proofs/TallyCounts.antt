@@ -35,7 +35,7 @@ fate_outcome (fate.Kept until level) text is = rw is refl
 fate_outcome (fate.Due since cause) text is = rw is refl
 
 -- and so is the outcome of any answer
-answer_outcome : (said : Answer) (text : List ℕ) → IsText said text → outcome_of text ≡ outcome_for said
+pub answer_outcome : (said : Answer) (text : List ℕ) → IsText said text → outcome_of text ≡ outcome_for said
 answer_outcome (answer.Reply (Ok said)) text is = reply_outcome said text is
 answer_outcome (answer.Reply (Err stop)) text is = rw is refl
 answer_outcome (answer.Pass (pass.Finished removed)) text is = rw is refl

@@ -7,6 +7,7 @@ use Rattle.ele_run_options.specs.RunOptions.{plain}
 use Rattle.ele_runs.specs.RunState.{begun}
 use Rattle.ele_runs.specs.Telling.{ToldToAWriteFault, WritesFront}
 use Rattle.ele_history.specs.Past.{Past}
+use Rattle.ele_output.specs.Outlet.{Outlet}
 use Rattle.ele_runs.specs.SomeAnswer.{IsWithin}
 
 -- an output of the input
@@ -20,5 +21,5 @@ pub record IsOutputOf (start : Past) (input : Option (List ℕ)) (text : List �
 
 abbrev pub FrontOfOutput : Type 0
 FrontOfOutput =
-    (start : Past) (input old new before after : Option (List ℕ)) → IsWithin start
+    (start : Past) (input old new : Option (List ℕ)) (before after : Outlet) → IsWithin start
     → WritesFront (ToldToAWriteFault (begun plain start before) input after) old new → WritesFront (IsOutputOf start input) old new

@@ -1,32 +1,37 @@
 -- The state of a run.
-use Rattle.std.specs.Prelude.{ℕ, ◌+◌, Bool, false, not, ◌&&◌, List, Option}
+use Rattle.std.specs.Prelude.{ℕ, ◌+◌, Bool, false, not, ◌&&◌, List, [], Option, None}
 use Rattle.ele_history.specs.Past.{Past}
+use Rattle.ele_output.specs.Outlet.{Outlet}
 use Rattle.ele_run_options.specs.RunOptions.{is_well}
 use Rattle.ele_runs.specs.Tally.{fresh_tally, outcome_of, tallied}
 use Rattle.ele_run_options.specs.declared.options.RunOptions.{RunOptions}
 use Rattle.ele_runs.specs.declared.tally.Tally.{Tally}
 
--- its options, its history, the number of lines that were run, whether one of them has ended it, the tally, and the bytes
--- that the writer of reasons is known to hold
+-- its options, its history, the number of lines that were run, whether one of them has ended it, the tally, and the printer
+-- of reasons
 pub record RunState : Type 0 where
   pub options : RunOptions
   pub past : Past
   pub number : ℕ
   pub ended : Bool
   pub tally : Tally
-  pub notes : Option (List ℕ)
+  pub notes : Outlet
 
 -- before the first line
-abbrev pub begun : RunOptions → Past → Option (List ℕ) → RunState
+abbrev pub begun : RunOptions → Past → Outlet → RunState
 begun options past notes = record { options = options; past = past; number = 0; ended = false; tally = fresh_tally; notes = notes }
 
--- the state, if the writer of reasons holds this
-abbrev pub noting : RunState → Option (List ℕ) → RunState
+-- no printer
+abbrev pub no_printer : Outlet
+no_printer = record { writer = 0; known = None; held = []; has_failed = false }
+
+-- the state with this printer of reasons
+abbrev pub noting : RunState → Outlet → RunState
 noting run_state notes = record run_state { notes = notes }
 
--- the state after a line, with the history that it left, its block, and what the writer of reasons holds then: a strict run
--- ends unless the block begins with `ok`
-abbrev pub advance : RunState → Past → Option (List ℕ) → List ℕ → Option (List ℕ) → RunState
+-- the state after a line, with the history that it left, its block, and the printer of reasons then: a strict run ends
+-- unless the block begins with `ok`
+abbrev pub advance : RunState → Past → Option (List ℕ) → List ℕ → Outlet → RunState
 advance run_state past line block notes =
     record run_state {
       past = past;

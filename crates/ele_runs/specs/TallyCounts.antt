@@ -2,6 +2,7 @@
 use Rattle.std.specs.Prelude.{◌≡◌, ℕ, ◌+◌, Bool, true, false, not, List, [], ◌∷◌, length, filter, Option, Some, None, Ok, Err, if◌then◌else◌}
 use Rattle.std.specs.List.{position_from}
 use Rattle.ele_history.specs.Past.{Past}
+use Rattle.ele_output.specs.Outlet.{Outlet}
 use Rattle.ele_model.specs.declared.pass.PassEnd.TheVariants as pass
 use Rattle.ele_model.specs.declared.reply.Reply.TheVariants as reply
 use Rattle.ele_runs.specs.Answer.{Answer}
@@ -65,5 +66,5 @@ pub record Counts (lines : List (List ℕ)) (outcomes : List Outcome) (tally : T
 -- the tally of whole lines from the first on
 abbrev pub TallyCounts : Type 0
 TallyCounts =
-    (options : RunOptions) (start : Past) (notes : Option (List ℕ)) (lines : List (List ℕ)) (text : List ℕ) (state : RunState)
+    (options : RunOptions) (start : Past) (notes : Outlet) (lines : List (List ℕ)) (text : List ℕ) (state : RunState)
     (are : AreTold (begun options start notes) lines text state) → Counts lines (outcomes_of (begun options start notes) lines text state are) state.tally

@@ -1,18 +1,19 @@
 -- The text that a run writes for a script, under its options.
 use Rattle.std.specs.Prelude.{◌≡◌, ℕ, ◌+◌, false, List, [], ◌∷◌, ◌++◌, Option}
 use Rattle.ele_history.specs.Past.{Past}
+use Rattle.ele_output.specs.Outlet.{Outlet}
 use Rattle.ele_runs.specs.Block.{IsBlock, cut_block}
 use Rattle.ele_runs.specs.RunState.{RunState, advance}
 use Rattle.ele_runs.specs.LineLength.{line_unless_long}
 use Rattle.ele_run_options.specs.RunOptions.{front_of, heard}
 use Rattle.ele_runs.specs.Note.{IsNoted}
 
--- the text for the next line: its block, with the line's number before it if lines are numbered, and in the other writer the
+-- the text for the next line: its block, with the line's number before it if lines are numbered, and at the other printer the
 -- reason of a bad line; no line is answered after one that ended the run
 pub record IsTold (before : RunState) (line : Option (List ℕ)) (told : List ℕ) (after : RunState) : Type 0 where
   pub block : List ℕ
   pub past : Past
-  pub notes : Option (List ℕ)
+  pub notes : Outlet
   pub goes_on : before.ended ≡ false
   pub is : IsBlock before.options.explain before.past (heard before.options line) block past
   pub told_is : told ≡ front_of before.options (before.number + 1) (heard before.options line) ++ block

@@ -37,5 +37,5 @@ HadMemory (Err NoMemory) = ⊥
 HadMemory result = Unit {0}
 
 -- what a run has written, by how it ends
-abbrev pub RunsAt : RunState → Option (List ℕ) → Option (List ℕ) → Outlet → Outlet → Option (List ℕ) → Result RunEnd ShellFault → Type 0
+abbrev pub RunsAt : RunState → Option (List ℕ) → Option (List ℕ) → Outlet → Outlet → Outlet → Result RunEnd ShellFault → Type 0
 RunsAt start input rest old new notes result = (new.writer ≡ old.writer) × Tells start input rest old.known new.known notes result × HadMemory result

@@ -16,7 +16,7 @@ mod tally;
 pub use ele_run_options::{RunOptions, ShellFault};
 pub use end::{EndLine, RunEnd};
 pub use line_buffer::{LineBuffer, kept_line};
-pub use note::{tell_why, why_bad, why_cut};
+pub use note::{put_why, why_bad, why_cut};
 pub use said::{Said, hear_ahead, hear_event, hear_kept, hear_trim, last_reply};
 pub use script::{run_in, run_over};
 pub use tally::{BadLine, Tally};

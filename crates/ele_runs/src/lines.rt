@@ -3,7 +3,6 @@
 ghost use Rattle.std.specs.Prelude.{◌≡◌, ◌+◌, ◌^◌, ◌<◌, ◌≤◌, ◌++◌, [], true, false, Some, length};
 ghost use Rattle.std.specs.Option.{option_map, option_and_then};
 ghost use Rattle.memchr.specs.Find.{IsFirstByte, is_byte};
-ghost use Rattle.ele_output.specs.Front.{AppendsFront};
 ghost use Rattle.ele_printer.specs.Printed.{bad_text};
 ghost use Rattle.ele_output.specs.Prints.{outlet, Prints};
 ghost use Rattle.ele_runs.specs.Block.{cut_count};
@@ -33,13 +32,13 @@ fn put_whole<C: Explain, W: Write, E: Write>(
     buffer: &mut LineBuffer,
     runner: &mut Runner<C>,
     printer: &mut Printer<'_, W>,
-    reasons: &mut E,
+    reasons: &mut Printer<'_, E>,
 )
     requires goes_on { runner.old.ended ≡ false }
     requires few { runner.old.number + 1 < 2 ^ 64 }
-    ensures block { PutsBlock (noting runner.old (E.contents reasons.old))
+    ensures block { PutsBlock (noting runner.old (outlet E.contents reasons.old))
         (option_and_then (λ line. line_unless_long (line ++ end.now)) buffer.old)
-        (noting runner.new (E.contents reasons.new))
+        (noting runner.new (outlet E.contents reasons.new))
         (outlet W.contents printer.old) (outlet W.contents printer.new) }
     ensures begun { runner.new.ended ≡ false → buffer.new ≡ Some [] }
     ensures kept { runner.new.ended ≡ true → buffer.new
@@ -73,12 +72,12 @@ pub(crate) fn answer_piece<C: Explain, W: Write, E: Write>(
     buffer: &mut LineBuffer,
     runner: &mut Runner<C>,
     printer: &mut Printer<'_, W>,
-    reasons: &mut E,
+    reasons: &mut Printer<'_, E>,
 ) -> Result<(), WriteFault>
     requires goes_on { runner.old.ended ≡ false }
     requires few { runner.old.number + length piece.now < 2 ^ 64 }
-    ensures { AnswersPiece (noting runner.old (E.contents reasons.old))
-        (noting runner.new (E.contents reasons.new)) buffer.old piece.now buffer.new
+    ensures { AnswersPiece (noting runner.old (outlet E.contents reasons.old))
+        (noting runner.new (outlet E.contents reasons.new)) buffer.old piece.now buffer.new
         (outlet W.contents printer.old) (outlet W.contents printer.new) result }
 {
     let mut rest = piece;
@@ -147,13 +146,12 @@ pub(crate) fn finish<C: Explain, W: Write, E: Write>(
     buffer: LineBuffer,
     runner: &Runner<C>,
     printer: &mut Printer<'_, W>,
-    reasons: &mut E,
+    reasons: &mut Printer<'_, E>,
 ) -> Result<RunEnd, WriteFault>
     requires { runner.now.number + 1 < 2 ^ 64 }
     ensures last { WritesLast runner.now buffer (outlet W.contents printer.old)
         (outlet W.contents printer.new) result }
-    ensures noted { AppendsFront (E.contents reasons.old) (E.contents reasons.new)
-        (cut_note runner.now buffer) }
+    ensures noted { Prints E.contents reasons.old reasons.new (cut_note runner.now buffer) }
 {
     runner.tell_cut(buffer.line(), reasons);
     let cut = put_cut(buffer.line(), runner, printer);

@@ -1,12 +1,12 @@
 //! The reasons for bad lines, which a run writes beside their blocks.
-//! A contract sees a reason as itself, and the bytes that the writer of reasons holds.
-ghost use Rattle.std.specs.Prelude.{◌≡◌, IfNone, IfSome};
+//! A contract sees a reason as itself, and a printer as its outlet.
+ghost use Rattle.std.specs.Prelude.{◌≡◌, IfNone, IfSome, Some};
 ghost use Rattle.std.specs.Option.{option_map};
-ghost use Rattle.ele_output.specs.Front.{AppendsFront};
+ghost use Rattle.ele_output.specs.Prints.{Prints};
 ghost use Rattle.ele_runs.specs.WhyBad.{IsToldReason, IsUntold, cut_reason, why_line};
 
-use ele_output::write_all;
-use ele_reasons::{Reason, reason};
+use ele_output::{Printer, put_with_number};
+use ele_reasons::{Reason, put_reason, reason};
 use ele_run_options::RunOptions;
 use std::alloc::Global;
 use std::io::Write;
@@ -38,17 +38,23 @@ pub fn why_cut(line: Option<&[u8]>) -> Option<Reason>
     }
 }
 
-/// Writes why the line with this number is not a command. If the writer fails, it has a prefix of the
-/// text; if memory for the text is refused, nothing is written. Neither is reported.
-pub fn tell_why<E: Write>(alloc: Global, number: u64, why: Option<Reason>, reasons: &mut E)
-    ensures { AppendsFront (E.contents reasons.old) (E.contents reasons.new) (why_line number why) }
+/// Prints why the line with this number is not a command, if the reason is known.
+pub fn put_why<E: Write>(number: u64, why: Option<Reason>, reasons: &mut Printer<'_, E>)
+    ensures { Prints E.contents reasons.old reasons.new (why_line number why) }
 {
     let Some(why) = why else {
         return;
     };
-    let Ok(text) = format!(in alloc; "elephant: line {number}, {why}\n") else {
-        return;
-    };
-    let _ = write_all(reasons, text.as_bytes());
-    let _ = reasons.flush();
+    put_with_number(b"elephant: line ", number, reasons);
+    reasons.put(b", ");
+    put_reason(why, reasons);
+    reasons.put_byte(b'\n');
+}
+
+/// Prints why the line with this number is not a command, and writes it at once.
+pub(crate) fn report_why<E: Write>(number: u64, why: Reason, reasons: &mut Printer<'_, E>)
+    ensures { Prints E.contents reasons.old reasons.new (why_line number (Some why)) }
+{
+    put_why(number, Some(why), reasons);
+    reasons.flush();
 }

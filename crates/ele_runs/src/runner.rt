@@ -1,17 +1,16 @@
 //! A run over a history: its options, the number of its lines and their tally.
 //! A contract sees it as the state of the run, without the reasons that it wrote.
-ghost use Rattle.std.specs.Prelude.{◌≡◌, ◌+◌, ◌<◌, ◌≤◌, ◌^◌, false, List, None, ℕ, IfOk};
+ghost use Rattle.std.specs.Prelude.{◌≡◌, ◌+◌, ◌<◌, ◌≤◌, ◌^◌, false, List, ℕ, IfOk};
 ghost use Rattle.std.specs.Option.{option_map};
 ghost use Rattle.ele_history.specs.Past.{fresh};
-ghost use Rattle.ele_output.specs.Prints.{outlet};
-ghost use Rattle.ele_output.specs.Front.{AppendsFront};
-ghost use Rattle.ele_runs.specs.RunState.{begun, noting};
+ghost use Rattle.ele_output.specs.Prints.{Prints, outlet};
+ghost use Rattle.ele_runs.specs.RunState.{begun, no_printer, noting};
 ghost use Rattle.ele_runs.specs.Note.{IsNoted, cut_note};
 ghost use Rattle.ele_runs.specs.Block.{IsText};
 ghost use Rattle.ele_runs.specs.Said.{HearsNext, answer_of};
 ghost use Rattle.ele_runs.specs.Written.{PutsBlock};
 
-use crate::note::{tell_why, why_bad, why_cut};
+use crate::note::{report_why, why_bad, why_cut};
 use crate::said::{Said, hear_kept, last_reply};
 use crate::tally::Tally;
 use ele_history::History;
@@ -35,12 +34,12 @@ pub(crate) struct Runner<C: Explain> {
 }
 
 impl<C: Explain> Model for Runner<C> {
-    ghost use Rattle.std.specs.Prelude.{None, ◌≤◌};
-    ghost use Rattle.ele_runs.specs.RunState.{RunState};
+    ghost use Rattle.std.specs.Prelude.{◌≤◌};
+    ghost use Rattle.ele_runs.specs.RunState.{RunState, no_printer};
 
     ghost Value = { RunState };
 
-    ghost view = { λ k. record { options = k.options; past = k.history; number = k.lines; ended = k.has_ended; tally = k.tally; notes = None } };
+    ghost view = { λ k. record { options = k.options; past = k.history; number = k.lines; ended = k.has_ended; tally = k.tally; notes = no_printer } };
 
     // The tally counts at most the lines that were run.
     ghost invariant = { λ k. (k.tally.bad ≤ k.lines) × (k.tally.refused ≤ k.lines) × (k.tally.stopped ≤ k.lines) };
@@ -53,7 +52,7 @@ impl<C: Explain> Runner<C> {
         limits: Limits,
         options: RunOptions,
     ) -> Result<Runner<C>, NoMemory>
-        ensures { IfOk result (λ runner. runner ≡ begun options (fresh limits) None) }
+        ensures { IfOk result (λ runner. runner ≡ begun options (fresh limits) no_printer) }
     {
         let history = History::<C>::new(alloc, limits)?;
         Ok(Runner {
@@ -109,43 +108,50 @@ impl<C: Explain> Runner<C> {
         said
     }
 
-    // Writes why the line is bad, if it is bad and reasons are written.
-    fn tell_reason<E: Write>(&self, line: Option<&[u8]>, said: &Said, reasons: &mut E)
+    // Prints why the line is bad, if it is bad and reasons are written.
+    fn tell_reason<E: Write>(&self, line: Option<&[u8]>, said: &Said, reasons: &mut Printer<'_, E>)
         ensures { (text : List ℕ) → IsText (answer_of self.now.past said.now) text
             → IsNoted self.now.options self.now.number (option_map (λ line. line.now) line.entry)
-            text (E.contents reasons.old) (E.contents reasons.new) }
+            text (outlet E.contents reasons.old) (outlet E.contents reasons.new) }
     {
-        if let Said::Bad(_) = said
-            && self.options.tells_reasons()
-        {
-            let why = why_bad(self.alloc, self.options, line);
-            tell_why(self.alloc, self.lines, why, reasons);
+        let Said::Bad(_) = said else {
+            return;
+        };
+        if !self.options.tells_reasons() {
+            return;
+        }
+        if let Some(why) = why_bad(self.alloc, self.options, line) {
+            report_why(self.lines, why, reasons);
         }
     }
 
-    /// Writes why a last line without its line feed is never run, if reasons are written.
-    pub(crate) fn tell_cut<E: Write>(&self, line: Option<&[u8]>, reasons: &mut E)
+    /// Prints why a last line without its line feed is never run, if reasons are written.
+    pub(crate) fn tell_cut<E: Write>(&self, line: Option<&[u8]>, reasons: &mut Printer<'_, E>)
         requires { self.now.number + 1 < 2 ^ 64 }
-        ensures { AppendsFront (E.contents reasons.old) (E.contents reasons.new)
+        ensures { Prints E.contents reasons.old reasons.new
             (cut_note self.now (option_map (λ line. line.now) line.entry)) }
     {
-        if self.options.tells_reasons() {
-            tell_why(self.alloc, self.lines + 1, why_cut(line), reasons);
+        if !self.options.tells_reasons() {
+            return;
+        }
+        if let Some(why) = why_cut(line) {
+            report_why(self.lines + 1, why, reasons);
         }
     }
 
-    /// Runs the next line, which is `None` if it is too long. Writes why it is bad, if it is bad and
-    /// reasons are written, and prints its block.
+    /// Runs the next line, which is `None` if it is too long. Prints why it is bad, if it is bad and
+    /// reasons are written, and its block.
     pub(crate) fn put_block<W: Write, E: Write>(
         &mut self,
         line: Option<&[u8]>,
         printer: &mut Printer<'_, W>,
-        reasons: &mut E,
+        reasons: &mut Printer<'_, E>,
     )
         requires goes_on { self.old.ended ≡ false }
         requires few { self.old.number + 1 < 2 ^ 64 }
-        ensures { PutsBlock (noting self.old (E.contents reasons.old))
-            (option_map (λ line. line.now) line.entry) (noting self.new (E.contents reasons.new))
+        ensures { PutsBlock (noting self.old (outlet E.contents reasons.old))
+            (option_map (λ line. line.now) line.entry)
+            (noting self.new (outlet E.contents reasons.new))
             (outlet W.contents printer.old) (outlet W.contents printer.new) }
     {
         let said = self.hear(line);

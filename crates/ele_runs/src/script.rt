@@ -1,11 +1,10 @@
 //! The run of a script, piece by piece.
 //! A contract sees the lines that the reader gives, and their output at the writer.
-ghost use Rattle.std.specs.Prelude.{◌≡◌, ◌≤◌, ◌-◌, [], false, None, Some, min, IfErr, IfOk, IsErrOf, length};
+ghost use Rattle.std.specs.Prelude.{◌≡◌, ◌≤◌, ◌-◌, [], false, Some, min, IfErr, IfOk, IsErrOf, length};
 ghost use Rattle.ele_history.specs.Past.{fresh};
 ghost use Rattle.ele_output.specs.Prints.{outlet};
-ghost use Rattle.ele_run_options.specs.RunOptions.{plain};
 ghost use Rattle.ele_runs.specs.RunState.{begun, noting};
-ghost use Rattle.ele_runs.specs.Telling.{HasFailed, Tells, ToldToTheEnd, Writes};
+ghost use Rattle.ele_runs.specs.Telling.{HasFailedPlain, Tells, ToldPlain, Writes};
 ghost use Rattle.ele_runs.specs.Written.{HadMemory, RunsAt};
 
 use crate::end::{EndLine, RunEnd};
@@ -78,17 +77,17 @@ fn run_pieces<C: Explain, R: Read, W: Write, E: Write>(
     runner: &mut Runner<C>,
     reader: &mut R,
     printer: &mut Printer<'_, W>,
-    reasons: &mut E,
+    reasons: &mut Printer<'_, E>,
     piece: &mut [u8],
 ) -> Result<RunEnd, ShellFault>
     requires piece { length piece.old ≡ PIECE }
     requires none { (outlet W.contents printer.old).held ≡ [] }
     requires first { runner.old.number ≡ 0 }
     requires goes_on { runner.old.ended ≡ false }
-    ensures { RunsAt (noting runner.old (E.contents reasons.old))
+    ensures { RunsAt (noting runner.old (outlet E.contents reasons.old))
         (R.remaining reader.old) (R.remaining reader.new)
         (outlet W.contents printer.old) (outlet W.contents printer.new)
-        (E.contents reasons.new) result }
+        (outlet E.contents reasons.new) result }
 {
     let mut buffer = LineBuffer::new();
     let mut room = MOST_BYTES;
@@ -117,15 +116,15 @@ fn run_printed<C: Explain, R: Read, W: Write, E: Write>(
     runner: &mut Runner<C>,
     reader: &mut R,
     writer: &mut W,
-    reasons: &mut E,
+    reasons: &mut Printer<'_, E>,
     piece: &mut [u8],
 ) -> Result<RunEnd, ShellFault>
     requires piece { length piece.old ≡ PIECE }
     requires first { runner.old.number ≡ 0 }
     requires goes_on { runner.old.ended ≡ false }
-    ensures { Tells (noting runner.old (E.contents reasons.old))
+    ensures { Tells (noting runner.old (outlet E.contents reasons.old))
         (R.remaining reader.old) (R.remaining reader.new)
-        (W.contents writer.old) (W.contents writer.new) (E.contents reasons.new) result
+        (W.contents writer.old) (W.contents writer.new) (outlet E.contents reasons.new) result
         × HadMemory result }
 {
     let mut printer = Printer::new(writer);
@@ -138,8 +137,8 @@ fn run_printed<C: Explain, R: Read, W: Write, E: Write>(
 /// counts, and comes back as it is kept. A last line without its line feed is such a line, and is
 /// never run as a remark either.
 ///
-/// A run with numbers that isn't strict also tells at the writer of reasons, before the block of
-/// each bad line, which word of it is at fault and why. Where that writer fails the run goes on.
+/// A run with numbers that isn't strict also prints at `reasons`, before the block of each bad line,
+/// which word of it is at fault and why. If that writer fails, the run goes on.
 ///
 /// The errors are those of `run_over`.
 pub fn run_in<C: Explain, R: Read, W: Write, E: Write>(
@@ -147,12 +146,12 @@ pub fn run_in<C: Explain, R: Read, W: Write, E: Write>(
     alloc: Global,
     reader: &mut R,
     writer: &mut W,
-    reasons: &mut E,
+    reasons: &mut Printer<'_, E>,
     limits: Limits,
 ) -> Result<RunEnd, ShellFault>
-    ensures told { Tells (begun options (fresh limits) (E.contents reasons.old))
+    ensures told { Tells (begun options (fresh limits) (outlet E.contents reasons.old))
         (R.remaining reader.old) (R.remaining reader.new)
-        (W.contents writer.old) (W.contents writer.new) (E.contents reasons.new) result }
+        (W.contents writer.old) (W.contents writer.new) (outlet E.contents reasons.new) result }
     ensures no_memory { IsErrOf result ShellFault.NoMemory
         → (reader.new ≡ reader.old) × (writer.new ≡ writer.old) × (reasons.new ≡ reasons.old) }
 {
@@ -184,22 +183,23 @@ pub fn run_over<C: Explain, R: Read, W: Write>(
     writer: &mut W,
     limits: Limits,
 ) -> Result<u64, ShellFault>
-    ensures ok { IfOk result (λ lines. Writes (ToldToTheEnd (begun plain (fresh limits) None) lines
-        (R.remaining reader.old) (R.remaining reader.new) None)
+    ensures ok { IfOk result (λ lines. Writes (ToldPlain (fresh limits) lines
+        (R.remaining reader.old) (R.remaining reader.new))
         (W.contents writer.old) (W.contents writer.new)) }
-    ensures err { IfErr result (HasFailed (begun plain (fresh limits) None)
+    ensures err { IfErr result (HasFailedPlain (fresh limits)
         (R.remaining reader.old) (R.remaining reader.new)
-        (W.contents writer.old) (W.contents writer.new) None) }
+        (W.contents writer.old) (W.contents writer.new)) }
     ensures no_memory { IsErrOf result ShellFault.NoMemory
         → (reader.new ≡ reader.old) × (writer.new ≡ writer.old) }
 {
     let mut nowhere = io::sink();
+    let mut reasons = Printer::new(&mut nowhere);
     match run_in::<C, R, W, Sink>(
         RunOptions::plain(),
         alloc,
         reader,
         writer,
-        &mut nowhere,
+        &mut reasons,
         limits,
     ) {
         Ok(ran) => Ok(ran.lines),

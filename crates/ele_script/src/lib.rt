@@ -15,8 +15,8 @@ pub use command::{kinds_for, read_command};
 pub use ele_commands::WordKind;
 pub use ele_output::{Printer, WriteFault};
 pub use ele_printer::{
-    LineFault, put_ahead, put_answer, put_fault, put_history, put_pass, put_reply, put_stop,
-    put_trimmed, put_why, write_named, write_placed, write_reply,
+    LineFault, put_ahead, put_answer, put_fault, put_history, put_named, put_pass, put_placed,
+    put_reply, put_stop, put_trimmed, put_why, write_reply,
 };
 pub use pairs::ladder_pairs;
 pub use reading::{LONGEST_LINE, Line, Question, read_event, read_line, read_line_in, word_end};

@@ -3,11 +3,9 @@
 //! writer takes, if these are known.
 #![tactic(auto)]
 
-ghost use Rattle.std.specs.Prelude.{◌≡◌, None, IfErr, IfOk, IsErrOf};
+ghost use Rattle.std.specs.Prelude.{◌≡◌, IfErr, IfOk, IsErrOf};
 ghost use Rattle.ele_history.specs.Past.{fresh};
-ghost use Rattle.ele_run_options.specs.RunOptions.{plain};
-ghost use Rattle.ele_runs.specs.RunState.{begun};
-ghost use Rattle.ele_runs.specs.Telling.{HasFailed, ToldToTheEnd, Writes};
+ghost use Rattle.ele_runs.specs.Telling.{HasFailedPlain, ToldPlain, Writes};
 
 mod audits;
 
@@ -43,12 +41,12 @@ pub fn run<R: Read, W: Write>(
     writer: &mut W,
     limits: Limits,
 ) -> Result<u64, ShellFault>
-    ensures ok { IfOk result (λ lines. Writes (ToldToTheEnd (begun plain (fresh limits) None) lines
-        (R.remaining reader.old) (R.remaining reader.new) None)
+    ensures ok { IfOk result (λ lines. Writes (ToldPlain (fresh limits) lines
+        (R.remaining reader.old) (R.remaining reader.new))
         (W.contents writer.old) (W.contents writer.new)) }
-    ensures err { IfErr result (HasFailed (begun plain (fresh limits) None)
+    ensures err { IfErr result (HasFailedPlain (fresh limits)
         (R.remaining reader.old) (R.remaining reader.new)
-        (W.contents writer.old) (W.contents writer.new) None) }
+        (W.contents writer.old) (W.contents writer.new)) }
     ensures no_memory { IsErrOf result ShellFault.NoMemory
         → (reader.new ≡ reader.old) × (writer.new ≡ writer.old) }
 {

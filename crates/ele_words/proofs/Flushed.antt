@@ -1,14 +1,13 @@
 -- A run or a text ends as it did if the flush after it succeeds, and else with a writer that failed.
 use Rattle.std.proofs.Common.{◌≡◌, ℕ, Bool, true, false, List, [], ◌∷◌, ◌++◌, Option, Some, None, Result, Ok, Err, refl, sym, ap, subst, ◌∙◌, append_assoc, inl, inr}
-use Rattle.std.specs.Prelude.{codes, decimal, unwrap_or, if◌then◌else◌}
+use Rattle.std.specs.Prelude.{unwrap_or, if◌then◌else◌}
 use Rattle.std.specs.Result.{result_err}
 use Rattle.std.specs.Io.KnownBytes.{Appends, Consumes, Keeps, IsAtEnd}
 use Rattle.std.proofs.KnownBytes.{Appends-kept, Appends-nil, Keeps-trans}
 use Rattle.std.proofs.lemmas.List.{append-nil}
-use Rattle.ele_output.specs.Front.{AppendsFront, WritesText}
-use Rattle.ele_output.proofs.Known.{front_flushed, front_kept, whole_front}
-use Rattle.ele_output.specs.Line.{line_text}
-use Rattle.ele_run_options.specs.Fault.{number_of, name_of}
+use Rattle.ele_output.specs.Front.{AppendsFront}
+use Rattle.ele_output.proofs.Known.{front_kept, whole_front}
+use Rattle.ele_output.specs.Outlet.{Outlet}
 use Rattle.ele_runs.specs.RunState.{RunState}
 use Rattle.ele_runs.specs.Lines.{whole_lines}
 use Rattle.ele_runs.specs.Telling.{EndsAtLine, HasTold, IsToldOf, Tells, ToldToAWriteFault, Writes, WritesFront}
@@ -17,7 +16,7 @@ use Rattle.ele_runs.specs.declared.end.RunEnd.{RunEnd}
 use Rattle.ele_run_options.specs.declared.fault.ShellFault.{ShellFault}
 use Rattle.ele_runs.specs.declared.tally.Tally.{Tally}
 use Rattle.ele_run_options.specs.declared.fault.ShellFault.TheVariants.{ReadFault, WriteFault, TooManyLines, NoMemory}
-use Rattle.ele_words.specs.Ends.{HasWritten, fault_line}
+use Rattle.ele_words.specs.Ends.{HasWritten}
 
 -- a flush keeps what was written
 kept : {Told : List ℕ → Type 0} (old mid new : Option (List ℕ)) → Writes Told old mid → Keeps mid new → Writes Told old new
@@ -26,19 +25,12 @@ kept old mid new is same = record { text = is.text; told = is.told; written = Ap
 kept_front : {Told : List ℕ → Type 0} (old mid new : Option (List ℕ)) → WritesFront Told old mid → Keeps mid new → WritesFront Told old new
 kept_front old mid new is same = record { text = is.text; told = is.told; written = front_kept old mid new is.text is.written same }
 
-kept_run : (start : RunState) (input rest old mid new notes : Option (List ℕ)) (ended : Result RunEnd ShellFault) → Tells start input rest old mid notes ended → Keeps mid new → Tells start input rest old new notes ended
+kept_run : (start : RunState) (input rest old mid new : Option (List ℕ)) (notes : Outlet) (ended : Result RunEnd ShellFault) → Tells start input rest old mid notes ended → Keeps mid new → Tells start input rest old new notes ended
 kept_run start input rest old mid new notes (Ok end) ran same = kept old mid new ran same
 kept_run start input rest old mid new notes (Err ReadFault) ran same = kept old mid new ran same
 kept_run start input rest old mid new notes (Err TooManyLines) ran same = kept old mid new ran same
 kept_run start input rest old mid new notes (Err WriteFault) ran same = kept_front old mid new ran same
 kept_run start input rest old mid new notes (Err NoMemory) ran same = (ran.0, Keeps-trans old mid new ran.1 same, ran.2)
-
--- the line of a fault was written, or a prefix of it
-pub line_flushed : {A E : Type 0} (old mid new : Option (List ℕ)) (fault : ShellFault) (number : ℕ) (name : List ℕ) (r : Result A E) → number ≡ number_of fault → name ≡ name_of fault → WritesText (line_text (codes "elephant:" ∷ decimal number ∷ name ∷ [])) old mid r
-    → Keeps mid new → AppendsFront old new (fault_line fault)
-line_flushed old mid new fault number name r n m told same =
-    let line : line_text (codes "elephant:" ∷ decimal number ∷ name ∷ []) ≡ fault_line fault = rw (n, m) refl in
-    subst (AppendsFront old new) line (front_flushed old mid new (line_text (codes "elephant:" ∷ decimal number ∷ name ∷ [])) r told same)
 
 -- what is known to be left of an input
 abbrev left : Option (List ℕ) → List ℕ
@@ -64,7 +56,7 @@ front_of_kept : (old new : Option (List ℕ)) (bytes : List ℕ) → Keeps old n
 front_of_kept old new bytes same = record { front = []; back = bytes; parts = refl; written = Appends-kept old old new [] (Appends-nil old) same }
 
 -- what a run that ended in any way has written, one whose writer failed may have written too
-cut_failed : (start : RunState) (is_cut : Bool) (input rest notes : Option (List ℕ)) (given : List ℕ) (lines : List (List ℕ)) (line text : List ℕ)
+cut_failed : (start : RunState) (is_cut : Bool) (input rest : Option (List ℕ)) (notes : Outlet) (given : List ℕ) (lines : List (List ℕ)) (line text : List ℕ)
     → Consumes input rest given → EndsAtLine is_cut start given rest lines line notes text → ToldToAWriteFault start input notes text
 cut_failed start false input rest notes given lines line text taken by = record {
   lines = lines ++ line ∷ [];
@@ -84,10 +76,10 @@ cut_failed start true input rest notes given lines line text taken by = record {
   input_is = all_is input rest given (whole_lines lines) line taken by.at_end by.is.are.parts;
   whole = by.is.are.whole;
   told = by.is.told;
-  reaches = inr (by.is.are.cut, by.text_is, front_of_kept by.state.notes notes _ by.noted);
+  reaches = inr (by.is.are.cut, by.text_is, by.noted);
 }
 
-end_failed : (start : RunState) (n : ℕ) (ended_by : Option EndLine) (tally : Tally) (input rest notes : Option (List ℕ)) (text : List ℕ) → HasTold start input rest notes n ended_by tally text → ToldToAWriteFault start input notes text
+end_failed : (start : RunState) (n : ℕ) (ended_by : Option EndLine) (tally : Tally) (input rest : Option (List ℕ)) (notes : Outlet) (text : List ℕ) → HasTold start input rest notes n ended_by tally text → ToldToAWriteFault start input notes text
 end_failed start n None tally input rest notes text (ran, counts) = record {
   lines = ran.lines;
   rest = ran.last;
@@ -101,8 +93,8 @@ end_failed start n None tally input rest notes text (ran, counts) = record {
 end_failed start n (Some end) tally input rest notes text ran = cut_failed start end.is_cut input rest notes ran.given ran.lines ran.line text ran.taken ran.by
 
 -- so for whole lines, whatever was read after them
-part_failed : (start state : RunState) (input rest notes : Option (List ℕ)) (given more : List ℕ) (lines : List (List ℕ)) (part text : List ℕ)
-    → Consumes input rest (given ++ more) → IsToldOf start given lines part text state → Keeps state.notes notes → ToldToAWriteFault start input notes text
+part_failed : (start state : RunState) (input rest : Option (List ℕ)) (notes : Outlet) (given more : List ℕ) (lines : List (List ℕ)) (part text : List ℕ)
+    → Consumes input rest (given ++ more) → IsToldOf start given lines part text state → notes ≡ state.notes → ToldToAWriteFault start input notes text
 part_failed start state input rest notes given more lines part text taken is noted = record {
   lines = lines;
   rest = (part ++ more) ++ left rest;
@@ -117,7 +109,7 @@ part_failed start state input rest notes given more lines part text taken is not
 as_front : {Told Failed : List ℕ → Type 0} (old new : Option (List ℕ)) → (is : Writes Told old new) → Failed is.text → WritesFront Failed old new
 as_front old new is failed = record { text = is.text; told = failed; written = whole_front old new is.text is.written }
 
-as_write_fault : (start : RunState) (input rest old new notes : Option (List ℕ)) (ended : Result RunEnd ShellFault) → Tells start input rest old new notes ended → WritesFront (ToldToAWriteFault start input notes) old new
+as_write_fault : (start : RunState) (input rest old new : Option (List ℕ)) (notes : Outlet) (ended : Result RunEnd ShellFault) → Tells start input rest old new notes ended → WritesFront (ToldToAWriteFault start input notes) old new
 as_write_fault start input rest old new notes (Ok end) ran = as_front old new ran (end_failed start end.lines end.ended_by end.tally input rest notes ran.text ran.told)
 as_write_fault start input rest old new notes (Err ReadFault) ran =
     let taken = subst (Consumes input rest) (sym (append-nil ran.told.given)) ran.told.taken in
@@ -132,7 +124,7 @@ as_write_fault start input rest old new notes (Err NoMemory) ran = record {
 }
 
 -- a run, and then a flush
-pub run_flushed : (start : RunState) (input rest old mid new notes : Option (List ℕ)) (ran : Result RunEnd ShellFault) (is_flushed : Bool) (ended : Result RunEnd ShellFault)
+pub run_flushed : (start : RunState) (input rest old mid new : Option (List ℕ)) (notes : Outlet) (ran : Result RunEnd ShellFault) (is_flushed : Bool) (ended : Result RunEnd ShellFault)
     → Tells start input rest old mid notes ran → Keeps mid new → ended ≡ (if is_flushed then ran else Err WriteFault) → Tells start input rest old new notes ended
 run_flushed start input rest old mid new notes ran true ended has same is = rw is (kept_run start input rest old mid new notes ran has same)
 run_flushed start input rest old mid new notes ran false ended has same is = rw is (kept_front old mid new (as_write_fault start input rest old mid notes ran has) same)

@@ -1,7 +1,8 @@
--- How the program ends: what its reader and its two writers hold then, and its exit status.
+-- How the program ends: what its reader, its writer and its printer of faults hold then, and its exit status.
 use Rattle.std.specs.Prelude.{◌≡◌, ℕ, Bool, List, string_bytes, Option, Some, None}
 use Rattle.std.specs.Io.KnownBytes.{Appends, Keeps}
 use Rattle.ele_output.specs.Front.{AppendsFront}
+use Rattle.ele_output.specs.Outlet.{Outlet, Reports}
 use Rattle.ele_history.specs.Past.{fresh}
 use Rattle.ele_runs.specs.RunState.{begun}
 use Rattle.ele_run_options.specs.declared.fault.ShellFault.{ShellFault}
@@ -23,14 +24,14 @@ HasWritten text old new (Some TooManyLines) = ⊥
 HasWritten text old new (Some NoMemory) = ⊥
 
 -- something was done up to a fault, or to its end; the fault was reported, and the status is its own
-pub record Ends (Done : Option ShellFault → Type 0) (before after : Option (List ℕ)) (status : ℕ) : Type 0 where
+pub record Ends (Done : Option ShellFault → Type 0) (before after : Outlet) (status : ℕ) : Type 0 where
   pub fault : Option ShellFault
   pub done : Done fault
   pub status_is : status ≡ status_of fault
   pub told : TellsFault fault before after
 
 -- without other threads, by what was asked for; arguments that weren't understood have status 2
-abbrev pub EndsAlone : Invocation → Option (List ℕ) → Option (List ℕ) → Option (List ℕ) → Option (List ℕ) → Option (List ℕ) → Option (List ℕ) → ℕ → Type 0
+abbrev pub EndsAlone : Invocation → Option (List ℕ) → Option (List ℕ) → Option (List ℕ) → Option (List ℕ) → Outlet → Outlet → ℕ → Type 0
 EndsAlone (invocation.Run limits options) input rest old new before after status =
     RunEnds (begun options (fresh limits) before) input rest old new after status
 -- a storm needs threads
@@ -39,11 +40,12 @@ EndsAlone (invocation.Forecast ask) input rest old new before after status = For
 EndsAlone (invocation.Help text) input rest old new before after status =
     Keeps input rest × Ends (HasWritten (string_bytes text) old new) before after status
 EndsAlone (invocation.NotUnderstood text) input rest old new before after status =
-    Keeps input rest × Keeps old new × AppendsFront before after (string_bytes text) × (status ≡ 2)
+    Keeps input rest × Keeps old new × Reports before after (string_bytes text) × (status ≡ 2)
 EndsAlone invocation.NoMemory input rest old new before after status =
-    Keeps input rest × Keeps old new × AppendsFront before after (fault_line NoMemory) × (status ≡ 3)
+    Keeps input rest × Keeps old new × Reports before after (fault_line NoMemory) × (status ≡ 3)
 
--- with threads; only a storm may be watched
-abbrev pub EndsWith : Invocation → Bool → Option (List ℕ) → Option (List ℕ) → Option (List ℕ) → Option (List ℕ) → Option (List ℕ) → Option (List ℕ) → ℕ → Type 0
-EndsWith (invocation.Storm plan) watched input rest old new before after status = Keeps input rest × EndsWatched watched plan old new before after status
-EndsWith asked watched input rest old new before after status = EndsAlone asked input rest old new before after status
+-- with threads; only a storm may be watched, and shows its progress
+abbrev pub EndsWith : Invocation → Bool → Option (List ℕ) → Option (List ℕ) → Option (List ℕ) → Option (List ℕ) → Option (List ℕ) → Option (List ℕ) → Outlet → Outlet → ℕ → Type 0
+EndsWith (invocation.Storm plan) watched input rest old new shown seen before after status =
+    Keeps input rest × EndsWatched watched plan old new shown seen before after status
+EndsWith asked watched input rest old new shown seen before after status = Keeps shown seen × EndsAlone asked input rest old new before after status

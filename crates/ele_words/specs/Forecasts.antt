@@ -1,7 +1,6 @@
 -- How the program ends after a forecast: what its reader and its two writers hold then, and its exit status.
-use Rattle.std.specs.Prelude.{◌≡◌, ℕ, List, Option, Result, Ok, Err, codes}
-use Rattle.std.specs.Io.KnownBytes.{Keeps}
-use Rattle.ele_output.specs.Front.{AppendsFront}
+use Rattle.std.specs.Prelude.{◌≡◌, ℕ, List, [], Option, Result, Ok, Err, codes}
+use Rattle.ele_output.specs.Outlet.{Outlet, Reports}
 use Rattle.ele_run_options.specs.declared.fault.ShellFault.TheVariants as shell
 use Rattle.ele_outlook.specs.Foretold.{Foretells}
 use Rattle.ele_outlook.specs.Input.{bad_line_text}
@@ -25,13 +24,13 @@ forecast_line TooLong = codes "elephant: more than 400 moments; --every takes a 
 forecast_line WriteFault = fault_line shell.WriteFault
 forecast_line NoMemory = fault_line shell.NoMemory
 
--- a forecast without a fault has status 0; a fault was reported, and has its own status
-abbrev pub TellsForecast : {A : Type 0} → Result A ForecastFault → Option (List ℕ) → Option (List ℕ) → ℕ → Type 0
-TellsForecast (Ok _) before after status = Keeps before after × (status ≡ 0)
-TellsForecast (Err fault) before after status = AppendsFront before after (forecast_line fault) × (status ≡ forecast_status fault)
+-- a forecast without a fault has status 0; a fault was printed, and has its own status
+abbrev pub TellsForecast : {A : Type 0} → Result A ForecastFault → Outlet → Outlet → ℕ → Type 0
+TellsForecast (Ok _) before after status = Reports before after [] × (status ≡ 0)
+TellsForecast (Err fault) before after status = Reports before after (forecast_line fault) × (status ≡ forecast_status fault)
 
 -- the forecast of the closings was written, or a fault ended it
-pub record ForecastEnds (ask : ForecastOptions) (input rest old new before after : Option (List ℕ)) (status : ℕ) : Type 0 where
+pub record ForecastEnds (ask : ForecastOptions) (input rest old new : Option (List ℕ)) (before after : Outlet) (status : ℕ) : Type 0 where
   pub ended : Result (Unit {0}) ForecastFault
   pub foretold : Foretells ask input rest old new ended
   pub told : TellsForecast ended before after status

@@ -1,6 +1,8 @@
 -- What a watched storm reports while it runs, and how the program ends after it.
 use Rattle.std.specs.Prelude.{ℕ, ◌≤◌, Bool, true, false, List, [], ◌∷◌, ◌++◌, length, codes, decimal, Option, Result, Ok, Err}
+use Rattle.std.specs.Io.KnownBytes.{Keeps}
 use Rattle.ele_output.specs.Front.{AppendsFront}
+use Rattle.ele_output.specs.Outlet.{Outlet}
 use Rattle.ele_output.specs.Line.{line_text}
 use Rattle.ele_storm_plan.specs.declared.fault.AuditFault.{AuditFault}
 use Rattle.ele_storm_plan.specs.declared.plan.StormPlan.{StormPlan}
@@ -30,15 +32,14 @@ abbrev pub StandBehind : ℕ → (plan : StormPlan) (ended : Result (ℕ × Bool
 StandBehind most plan (Ok told) stormed = most ≤ length stormed.0.entries
 StandBehind most plan (Err fault) stormed = Unit {0}
 
--- a watched storm ends as any other, after lines of counts that its history reaches
-pub record WatchedEnds (plan : StormPlan) (old new before after : Option (List ℕ)) (status : ℕ) : Type 0 where
+-- a watched storm ends as any other, after lines of counts that its history reaches were shown
+pub record WatchedEnds (plan : StormPlan) (old new shown seen : Option (List ℕ)) (before after : Outlet) (status : ℕ) : Type 0 where
   pub most : ℕ
-  pub between : Option (List ℕ)
-  pub progress : ShowsProgress before between most
-  pub ends : StormEnds plan old new between after status
+  pub progress : ShowsProgress shown seen most
+  pub ends : StormEnds plan old new before after status
   pub behind : StandBehind most plan ends.ended ends.has_stormed
 
--- a storm that isn't watched reports no progress
-abbrev pub EndsWatched : Bool → StormPlan → Option (List ℕ) → Option (List ℕ) → Option (List ℕ) → Option (List ℕ) → ℕ → Type 0
-EndsWatched true plan old new before after status = WatchedEnds plan old new before after status
-EndsWatched false plan old new before after status = StormEnds plan old new before after status
+-- a storm that isn't watched shows no progress
+abbrev pub EndsWatched : Bool → StormPlan → Option (List ℕ) → Option (List ℕ) → Option (List ℕ) → Option (List ℕ) → Outlet → Outlet → ℕ → Type 0
+EndsWatched true plan old new shown seen before after status = WatchedEnds plan old new shown seen before after status
+EndsWatched false plan old new shown seen before after status = Keeps shown seen × StormEnds plan old new before after status

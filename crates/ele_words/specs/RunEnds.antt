@@ -1,6 +1,6 @@
 -- How the program ends after a run: what it reports, and its exit status.
 use Rattle.std.specs.Prelude.{◌≡◌, ℕ, List, Option, Some, None, Result, Ok, Err}
-use Rattle.ele_output.specs.Front.{AppendsFront}
+use Rattle.ele_output.specs.Outlet.{Outlet, Reports}
 use Rattle.ele_runs.specs.RunState.{RunState}
 use Rattle.ele_runs.specs.Telling.{Tells}
 use Rattle.ele_runs.specs.declared.end.EndLine.{EndLine}
@@ -19,20 +19,20 @@ run_status (Ok end) = end_status end.ended_by
 run_status (Err fault) = fault_status fault
 
 -- the line that ended a strict run was reported, or the summary of a run that no line ended
-abbrev pub TellsRunEnd : RunOptions → ℕ → Option EndLine → Tally → Option (List ℕ) → Option (List ℕ) → Type 0
+abbrev pub TellsRunEnd : RunOptions → ℕ → Option EndLine → Tally → Outlet → Outlet → Type 0
 TellsRunEnd options lines None tally before after = TellsSummary options lines tally before after
 TellsRunEnd options lines (Some end) tally before after = TellsStrictEnd options lines end before after
 
 -- the end of a run was reported, or the fault that ended it, with the reason if that is known
-abbrev pub TellsRun : RunOptions → Result RunEnd ShellFault → Option (List ℕ) → Option (List ℕ) → Type 0
+abbrev pub TellsRun : RunOptions → Result RunEnd ShellFault → Outlet → Outlet → Type 0
 TellsRun options (Ok end) before after = TellsRunEnd options end.lines end.ended_by end.tally before after
 TellsRun options (Err fault) before after =
-    (why : Option SystemReason) × IsReasonOf fault why × AppendsFront before after (failed_text fault why)
+    (why : Option SystemReason) × IsReasonOf fault why × Reports before after (failed_text fault why)
 
 -- a run was done up to an end, which was reported after `notes`, the reasons of bad lines
-pub record RunEnds (start : RunState) (input rest old new after : Option (List ℕ)) (status : ℕ) : Type 0 where
+pub record RunEnds (start : RunState) (input rest old new : Option (List ℕ)) (after : Outlet) (status : ℕ) : Type 0 where
   pub ended : Result RunEnd ShellFault
-  pub notes : Option (List ℕ)
+  pub notes : Outlet
   pub done : Tells start input rest old new notes ended
   pub status_is : status ≡ run_status ended
   pub told : TellsRun start.options ended notes after

@@ -1,7 +1,6 @@
 -- The exit status of the program, and the line of a fault.
 use Rattle.std.specs.Prelude.{ℕ, List, [], ◌∷◌, codes, decimal, Option, Some, None}
-use Rattle.std.specs.Io.KnownBytes.{Keeps}
-use Rattle.ele_output.specs.Front.{AppendsFront}
+use Rattle.ele_output.specs.Outlet.{Outlet, Reports}
 use Rattle.ele_output.specs.Line.{line_text}
 use Rattle.ele_run_options.specs.Fault.{number_of, name_of}
 use Rattle.ele_run_options.specs.declared.fault.ShellFault.{ShellFault}
@@ -45,7 +44,7 @@ status_of (Some fault) = fault_status fault
 abbrev pub fault_line : ShellFault → List ℕ
 fault_line fault = line_text (codes "elephant:" ∷ decimal (number_of fault) ∷ name_of fault ∷ [])
 
--- the line of the fault was written, or a prefix of it; nothing if there is no fault
-abbrev pub TellsFault : Option ShellFault → Option (List ℕ) → Option (List ℕ) → Type 0
-TellsFault None before after = Keeps before after
-TellsFault (Some fault) before after = AppendsFront before after (fault_line fault)
+-- the line of the fault was printed; nothing if there is no fault
+abbrev pub TellsFault : Option ShellFault → Outlet → Outlet → Type 0
+TellsFault None before after = Reports before after []
+TellsFault (Some fault) before after = Reports before after (fault_line fault)

@@ -2,6 +2,7 @@
 use Rattle.std.specs.Prelude.{◌≡◌, ℕ, Bool, true, false, if◌then◌else◌, List, [], ◌∷◌, codes, decimal, Option, Some, None, Result, Ok, Err}
 use Rattle.std.specs.Io.KnownBytes.{Appends, Keeps}
 use Rattle.ele_output.specs.Front.{AppendsFront}
+use Rattle.ele_output.specs.Outlet.{Outlet, Reports}
 use Rattle.ele_output.specs.Line.{line_text}
 use Rattle.ele_run_options.specs.declared.fault.ShellFault.{ShellFault}
 use Rattle.ele_run_options.specs.declared.fault.ShellFault.TheVariants as shell
@@ -44,19 +45,19 @@ told_status equal None = if equal then 0 else 4
 told_status equal (Some fault) = fault_status fault
 
 -- an audited storm was reported
-pub record TellsStorm (events : ℕ) (equal : Bool) (old new before after : Option (List ℕ)) (status : ℕ) : Type 0 where
+pub record TellsStorm (events : ℕ) (equal : Bool) (old new : Option (List ℕ)) (before after : Outlet) (status : ℕ) : Type 0 where
   pub fault : Option ShellFault
   pub line : HasPutLine (storm_line events equal) old new fault
   pub told : TellsFault fault before after
   pub status_is : status ≡ told_status equal fault
 
-abbrev pub TellsEnd : Result (ℕ × Bool) AuditFault → Option (List ℕ) → Option (List ℕ) → Option (List ℕ) → Option (List ℕ) → ℕ → Type 0
+abbrev pub TellsEnd : Result (ℕ × Bool) AuditFault → Option (List ℕ) → Option (List ℕ) → Outlet → Outlet → ℕ → Type 0
 TellsEnd (Ok told) old new before after status = TellsStorm told.0 told.1 old new before after status
 TellsEnd (Err fault) old new before after status =
-    Keeps old new × AppendsFront before after (storm_fault_line fault) × (status ≡ storm_status fault)
+    Keeps old new × Reports before after (storm_fault_line fault) × (status ≡ storm_status fault)
 
 -- a storm was run, and its result reported: status 0 only if it was audited and all was equal
-pub record StormEnds (plan : StormPlan) (old new before after : Option (List ℕ)) (status : ℕ) : Type 0 where
+pub record StormEnds (plan : StormPlan) (old new : Option (List ℕ)) (before after : Outlet) (status : ℕ) : Type 0 where
   pub ended : Result (ℕ × Bool) AuditFault
   pub has_stormed : HasStormed plan ended
   pub told : TellsEnd ended old new before after status

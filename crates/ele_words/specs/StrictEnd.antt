@@ -1,6 +1,6 @@
 -- The report of the line that ended a strict run, and why it is no command.
 use Rattle.std.specs.Prelude.{◌≡◌, ℕ, Bool, true, false, List, [], ◌∷◌, ◌++◌, codes, decimal, Option, Some, None}
-use Rattle.ele_output.specs.Front.{AppendsFront}
+use Rattle.ele_output.specs.Outlet.{Outlet, Reports}
 use Rattle.ele_output.specs.Line.{line_text}
 use Rattle.ele_runs.specs.WhyBad.{IsBadReason, cut_reason, why_line}
 use Rattle.ele_runs.specs.declared.end.EndLine.{EndLine}
@@ -26,7 +26,7 @@ abbrev pub IsWhyEnded : Bool → RunOptions → Option (List ℕ) → Option Rea
 IsWhyEnded true options line why = why ≡ cut_reason line
 IsWhyEnded false options line why = IsBadReason options line why
 
--- the line that ended the run was reported with why it is no command, or a prefix of that was
-abbrev pub TellsStrictEnd : RunOptions → ℕ → EndLine → Option (List ℕ) → Option (List ℕ) → Type 0
+-- the line that ended the run was printed with why it is no command
+abbrev pub TellsStrictEnd : RunOptions → ℕ → EndLine → Outlet → Outlet → Type 0
 TellsStrictEnd options number end before after =
-    (why : Option Reason) × IsWhyEnded end.is_cut options end.line why × AppendsFront before after (end_line number end.line ++ why_line number why)
+    (why : Option Reason) × IsWhyEnded end.is_cut options end.line why × Reports before after (end_line number end.line ++ why_line number why)

@@ -1,7 +1,6 @@
 -- The summary at the end of a run: how many of its lines were not answered by `ok`.
-use Rattle.std.specs.Prelude.{◌≡◌, ℕ, Bool, true, false, List, ◌++◌, codes, decimal, Option, Some, None}
-use Rattle.std.specs.Io.KnownBytes.{Keeps}
-use Rattle.ele_output.specs.Front.{AppendsFront}
+use Rattle.std.specs.Prelude.{◌≡◌, ℕ, Bool, true, false, List, [], ◌++◌, codes, decimal, Option, Some, None}
+use Rattle.ele_output.specs.Outlet.{Outlet, Reports}
 use Rattle.ele_run_options.specs.declared.options.RunOptions.{RunOptions}
 use Rattle.ele_runs.specs.declared.tally.BadLine.{BadLine}
 use Rattle.ele_runs.specs.declared.tally.Tally.{Tally}
@@ -42,12 +41,12 @@ IsNamed false options tally first = IsFirstOf options tally.first_bad tally.firs
 abbrev pub IsFirst : RunOptions → Tally → Option First → Type 0
 IsFirst options tally first = IsNamed options.numbers options tally first
 
--- the summary was written, or a prefix of it; nothing if it would name no line
-abbrev pub TellsFirst : ℕ → Tally → Option First → Option (List ℕ) → Option (List ℕ) → Type 0
-TellsFirst lines tally None before after = Keeps before after
-TellsFirst lines tally (Some first) before after = AppendsFront before after (summary_line lines tally first)
+-- the summary was printed; nothing if it would name no line
+abbrev pub TellsFirst : ℕ → Tally → Option First → Outlet → Outlet → Type 0
+TellsFirst lines tally None before after = Reports before after []
+TellsFirst lines tally (Some first) before after = Reports before after (summary_line lines tally first)
 
--- the summary was written, unless all lines were answered by `ok` or the run has numbers
-abbrev pub TellsSummary : RunOptions → ℕ → Tally → Option (List ℕ) → Option (List ℕ) → Type 0
+-- the summary was printed, unless all lines were answered by `ok` or the run has numbers
+abbrev pub TellsSummary : RunOptions → ℕ → Tally → Outlet → Outlet → Type 0
 TellsSummary options lines tally before after =
     (first : Option First) × IsFirst options tally first × TellsFirst lines tally first before after

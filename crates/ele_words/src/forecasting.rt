@@ -1,14 +1,15 @@
 //! A forecast as the program makes it. It goes to one writer, and a fault to the other.
 //! A contract sees what was read, what both writers hold then, and the status.
 ghost use Rattle.std.specs.Prelude.{◌≡◌, codes};
-ghost use Rattle.ele_output.specs.Front.{AppendsFront};
+ghost use Rattle.ele_output.specs.Outlet.{Reports};
+ghost use Rattle.ele_output.specs.Prints.{outlet};
 ghost use Rattle.ele_outlook.specs.Input.{bad_line_text};
 ghost use Rattle.ele_words.specs.Forecasts.{ForecastEnds, forecast_line, forecast_status};
 
 use crate::failure::{Failure, status};
 use crate::program::tell;
-use ele_outlook::{BadLine, ForecastFault, ForecastOptions, write_bad_line, write_forecast};
-use ele_output::write_all;
+use ele_outlook::{BadLine, ForecastFault, ForecastOptions, put_bad_line, write_forecast};
+use ele_output::Printer;
 use ele_runs::ShellFault;
 use std::alloc::Global;
 use std::io::{Read, Write};
@@ -19,22 +20,22 @@ pub(crate) fn run_forecast<R: Read, W: Write, E: Write>(
     ask: &ForecastOptions,
     reader: &mut R,
     writer: &mut W,
-    errors: &mut E,
+    errors: &mut Printer<'_, E>,
 ) -> u8
     ensures { ForecastEnds ask.now (R.remaining reader.old) (R.remaining reader.new)
         (W.contents writer.old) (W.contents writer.new)
-        (E.contents errors.old) (E.contents errors.new) result }
+        (outlet E.contents errors.old) (outlet E.contents errors.new) result }
 {
     match write_forecast(alloc, ask, reader, writer) {
-        Ok(()) => 0,
+        Ok(()) => tell(None, errors),
         Err(fault) => tell_fault(fault, errors),
     }
 }
 
 // Reports the fault of a forecast. Returns the exit status.
-fn tell_fault<E: Write>(fault: ForecastFault, errors: &mut E) -> u8
+fn tell_fault<E: Write>(fault: ForecastFault, errors: &mut Printer<'_, E>) -> u8
     ensures status { result ≡ forecast_status fault }
-    ensures told { AppendsFront (E.contents errors.old) (E.contents errors.new)
+    ensures told { Reports (outlet E.contents errors.old) (outlet E.contents errors.new)
         (forecast_line fault) }
 {
     match fault {
@@ -47,26 +48,23 @@ fn tell_fault<E: Write>(fault: ForecastFault, errors: &mut E) -> u8
 }
 
 // Reports that a table has too many moments. Returns the exit status.
-fn tell_too_long<E: Write>(errors: &mut E) -> u8
+fn tell_too_long<E: Write>(errors: &mut Printer<'_, E>) -> u8
     ensures status { result ≡ 2 }
-    ensures told { AppendsFront (E.contents errors.old) (E.contents errors.new)
+    ensures told { Reports (outlet E.contents errors.old) (outlet E.contents errors.new)
         (codes "elephant: more than 400 moments; --every takes a longer step\n") }
 {
-    let _ = write_all(
-        errors,
-        b"elephant: more than 400 moments; --every takes a longer step\n",
-    );
-    let _ = errors.flush();
+    errors.put(b"elephant: more than 400 moments; --every takes a longer step\n");
+    errors.flush();
     status(Failure::BadInput)
 }
 
 // Reports a bad line. Returns the exit status.
-fn tell_bad_line<E: Write>(number: u64, why: BadLine, errors: &mut E) -> u8
+fn tell_bad_line<E: Write>(number: u64, why: BadLine, errors: &mut Printer<'_, E>) -> u8
     ensures status { result ≡ 2 }
-    ensures told { AppendsFront (E.contents errors.old) (E.contents errors.new)
+    ensures told { Reports (outlet E.contents errors.old) (outlet E.contents errors.new)
         (bad_line_text number why) }
 {
-    let _ = write_bad_line(number, why, errors);
-    let _ = errors.flush();
+    put_bad_line(number, why, errors);
+    errors.flush();
     status(Failure::BadInput)
 }

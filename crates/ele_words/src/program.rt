@@ -3,6 +3,7 @@
 ghost use Rattle.std.specs.Prelude.{◌≡◌, false, Err, IfErr, is_ok, if◌then◌else◌};
 ghost use Rattle.std.specs.Result.{result_err};
 ghost use Rattle.ele_history.specs.Past.{fresh};
+ghost use Rattle.ele_output.specs.Prints.{outlet};
 ghost use Rattle.ele_runs.specs.RunState.{begun};
 ghost use Rattle.ele_runs.specs.Telling.{Tells};
 ghost use Rattle.ele_words.specs.Status.{status_of};
@@ -19,9 +20,9 @@ use crate::strict::report_end;
 use crate::system_reason::{SystemReason, report_error};
 use ele_invocation::Invocation;
 use ele_model::{Audit, Explain, Limits};
-use ele_output::write_all;
+use ele_output::{Printer, write_all};
 use ele_runs::{RunEnd, RunOptions, ShellFault, run_in};
-use ele_script::write_named;
+use ele_script::put_named;
 use std::alloc::Global;
 use std::io;
 use std::io::{Read, Write};
@@ -50,11 +51,11 @@ fn run_script<C: Explain, R: Read, W: Write, E: Write>(
     limits: Limits,
     reader: &mut R,
     writer: &mut W,
-    errors: &mut E,
+    errors: &mut Printer<'_, E>,
 ) -> Result<RunEnd, ShellFault>
-    ensures { Tells (begun options (fresh limits) (E.contents errors.old))
+    ensures { Tells (begun options (fresh limits) (outlet E.contents errors.old))
         (R.remaining reader.old) (R.remaining reader.new)
-        (W.contents writer.old) (W.contents writer.new) (E.contents errors.new) result }
+        (W.contents writer.old) (W.contents writer.new) (outlet E.contents errors.new) result }
 {
     let ran = run_in::<C, R, W, E>(options, alloc, reader, writer, errors, limits);
     let flushed = writer.flush();
@@ -83,11 +84,11 @@ fn tell_run<E: Write>(
     options: RunOptions,
     ran: &Result<RunEnd, ShellFault>,
     why: Option<SystemReason>,
-    errors: &mut E,
+    errors: &mut Printer<'_, E>,
 ) -> u8
     requires { IfErr ran.now (λ fault. IsReasonOf fault why) }
     ensures status { result ≡ run_status ran.now }
-    ensures told { TellsRun options ran.now (E.contents errors.old) (E.contents errors.new) }
+    ensures told { TellsRun options ran.now (outlet E.contents errors.old) (outlet E.contents errors.new) }
 {
     match ran {
         Ok(end) => report_end(alloc, options, end, errors),
@@ -106,16 +107,17 @@ pub(crate) fn write_text<W: Write>(text: &str, writer: &mut W) -> Result<(), She
     after_flush(Ok(()), &flushed)
 }
 
-/// Writes the number and the name of the fault, if there is one. Returns the exit status.
-pub(crate) fn tell<E: Write>(fault: Option<ShellFault>, errors: &mut E) -> u8
+/// Prints the number and the name of the fault, if there is one. Returns the exit status.
+pub(crate) fn tell<E: Write>(fault: Option<ShellFault>, errors: &mut Printer<'_, E>) -> u8
     ensures status { result ≡ status_of fault }
-    ensures told { TellsFault fault (E.contents errors.old) (E.contents errors.new) }
+    ensures told { TellsFault fault (outlet E.contents errors.old) (outlet E.contents errors.new) }
 {
     let Some(fault) = fault else {
+        errors.flush();
         return 0;
     };
-    let _ = write_named(b"elephant:", fault.number(), fault.name(), errors);
-    let _ = errors.flush();
+    put_named(b"elephant:", fault.number(), fault.name(), errors);
+    errors.flush();
     status(Failure::Fault(fault))
 }
 
@@ -129,12 +131,12 @@ pub fn dispatch_alone<C: Explain, R: Read + LastError, W: Write + LastError, E: 
     invocation: &Invocation,
     reader: &mut R,
     writer: &mut W,
-    errors: &mut E,
+    errors: &mut Printer<'_, E>,
 ) -> u8
     requires { is_storm invocation.now ≡ false }
     ensures { EndsAlone invocation.now (R.remaining reader.old) (R.remaining reader.new)
         (W.contents writer.old) (W.contents writer.new)
-        (E.contents errors.old) (E.contents errors.new) result }
+        (outlet E.contents errors.old) (outlet E.contents errors.new) result }
 {
     match invocation {
         Invocation::Run(limits, options) => {
@@ -146,8 +148,8 @@ pub fn dispatch_alone<C: Explain, R: Read + LastError, W: Write + LastError, E: 
         Invocation::Forecast(ask) => run_forecast(alloc, ask, reader, writer, errors),
         Invocation::Help(text) => tell(write_text(text.as_str(), writer).err(), errors),
         Invocation::NotUnderstood(text) => {
-            let _ = write_all(errors, text.as_bytes());
-            let _ = errors.flush();
+            errors.put(text.as_bytes());
+            errors.flush();
             status(Failure::NotUnderstood)
         }
         Invocation::NoMemory => tell(Some(ShellFault::NoMemory), errors),
@@ -157,12 +159,13 @@ pub fn dispatch_alone<C: Explain, R: Read + LastError, W: Write + LastError, E: 
 /// Does what the arguments ask for, and returns the exit status.
 ///
 /// A storm calls its core from many threads, and may wait for them forever. If it is `watched`, it
-/// reports its progress to `errors`. All else is done by `dispatch_alone`.
+/// shows at `progress` how many events were answered. All else is done by `dispatch_alone`.
 pub fn dispatch<
     C: Audit + Explain + Send,
     T: Threads + Wait + Clock + Sync,
     R: Read + LastError,
     W: Write + LastError,
+    P: Write,
     E: Write,
 >(
     rt: &T,
@@ -171,15 +174,17 @@ pub fn dispatch<
     watched: bool,
     reader: &mut R,
     writer: &mut W,
-    errors: &mut E,
+    progress: &mut P,
+    errors: &mut Printer<'_, E>,
 ) -> u8
     ensures { EndsWith invocation.now watched (R.remaining reader.old) (R.remaining reader.new)
         (W.contents writer.old) (W.contents writer.new)
-        (E.contents errors.old) (E.contents errors.new) result }
+        (P.contents progress.old) (P.contents progress.new)
+        (outlet E.contents errors.old) (outlet E.contents errors.new) result }
 {
     match invocation {
-        Invocation::Storm(plan) => run_storm::<C, T, W, E>(
-            rt, alloc, plan, watched, writer, errors,
+        Invocation::Storm(plan) => run_storm::<C, T, W, P, E>(
+            rt, alloc, plan, watched, writer, progress, errors,
         ),
         asked => dispatch_alone::<C, R, W, E>(alloc, asked, reader, writer, errors),
     }

@@ -2,7 +2,8 @@
 //! A contract sees what both hold then, and the status.
 ghost use Rattle.std.specs.Prelude.{◌≡◌};
 ghost use Rattle.std.specs.Result.{result_err};
-ghost use Rattle.ele_output.specs.Front.{AppendsFront};
+ghost use Rattle.ele_output.specs.Outlet.{Reports};
+ghost use Rattle.ele_output.specs.Prints.{outlet};
 ghost use Rattle.ele_words.specs.Progress.{EndsWatched};
 ghost use Rattle.ele_words.specs.Status.{storm_status};
 ghost use Rattle.ele_words.specs.Storms.{HasStormed, HasPutLine, TellsEnd, TellsStorm, audit_word, storm_fault_line, storm_line};
@@ -12,8 +13,9 @@ use crate::failure::{Failure, status};
 use crate::program::{tell, write_text};
 use crate::watched::watch_storm;
 use ele_model::{Audit, Limits};
+use ele_output::Printer;
 use ele_runs::ShellFault;
-use ele_script::write_named;
+use ele_script::put_named;
 use ele_storm::{AuditFault, Flags, StormPlan, storm_and_audit};
 use std::alloc::Global;
 use std::io::Write;
@@ -25,21 +27,29 @@ use std::time::Clock;
 const MOST_LOOKS: u64 = 10_000_000;
 
 /// Runs the storm over a fresh core under the largest limits, and audits the core. Writes how many
-/// events it ran, and whether all answers equal the scans'. If it is watched, it also reports its
-/// progress to `errors`. Returns the exit status.
-pub(crate) fn run_storm<C: Audit + Send, T: Threads + Wait + Clock + Sync, W: Write, E: Write>(
+/// events it ran, and whether all answers equal the scans'. If it is watched, it also shows its
+/// progress. Returns the exit status.
+pub(crate) fn run_storm<
+    C: Audit + Send,
+    T: Threads + Wait + Clock + Sync,
+    W: Write,
+    P: Write,
+    E: Write,
+>(
     rt: &T,
     alloc: Global,
     plan: &StormPlan,
     watched: bool,
     writer: &mut W,
-    errors: &mut E,
+    progress: &mut P,
+    errors: &mut Printer<'_, E>,
 ) -> u8
     ensures { EndsWatched watched plan.now (W.contents writer.old) (W.contents writer.new)
-        (E.contents errors.old) (E.contents errors.new) result }
+        (P.contents progress.old) (P.contents progress.new)
+        (outlet E.contents errors.old) (outlet E.contents errors.new) result }
 {
     if watched {
-        let ended = storm_and_watch::<C, T, E>(rt, alloc, plan, errors);
+        let ended = storm_and_watch::<C, T, P>(rt, alloc, plan, progress);
         return tell_ended(alloc, ended, writer, errors);
     }
     let ended = storm_and_look::<C, T>(rt, alloc, plan);
@@ -51,10 +61,10 @@ fn tell_ended<W: Write, E: Write>(
     alloc: Global,
     ended: Result<(u64, bool), AuditFault>,
     writer: &mut W,
-    errors: &mut E,
+    errors: &mut Printer<'_, E>,
 ) -> u8
     ensures { TellsEnd ended (W.contents writer.old) (W.contents writer.new)
-        (E.contents errors.old) (E.contents errors.new) result }
+        (outlet E.contents errors.old) (outlet E.contents errors.new) result }
 {
     match ended {
         Ok((events, equal)) => tell_storm(alloc, events, equal, writer, errors),
@@ -62,17 +72,17 @@ fn tell_ended<W: Write, E: Write>(
     }
 }
 
-// Runs the storm and audits its core. Meanwhile it reports the progress.
-fn storm_and_watch<C: Audit + Send, T: Threads + Wait + Clock + Sync, E: Write>(
+// Runs the storm and audits its core. Meanwhile it shows the progress.
+fn storm_and_watch<C: Audit + Send, T: Threads + Wait + Clock + Sync, P: Write>(
     rt: &T,
     alloc: Global,
     plan: &StormPlan,
-    errors: &mut E,
+    progress: &mut P,
 ) -> Result<(u64, bool), AuditFault>
-    ensures { Watched plan.now (E.contents errors.old) (E.contents errors.new) result }
+    ensures { Watched plan.now (P.contents progress.old) (P.contents progress.new) result }
 {
     let flags = Flags::new(alloc, plan.workers(), MOST_LOOKS)?;
-    watch_storm::<C, T, E>(rt, alloc, plan, &flags, errors)
+    watch_storm::<C, T, P>(rt, alloc, plan, &flags, progress)
 }
 
 // Runs the storm and audits its core.
@@ -120,25 +130,27 @@ fn tell_storm<W: Write, E: Write>(
     events: u64,
     equal: bool,
     writer: &mut W,
-    errors: &mut E,
+    errors: &mut Printer<'_, E>,
 ) -> u8
     ensures { TellsStorm events equal (W.contents writer.old) (W.contents writer.new)
-        (E.contents errors.old) (E.contents errors.new) result }
+        (outlet E.contents errors.old) (outlet E.contents errors.new) result }
 {
     match write_line(alloc, events, equal, writer) {
-        Ok(()) if equal => 0,
-        Ok(()) => status(Failure::Unequal),
+        Ok(()) => {
+            errors.flush();
+            if equal { 0 } else { status(Failure::Unequal) }
+        }
         Err(fault) => tell(Some(fault), errors),
     }
 }
 
 // Writes the number and the name of the fault. Returns the exit status.
-fn tell_fault<E: Write>(fault: AuditFault, errors: &mut E) -> u8
+fn tell_fault<E: Write>(fault: AuditFault, errors: &mut Printer<'_, E>) -> u8
     ensures status { result ≡ storm_status fault }
-    ensures told { AppendsFront (E.contents errors.old) (E.contents errors.new)
+    ensures told { Reports (outlet E.contents errors.old) (outlet E.contents errors.new)
         (storm_fault_line fault) }
 {
-    let _ = write_named(b"elephant:", fault.number(), fault.name(), errors);
-    let _ = errors.flush();
+    put_named(b"elephant:", fault.number(), fault.name(), errors);
+    errors.flush();
     status(Failure::Storm(fault))
 }

@@ -1,16 +1,18 @@
 //! How a run ended, as the program reports it, above all the line that ended a strict run.
 //! A contract sees what the writer holds then, and the status.
 ghost use Rattle.std.specs.Prelude.{◌≡◌, ◌++◌};
-ghost use Rattle.ele_output.specs.Front.{AppendsFront};
+ghost use Rattle.ele_output.specs.Outlet.{Reports};
+ghost use Rattle.ele_output.specs.Prints.{Prints, outlet};
 ghost use Rattle.ele_runs.specs.WhyBad.{why_line};
 ghost use Rattle.ele_words.specs.RunEnds.{TellsRunEnd};
 ghost use Rattle.ele_words.specs.StrictEnd.{IsWhyEnded, end_line, end_status, shown};
 
 use crate::failure::{Failure, status};
 use crate::summary::report_summary;
+use ele_output::Printer;
 use ele_reasons::Reason;
-use ele_runs::{LineBuffer, RunEnd, RunOptions, tell_why, why_bad, why_cut};
-use ele_script::write_placed;
+use ele_runs::{LineBuffer, RunEnd, RunOptions, put_why, why_bad, why_cut};
+use ele_script::put_placed;
 use std::alloc::Global;
 use std::io::Write;
 
@@ -20,38 +22,40 @@ pub(crate) fn report_end<E: Write>(
     alloc: Global,
     options: RunOptions,
     ran: &RunEnd,
-    errors: &mut E,
+    errors: &mut Printer<'_, E>,
 ) -> u8
     ensures status { result ≡ end_status ran.now.ended_by }
     ensures told { TellsRunEnd options ran.now.lines ran.now.ended_by ran.now.tally
-        (E.contents errors.old) (E.contents errors.new) }
+        (outlet E.contents errors.old) (outlet E.contents errors.new) }
 {
     let Some(end) = &ran.ended_by else {
         report_summary(alloc, options, ran.lines, &ran.tally, errors);
         return 0;
     };
     let why = why_ended(alloc, options, end.is_cut, &end.line);
-    tell_line(alloc, ran.lines, &end.line, why, errors);
-    let _ = errors.flush();
+    put_line_of_end(ran.lines, &end.line, why, errors);
+    errors.flush();
     status(Failure::StrictLine)
 }
 
-// Writes which line ended a run, and why it is no command.
-fn tell_line<E: Write>(
-    alloc: Global,
+// Prints which line ended a run, and why it is no command.
+fn put_line_of_end<E: Write>(
     number: u64,
     line: &LineBuffer,
     why: Option<Reason>,
-    errors: &mut E,
+    errors: &mut Printer<'_, E>,
 )
-    ensures { AppendsFront (E.contents errors.old) (E.contents errors.new)
+    ensures { Prints E.contents errors.old errors.new
         (end_line number line.now ++ why_line number why) }
 {
-    let text = shown(line);
-    if write_placed(b"elephant: line", number, b"ended the run:", text, errors).is_err() {
-        return;
-    }
-    tell_why(alloc, number, why, errors);
+    put_placed(
+        b"elephant: line",
+        number,
+        b"ended the run:",
+        shown(line),
+        errors,
+    );
+    put_why(number, why, errors);
 }
 
 // What is shown of the line that ended a run.

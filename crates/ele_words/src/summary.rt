@@ -1,21 +1,15 @@
 //! The summary at the end of a run: how many of its lines were not answered by `ok`.
-//! A contract sees what the writer holds then.
-ghost use Rattle.std.specs.Prelude.{◌≡◌, IfSome, Some};
-ghost use Rattle.ele_output.specs.Front.{AppendsFront};
+//! A contract sees what the printer of faults holds then.
+ghost use Rattle.std.specs.Prelude.{◌≡◌};
+ghost use Rattle.ele_output.specs.Prints.{Prints, outlet};
 ghost use Rattle.ele_words.specs.Summary.{IsFirst, TellsSummary, bad_first, first_text, summary_line};
 
 use crate::strict::why_ended;
-use arrayvec::ArrayString;
-use ele_output::write_all;
-use ele_reasons::Reason;
+use ele_output::{Printer, put_with_number};
+use ele_reasons::{Reason, put_reason};
 use ele_runs::{RunOptions, Tally};
 use std::alloc::Global;
-use std::fmt;
-use std::fmt::Write as _;
 use std::io::Write;
-
-// The longest summary has fewer bytes.
-const ROOM: usize = 1024;
 
 /// The first line that was not answered by `ok`, by its number.
 #[derive(Clone, Copy, PartialEq, Eq)]
@@ -28,32 +22,39 @@ pub(crate) enum First {
     BadFor(u64, Reason),
 }
 
-impl fmt::Display for First {
-    ghost output = { λ first. Some (first_text first) };
-
-    fn fmt<W: fmt::Write>(&self, f: &mut fmt::Formatter<W>) -> fmt::Result {
-        match *self {
-            First::Answered(number) => write!(f, "the first is line {number}"),
-            First::Bad(number) => write!(f, "the first bad one is line {number}"),
-            First::BadFor(number, why) => write!(f, "the first bad one is line {number}, {why}"),
+// Prints which line was the first.
+fn put_first<E: Write>(first: First, errors: &mut Printer<'_, E>)
+    ensures { Prints E.contents errors.old errors.new (first_text first) }
+{
+    match first {
+        First::Answered(number) => put_with_number(b"the first is line ", number, errors),
+        First::Bad(number) => put_with_number(b"the first bad one is line ", number, errors),
+        First::BadFor(number, why) => {
+            put_with_number(b"the first bad one is line ", number, errors);
+            errors.put(b", ");
+            put_reason(why, errors);
         }
     }
 }
 
-/// Writes the summary of a run, unless all lines were answered by `ok`. A run with numbers has none,
+/// Prints the summary of a run, unless all lines were answered by `ok`. A run with numbers has none,
 /// since it has reported each line.
 pub(crate) fn report_summary<E: Write>(
     alloc: Global,
     options: RunOptions,
     lines: u64,
     tally: &Tally,
-    errors: &mut E,
+    errors: &mut Printer<'_, E>,
 )
-    ensures { TellsSummary options lines tally.now (E.contents errors.old)
-        (E.contents errors.new) }
+    ensures { TellsSummary options lines tally.now (outlet E.contents errors.old)
+        (outlet E.contents errors.new) }
 {
-    if let Some(first) = first_of(alloc, options, tally) {
-        write_summary(lines, tally, first, errors);
+    match first_of(alloc, options, tally) {
+        Some(first) => {
+            put_summary(lines, tally, first, errors);
+            errors.flush();
+        }
+        None => errors.flush(),
     }
 }
 
@@ -83,30 +84,15 @@ fn bad_first(number: u64, why: Option<Reason>) -> First
     }
 }
 
-// Writes the summary that names this line.
-fn write_summary<E: Write>(lines: u64, tally: &Tally, first: First, errors: &mut E)
-    ensures { AppendsFront (E.contents errors.old) (E.contents errors.new)
-        (summary_line lines tally.now first) }
+// Prints the summary that names this line.
+fn put_summary<E: Write>(lines: u64, tally: &Tally, first: First, errors: &mut Printer<'_, E>)
+    ensures { Prints E.contents errors.old errors.new (summary_line lines tally.now first) }
 {
-    let Some(text) = summary_of(lines, tally, first) else {
-        return;
-    };
-    let _ = write_all(errors, text.as_str().as_bytes());
-    let _ = errors.flush();
-}
-
-// The summary that names this line. Nothing is allocated.
-fn summary_of(lines: u64, tally: &Tally, first: First) -> Option<ArrayString<ROOM>>
-    ensures { IfSome result (λ text. text.bytes ≡ summary_line lines tally.now first) }
-{
-    let (bad, refused, stopped) = (tally.bad, tally.refused, tally.stopped);
-    let mut text = ArrayString::new();
-    match writeln!(
-        text,
-        "elephant: {bad} bad, {refused} refused and {stopped} stopped of {lines} lines; {first}; \
-         --numbers shows each",
-    ) {
-        Ok(()) => Some(text),
-        Err(_) => None,
-    }
+    put_with_number(b"elephant: ", tally.bad, errors);
+    put_with_number(b" bad, ", tally.refused, errors);
+    put_with_number(b" refused and ", tally.stopped, errors);
+    put_with_number(b" stopped of ", lines, errors);
+    errors.put(b" lines; ");
+    put_first(first, errors);
+    errors.put(b"; --numbers shows each\n");
 }

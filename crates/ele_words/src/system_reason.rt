@@ -2,14 +2,15 @@
 //! A contract sees a reason as itself, and what the writer holds then.
 ghost use Rattle.std.specs.Prelude.{◌≡◌, Some};
 ghost use Rattle.std.specs.IoError.{error_kind};
-ghost use Rattle.ele_output.specs.Front.{AppendsFront};
+ghost use Rattle.ele_output.specs.Outlet.{Reports};
+ghost use Rattle.ele_output.specs.Prints.{Prints, outlet};
 ghost use Rattle.ele_words.specs.Status.{fault_status};
 ghost use Rattle.ele_words.specs.SystemReason.{failed_text, reason_line};
 
 use crate::failure::{Failure, status};
-use ele_output::write_all;
+use ele_output::Printer;
 use ele_runs::ShellFault;
-use ele_script::write_named;
+use ele_script::put_named;
 use std::io;
 use std::io::{ErrorKind, Write};
 
@@ -54,32 +55,29 @@ pub(crate) fn system_reason(error: &io::Error) -> Option<SystemReason>
     }
 }
 
-/// Writes the number and the name of the fault, and a second line with the reason if it is known.
+/// Prints the number and the name of the fault, and a second line with the reason if it is known.
 /// Returns the exit status.
 pub(crate) fn report_error<E: Write>(
     fault: ShellFault,
     why: Option<SystemReason>,
-    errors: &mut E,
+    errors: &mut Printer<'_, E>,
 ) -> u8
     ensures status { result ≡ fault_status fault }
-    ensures told { AppendsFront (E.contents errors.old) (E.contents errors.new)
+    ensures told { Reports (outlet E.contents errors.old) (outlet E.contents errors.new)
         (failed_text fault why) }
 {
-    write_failed(fault, why, errors);
-    let _ = errors.flush();
+    put_failed(fault, why, errors);
+    errors.flush();
     status(Failure::Fault(fault))
 }
 
-// Writes these lines. A writer that fails has a prefix of them.
-fn write_failed<E: Write>(fault: ShellFault, why: Option<SystemReason>, errors: &mut E)
-    ensures { AppendsFront (E.contents errors.old) (E.contents errors.new)
-        (failed_text fault why) }
+// Prints these lines.
+fn put_failed<E: Write>(fault: ShellFault, why: Option<SystemReason>, errors: &mut Printer<'_, E>)
+    ensures { Prints E.contents errors.old errors.new (failed_text fault why) }
 {
-    if write_named(b"elephant:", fault.number(), fault.name(), errors).is_err() {
-        return;
-    }
+    put_named(b"elephant:", fault.number(), fault.name(), errors);
     if let Some(why) = why {
-        let _ = write_all(errors, reason_line(why));
+        errors.put(reason_line(why));
     }
 }
 

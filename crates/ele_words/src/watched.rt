@@ -8,8 +8,8 @@ ghost use Rattle.ele_words.specs.Progress.{ShowsProgress, progress_line};
 ghost use Rattle.ele_words.specs.Watched.{Stormed, Watched};
 
 use ele_model::{Audit, Limits, Step};
-use ele_output::WriteFault;
-use ele_script::write_placed;
+use ele_output::{Printer, WriteFault};
+use ele_script::put_placed;
 use ele_shared_history::{Seat, Shared};
 use ele_storm::{AuditFault, Flags, StormFault, StormPlan, close_and_audit, share_fresh, storm};
 use std::alloc::Global;
@@ -71,19 +71,19 @@ impl<C: Step> Promise<Ended<C>> for Storming<C> {
 /// Runs the storm over a fresh core under the largest limits, and audits the core. Meanwhile it
 /// reports how many events were answered: after a second, and then at most ten times a second.
 /// After a failed write it reports no more.
-pub(crate) fn watch_storm<C: Audit + Send, R: Threads + Wait + Clock + Sync, E: Write>(
+pub(crate) fn watch_storm<C: Audit + Send, R: Threads + Wait + Clock + Sync, P: Write>(
     rt: &R,
     alloc: Global,
     plan: &StormPlan,
     flags: &Flags,
-    errors: &mut E,
+    progress: &mut P,
 ) -> Result<(u64, bool), AuditFault>
-    ensures { Watched plan.now (E.contents errors.old) (E.contents errors.new) result }
+    ensures { Watched plan.now (P.contents progress.old) (P.contents progress.new) result }
 {
     let (shared, mut seat) = share_fresh::<C>(alloc, Limits::largest())?;
     let watcher = shared.split(&mut seat)?;
     let (watcher, (mut seat, ended)) = run_watched(
-        rt, alloc, &shared, seat, watcher, *plan, flags, errors,
+        rt, alloc, &shared, seat, watcher, *plan, flags, progress,
     );
     let events = ended?;
     shared.join(&mut seat, watcher);
@@ -94,7 +94,7 @@ pub(crate) fn watch_storm<C: Audit + Send, R: Threads + Wait + Clock + Sync, E: 
 
 // Runs the storm by `seat` in a thread of its own, and reports the progress that `watcher` sees. If
 // no thread can be started, the storm runs in this one, and nothing is reported.
-fn run_watched<C: Step + Send, R: Threads + Wait + Clock + Sync, E: Write>(
+fn run_watched<C: Step + Send, R: Threads + Wait + Clock + Sync, P: Write>(
     rt: &R,
     alloc: Global,
     shared: &Shared<C>,
@@ -102,28 +102,28 @@ fn run_watched<C: Step + Send, R: Threads + Wait + Clock + Sync, E: Write>(
     watcher: Seat<C>,
     plan: StormPlan,
     flags: &Flags,
-    errors: &mut E,
+    progress: &mut P,
 ) -> (Seat<C>, Ended<C>)
     requires seat { seat.object ≡ shared.now }
     requires watcher { watcher.object ≡ shared.now }
     ensures looked { Looked watcher result.0 }
     ensures stormed { Stormed plan seat result.1.0 result.1.1 }
-    ensures progress { ShowsProgress (E.contents errors.old) (E.contents errors.new)
+    ensures progress { ShowsProgress (P.contents progress.old) (P.contents progress.new)
         (count_seen result.0) }
 {
     let bell = Bell::new();
     let bell = &bell;
-    let (errors, watcher, ended) = scope(
+    let (progress, watcher, ended) = scope(
         scope_env(),
         rt,
-        move |s| -> (&mut E, Seat<C>, Ended<C>)
+        move |s| -> (&mut P, Seat<C>, Ended<C>)
             requires { IsSync R.row × (seat.object ≡ shared.now)
                 × (watcher.object ≡ shared.now) }
-            ensures same { result.0.ghost_name ≡ errors.entry.ghost_name }
+            ensures same { result.0.ghost_name ≡ progress.entry.ghost_name }
             ensures looked { Looked watcher result.1 }
             ensures stormed { Stormed plan seat result.2.0 result.2.1 }
-            ensures progress { ShowsProgress (E.contents errors.entry.now)
-                (E.contents result.0.now) (count_seen result.1) }
+            ensures progress { ShowsProgress (P.contents progress.entry.now)
+                (P.contents result.0.now) (count_seen result.1) }
         {
             let promise = Storming {
                 before: Snapshot::of(&seat),
@@ -138,21 +138,21 @@ fn run_watched<C: Step + Send, R: Threads + Wait + Clock + Sync, E: Write>(
             );
             match spawned {
                 Ok(thread) => {
-                    let watcher = tell_until(rt, shared, watcher, bell, errors);
-                    (errors, watcher, thread.join(rt))
+                    let watcher = tell_until(rt, shared, watcher, bell, progress);
+                    (progress, watcher, thread.join(rt))
                 }
-                Err(refused) => (errors, watcher, (refused.value)()),
+                Err(refused) => (progress, watcher, (refused.value)()),
             }
         },
     );
-    end_borrow(errors);
+    end_borrow(progress);
     (watcher, ended)
 }
 
 // Does nothing. A proof needs this use of a returned reference, to tie it to the parameter that it
 // was borrowed from.
-fn end_borrow<E>(errors: &mut E)
-    ensures { errors.new ≡ errors.old }
+fn end_borrow<T>(end: &mut T)
+    ensures { end.new ≡ end.old }
 {}
 
 // Runs the storm, and then rings the bell.
@@ -174,16 +174,16 @@ fn run_and_ring<C: Step + Send, R: Threads + Wait + Sync>(
 }
 
 // Reports the progress until the bell rings or a write fails.
-fn tell_until<C: Step, R: Wait + Clock, E: Write>(
+fn tell_until<C: Step, R: Wait + Clock, P: Write>(
     rt: &R,
     shared: &Shared<C>,
     mut seat: Seat<C>,
     bell: &Bell,
-    errors: &mut E,
+    progress: &mut P,
 ) -> Seat<C>
     requires { seat.object ≡ shared.now }
     ensures looked { Looked seat result }
-    ensures progress { ShowsProgress (E.contents errors.old) (E.contents errors.new)
+    ensures progress { ShowsProgress (P.contents progress.old) (P.contents progress.new)
         (count_seen result) }
 {
     let mut pause = QUIET;
@@ -191,7 +191,7 @@ fn tell_until<C: Step, R: Wait + Clock, E: Write>(
         if bell.rings_within(rt, pause) {
             return seat;
         }
-        let Ok(()) = tell_next(shared, &mut seat, errors) else {
+        let Ok(()) = tell_next(shared, &mut seat, progress) else {
             return seat;
         };
         pause = PAUSE;
@@ -200,18 +200,28 @@ fn tell_until<C: Step, R: Wait + Clock, E: Write>(
 }
 
 // Reports how many events have been answered.
-fn tell_next<C: Step, E: Write>(
+fn tell_next<C: Step, P: Write>(
     shared: &Shared<C>,
     seat: &mut Seat<C>,
-    errors: &mut E,
+    progress: &mut P,
 ) -> Result<(), WriteFault>
     requires { seat.old.object ≡ shared.now }
     ensures looked { Looked seat.old seat.new }
-    ensures told { WritesText (progress_line (count_seen seat.new)) (E.contents errors.old)
-        (E.contents errors.new) result }
+    ensures told { WritesText (progress_line (count_seen seat.new)) (P.contents progress.old)
+        (P.contents progress.new) result }
 {
     let count = shared.published(seat);
-    let told = write_placed(b"storm", count, b"events", b"answered", errors);
-    let _ = errors.flush();
+    let told = write_progress(count, progress);
+    let _ = progress.flush();
     told
+}
+
+// Writes the line with a number of events. At a fault the writer took a prefix of it.
+fn write_progress<P: Write>(count: u64, progress: &mut P) -> Result<(), WriteFault>
+    ensures { WritesText (progress_line count) (P.contents progress.old) (P.contents progress.new)
+        result }
+{
+    let mut printer = Printer::new(progress);
+    put_placed(b"storm", count, b"events", b"answered", &mut printer);
+    printer.hand_over()
 }

@@ -6,6 +6,7 @@
 ghost use Rattle.ele_invocation.specs.Invocation.{IsAsked};
 
 use ele_core::Core;
+use ele_output::Printer;
 use ele_words::{
     Cleared, Counted, Invocation, KeepsError, Meter, dispatch, unreadable_args, words,
 };
@@ -54,14 +55,17 @@ fn main(rt: HostRuntime) -> ExitCode {
     let mut input = KeepsError::new(Counted::new(rt.stdin(), is_metered.then_some(&meter)));
     let output = Cleared::new(rt.stdout(), replaces.then_some(&meter));
     let mut output = KeepsError::new(Counted::new(output, counts.then_some(&meter)));
-    let mut errors = Cleared::new(rt.stderr(), is_metered.then_some(&meter));
-    let status = dispatch::<Core, _, _, _, _>(
+    let mut faults = Cleared::new(rt.stderr(), is_metered.then_some(&meter));
+    let mut errors = Printer::new(&mut faults);
+    let mut progress = rt.stderr();
+    let status = dispatch::<Core, _, _, _, _, _>(
         &rt,
         rt.alloc(),
         &invocation,
         watched,
         &mut input,
         &mut output,
+        &mut progress,
         &mut errors,
     );
     meter.clear();

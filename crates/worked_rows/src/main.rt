@@ -4,6 +4,7 @@
 use anyhow::{Context, Result, anyhow};
 use ele_core::Core;
 use ele_model::Limits;
+use ele_output::Printer;
 use ele_runs::{RunOptions, run_in};
 use ele_shell::run;
 use std::{fs, io};
@@ -104,7 +105,7 @@ fn explained(rt: &HostRuntime, name: &str) -> Result<String> {
         rt.alloc(),
         &mut reader,
         &mut text,
-        &mut io::sink(),
+        &mut Printer::new(&mut io::sink()),
         Limits::largest(),
     ) {
         Ok(_ran) => Ok(String::from_utf8(text)?),

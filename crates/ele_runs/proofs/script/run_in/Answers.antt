@@ -1,3 +1,4 @@
+use Rattle.std.proofs.Common.{refl}
 use Rattle.std.proofs.KnownBytes.{Keeps-refl}
 use Rattle.std.proofs.lemmas.Result.{err_from_is_err_and}
 use Rattle.ele_runs.proofs.script.run_in.Goals as goal
@@ -5,7 +6,7 @@ use Rattle.ele_runs.proofs.script.run_in.Goals as goal
 pub returns-in_err-runner-clause-told : goal.returns-in_err-runner-clause-told
 returns-in_err-runner-clause-told g c =
     let p = err_from_is_err_and c.from_residual.result c.from_residual.ensures.1 in
-    rw (p.1, p.2) (Keeps-refl _, Keeps-refl _, Keeps-refl _)
+    rw (p.1, p.2) (Keeps-refl _, Keeps-refl _, refl)
 
 pub returns-clause-told : goal.returns-clause-told
 returns-clause-told g c = (rw c.in_ok-runner.ensures at c.run_printed.ensures).0

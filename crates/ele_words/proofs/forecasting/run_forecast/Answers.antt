@@ -1,5 +1,3 @@
-use Rattle.std.proofs.Common.{refl}
-use Rattle.std.proofs.KnownBytes.{Keeps-refl}
 use Rattle.ele_words.proofs.forecasting.run_forecast.Goals as goal
 
 pub returns-in-Ok : goal.returns-in-Ok
@@ -7,7 +5,7 @@ returns-in-Ok g c =
     record {
       ended = c.write_forecast.result;
       foretold = c.write_forecast.ensures;
-      told = rw c.in-Ok.is (Keeps-refl _, refl);
+      told = rw c.in-Ok.is (c.tell.ensures.told, c.tell.ensures.status);
     }
 
 pub returns-in-Err : goal.returns-in-Err

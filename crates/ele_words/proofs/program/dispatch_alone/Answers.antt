@@ -1,12 +1,13 @@
 use Rattle.std.proofs.KnownBytes.{Keeps-refl}
-use Rattle.ele_output.proofs.Known.{front_flushed}
+use Rattle.ele_output.specs.Prints.{outlet}
+use Rattle.ele_output.proofs.Known.{reports_all}
 use Rattle.ele_words.proofs.program.dispatch_alone.Goals as goal
 
 pub returns-in-Run : goal.returns-in-Run
 returns-in-Run g c =
     rw c.in-Run.is (record {
       ended = c.run_script-ran.result;
-      notes = g.E.Write.contents c.run_script-ran.new.errors;
+      notes = outlet g.E.Write.contents c.run_script-ran.new.errors;
       done = c.run_script-ran.ensures;
       status_is = c.tell_run.ensures.status;
       told = c.tell_run.ensures.told;
@@ -32,7 +33,7 @@ returns-in-NotUnderstood g c =
     rw c.in-NotUnderstood.is (
       Keeps-refl _,
       Keeps-refl _,
-      rw c.as_bytes.ensures.value at (front_flushed _ _ _ _ c.write_all.result c.write_all.ensures c.flush.ensures.bytes),
+      reports_all (rw c.as_bytes.ensures.value at c.put.ensures) c.flush.ensures,
       c.status.ensures,
     )
 

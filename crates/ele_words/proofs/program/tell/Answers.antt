@@ -1,6 +1,6 @@
-use Rattle.ele_words.proofs.Flushed.{line_flushed}
+use Rattle.ele_output.proofs.Known.{reports_all}
 use Rattle.ele_words.proofs.program.tell.Goals as goal
 
 pub returns-clause-told : goal.returns-clause-told
 returns-clause-told g c =
-    rw c.in-Some.is (line_flushed _ _ _ _ _ _ c.write_named.result c.number.ensures c.name.ensures c.write_named.ensures c.flush.ensures.bytes)
+    rw c.in-Some.is (reports_all (rw (c.number.ensures, c.name.ensures) at c.put_named.ensures) c.flush-2.ensures)

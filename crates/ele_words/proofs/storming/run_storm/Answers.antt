@@ -5,7 +5,6 @@ returns-then-watched g c =
     let ended = c.storm_and_watch-ended in
     rw c.if-watched.true (record {
       most = ended.ensures.most;
-      between = g.E.Write.contents ended.new.errors;
       progress = ended.ensures.progress;
       ends = record { ended = ended.result; has_stormed = ended.ensures.stormed; told = c.tell_ended.ensures };
       behind = ended.ensures.behind;

@@ -6,4 +6,4 @@ abbrev pub invariant-loop : goal.invariant-loop
 invariant-loop g l =
     (goal.iterator-loop g).can_next l.iterator' × (goal.iterator-loop g).is_finite l.iterator'
     × Looked l.fn.seat l.seat
-    × Telling (g.E.Write.contents l.fn.errors) (g.E.Write.contents l.errors) (count_seen l.seat)
+    × Telling (g.P.Write.contents l.fn.progress) (g.P.Write.contents l.progress) (count_seen l.seat)
