@@ -261,6 +261,8 @@ static void the_first_of_two_bad_arguments_is_told(void) {
     CODE(ELEPHANT_BAD_NAME, elephant_link(e, TEXT("/a b"), TEXT("f")));
     CODE(ELEPHANT_BAD_PATH, elephant_rename(e, TEXT("f"), TEXT("/a b")));
     CODE(ELEPHANT_BAD_NAME, elephant_rename(e, TEXT("/a b"), TEXT("f")));
+    CODE(ELEPHANT_BAD_PATH, elephant_link(e, TEXT("/f"), TEXT("g")));
+    CODE(ELEPHANT_BAD_NAME, elephant_rename(e, TEXT("/f"), TEXT("/a b")));
     CODE(ELEPHANT_BAD_PATH, elephant_read(e, TEXT("f"), ELEPHANT_AT, late, &number));
     CODE(ELEPHANT_BAD_NAME, elephant_versions(e, TEXT("/a b"), 7, 0, &number));
     CODE(ELEPHANT_BAD_PATH, elephant_policy(e, TEXT("f"), TEXT("never")));
@@ -659,6 +661,11 @@ static void a_mark_keeps_what_was_current(void) {
     CODE(ELEPHANT_GROUP_EXISTS, elephant_group_make(e, TEXT("release")));
     CODE(ELEPHANT_BAD_NAME, elephant_group_make(e, TEXT("a b")));
     CODE(ELEPHANT_BAD_NAME, elephant_group_make(e, "", 0));
+    char longest[65];
+    memset(longest, 'n', sizeof longest);
+    OK(elephant_group_make(e, longest, 64));
+    CODE(ELEPHANT_BAD_NAME, elephant_group_make(e, longest, 65));
+    OK(elephant_group_drop(e, longest, 64));
     OK(elephant_group_add(e, TEXT("release"), TEXT("/f")));
     CODE(ELEPHANT_ALREADY_MEMBER, elephant_group_add(e, TEXT("release"), TEXT("/f")));
     CODE(ELEPHANT_NO_GROUP, elephant_group_add(e, TEXT("other"), TEXT("/f")));
@@ -760,6 +767,8 @@ static void a_history_is_kept_and_folded(void) {
     WANT(folded == 0 && entries == 2);
     OK(elephant_trim(e, &folded));
     WANT(folded == 2);
+    OK(elephant_trim(e, &folded));
+    WANT(folded == 0);
     OK(elephant_history(e, &folded, &entries));
     WANT(folded == 2 && entries == 0);
     OK(elephant_tick(e, 1));
