@@ -2,7 +2,8 @@
 use Rattle.ele_runs.proofs.Basics.{◌≡◌, ◌⊎◌, ℕ, List, [], ◌∷◌, ◌++◌, Option, Some, None, true, false, refl, sym, subst, ◌∙◌, inl, inr, Result, Ok, Err}
 use Rattle.std.specs.Prelude.{◌≢◌}
 use Rattle.ele_runs.proofs.TallyCounts.{answer_outcome}
-use Rattle.ele_runs.proofs.Words.{Outlet, Past, Puts, Reply, IsNoted, tells_reasons}
+use Rattle.ele_output.specs.Outlet.{Reports}
+use Rattle.ele_runs.proofs.Words.{Outlet, Past, Reply, IsNoted, tells_reasons}
 use Rattle.ele_printer.specs.declared.fault.LineFault.{LineFault}
 use Rattle.ele_printer.specs.Printed.{bad_text}
 use Rattle.ele_due.specs.declared.key.Key.{Key}
@@ -26,7 +27,7 @@ use Rattle.ele_reasons.specs.declared.reasons.Reason.{Reason}
 
 -- the reason of a bad line was printed
 pub noted_bad : (options : RunOptions) (number : ℕ) (line : Option (List ℕ)) (fault : LineFault) (why : Reason) (old new : Outlet) → tells_reasons options ≡ true
-    → IsToldReason options line why → Puts old new (why_line number (Some why)) → (text : List ℕ) → text ≡ bad_text fault → IsNoted options number line text old new
+    → IsToldReason options line why → Reports old new (why_line number (Some why)) → (text : List ℕ) → text ≡ bad_text fault → IsNoted options number line text old new
 noted_bad options number line fault why old new tells is told text said = note.reason tells fault said why is told
 
 -- nothing was printed, as no reason was found

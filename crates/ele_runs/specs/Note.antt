@@ -1,6 +1,6 @@
 -- The reason that a run prints beside the block of a bad line.
 use Rattle.std.specs.Prelude.{◌≡◌, ◌≢◌, ℕ, ◌+◌, List, [], Option, Some, true, false, ◌⊎◌, if◌then◌else◌}
-use Rattle.ele_output.specs.Outlet.{Outlet, Puts}
+use Rattle.ele_output.specs.Outlet.{Outlet, Reports}
 use Rattle.ele_printer.specs.Printed.{bad_text}
 use Rattle.ele_printer.specs.declared.fault.LineFault.{LineFault}
 use Rattle.ele_runs.specs.RunState.{RunState}
@@ -16,10 +16,10 @@ use Rattle.ele_reasons.specs.declared.reasons.Reason.{Reason}
 abbrev pub HasNoReason : RunOptions → Option (List ℕ) → List ℕ → Type 0
 HasNoReason options line block = (tells_reasons options ≡ false) ⊎ (outcome_of block ≢ Bad) ⊎ IsUntold options line
 
--- nothing, or the reason of the bad line with this number
+-- nothing, or the reason of the bad line with this number, which is written at once
 pub data IsNoted (options : RunOptions) (number : ℕ) (line : Option (List ℕ)) (block : List ℕ) (old new : Outlet) : Type 0 where
   nothing : HasNoReason options line block → new ≡ old → IsNoted options number line block old new
-  reason : tells_reasons options ≡ true → (fault : LineFault) → block ≡ bad_text fault → (why : Reason) → IsToldReason options line why → Puts old new (why_line number (Some why))
+  reason : tells_reasons options ≡ true → (fault : LineFault) → block ≡ bad_text fault → (why : Reason) → IsToldReason options line why → Reports old new (why_line number (Some why))
       → IsNoted options number line block old new
 
 -- why a last line without its line feed is never run, if reasons are printed

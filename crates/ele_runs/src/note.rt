@@ -2,7 +2,8 @@
 //! A contract sees a reason as itself, and a printer as its outlet.
 ghost use Rattle.std.specs.Prelude.{◌≡◌, IfNone, IfSome, Some};
 ghost use Rattle.std.specs.Option.{option_map};
-ghost use Rattle.ele_output.specs.Prints.{Prints};
+ghost use Rattle.ele_output.specs.Outlet.{Reports};
+ghost use Rattle.ele_output.specs.Prints.{Prints, outlet};
 ghost use Rattle.ele_runs.specs.WhyBad.{IsToldReason, IsUntold, cut_reason, why_line};
 
 use ele_output::{Printer, put_with_number};
@@ -53,7 +54,8 @@ pub fn put_why<E: Write>(number: u64, why: Option<Reason>, reasons: &mut Printer
 
 /// Prints why the line with this number is not a command, and writes it at once.
 pub(crate) fn report_why<E: Write>(number: u64, why: Reason, reasons: &mut Printer<'_, E>)
-    ensures { Prints E.contents reasons.old reasons.new (why_line number (Some why)) }
+    ensures { Reports (outlet E.contents reasons.old) (outlet E.contents reasons.new)
+        (why_line number (Some why)) }
 {
     put_why(number, Some(why), reasons);
     reasons.flush();
