@@ -203,7 +203,7 @@ fn line_behind(alloc: Global, command: Command, words: &[&[u8]]) -> Result<Line,
 {
     match command {
         Command::Clock => moment(words).map(|moment| Line::Event(Event::Clock(moment))),
-        Command::Due => nothing(words).map(|()| Line::Event(Event::Due)),
+        Command::Due => nothing(words).and(Ok(Line::Event(Event::Due))),
         _ => line_behind_any(alloc, command, words),
     }
 }
@@ -264,23 +264,23 @@ fn line_behind_any(alloc: Global, command: Command, words: &[&[u8]]) -> Result<L
             let read = name_and_moment(alloc, words);
             read.map(|(name, moment)| Line::Event(Event::Unmark(name, moment)))
         }
-        Command::Clean => nothing(words).map(|()| Line::Event(Event::CleanOne)),
+        Command::Clean => nothing(words).and(Ok(Line::Event(Event::CleanOne))),
         Command::Read => source(alloc, words).map(|source| Line::Event(Event::Read(source))),
         Command::Stat => tagged(alloc, words).map(|path| Line::Event(Event::Stat(path))),
         Command::Versions => path_at(alloc, words).map(|path| Line::Event(Event::Versions(path))),
         Command::ListNames => path_at(alloc, words).map(|path| Line::Event(Event::List(path))),
-        Command::Restorable => nothing(words).map(|()| Line::Event(Event::Restorable)),
-        Command::Due => nothing(words).map(|()| Line::Event(Event::Due)),
-        Command::Usage => nothing(words).map(|()| Line::Event(Event::UsageAll)),
-        Command::Groups => nothing(words).map(|()| Line::Event(Event::GroupsAll)),
+        Command::Restorable => nothing(words).and(Ok(Line::Event(Event::Restorable))),
+        Command::Due => nothing(words).and(Ok(Line::Event(Event::Due))),
+        Command::Usage => nothing(words).and(Ok(Line::Event(Event::UsageAll))),
+        Command::Groups => nothing(words).and(Ok(Line::Event(Event::GroupsAll))),
         Command::Pass => number(words).map(Line::Pass),
-        Command::History => nothing(words).map(|()| Line::History),
-        Command::Trim => nothing(words).map(|()| Line::Trim),
+        Command::History => nothing(words).and(Ok(Line::History)),
+        Command::Trim => nothing(words).and(Ok(Line::Trim)),
         Command::Why => tagged(alloc, words).map(|tagged| Line::Question(Question::Why(tagged))),
         Command::Ahead => moment(words).map(|moment| Line::Question(Question::Ahead(moment))),
-        Command::Gone => nothing(words).map(|()| Line::Question(Question::Gone)),
-        Command::Handles => nothing(words).map(|()| Line::Question(Question::Handles)),
-        Command::Answers => nothing(words).map(|()| Line::Question(Question::Answers)),
+        Command::Gone => nothing(words).and(Ok(Line::Question(Question::Gone))),
+        Command::Handles => nothing(words).and(Ok(Line::Question(Question::Handles))),
+        Command::Answers => nothing(words).and(Ok(Line::Question(Question::Answers))),
     }
 }
 

@@ -1,17 +1,16 @@
 -- The words that the events of a storm name spell the paths that they are to.
 use Rattle.std.proofs.Common.{◌≡◌, ℕ, zero, suc, ◌+◌, ◌%◌, ◌<◌, ◌≤◌, ◌^◌, true, List, [], ◌∷◌, ◌++◌, length, refl, sym, arith, lit<, inl, inr}
-use Rattle.std.specs.Prelude.{All, ◌⊎◌, Result, Ok, Err, IfOk, MatchResult, IsErrAnd}
+use Rattle.std.specs.Prelude.{All, ◌⊎◌, Result, Ok, Err, IfOk}
+use Rattle.std.specs.Result.{result_or}
 use Rattle.std.specs.Prelude.{codes, decimal}
 use Rattle.std.specs.List.{list_all}
 use Rattle.std.proofs.lemmas.Bool.Decides.{nat_tests}
-use Rattle.std.proofs.lemmas.Fmt.{decimal_by_steps, decimal_digit, length-decimal-le}
+use Rattle.std.proofs.lemmas.Fmt.{decimal_by_steps, length-decimal-le}
 use Rattle.std.proofs.lemmas.List.Folds.{list_all-append}
 use mathlib.Core.List.{append-nil}
 use Rattle.ele_moment.specs.Name.{IsName, is_name_byte}
 use Rattle.ele_path.specs.Path.{SpellsPath}
-use Rattle.ele_path.specs.Tagged.{SpellsTaggedPath}
-use Rattle.ele_path.specs.declared.tagged.Tag.TheVariants.{Now, Number}
-use Rattle.ele_storm.specs.Rounds.{file_of, tagged}
+use Rattle.ele_storm.specs.Rounds.{file_of}
 
 digit_is_plain : (n : ℕ) → n < 10 → is_name_byte (48 + n) ≡ true
 digit_is_plain n small = grind (arith, nat_tests)
@@ -44,27 +43,8 @@ spells_file n small = record {
   form = inr (omega arith, sym (append-nil (codes "/w" ++ decimal n)));
 }
 
-pub spells_file_now : (n : ℕ) → n < 2 ^ 64 → SpellsTaggedPath (codes "/w" ++ decimal n) (tagged (file_of n) Now)
-spells_file_now n small = record {
-  path_text = codes "/w" ++ decimal n;
-  tag_text = [];
-  are = sym (append-nil (codes "/w" ++ decimal n));
-  path = spells_file n small;
-  tag = tt;
-}
-
-pub spells_first : (n : ℕ) → n < 2 ^ 64 → SpellsTaggedPath ((codes "/w" ++ decimal n) ++ codes "#1") (tagged (file_of n) (Number 1))
-spells_first n small = record {
-  path_text = codes "/w" ++ decimal n;
-  tag_text = codes "#1";
-  are = refl;
-  path = spells_file n small;
-  tag = (refl, record { fits = lit< tt; digits = sym (decimal_digit 1 (lit< tt)) });
-}
-
 -- what was read is this value, or there was no memory
-pub read_is : {A E F : Type 0} (r : Result A F) (v : A) (none : F) (m : Result A E) (Q : F → E → Type 0) → ((r ≡ Ok v) ⊎ (r ≡ Err none)) → MatchResult r (λ x. m ≡ Ok x) (λ e. IsErrAnd m (Q e)) → IfOk m (λ x. x ≡ v)
-read_is (Ok x) v none m Q (inl e) h = rw h (let s : x ≡ v = cc in s)
-read_is (Ok x) v none m Q (inr e) h = absurd (cc)
-read_is (Err y) v none (Ok x) Q is h = absurd h
-read_is (Err y) v none (Err z) Q is h = tt
+pub read_is : {A E F : Type 0} (r : Result A F) (v : A) (none : F) (refused : E) → ((r ≡ Ok v) ⊎ (r ≡ Err none)) → IfOk (result_or r (Err refused)) (λ x. x ≡ v)
+read_is (Ok x) v none refused (inl e) = cc
+read_is (Ok x) v none refused (inr e) = absurd cc
+read_is (Err y) v none refused is = tt

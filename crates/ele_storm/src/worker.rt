@@ -7,9 +7,9 @@ ghost use Rattle.ele_storm_plan.specs.Plan.{task_of, workers_of};
 ghost use Rattle.ele_storm.specs.Rounds.{looks, round_size, writes};
 ghost use Rattle.ele_storm.specs.Work.{AddsCalls, FailsWorker, SeesMore, Makes, MakesOne, RunsRound, RunsRounds, StopsWorker, Works};
 
-use crate::events::{bytes_of, file_now, file_of, first_version, handle_in};
+use crate::events::{bytes_of, file_of, handle_in, tagged_file};
 use crate::meet::{Meet, MeetEnd};
-use ele_model::{Event, Reply, Source, Step};
+use ele_model::{Event, Reply, Source, Step, Tag, VersionNo};
 use ele_shared_history::{Seat, Shared};
 use ele_storm_plan::{StormFault, StormPlan, Task};
 use std::alloc::Global;
@@ -141,8 +141,8 @@ fn look<C: Step, R: Wait>(
     ensures seen { SeesMore seat.old seat.new }
     ensures fault { IfErr result (λ fault. StopsWorker fault seat.new) }
 {
-    let file = file_now(alloc, writer)?;
-    let first = first_version(alloc, writer)?;
+    let file = tagged_file(alloc, writer, Tag::Now)?;
+    let first = tagged_file(alloc, writer, Tag::Number(VersionNo(1)))?;
     make(rt, shared, seat, Event::Stat(file))?;
     make(rt, shared, seat, Event::Read(Source::Tagged(first)))?;
     Ok(())

@@ -6,5 +6,5 @@ use Rattle.ele_storm.proofs.events.file_of.Goals as goal
 
 pub returns : goal.returns
 returns c =
-    read_is c.read.result (file_of c.args.writer) NoMemory c.map_err.result _
-    (c.read.ensures.only (file_of c.args.writer) (rw (c.as_bytes.ensures.value, c.in_ok-text.ensures.ok) (spells_file c.args.writer (omega arith)))) c.map_err.ensures.cases
+    rw c.or.ensures (read_is c.read.result (file_of c.args.writer) NoMemory (record {})
+    (c.read.ensures.only (file_of c.args.writer) (rw (c.as_bytes.ensures.value, c.in_ok-text.ensures.ok) (spells_file c.args.writer (omega arith)))))
