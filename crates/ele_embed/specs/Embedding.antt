@@ -1,32 +1,16 @@
 -- A store as a contract sees it.
-use Rattle.std.specs.Prelude.{ℕ, List, [], Option, Some, None}
-use Rattle.ele_history.specs.Past.{Past, fresh, world_of}
+use Rattle.std.specs.Prelude.{ℕ, List, [], Option, None}
+use Rattle.ele_history.specs.Past.{fresh}
 use Rattle.ele_model.specs.Bounds.{Bounds}
-use Rattle.ele_model.specs.World.{World, fresh_world}
+use Rattle.ele_model.specs.World.{fresh_world}
 use Rattle.ele_model.specs.declared.reply.Reply.{Reply}
-use Rattle.ele_runs.specs.Said.{last_reply}
 use Rattle.ele_runs.specs.declared.said.Said.{Said}
 use Rattle.ele_runs.specs.declared.said.Said.TheVariants.{Nothing, Replied}
+pub use Rattle.ele_runs.specs.Kept.{Kept, Plain, Recorded, last_in, past_in, world_in}
 
 -- a world with the reply to the last event, or a history
-pub data State : Type 0 where
-  Plain : World → Option Reply → State
-  Recorded : Past → State
-
--- the current world
-abbrev pub world_in : State → World
-world_in (Plain w last) = w
-world_in (Recorded past) = world_of past
-
--- the history, if there is one
-abbrev pub past_in : State → Option Past
-past_in (Plain w last) = None
-past_in (Recorded past) = Some past
-
--- the reply to the last event
-abbrev pub last_in : State → Option Reply
-last_in (Plain w last) = last
-last_in (Recorded past) = last_reply past
+abbrev pub State : Type 0
+State = Kept
 
 -- a store, the answer to its last call, and its last text
 pub record Embedding : Type 0 where

@@ -5,26 +5,23 @@
 ghost use Rattle.std.specs.Prelude.{◌≡◌, ◌≢◌, [], Some, None, true, false, IfOk, OnOk, OnErr};
 ghost use Rattle.std.specs.Option.{option_copied};
 ghost use Rattle.ele_embed.specs.Embedding.{Plain, Recorded, fresh_plain, fresh_recorded, reply_of, world_in, past_in};
-ghost use Rattle.ele_embed.specs.Hears.{Hears};
+ghost use Rattle.ele_embed.specs.Hears.{Hears, explaining};
 ghost use Rattle.ele_embed.specs.Kept.{state_of};
 ghost use Rattle.ele_embed.specs.Takes.{CopiesRead, Runs, Passes, FoldsOrNot, TellsWhy, TellsAhead};
 ghost use Rattle.ele_embed.specs.Text.{IsTold, IsRunBlock};
 ghost use Rattle.ele_runs.specs.declared.said.Said.TheVariants as said;
 
-mod ahead;
 mod keeper;
-mod plain;
 
-use crate::ahead::keys_ahead;
 use crate::keeper::Keeper;
-use crate::plain::Plain;
 pub use ele_core::Copied;
 use ele_core::Core;
 use ele_history::History;
 use ele_model::{Event, Limits, Moment, NoMemory, PassEnd, Refusal, Reply, Source, TaggedPath};
 use ele_output::{Printer, WriteFault};
 pub use ele_runs::Said;
-use ele_script::LineFault;
+use ele_runs::{Keep, RunOptions, explain_alone, hear_kept, kept_line};
+use ele_script::{LineFault, Question};
 use std::alloc::Global;
 use std::marker::Model;
 
@@ -53,9 +50,9 @@ impl Store {
     pub fn plain(alloc: Global, limits: Limits) -> Result<Store, NoMemory>
         ensures { IfOk result (λ store. store ≡ fresh_plain limits) }
     {
-        let plain = Plain::new(alloc, limits)?;
+        let core = Core::new(alloc, limits)?;
         Ok(Store {
-            keeper: Keeper::Plain(plain),
+            keeper: Keeper::Plain(core, None),
             said: Said::Nothing,
             answer: Vec::new(alloc),
             alloc,
@@ -83,7 +80,7 @@ impl Store {
         ensures answer { self.new.answer ≡ self.old.answer }
     {
         match asked {
-            Ok(event) => self.said = self.keeper.record(event),
+            Ok(event) => self.said = self.keeper.hear_event(event),
             Err(fault) => self.said = Said::Bad(fault),
         }
     }
@@ -95,22 +92,21 @@ impl Store {
         ensures said { self.new.said ≡ said.Passed result }
         ensures answer { self.new.answer ≡ self.old.answer }
     {
-        let end = self.keeper.pass(budget);
+        let end = self.keeper.hear_pass(budget);
         self.said = Said::Passed(end);
         end
     }
 
     /// Folds the history into its base. Returns false, and changes nothing, if there is no history.
+    #[tactic(auto, using(crate::proofs::Steps::no_past))]
     pub fn trim(&mut self) -> bool
         ensures { FoldsOrNot self.old result self.new }
     {
-        match self.keeper.trim() {
-            Some(said) => {
-                self.said = said;
-                true
-            }
-            None => false,
+        if !self.keeper.has_history() {
+            return false;
         }
+        self.said = self.keeper.hear_trim();
+        true
     }
 
     /// Answers why a version is held or due, or with the fault in place of its path. The store stays.
@@ -133,7 +129,11 @@ impl Store {
         ensures answer { self.new.answer ≡ self.old.answer }
     {
         match asked {
-            Ok(moment) => self.said = keys_ahead(self.alloc, moment, self.keeper.core()),
+            Ok(moment) => {
+                let core = self.keeper.core();
+                let question = Question::Ahead(moment);
+                self.said = explain_alone(self.alloc, &question, core, core.due_first());
+            }
             Err(fault) => self.said = Said::Bad(fault),
         }
     }
@@ -151,6 +151,7 @@ impl Store {
     ///
     /// `WriteFault` if memory for the text is refused. Then the text is empty, but the line was run. An
     /// empty line has no answer, and so no fault.
+    #[tactic(auto, using(crate::proofs::Steps::run_block))]
     pub fn line(&mut self, line: &[u8]) -> Result<(), WriteFault>
         ensures hears { Hears self.old.state line.now self.new.said self.new.state }
         ensures told { OnOk result (IsTold self.new.state self.new.said self.new.answer) }
@@ -159,15 +160,8 @@ impl Store {
         ensures err { OnErr result (self.new.answer ≡ []) }
         ensures untold { OnErr result (self.new.said ≢ said.Nothing) }
     {
-        self.hear(line);
+        self.said = hear_kept(self.alloc, explaining(), kept_line(line), &mut self.keeper);
         self.tell()
-    }
-
-    // Runs a line.
-    fn hear(&mut self, line: &[u8])
-        ensures hears { Hears self.old.state line.now self.new.said self.new.state }
-    {
-        self.said = self.keeper.hear(self.alloc, line);
     }
 
     /// Makes the text of the last answer.
@@ -233,12 +227,29 @@ impl Store {
     }
 }
 
+// Returns the options of a run that explains.
+fn explaining() -> RunOptions
+    ensures { result ≡ explaining }
+{
+    let mut options = RunOptions::plain();
+    options.explain = true;
+    options
+}
+
 // Writes the text of an answer into an empty list. A fault means that memory was refused.
 fn write_said(said: &Said, keeper: &Keeper, answer: &mut Vec<u8>) -> Result<(), WriteFault>
     requires { answer.old.items ≡ [] }
     ensures { OnOk result (IsTold (state_of keeper.now) said.now answer.new.items) }
 {
     let mut printer = Printer::new(answer);
-    said.put(keeper.last(), keeper.history(), &mut printer);
+    match keeper.history() {
+        Some(history) => said.put(
+            keeper.last(),
+            history.folded(),
+            history.entries(),
+            &mut printer,
+        ),
+        None => said.put(keeper.last(), 0, &[], &mut printer),
+    }
     printer.hand_over()
 }

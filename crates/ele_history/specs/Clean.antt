@@ -1,6 +1,5 @@
 -- One clean event of a pass. No public clause cites this module.
-use Rattle.std.specs.Prelude.{Bool, true, false, Option, Some, None, Result, Ok, Err}
-use Rattle.ele_model.specs.declared.entry.Entry.{Entry}
+use Rattle.std.specs.Prelude.{Bool, true, false, Result, Ok, Err}
 use Rattle.ele_model.specs.declared.event.Event.TheVariants.{CleanOne}
 use Rattle.ele_model.specs.declared.refusal.Stop.{Stop}
 use Rattle.ele_model.specs.declared.reply.Reply.{Reply}
@@ -13,11 +12,6 @@ use Rattle.ele_history.specs.Reply.{MayReply}
 abbrev pub is_removed : Reply → Bool
 is_removed (Removed key) = true
 is_removed _ = false
-
--- the entry's reply has a removed version
-abbrev pub has_removed : Option Entry → Bool
-has_removed None = false
-has_removed (Some entry) = is_removed entry.reply
 
 -- the event removed a version, nothing was due, or it was stopped
 abbrev pub MayClean : Past → Result Bool Stop → Past → Type 0

@@ -2,15 +2,18 @@
 //! since then, and how many entries were folded into the base.
 #![tactic(auto)]
 
-ghost use Rattle.std.specs.Prelude.{◌≡◌, ◌+◌, ◌-◌, ◌<◌, ◌≤◌, ◌↔◌, length, slice_get, IfOk, OnOk, OnErr, IsTrue, IsFalse, vec_len, vec_capacity};
+ghost use Rattle.std.specs.Prelude.{◌≡◌, ◌≢◌, [], ◌+◌, ◌-◌, ◌<◌, ◌≤◌, ◌↔◌, length, slice_get, IfOk, OnOk, OnErr, IsTrue, IsFalse, Some, vec_len, vec_capacity};
 ghost use Rattle.std.specs.List.{AllByRecursion};
-ghost use Rattle.std.specs.Option.{option_copied};
+ghost use Rattle.std.specs.Borrow.{sem};
+ghost use Rattle.std.specs.Io.BufRead.{Rests};
+ghost use Rattle.std.specs.Option.{option_copied, option_map};
 ghost use Rattle.ele_model.specs.Run.{IsEvent};
 ghost use Rattle.ele_model.specs.Step.{step};
 ghost use Rattle.ele_history.specs.Legal.{IsLegal, KeepHeadline};
-ghost use Rattle.ele_history.specs.Past.{HasRoom, IsFull, count_of, events_of, fresh, trimmed, world_of};
+ghost use Rattle.ele_history.specs.Past.{HasRoom, IsFull, count_of, events_of, fresh, reply_to, trimmed, world_of};
 ghost use Rattle.ele_history.specs.Reached.{IsReachedBy};
 ghost use Rattle.ele_history.specs.Reply.{MayRecord, MayReply};
+ghost use Rattle.ele_history.specs.contracts.History.{the_row};
 
 pub mod laws;
 mod pass;
@@ -89,13 +92,26 @@ impl<C: Step> History<C> {
         Ok(told)
     }
 
-    /// Applies the event and adds its entry, without a copy: the last entry has the reply.
+    /// Applies the event, adds it and its reply as the last entry, and returns that reply, without a
+    /// copy.
     ///
     /// `HistoryFull` if as many entries were made as the limits allow, whatever the event is.
     /// `NoMemory` if memory is refused. Each error leaves the history as it was.
     /// Cost: that of the core's `apply`, amortized; takes memory for one entry, 88 bytes, and for
     /// what the event and the reply hold.
-    pub fn record(&mut self, event: Event) -> Result<(), Stop>
+    pub fn record(&mut self, event: Event) -> Result<&Reply, Stop>
+        ensures* after { sem 𝓛 (Rests (the_row C.row C.Step) self.entry
+            (λ new. MayRecord self.old event result new)) }
+        ensures reply { IfOk result (λ reply. reply.now ≡ reply_to self.old event) }
+    {
+        match self.add(event) {
+            Ok(()) => Ok(self.newest()),
+            Err(stop) => Err(stop),
+        }
+    }
+
+    // Applies the event and adds its entry.
+    fn add(&mut self, event: Event) -> Result<(), Stop>
         ensures { MayRecord self.old event result self.new }
     {
         if self.is_full() {
@@ -116,17 +132,31 @@ impl<C: Step> History<C> {
         }
     }
 
+    // Returns the reply of the last entry.
+    fn newest(&self) -> &Reply
+        requires { 0 < length self.now.entries }
+        ensures { option_map (λ entry. entry.reply)
+            (slice_get self.now.entries (length self.now.entries - 1)) ≡ Some result.now }
+    {
+        &self.entries[self.entries.len() - 1].reply
+    }
+
     /// Folds all entries into the base, which becomes a copy of the world, and frees them. Returns
     /// how many they were; the world and the count of entries stay.
     ///
-    /// `NoMemory` if memory is refused, which leaves the history as it was.
-    /// Cost: grows with all rows of the core, which it copies as `flat` does, and with the old base
-    /// and the entries, which it frees after that.
+    /// `NoMemory` if memory is refused, which leaves the history as it was. Without an entry it takes
+    /// none.
+    /// Cost: constant time without an entry. Else it grows with all rows of the core, which it copies
+    /// as `flat` does, and with the old base and the entries, which it frees after that.
     pub fn trim(&mut self) -> Result<u64, NoMemory>
         ensures ok { IfOk result
             (λ count. (count ≡ length self.old.entries) × (self.new ≡ trimmed self.old)) }
         ensures err { OnErr result (self.new ≡ self.old) }
+        ensures taken { OnErr result (self.old.entries ≢ []) }
     {
+        if self.entries.is_empty() {
+            return Ok(0);
+        }
         let base = self.core.flat()?;
         let count = self.entries.len() as u64;
         self.base.limits.lemma_within();

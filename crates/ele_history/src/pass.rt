@@ -1,13 +1,12 @@
 //! Passes of a history: clean events in a row, each with its entry.
 ghost use Rattle.std.specs.Prelude.{◌≡◌};
-ghost use Rattle.std.specs.Option.{option_copied};
-ghost use Rattle.ele_history.specs.Clean.{MayClean, has_removed};
+ghost use Rattle.ele_history.specs.Clean.{MayClean, is_removed};
 ghost use Rattle.ele_history.specs.Past.{world_of};
 ghost use Rattle.ele_history.specs.Pass.{MayPass};
 ghost use Rattle.ele_model.specs.Pass.{EndsPass};
 
 use crate::{History, laws};
-use ele_model::{Entry, Event, PassEnd, Reply, Step, Stop};
+use ele_model::{Event, PassEnd, Reply, Step, Stop};
 
 impl<C: Step> History<C> {
     /// Repeats clean events until nothing is due, or so many versions are removed. Each is an
@@ -44,17 +43,14 @@ impl<C: Step> History<C> {
     fn clean(&mut self) -> Result<bool, Stop>
         ensures { MayClean self.old result self.new }
     {
-        self.record(Event::CleanOne)?;
-        Ok(has_removed(self.last()))
+        let reply = self.record(Event::CleanOne)?;
+        Ok(is_removed(reply))
     }
 }
 
-// Whether the entry's reply has a removed version.
-fn has_removed(last: Option<&Entry>) -> bool
-    ensures { result ≡ has_removed (option_copied last.entry) }
+// Whether the reply has a removed version.
+fn is_removed(reply: &Reply) -> bool
+    ensures { result ≡ is_removed reply.now }
 {
-    match last {
-        Some(entry) => matches!(entry.reply, Reply::Removed(_)),
-        None => false,
-    }
+    matches!(reply, Reply::Removed(_))
 }

@@ -1,6 +1,7 @@
 -- What stays the same in a run, and which runs end at a line.
 use Rattle.ele_runs.proofs.Basics.{◌≡◌, inl, inr, Bool, true, false, ℕ, List, [], ◌∷◌, Option, refl, sym, ap, ◌∙◌}
-use Rattle.ele_runs.proofs.Words.{AreTold, RunState, IsTold, is_well, line_unless_long}
+use Rattle.ele_runs.proofs.Words.{AreTold, RunState, IsTold, line_unless_long}
+use Rattle.ele_runs.specs.Tally.{is_well, outcome_of}
 use Rattle.std.specs.Prelude.{not, ◌&&◌}
 use Rattle.ele_run_options.specs.declared.options.RunOptions.{RunOptions}
 use Rattle.std.proofs.lemmas.Bool.{cases_Bool}
@@ -25,7 +26,7 @@ clash false e f = absurd cc
 -- only a strict run ends at a line
 ends_strict : (before after : RunState) (line : Option (List ℕ)) (told : List ℕ) → IsTold before line told after → after.ended ≡ true → before.options.strict ≡ true
 ends_strict before after line told is ended =
-    both before.options.strict (not (is_well is.block)) (sym (ap (λ (c : RunState). c.ended) is.after_is) ∙ ended)
+    both before.options.strict (not (is_well (outcome_of is.block))) (sym (ap (λ (c : RunState). c.ended) is.after_is) ∙ ended)
 
 pub strict_run : (before after : RunState) (lines : List (List ℕ)) (text : List ℕ) → AreTold before lines text after → before.ended ≡ false → after.ended ≡ true
     → before.options.strict ≡ true

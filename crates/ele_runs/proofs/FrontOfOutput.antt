@@ -3,7 +3,7 @@ use Rattle.ele_runs.proofs.Basics.{ℕ, false, zero, suc, List, [], ◌∷◌, �
 use Rattle.ele_runs.proofs.Joins.{blocks_append, lines_before}
 use Rattle.ele_runs.proofs.SomeOutput.{some_blocks, some_lines}
 use Rattle.ele_runs.proofs.Within.{recorded_within, trimmed_within}
-use Rattle.ele_runs.proofs.Words.{AreBlocks, HistoryFull, IsBlock, MayMean, MayPass, MayReply, Outlet, Removes, Reply, Past, Stop, begun, cut_block, line_unless_long, plain, whole_lines}
+use Rattle.ele_runs.proofs.Words.{AreBlocks, HistoryFull, IsBlock, MayMean, MayPass, MayReply, Outlet, Recorded, Removes, Reply, Said, Past, Stop, begun, cut_block, line_unless_long, plain, whole_lines}
 use Rattle.ele_script.specs.EveryLine.{EveryLineMeaning}
 use Rattle.ele_model.specs.declared.event.Event.{Event}
 use Rattle.ele_model.specs.declared.event.Event.TheVariants.{CleanOne}
@@ -11,8 +11,7 @@ use Rattle.ele_model.specs.declared.pass.PassEnd.{PassEnd}
 use Rattle.ele_model.specs.declared.pass.PassEnd.TheVariants.{Finished, Budget, Stopped}
 use Rattle.ele_model.specs.declared.refusal.Stop.TheVariants.{NoMemory}
 use Rattle.ele_model.specs.declared.reply.Reply.TheVariants.{Nothing, Removed}
-use Rattle.ele_runs.specs.Answer.{Answer}
-use Rattle.ele_runs.specs.Answer as answer
+use Rattle.ele_runs.specs.declared.said.Said.TheVariants as said
 use Rattle.ele_output.proofs.Known.{front_of_more}
 use Rattle.ele_runs.proofs.PlainOutput.{plain_output}
 use Rattle.ele_runs.specs.FrontOfOutput.{FrontOfOutput, IsOutputOf}
@@ -35,21 +34,16 @@ pass_within before after budget (Finished n) within may = reply_within may.1.0 a
 pass_within before after budget (Budget n) within may = removes_within before after n within may.1
 pass_within before after budget (Stopped stop n) within may = reply_within may.1.0 after CleanOne (Err stop) (removes_within before may.1.0 n within may.1.1) may.1.2
 
-answer_within : (before after : Past) (line : List ℕ) (said : Answer) → IsWithin before → MayMean false before line said after → IsWithin after
-answer_within before after line (answer.Bad fault) within may = subst IsWithin (sym may.1) within
-answer_within before after line (answer.Reply (Ok reply)) within may = reply_within before after may.0 (Ok reply) within may.2
-answer_within before after line (answer.Reply (Err HistoryFull)) within may = reply_within before after may.0 (Err HistoryFull) within may.2
-answer_within before after line (answer.Reply (Err NoMemory)) within may = subst IsWithin (sym may.1) within
-answer_within before after line (answer.Pass end) within may = pass_within before after may.0 end within may.2
-answer_within before after line (answer.History folded entries) within may = subst IsWithin (sym may.3) within
-answer_within before after line (answer.Trimmed count) within may = subst IsWithin (sym may.2) (trimmed_within before within)
-answer_within before after line (answer.Why told) within may = subst IsWithin (sym may.3) within
-answer_within before after line (answer.WhyRemoved row) within may = subst IsWithin (sym may.3) within
-answer_within before after line (answer.Ahead told) within may = subst IsWithin (sym may.3) within
-answer_within before after line (answer.Gone folded rows) within may = subst IsWithin (sym may.3) within
-answer_within before after line (answer.Handles handles) within may = subst IsWithin (sym may.2) within
-answer_within before after line (answer.Answers folded entries) within may = subst IsWithin (sym may.3) within
-answer_within before after line answer.Nothing within may = absurd may
+answer_within : (before after : Past) (line : List ℕ) (said : Said) → IsWithin before → MayMean false (Recorded before) line said (Recorded after) → IsWithin after
+answer_within before after line said.Nothing within may = absurd may
+answer_within before after line (said.Bad fault) within may = subst IsWithin (sym may.1) within
+answer_within before after line said.Replied within may = subst IsWithin (sym may.2.1) (recorded_within before may.0 may.2.0)
+answer_within before after line (said.Stopped HistoryFull) within may = subst IsWithin (sym may.3) within
+answer_within before after line (said.Stopped NoMemory) within may = subst IsWithin (sym may.1) within
+answer_within before after line (said.Passed end) within may = pass_within before after may.0 end within may.2
+answer_within before after line said.History within may = subst IsWithin (sym may.2) within
+answer_within before after line (said.Trimmed count) within may = subst IsWithin (sym may.1.1) (trimmed_within before within)
+answer_within before after line told within may = subst IsWithin (sym may.3) within
 
 block_within : (before after : Past) (line : Option (List ℕ)) (block : List ℕ) → IsWithin before → IsBlock false before line block after → IsWithin after
 block_within before after None block within is = subst IsWithin (sym is.1.1) within

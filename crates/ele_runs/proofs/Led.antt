@@ -1,5 +1,5 @@
 -- Histories whose world events led to: an answered event, and a pass, lead to another.
-use Rattle.std.proofs.Common.{◌≡◌, ℕ, zero, suc, Ok, Err, ap, sym, subst}
+use Rattle.std.proofs.Common.{◌≡◌, ℕ, zero, suc, Ok, ap, sym, subst}
 use Rattle.ele_model.proofs.Reached.{reaches}
 use Rattle.ele_model.specs.declared.entry.Entry.{Entry}
 use Rattle.ele_model.specs.declared.event.Event.{Event}

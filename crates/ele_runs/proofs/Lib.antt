@@ -10,11 +10,13 @@ pub mod Joins
 mod Led
 pub mod Limits
 pub mod Notes
+pub mod Outcomes
 pub mod OneAnswer
 pub mod OneOutput
 pub mod OnePass
 pub mod Pieces
 pub mod PlainOutput
+pub mod Questions
 pub mod Ran
 pub mod RepliesKeepHeadline
 pub mod SomeAnswer

@@ -1,23 +1,15 @@
 -- The reason beside a block.
-use Rattle.ele_runs.proofs.Basics.{◌≡◌, ◌⊎◌, ℕ, List, [], ◌∷◌, ◌++◌, Option, Some, None, true, false, refl, sym, subst, ◌∙◌, inl, inr, Result, Ok, Err}
+use Rattle.ele_runs.proofs.Basics.{◌≡◌, ℕ, List, Option, Some, None, true, false, sym, ◌∙◌, inl, inr, Ok, Err}
 use Rattle.std.specs.Prelude.{◌≢◌}
-use Rattle.ele_runs.proofs.TallyCounts.{answer_outcome}
+use Rattle.ele_runs.proofs.Outcomes.{answer_outcome}
 use Rattle.ele_output.specs.Outlet.{Reports}
-use Rattle.ele_runs.proofs.Words.{Outlet, Past, Reply, IsNoted, tells_reasons}
+use Rattle.ele_runs.proofs.Words.{IsTextIn, Outlet, Past, Reply, IsNoted, last_reply, tells_reasons}
 use Rattle.ele_printer.specs.declared.fault.LineFault.{LineFault}
 use Rattle.ele_printer.specs.Printed.{bad_text}
-use Rattle.ele_due.specs.declared.key.Key.{Key}
-use Rattle.ele_model.specs.declared.fate.Fate.{Fate}
-use Rattle.ele_model.specs.declared.pass.PassEnd.{PassEnd}
 use Rattle.ele_model.specs.declared.pass.PassEnd.TheVariants as pass
-use Rattle.ele_model.specs.declared.refusal.Refusal.{Refusal}
 use Rattle.ele_model.specs.declared.reply.Reply.TheVariants as reply
-use Rattle.ele_runs.specs.Answer as answer
-use Rattle.ele_runs.specs.Block.{IsText}
 use Rattle.ele_runs.specs.Note as note
-use Rattle.ele_runs.specs.Said.{answer_of, last_reply, reply_of}
-use Rattle.ele_runs.specs.Tally.{outcome_of}
-use Rattle.ele_runs.specs.TallyCounts.{outcome_for}
+use Rattle.ele_runs.specs.Tally.{outcome_for, reply_outcome}
 use Rattle.ele_runs.specs.WhyBad.{IsToldReason, IsUntold, why_line}
 use Rattle.ele_runs.specs.declared.said.Said.{Said}
 use Rattle.ele_runs.specs.declared.said.Said.TheVariants as said
@@ -43,33 +35,25 @@ abbrev IsGood : Said → Type 0
 IsGood (said.Bad fault) = ⊥
 IsGood told = Unit {0}
 
-reply_good : (last : Option Reply) → outcome_for (reply_of last) ≢ Bad
-reply_good None = λ bad. absurd cc
-reply_good (Some (reply.Refused why)) = λ bad. absurd cc
-reply_good (Some told) = λ bad. absurd cc
+last_good : (last : Option Reply) → reply_outcome last ≢ Bad
+last_good None = λ bad. absurd cc
+last_good (Some (reply.Refused why)) = λ bad. absurd cc
+last_good (Some told) = λ bad. absurd cc
 
-pass_good : (end : PassEnd) → outcome_for (answer.Pass end) ≢ Bad
-pass_good (pass.Stopped stop removed) = λ bad. absurd cc
-pass_good end = λ bad. absurd cc
-
-why_good : (told : Result Fate Refusal) → outcome_for (answer.Why told) ≢ Bad
-why_good (Ok fate) = λ bad. absurd cc
-why_good (Err why) = λ bad. absurd cc
-
-ahead_good : (told : Result (List Key) Refusal) → outcome_for (answer.Ahead told) ≢ Bad
-ahead_good (Ok keys) = λ bad. absurd cc
-ahead_good (Err why) = λ bad. absurd cc
-
-good_outcome : (past : Past) (told : Said) → IsGood told → outcome_for (answer_of past told) ≢ Bad
-good_outcome past said.Replied good = reply_good (last_reply past)
-good_outcome past (said.Bad fault) good = absurd good
-good_outcome past (said.Passed end) good = pass_good end
-good_outcome past (said.Why told) good = why_good told
-good_outcome past (said.Ahead told) good = ahead_good _
-good_outcome past told good = λ bad. absurd cc
+good_outcome : (last : Option Reply) (told : Said) → IsGood told → outcome_for last told ≢ Bad
+good_outcome last said.Replied good = last_good last
+good_outcome last (said.Bad fault) good = absurd good
+good_outcome last (said.Passed (pass.Finished removed)) good = λ bad. absurd cc
+good_outcome last (said.Passed (pass.Budget removed)) good = λ bad. absurd cc
+good_outcome last (said.Passed (pass.Stopped stop removed)) good = λ bad. absurd cc
+good_outcome last (said.Why (Ok fate)) good = λ bad. absurd cc
+good_outcome last (said.Why (Err why)) good = λ bad. absurd cc
+good_outcome last (said.Ahead (Ok keys)) good = λ bad. absurd cc
+good_outcome last (said.Ahead (Err why)) good = λ bad. absurd cc
+good_outcome last told good = λ bad. absurd cc
 
 -- or the line isn't bad
 pub noted_good : (options : RunOptions) (number : ℕ) (line : Option (List ℕ)) (past : Past) (told : Said) (old new : Outlet) → IsGood told → new ≡ old
-    → (text : List ℕ) → IsText (answer_of past told) text → IsNoted options number line text old new
+    → (text : List ℕ) → IsTextIn past told text → IsNoted options number line text old new
 noted_good options number line past told old new good same text is =
-    note.nothing (inr (inl (λ bad. good_outcome past told good (sym (answer_outcome (answer_of past told) text is) ∙ bad)))) same
+    note.nothing (inr (inl (λ bad. good_outcome (last_reply past) told good (sym (answer_outcome (last_reply past) past.folded past.entries told text is) ∙ bad)))) same

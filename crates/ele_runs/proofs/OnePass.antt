@@ -10,8 +10,8 @@ use Rattle.ele_model.specs.declared.pass.PassEnd.TheVariants.{Finished, Budget, 
 use Rattle.ele_model.specs.declared.refusal.Stop.TheVariants.{NoMemory}
 use Rattle.ele_model.specs.Pass.{IsCleaned, IsPass}
 use Rattle.ele_model.specs.World.{World}
-use Rattle.ele_runs.specs.Answer.{IsForMemory}
-use Rattle.ele_runs.specs.Answer as answer
+use Rattle.ele_runs.specs.Said.{IsForMemory}
+use Rattle.ele_runs.specs.declared.said.Said.TheVariants.{Passed}
 
 -- the same reply leaves one state
 one_told : (before : Past) (event : Event) (r : Reply) (x y : Past) → MayReply before event (Ok r) x → MayReply before event (Ok r) y → x ≡ y
@@ -38,7 +38,7 @@ abbrev most_entries : Past → ℕ
 most_entries past = past.base.limits.events
 
 -- one end of a pass leaves one state
-one_left : (before : Past) (budget : ℕ) (e : PassEnd) (x y : Past) → MayPass before budget e x → MayPass before budget e y → ¬ IsForMemory (answer.Pass e) → x ≡ y
+one_left : (before : Past) (budget : ℕ) (e : PassEnd) (x y : Past) → MayPass before budget e x → MayPass before budget e y → ¬ IsForMemory (Passed e) → x ≡ y
 one_left before budget (Finished r) x y a b p =
     let same = one_removes before a.1.0 b.1.0 r a.1.1 b.1.1 in
     one_told b.1.0 CleanOne Nothing x y (subst (λ (m : Past). MayReply m CleanOne (Ok Nothing) x) same a.1.2) b.1.2
@@ -87,7 +87,7 @@ module _ (passes : PassIsOfWorld) where
     | inr room ↦ omega (arith, room, b.0, a.0, full_behind before y budget s b)
   ]
 
-  one_end : (before : Past) (budget : ℕ) (e f : PassEnd) (x y : Past) → MayPass before budget e x → MayPass before budget f y → ¬ IsForMemory (answer.Pass e) → ¬ IsForMemory (answer.Pass f) → e ≡ f
+  one_end : (before : Past) (budget : ℕ) (e f : PassEnd) (x y : Past) → MayPass before budget e x → MayPass before budget f y → ¬ IsForMemory (Passed e) → ¬ IsForMemory (Passed f) → e ≡ f
   one_end before budget (Finished r) (Finished s) x y a b p q =
       ap Finished (one_finish (world_of before) r s (world_of x) (world_of y) (finished_world before x budget r a) (finished_world before y budget s b))
   one_end before budget (Finished r) (Budget s) x y a b p q = absurd (end_or_spent before x y budget r s a b)
@@ -103,7 +103,7 @@ module _ (passes : PassIsOfWorld) where
   one_end before budget e (Stopped NoMemory s) x y a b p q = absurd (q tt)
 
   pub one_pass : (before : Past) (budget : ℕ) (e f : PassEnd) (x y : Past) → MayPass before budget e x → MayPass before budget f y
-      → ¬ IsForMemory (answer.Pass e) → ¬ IsForMemory (answer.Pass f) → (answer.Pass e ≡ answer.Pass f) × (x ≡ y)
+      → ¬ IsForMemory (Passed e) → ¬ IsForMemory (Passed f) → (Passed e ≡ Passed f) × (x ≡ y)
   one_pass before budget e f x y a b p q =
       let same = one_end before budget e f x y a b p q in
-      (ap answer.Pass same, one_left before budget f x y (subst (λ (end : PassEnd). MayPass before budget end x) same a) b q)
+      (ap Passed same, one_left before budget f x y (subst (λ (end : PassEnd). MayPass before budget end x) same a) b q)

@@ -1,9 +1,10 @@
 -- The text of a run without options is an output.
 use Rattle.ele_runs.proofs.Basics.{◌≡◌, ℕ, ◌+◌, false, List, [], ◌∷◌, ◌++◌, Option, Some, None, refl, sym, ap, subst, ◌∙◌, inl}
-use Rattle.ele_runs.proofs.Words.{AreBlocks, AreTold, Outlet, RunState, IsBlock, IsNoted, IsTold, Past, begun, cut_block, front_of, heard, is_well, line_unless_long, plain, tells_reasons}
+use Rattle.ele_runs.proofs.Words.{AreBlocks, AreTold, Outlet, RunState, IsBlock, IsNoted, IsTold, Past, begun, cut_block, front_of, heard, line_unless_long, plain, tells_reasons}
 use Rattle.ele_runs.specs.Note as note
 use Rattle.ele_runs.specs.PlainOutput.{IsPlain, PlainOutput}
 use Rattle.ele_runs.specs.RunState.{advance}
+use Rattle.ele_runs.specs.Tally.{is_well, outcome_of}
 use Rattle.ele_run_options.specs.declared.options.RunOptions.{RunOptions}
 use Rattle.std.specs.Prelude.{not, ◌&&◌}
 
@@ -21,8 +22,8 @@ unnoted : (number : ℕ) (line : Option (List ℕ)) (block : List ℕ) (old new 
 unnoted number line block old new (note.nothing why same) = same
 unnoted number line block old new (note.reason tells fault is why told front) = absurd (let never = tells in cc)
 
-goes_on_after : (options : RunOptions) (block : List ℕ) → options ≡ plain → (options.strict && not (is_well block)) ≡ false
-goes_on_after options block is = ap (λ (m : RunOptions). m.strict && not (is_well block)) is
+goes_on_after : (options : RunOptions) (block : List ℕ) → options ≡ plain → (options.strict && not (is_well (outcome_of block))) ≡ false
+goes_on_after options block is = ap (λ (m : RunOptions). m.strict && not (is_well (outcome_of block))) is
 
 -- the text for a line is its block, and the options stay off
 record IsPlainBlock (before : RunState) (line : Option (List ℕ)) (told : List ℕ) (after : RunState) : Type 0 where

@@ -1,10 +1,10 @@
 -- The headline in a run.
-use Rattle.ele_runs.proofs.Basics.{◌≡◌, ℕ, Bool, List, [], ◌∷◌, Option, Some, None, Ok, Err, refl, sym, ap, subst, ◌∙◌}
+use Rattle.ele_runs.proofs.Basics.{◌≡◌, ℕ, Bool, List, [], ◌∷◌, Option, Some, None, Ok, sym, ap, subst, ◌∙◌}
 use Rattle.ele_headline.proofs.Answered.{keeps}
 use Rattle.ele_headline.specs.Headline.{HeadlineHolds, KeepsHeadline}
 use Rattle.ele_history.proofs.Growth.{world_of-extended}
 use Rattle.ele_runs.proofs.Led.{IsLed, passed_led, replied_led}
-use Rattle.ele_history.specs.Past.{Past, recorded, reply_to, world_of}
+use Rattle.ele_history.specs.Past.{Past, reply_to, world_of}
 use Rattle.ele_history.specs.Reply.{MayReply}
 use Rattle.ele_model.proofs.Reached.{fresh_reached}
 use Rattle.ele_model.specs.declared.entry.Entry.{Entry}
@@ -14,13 +14,14 @@ use Rattle.ele_model.specs.declared.refusal.Stop.TheVariants.{NoMemory, HistoryF
 use Rattle.ele_model.specs.declared.reply.Reply.{Reply}
 use Rattle.ele_model.specs.Run.{IsEvent}
 use Rattle.ele_policy.specs.declared.policy.Policy.{Policy}
-use Rattle.ele_model.specs.Step.{step}
 use Rattle.ele_model.specs.World.{World}
 use Rattle.ele_script.specs.Spells.{Asks, SpellsValues, line_parts}
 use Rattle.ele_script.specs.declared.reading.Line.TheVariants as asks
-use Rattle.ele_runs.specs.Answer.{Answer}
-use Rattle.ele_runs.specs.Answer as answer
-use Rattle.ele_runs.specs.Block.{MayAnswer, MayMean}
+use Rattle.ele_runs.proofs.Blocks.{last_replied}
+use Rattle.ele_runs.specs.Kept.{Answered, Recorded, last_reply}
+use Rattle.ele_runs.specs.Said.{MayAnswer, MayMean}
+use Rattle.ele_runs.specs.declared.said.Said.{Said}
+use Rattle.ele_runs.specs.declared.said.Said.TheVariants as said
 use Rattle.ele_runs.specs.RepliesKeepHeadline.{RepliesKeepHeadline}
 use Rattle.ele_runs.specs.RunState.{RunState}
 use Rattle.ele_runs.specs.Told.{AreTold, IsTold}
@@ -47,24 +48,23 @@ spelled_is words event values = tt
 same_led : (before after : Past) → after ≡ before → IsLed before → IsLed after
 same_led before after is led = subst IsLed (sym is) led
 
-meant_led : (explains : Bool) (before : Past) (line : List ℕ) (said : Answer) (after : Past) → IsLed before → MayMean explains before line said after → IsLed after
-meant_led explains before line answer.Nothing after led may = absurd may
-meant_led explains before line (answer.Bad fault) after led may = same_led before after may.1 led
-meant_led explains before line (answer.Reply (Ok reply)) after led may =
-    replied_led before after may.0 reply led (spelled_is may.1.spells.words.arguments may.0 may.1.spells.words.values) may.2
-meant_led explains before line (answer.Reply (Err HistoryFull)) after led may = same_led before after may.2.1 led
-meant_led explains before line (answer.Reply (Err NoMemory)) after led may = same_led before after may.1 led
-meant_led explains before line (answer.Pass end) after led may = passed_led before after may.0 end led may.2
-meant_led explains before line (answer.History folded entries) after led may = same_led before after may.3 led
-meant_led explains before line (answer.Trimmed count) after led may = subst IsLed (sym may.2) led
-meant_led explains before line (answer.Why told) after led may = same_led before after may.3 led
-meant_led explains before line (answer.WhyRemoved row) after led may = same_led before after may.3 led
-meant_led explains before line (answer.Ahead told) after led may = same_led before after may.3 led
-meant_led explains before line (answer.Gone folded rows) after led may = same_led before after may.3 led
-meant_led explains before line (answer.Handles handles) after led may = same_led before after may.2 led
-meant_led explains before line (answer.Answers folded entries) after led may = same_led before after may.3 led
+-- the answer of a history to an event
+replied : (before after : Past) (event : Event) → Answered (Recorded before) event (Recorded after) → MayReply before event (Ok (reply_to before event)) after
+replied before after event is = (is.0, ap (λ (past : Past). (reply_to before event, past)) is.1)
 
-answered_led : (explains : Bool) (before : Past) (line : Option (List ℕ)) (said : Answer) (after : Past) → IsLed before → MayAnswer explains before line said after → IsLed after
+meant_led : (explains : Bool) (before : Past) (line : List ℕ) (said : Said) (after : Past) → IsLed before → MayMean explains (Recorded before) line said (Recorded after) → IsLed after
+meant_led explains before line said.Nothing after led may = absurd may
+meant_led explains before line (said.Bad fault) after led may = same_led before after may.1 led
+meant_led explains before line said.Replied after led may =
+    replied_led before after may.0 (reply_to before may.0) led (spelled_is may.1.spells.words.arguments may.0 may.1.spells.words.values) (replied before after may.0 may.2)
+meant_led explains before line (said.Stopped HistoryFull) after led may = same_led before after may.3 led
+meant_led explains before line (said.Stopped NoMemory) after led may = same_led before after may.1 led
+meant_led explains before line (said.Passed end) after led may = passed_led before after may.0 end led may.2
+meant_led explains before line said.History after led may = same_led before after may.2 led
+meant_led explains before line (said.Trimmed count) after led may = subst IsLed (sym may.1.1) led
+meant_led explains before line told after led may = same_led before after may.3 led
+
+answered_led : (explains : Bool) (before : Past) (line : Option (List ℕ)) (said : Said) (after : Past) → IsLed before → MayAnswer explains (Recorded before) line said (Recorded after) → IsLed after
 answered_led explains before None said after led may = same_led before after may.1 led
 answered_led explains before (Some []) said after led may = same_led before after may.1 led
 answered_led explains before (Some (byte ∷ bytes)) said after led may = meant_led explains before (byte ∷ bytes) said after led may
@@ -91,7 +91,8 @@ replies_keep_headline law = record {
   told = told_led;
   reply = by;
 } where
-  by : (explains : Bool) (before after : Past) (line : List ℕ) (reply : Reply) → MayAnswer explains before (Some line) (answer.Reply (Ok reply)) after
-      → (event : Event) × Asks explains line (asks.Event event) × KeepsHeadline (world_of before) event reply (world_of after)
-  by explains before after [] reply may = absurd cc
-  by explains before after (byte ∷ bytes) reply may = (may.0, may.1, reply_keeps law before after may.0 reply may.2)
+  by : (explains : Bool) (before after : Past) (line : List ℕ) → MayAnswer explains (Recorded before) (Some line) said.Replied (Recorded after)
+      → (event : Event) × (reply : Reply) × Asks explains line (asks.Event event) × (last_reply after ≡ Some reply) × KeepsHeadline (world_of before) event reply (world_of after)
+  by explains before after [] may = absurd (let never = may.0 in cc)
+  by explains before after (byte ∷ bytes) may =
+      (may.0, reply_to before may.0, may.1, last_replied before after may.0 may.2.1, reply_keeps law before after may.0 (reply_to before may.0) (replied before after may.0 may.2))

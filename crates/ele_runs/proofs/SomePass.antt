@@ -9,8 +9,8 @@ use Rattle.ele_model.specs.declared.event.Event.TheVariants.{CleanOne}
 use Rattle.ele_model.specs.declared.pass.PassEnd.{PassEnd}
 use Rattle.ele_model.specs.declared.pass.PassEnd.TheVariants.{Finished, Budget, Stopped}
 use Rattle.ele_model.proofs.Cleans.{clean_of}
-use Rattle.ele_runs.specs.Answer.{IsForMemory}
-use Rattle.ele_runs.specs.Answer as answer
+use Rattle.ele_runs.specs.Said.{IsForMemory}
+use Rattle.ele_runs.specs.declared.said.Said.TheVariants.{Passed}
 use Rattle.ele_runs.specs.SomeAnswer.{IsWithin}
 
 -- an end of a pass that is no stop for memory, with no more entries than may be
@@ -18,7 +18,7 @@ pub record HasEnd (before : Past) (budget : ℕ) : Type 0 where
   pub end : PassEnd
   pub after : Past
   pub may : MayPass before budget end after
-  pub unstopped : ¬ IsForMemory (answer.Pass end)
+  pub unstopped : ¬ IsForMemory (Passed end)
   pub within : IsWithin after
 
 -- the reply to a clean event, by what is due

@@ -1,57 +1,20 @@
 -- The tally of a run counts the answers to its lines.
-use Rattle.ele_runs.proofs.Basics.{◌≡◌, ℕ, ◌+◌, List, [], ◌∷◌, length, Option, Some, None, Ok, Err, refl, sym, ap, subst, ◌∙◌, arith}
-use Rattle.ele_runs.proofs.Words.{AreTold, IsTold, Reply, RunState, begun, line_unless_long}
+use Rattle.ele_runs.proofs.Basics.{◌≡◌, ℕ, ◌+◌, List, [], ◌∷◌, length, Option, Some, None, refl, ap, ◌∙◌, arith}
+use Rattle.ele_runs.proofs.Outcomes.{answer_outcome}
+use Rattle.ele_runs.proofs.Words.{AreTold, IsTold, RunState, begun, last_reply, line_unless_long}
 use Rattle.std.specs.Prelude.{filter, not}
 use Rattle.std.specs.List.{position_from}
 use Rattle.std.specs.Option.{option_or}
-use Rattle.ele_printer.specs.Printed.{IsReplyText}
-use Rattle.ele_printer.specs.Why.{why_text}
-use Rattle.ele_model.specs.declared.fate.Fate.{Fate}
-use Rattle.ele_model.specs.declared.fate.Fate.TheVariants as fate
-use Rattle.ele_model.specs.declared.pass.PassEnd.TheVariants as pass
-use Rattle.ele_model.specs.declared.reply.Reply.TheVariants as reply
-use Rattle.ele_runs.specs.Answer.{Answer}
-use Rattle.ele_runs.specs.Answer as answer
-use Rattle.ele_runs.specs.Block.{IsText}
-use Rattle.ele_runs.specs.Tally.{outcome_of, tallied}
-use Rattle.ele_runs.specs.TallyCounts.{TallyCounts, first_bad_of, is_bad, is_refused, is_stopped, is_well_done, outcome_for, outcomes_of}
-use Rattle.ele_runs.specs.declared.tally.BadLine.{BadLine}
+use Rattle.ele_runs.specs.Tally.{is_well, outcome_for, tallied}
+use Rattle.ele_runs.specs.TallyCounts.{TallyCounts, first_bad_of, is_bad, is_refused, is_stopped, outcomes_of}
 use Rattle.ele_runs.specs.declared.tally.Outcome.{Outcome}
 use Rattle.ele_runs.specs.declared.tally.Outcome.TheVariants.{Well, Bad, Refused, Stopped}
 use Rattle.ele_runs.specs.declared.tally.Tally.{Tally}
 
--- a refusal is known by its first letter
-reply_outcome : (said : Reply) (text : List ℕ) → IsReplyText said text → outcome_of text ≡ outcome_for (answer.Reply (Ok said))
-reply_outcome (reply.Now moment) text is = rw is.2 refl
-reply_outcome (reply.Closed None) text is = rw is refl
-reply_outcome (reply.Closed (Some number)) text is = rw is refl
-reply_outcome said text is = rw is refl
-
-fate_outcome : (fate : Fate) (text : List ℕ) → text ≡ why_text (Ok fate) → outcome_of text ≡ Well
-fate_outcome fate.Current text is = rw is refl
-fate_outcome fate.Open text is = rw is refl
-fate_outcome (fate.Marked group mark) text is = rw is refl
-fate_outcome (fate.Kept until level) text is = rw is refl
-fate_outcome (fate.Due since cause) text is = rw is refl
-
--- and so is the outcome of any answer
-pub answer_outcome : (said : Answer) (text : List ℕ) → IsText said text → outcome_of text ≡ outcome_for said
-answer_outcome (answer.Reply (Ok said)) text is = reply_outcome said text is
-answer_outcome (answer.Reply (Err stop)) text is = rw is refl
-answer_outcome (answer.Pass (pass.Finished removed)) text is = rw is refl
-answer_outcome (answer.Pass (pass.Budget removed)) text is = rw is refl
-answer_outcome (answer.Pass (pass.Stopped stop removed)) text is = rw is refl
-answer_outcome (answer.Why (Ok found)) text is = fate_outcome found text is
-answer_outcome (answer.Why (Err why)) text is = rw is refl
-answer_outcome (answer.Ahead (Ok keys)) text is = rw is refl
-answer_outcome (answer.Ahead (Err why)) text is = rw is refl
-answer_outcome (answer.Answers folded entries) text is = rw is.2 refl
-answer_outcome said text is = rw is refl
-
 -- so the tally goes on by the answer
-tally_next : (before after : RunState) (line : Option (List ℕ)) (told : List ℕ) (is : IsTold before line told after) → after.tally ≡ tallied before.tally (before.number + 1) line (outcome_for is.is.0)
+tally_next : (before after : RunState) (line : Option (List ℕ)) (told : List ℕ) (is : IsTold before line told after) → after.tally ≡ tallied before.tally (before.number + 1) line (outcome_for (last_reply is.past) is.is.0)
 tally_next before after line told is =
-    ap (λ (state : RunState). state.tally) is.after_is ∙ ap (tallied before.tally (before.number + 1) line) (answer_outcome is.is.0 is.block is.is.2)
+    ap (λ (state : RunState). state.tally) is.after_is ∙ ap (tallied before.tally (before.number + 1) line) (answer_outcome (last_reply is.past) is.past.folded is.past.entries is.is.0 is.block is.is.2)
 
 number_next : (before after : RunState) (line : Option (List ℕ)) (told : List ℕ) → IsTold before line told after → after.number ≡ before.number + 1
 number_next before after line told is = ap (λ (state : RunState). state.number) is.after_is
@@ -84,7 +47,7 @@ stays_first None found later = refl
 stays_first (Some first) found later = refl
 
 first_next : (outcome : Outcome) (tally : Tally) (number : ℕ) (line : Option (List ℕ)) (rest : List Outcome)
-    → option_or (tallied tally number line outcome).first (position_from (λ o. not (is_well_done o)) (number + 1) rest) ≡ option_or tally.first (position_from (λ o. not (is_well_done o)) number (outcome ∷ rest))
+    → option_or (tallied tally number line outcome).first (position_from (λ o. not (is_well o)) (number + 1) rest) ≡ option_or tally.first (position_from (λ o. not (is_well o)) number (outcome ∷ rest))
 first_next Well tally number line rest = refl
 first_next Bad tally number line rest = stays_first tally.first number _
 first_next Refused tally number line rest = stays_first tally.first number _
@@ -102,7 +65,7 @@ record CountsOn (before after : RunState) (lines : List (List ℕ)) (outcomes : 
   bad : after.tally.bad ≡ before.tally.bad + length (filter is_bad outcomes)
   refused : after.tally.refused ≡ before.tally.refused + length (filter is_refused outcomes)
   stopped : after.tally.stopped ≡ before.tally.stopped + length (filter is_stopped outcomes)
-  first : after.tally.first ≡ option_or before.tally.first (position_from (λ o. not (is_well_done o)) (before.number + 1) outcomes)
+  first : after.tally.first ≡ option_or before.tally.first (position_from (λ o. not (is_well o)) (before.number + 1) outcomes)
   first_bad : after.tally.first_bad ≡ option_or before.tally.first_bad (first_bad_of (before.number + 1) lines outcomes)
 
 none_more : {A : Type 0} (kept : Option A) → kept ≡ option_or kept None
@@ -122,7 +85,7 @@ counts_on before after [] text are =
 counts_on before after (line ∷ lines) text (told, rest, between, is, more, parts) =
     let others = counts_on between after lines rest more in
     let outcomes = outcomes_of between lines rest after more in
-    let outcome = outcome_for is.is.0 in
+    let outcome = outcome_for (last_reply is.past) is.is.0 in
     let kept = line_unless_long line in
     let next : between.tally ≡ tallied before.tally (before.number + 1) kept outcome = tally_next before between kept told is in
     let number : between.number ≡ before.number + 1 = number_next before between kept told is in
@@ -130,8 +93,8 @@ counts_on before after (line ∷ lines) text (told, rest, between, is, more, par
       bad = others.bad ∙ ap (λ (t : Tally). t.bad + length (filter is_bad outcomes)) next ∙ bad_next outcome before.tally (before.number + 1) kept outcomes;
       refused = others.refused ∙ ap (λ (t : Tally). t.refused + length (filter is_refused outcomes)) next ∙ refused_next outcome before.tally (before.number + 1) kept outcomes;
       stopped = others.stopped ∙ ap (λ (t : Tally). t.stopped + length (filter is_stopped outcomes)) next ∙ stopped_next outcome before.tally (before.number + 1) kept outcomes;
-      first = others.first ∙ ap (λ (t : Tally). option_or t.first (position_from (λ o. not (is_well_done o)) (between.number + 1) outcomes)) next
-          ∙ ap (λ (n : ℕ). option_or (tallied before.tally (before.number + 1) kept outcome).first (position_from (λ o. not (is_well_done o)) (n + 1) outcomes)) number
+      first = others.first ∙ ap (λ (t : Tally). option_or t.first (position_from (λ o. not (is_well o)) (between.number + 1) outcomes)) next
+          ∙ ap (λ (n : ℕ). option_or (tallied before.tally (before.number + 1) kept outcome).first (position_from (λ o. not (is_well o)) (n + 1) outcomes)) number
           ∙ first_next outcome before.tally (before.number + 1) kept outcomes;
       first_bad = others.first_bad ∙ ap (λ (t : Tally). option_or t.first_bad (first_bad_of (between.number + 1) lines outcomes)) next
           ∙ ap (λ (n : ℕ). option_or (tallied before.tally (before.number + 1) kept outcome).first_bad (first_bad_of (n + 1) lines outcomes)) number

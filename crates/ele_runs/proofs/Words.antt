@@ -5,9 +5,12 @@ pub use Rattle.ele_history.specs.Reply.{MayReply}
 pub use Rattle.ele_output.specs.Outlet.{HandsOver, IsHandedOver, Outlet, Puts}
 pub use Rattle.ele_output.specs.Prints.{outlet}
 pub use Rattle.ele_script.specs.Words.{longest_line}
-pub use Rattle.ele_runs.specs.Block.{IsBlock, MayAnswer, MayMean, as_entry, as_gone, as_handles, as_told, as_trim, as_why, cut_block, cut_count}
+pub use Rattle.ele_runs.specs.Block.{IsBlock, IsTextIn, cut_block, cut_count}
+pub use Rattle.ele_runs.specs.Kept.{Recorded, last_reply}
+pub use Rattle.ele_runs.specs.Said.{IsForMemory, MayAnswer, MayMean}
+pub use Rattle.ele_runs.specs.declared.said.Said.{Said}
 pub use Rattle.ele_runs.specs.RunState.{RunState, begun, noting}
-pub use Rattle.ele_run_options.specs.RunOptions.{front_of, heard, is_well, plain, tells_reasons}
+pub use Rattle.ele_run_options.specs.RunOptions.{front_of, heard, plain, tells_reasons}
 pub use Rattle.ele_runs.specs.Note.{IsNoted, cut_note}
 pub use Rattle.ele_runs.specs.Told.{AreTold, IsTold, cut_told}
 pub use Rattle.ele_runs.specs.Bounds.{most_bytes, most_lines}

@@ -1,4 +1,4 @@
-pub mod Answer
+pub mod Kept
 pub mod Block
 pub mod Bounds
 pub mod RunState

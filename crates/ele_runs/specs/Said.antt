@@ -1,139 +1,202 @@
--- The answer to a line, before it is printed.
-use Rattle.std.specs.Prelude.{◌≡◌, ◌≢◌, ℕ, ◌+◌, ◌-◌, ◌≤◌, ◌==◌, Bool, true, ◌&&◌, List, [], ◌∷◌, ◌++◌, decimal, length, Option, Some, None, Ok, Err, slice_get, if◌then◌else◌}
+-- The answer to a line, before it is printed, and the text of it.
+use Rattle.std.specs.Prelude.{◌≡◌, ◌≢◌, ◌⊎◌, ℕ, ◌≤◌, ◌==◌, Bool, true, false, ◌&&◌, List, [], ◌∷◌, ◌++◌, decimal, Option, Some, None, Result, Err, if◌then◌else◌}
+use Rattle.ele_audit.specs.AuditText.{IsAnswersText, gone_text, handles_text, why_gone_text}
 use Rattle.ele_audit.specs.Open.{AreOpen}
-use Rattle.ele_audit.specs.Removals.{AreRemoved, HasRemovals, MayBeRemoved}
+use Rattle.ele_audit.specs.Removals.{AreRemoved, HasRemovals, IsRemovedVersion, MayBeRemoved}
 use Rattle.ele_audit.specs.declared.row.Removed.{Removed}
-use Rattle.ele_history.specs.Past.{HasRoom, Past, recorded, trimmed, world_of}
-use Rattle.ele_history.specs.Reply.{MayStop}
-use Rattle.ele_runs.specs.Answer.{Answer}
-use Rattle.ele_runs.specs.Answer as answer
+use Rattle.ele_history.specs.Past.{Past, world_of}
+use Rattle.ele_model.specs.Scan.{scan}
+use Rattle.ele_model.specs.Why.{IsAhead, IsWhy}
+use Rattle.ele_model.specs.World.{World}
+use Rattle.ele_model.specs.declared.entry.Entry.{Entry}
+use Rattle.ele_model.specs.declared.event.Event.{Event}
+use Rattle.ele_model.specs.declared.fate.Fate.{Fate}
+use Rattle.ele_model.specs.declared.pass.PassEnd.TheVariants.{Stopped as PassStopped}
+use Rattle.ele_model.specs.declared.refusal.Refusal.{Refusal}
+use Rattle.ele_model.specs.declared.refusal.Refusal.TheVariants.{Forgotten}
+use Rattle.ele_model.specs.declared.refusal.Stop.TheVariants.{NoMemory, HistoryFull}
+use Rattle.ele_model.specs.declared.reply.Reply.{Reply}
 use Rattle.ele_path.specs.declared.tagged.TaggedPath.{TaggedPath}
-use Rattle.ele_runs.specs.Block.{IsText, IsWhyNow, IsWhyRemoved, MayAnswer, MayMean}
-use Rattle.ele_runs.specs.RunState.{RunState, advance}
+use Rattle.ele_printer.specs.HistoryText.{history_text, trimmed_text}
+use Rattle.ele_printer.specs.Printed.{IsReplyText, bad_text, pass_text, stop_text}
+use Rattle.ele_printer.specs.Why.{ahead_text, why_text}
+use Rattle.ele_printer.specs.declared.fault.LineFault.{LineFault}
+use Rattle.ele_printer.specs.declared.fault.LineFault.TheVariants.{Syntax, LineTooLong}
 use Rattle.ele_run_options.specs.RunOptions.{front_of, heard}
 use Rattle.ele_run_options.specs.declared.options.RunOptions.{RunOptions}
+use Rattle.ele_runs.specs.Kept.{Kept, Plain, Recorded, Answered, Folds, HasEntries, Passes, Stays, StopsEvent, has_past, world_in}
 use Rattle.ele_runs.specs.declared.said.Said.{Said}
 use Rattle.ele_runs.specs.declared.said.Said.TheVariants.{Nothing, Bad, Stopped, Replied, Passed, History, Trimmed, Why, WhyRemoved, Ahead, Gone, Handles, Answers}
+use Rattle.ele_script.specs.FirstFault.{IsFirstFault}
+use Rattle.ele_script.specs.Memory.{TakesMemory}
+use Rattle.ele_script.specs.Spells.{Asks}
+use Rattle.ele_script.specs.Words.{words_of}
+use Rattle.ele_script.specs.declared.reading.Line.TheVariants as asks
 use Rattle.ele_script.specs.declared.reading.Question.{Question}
 use Rattle.ele_script.specs.declared.reading.Question.TheVariants as question
-use Rattle.ele_model.specs.Why.{IsAhead}
-use Rattle.ele_model.specs.World.{World}
-use Rattle.ele_model.specs.declared.reply.Reply.{Reply}
-use Rattle.std.specs.Option.{option_map}
-use Rattle.ele_model.specs.declared.event.Event.{Event}
-use Rattle.ele_model.specs.declared.refusal.Stop.TheVariants.{NoMemory}
 
--- the answer to an event, by its reply, if there is one
-abbrev pub reply_of : Option Reply → Answer
-reply_of (Some reply) = answer.Reply (Ok reply)
-reply_of None = answer.Nothing
+-- ---- questions: what answers them, and which take memory
 
--- the reply of the last entry
-abbrev pub last_reply : Past → Option Reply
-last_reply past = option_map (λ entry. entry.reply) (slice_get past.entries (length past.entries - 1))
+-- if the refusal is Forgotten, no stored entry removed the version
+abbrev pub NoneRemoved : Past → TaggedPath → Result Fate Refusal → Type 0
+NoneRemoved past tagged (Err (Forgotten number)) = IsRemovedVersion past tagged None
+NoneRemoved past tagged told = Unit {0}
 
--- the answer to `history`, if there is one
-abbrev pub history_of : Option Past → Answer
-history_of (Some past) = answer.History past.folded past.entries
-history_of None = answer.Nothing
+-- `why` is answered by the fate of a held version, or by the refusal
+pub record IsWhyNow (past : Past) (tagged : TaggedPath) (told : Result Fate Refusal) : Type 0 where
+  pub why : IsWhy (world_of past) tagged told
+  pub none : NoneRemoved past tagged told
 
--- the answer to `gone`, if there is a history
-abbrev pub gone_of : Option Past → List Removed → Answer
-gone_of (Some past) rows = answer.Gone past.folded rows
-gone_of None rows = answer.Nothing
+-- or, for a version that is no longer held, by the stored entry that removed it
+pub record IsWhyRemoved (past : Past) (tagged : TaggedPath) (row : Removed) : Type 0 where
+  pub number : Option ℕ
+  pub why : IsWhy (world_of past) tagged (Err (Forgotten number))
+  pub removed : IsRemovedVersion past tagged (Some row)
 
--- the answer to `answers`, if there is a history
-abbrev pub answers_of : Option Past → Answer
-answers_of (Some past) = answer.Answers past.folded past.entries
-answers_of None = answer.Nothing
+-- the keys that will be due at a moment take memory: it hasn't passed, and if it is the current one, some version is due
+pub record TakesKeys (w : World) (moment : ℕ) : Type 0 where
+  pub ahead : w.now ≤ moment
+  pub due : moment ≡ w.now → scan w ≢ []
 
--- the answer, by the reply to the last event and the history after it
-abbrev pub answer_by : Option Reply → Option Past → Said → Answer
-answer_by last history Nothing = answer.Nothing
-answer_by last history (Bad fault) = answer.Bad fault
-answer_by last history (Stopped stop) = answer.Reply (Err stop)
-answer_by last history Replied = reply_of last
-answer_by last history (Passed end) = answer.Pass end
-answer_by last history History = history_of history
-answer_by last history (Trimmed count) = answer.Trimmed count
-answer_by last history (Why told) = answer.Why told
-answer_by last history (WhyRemoved row) = answer.WhyRemoved row
-answer_by last history (Ahead told) = answer.Ahead told
-answer_by last history (Gone rows) = gone_of history rows.items
-answer_by last history (Handles handles) = answer.Handles handles.items
-answer_by last history Answers = answers_of history
+-- a question may take memory. With a history: `why` if a stored entry removed a version with that number, `ahead` of a moment that
+-- hasn't passed, `gone` after a removal, `handles` while one is open. Without: only `ahead`
+abbrev pub MayTake : Kept → Question → Type 0
+MayTake (Recorded past) (question.Why tagged) = MayBeRemoved past tagged.tag
+MayTake (Recorded past) (question.Ahead moment) = (world_of past).now ≤ moment
+MayTake (Recorded past) question.Gone = HasRemovals past
+MayTake (Recorded past) question.Handles = (world_of past).handles ≢ []
+MayTake (Plain w last) (question.Ahead moment) = TakesKeys w moment
+MayTake kept asked = ⊥
 
--- the answer, by the history after it: the last entry has the reply to an event
-abbrev pub answer_of : Past → Said → Answer
-answer_of after said = answer_by (last_reply after) (Some after) said
+-- the answer to a question; a core alone answers only some
+abbrev pub Says : Said → Kept → Question → Type 0
+Says (Why told) (Recorded past) (question.Why tagged) = IsWhyNow past tagged told
+Says (Why told) (Plain w last) (question.Why tagged) = IsWhy w tagged told
+Says (WhyRemoved row) (Recorded past) (question.Why tagged) = IsWhyRemoved past tagged row
+Says (Ahead told) kept (question.Ahead moment) = IsAhead (world_in kept) moment told
+Says (Gone rows) (Recorded past) question.Gone = AreRemoved past rows.items
+Says (Handles handles) (Recorded past) question.Handles = AreOpen past handles.items
+Says Answers (Recorded past) question.Answers = Unit {0}
+Says said kept asked = ⊥
 
--- the answer to a line that isn't empty
-abbrev pub Hears : Bool → Past → List ℕ → Said → Past → Type 0
-Hears explains before line said after = MayMean explains before line (answer_of after said) after
+-- a question that only a history answers
+abbrev pub IsOfPast : Question → Type 0
+IsOfPast (question.Why tagged) = ⊥
+IsOfPast (question.Ahead moment) = ⊥
+IsOfPast asked = Unit {0}
+
+-- ---- lines
+
+-- a command that only a history answers
+pub data NeedsPast (explains : Bool) (line : List ℕ) : Type 0 where
+  as_history : Asks explains line asks.History → NeedsPast explains line
+  as_trim : Asks explains line asks.Trim → NeedsPast explains line
+  as_question : (asked : Question) → Asks explains line (asks.Question asked) → IsOfPast asked → NeedsPast explains line
+
+-- the fault of a line: its first one. Without a history a command that needs one is a fault too
+abbrev pub IsFault : Bool → Kept → List ℕ → LineFault → Type 0
+IsFault explains (Recorded past) line fault = IsFirstFault explains line fault
+IsFault explains (Plain w last) line fault = IsFirstFault explains line fault ⊎ ((fault ≡ Syntax) × NeedsPast explains line)
+
+-- a line may need memory: to be read, for its event, its trim or its question
+pub data LineTakesMemory (explains : Bool) (before : Kept) (line : List ℕ) : Type 0 where
+  to_read : TakesMemory explains (words_of line) → LineTakesMemory explains before line
+  to_answer : (event : Event) → Asks explains line (asks.Event event) → StopsEvent before event NoMemory → LineTakesMemory explains before line
+  to_trim : Asks explains line asks.Trim → HasEntries before → LineTakesMemory explains before line
+  to_tell : (asked : Question) → Asks explains line (asks.Question asked) → MayTake before asked → LineTakesMemory explains before line
+
+-- the answer to the line's question, which changes nothing
+abbrev pub MaySay : Bool → Kept → List ℕ → Said → Kept → Type 0
+MaySay explains before line said after = (asked : Question) × Asks explains line (asks.Question asked) × Says said before asked × Stays before after
+
+-- the answer to a line that isn't empty: its first fault, the reply to its event, the end of its pass, the history, or the number
+-- of entries that its trim folds. In a run that explains, also the answer to a question. A line that needs memory may be stopped
+-- instead
+abbrev pub MayMean : Bool → Kept → List ℕ → Said → Kept → Type 0
+MayMean explains before line Nothing after = ⊥
+MayMean explains before line (Bad fault) after = IsFault explains before line fault × Stays before after
+MayMean explains before line Replied after = (event : Event) × Asks explains line (asks.Event event) × Answered before event after
+MayMean explains before line (Stopped HistoryFull) after =
+    (event : Event) × Asks explains line (asks.Event event) × StopsEvent before event HistoryFull × Stays before after
+MayMean explains before line (Stopped NoMemory) after = LineTakesMemory explains before line × Stays before after
+MayMean explains before line (Passed end) after = (budget : ℕ) × Asks explains line (asks.Pass budget) × Passes before budget end after
+MayMean explains before line History after = Asks explains line asks.History × (has_past before ≡ true) × Stays before after
+MayMean explains before line (Trimmed count) after = Asks explains line asks.Trim × Folds before count after
+MayMean explains before line said after = MaySay explains before line said after
+
+-- the answer to a line as it is kept: none to an empty one, and a fault to one that is too long
+abbrev pub MayAnswer : Bool → Kept → Option (List ℕ) → Said → Kept → Type 0
+MayAnswer explains before None said after = (said ≡ Bad LineTooLong) × Stays before after
+MayAnswer explains before (Some []) said after = (said ≡ Nothing) × Stays before after
+MayAnswer explains before (Some (byte ∷ bytes)) said after = MayMean explains before (byte ∷ bytes) said after
+
+-- memory stopped it
+abbrev pub IsForMemory : Said → Type 0
+IsForMemory (Stopped NoMemory) = Unit {0}
+IsForMemory (Passed (PassStopped NoMemory removed)) = Unit {0}
+IsForMemory said = ⊥
+
+-- ---- texts
+
+-- the text of the reply, if there is one
+abbrev pub IsLastText : Option Reply → List ℕ → Type 0
+IsLastText None text = text ≡ []
+IsLastText (Some reply) text = IsReplyText reply text
+
+-- the text of each answer, with the last reply, and the entries of the history after so many that were folded
+abbrev pub IsText : Option Reply → ℕ → List Entry → Said → List ℕ → Type 0
+IsText last folded entries Nothing text = text ≡ []
+IsText last folded entries (Bad fault) text = text ≡ bad_text fault
+IsText last folded entries Replied text = IsLastText last text
+IsText last folded entries (Stopped stop) text = text ≡ stop_text stop
+IsText last folded entries (Passed end) text = text ≡ pass_text end
+IsText last folded entries History text = text ≡ history_text folded entries
+IsText last folded entries (Trimmed count) text = text ≡ trimmed_text count
+IsText last folded entries (Why told) text = text ≡ why_text told
+IsText last folded entries (WhyRemoved row) text = text ≡ why_gone_text row
+IsText last folded entries (Ahead told) text = text ≡ ahead_text told
+IsText last folded entries (Gone rows) text = text ≡ gone_text folded rows.items
+IsText last folded entries (Handles handles) text = text ≡ handles_text handles.items
+IsText last folded entries Answers text = IsAnswersText folded entries text
 
 -- the bytes before the answer
 abbrev pub said_front : RunOptions → ℕ → Said → List ℕ
 said_front options number Nothing = []
 said_front options number said = if options.numbers then decimal number ++ 32 ∷ [] else []
 
--- the answer to a line as it is kept
-pub record HearsKept (options : RunOptions) (before : Past) (line : Option (List ℕ)) (said : Said) (after : Past) : Type 0 where
-  pub may : MayAnswer options.explain before (heard options line) (answer_of after said) after
+-- the answer to a line as it is kept, under the options of a run
+pub record HearsKept (options : RunOptions) (before : Kept) (line : Option (List ℕ)) (said : Said) (after : Kept) : Type 0 where
+  pub may : MayAnswer options.explain before (heard options line) said after
   pub front : (number : ℕ) → said_front options number said ≡ front_of options number (heard options line)
-
--- the answer to the next line of a run
-pub record HearsNext (before : RunState) (line : Option (List ℕ)) (said : Said) (after : RunState) : Type 0 where
-  pub kept : HearsKept before.options before.past line said after.past
-  pub options : after.options ≡ before.options
-  pub number : after.number ≡ before.number + 1
-  pub after_is : (text : List ℕ) → IsText (answer_of after.past said) text → after ≡ advance before after.past line text before.notes
-
--- an event became the last entry, with its reply; or it was stopped, and the history stays
-abbrev pub Records : Past → Event → Said → Past → Type 0
-Records before event Replied after = HasRoom before × (after ≡ recorded before event)
-Records before event (Stopped stop) after = MayStop before stop after
-Records before event said after = ⊥
-
--- the history was folded; or there was no memory, and it stays
-abbrev pub Trims : Past → Said → Past → Type 0
-Trims before (Trimmed count) after = (count ≡ length before.entries) × (after ≡ trimmed before)
-Trims before (Stopped stop) after = (stop ≡ NoMemory) × (after ≡ before)
-Trims before said after = ⊥
-
--- the answer to `ahead`; it is stopped for memory only if the moment hasn't passed
-abbrev pub SaysAhead : World → ℕ → Said → Type 0
-SaysAhead w moment (Ahead told) = IsAhead w moment told
-SaysAhead w moment (Stopped stop) = (stop ≡ NoMemory) × (w.now ≤ moment)
-SaysAhead w moment said = ⊥
-
--- the answer to `why`; it is stopped for memory only if a stored entry removed a version with the number of its tag
-abbrev pub SaysWhy : Past → TaggedPath → Said → Type 0
-SaysWhy past tagged (Why told) = IsWhyNow past tagged told
-SaysWhy past tagged (WhyRemoved row) = IsWhyRemoved past tagged row
-SaysWhy past tagged (Stopped stop) = (stop ≡ NoMemory) × MayBeRemoved past tagged.tag
-SaysWhy past tagged said = ⊥
-
--- the answer to `gone`; it is stopped for memory only if a stored entry removed a version
-abbrev pub SaysGone : Past → Said → Type 0
-SaysGone past (Gone rows) = AreRemoved past rows.items
-SaysGone past (Stopped stop) = (stop ≡ NoMemory) × HasRemovals past
-SaysGone past said = ⊥
-
--- the answer to `handles`; it is stopped for memory only if a handle is open
-abbrev pub SaysHandles : Past → Said → Type 0
-SaysHandles past (Handles handles) = AreOpen past handles.items
-SaysHandles past (Stopped stop) = (stop ≡ NoMemory) × ((world_of past).handles ≢ [])
-SaysHandles past said = ⊥
-
--- the answer to a question, from the world as it is and the history
-abbrev pub Explains : Past → Question → Said → Type 0
-Explains past (question.Why tagged) said = SaysWhy past tagged said
-Explains past (question.Ahead moment) said = SaysAhead (world_of past) moment said
-Explains past question.Gone said = SaysGone past said
-Explains past question.Handles said = SaysHandles past said
-Explains past question.Answers said = said ≡ Answers
 
 -- an empty line has no answer, nor has a remark if remarks are allowed
 abbrev pub has_no_reply : RunOptions → List ℕ → Bool
 has_no_reply options [] = true
 has_no_reply options (byte ∷ bytes) = options.remarks && (byte == 35)
+
+-- ---- calls
+
+-- the answer to an event: its reply, or a stop
+abbrev pub Records : Kept → Event → Said → Kept → Type 0
+Records before event Replied after = Answered before event after
+Records before event (Stopped stop) after = StopsEvent before event stop × Stays before after
+Records before event said after = ⊥
+
+-- the answer to a trim: the history was folded, or memory was refused, or there is no history
+abbrev pub Trims : Kept → Said → Kept → Type 0
+Trims before (Trimmed count) after = Folds before count after
+Trims before (Stopped stop) after = (stop ≡ NoMemory) × HasEntries before × Stays before after
+Trims before (Bad fault) after = (fault ≡ Syntax) × (has_past before ≡ false) × Stays before after
+Trims before said after = ⊥
+
+-- the answer to a question; memory may stop it, and some need a history
+abbrev pub Explains : Kept → Question → Said → Type 0
+Explains kept asked (Stopped stop) = (stop ≡ NoMemory) × MayTake kept asked
+Explains kept asked (Bad fault) = (fault ≡ Syntax) × (has_past kept ≡ false) × IsOfPast asked
+Explains kept asked said = Says said kept asked
+
+-- the keys that will be due at a moment; memory may stop that only if the moment hasn't passed
+abbrev pub SaysAhead : World → ℕ → Said → Type 0
+SaysAhead w moment (Ahead told) = IsAhead w moment told
+SaysAhead w moment (Stopped stop) = (stop ≡ NoMemory) × (w.now ≤ moment)
+SaysAhead w moment said = ⊥

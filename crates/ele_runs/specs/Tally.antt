@@ -1,7 +1,12 @@
 -- The numbers of lines that were not answered by `ok`, and the first of them.
-use Rattle.std.specs.Prelude.{ℕ, ◌+◌, ◌==◌, false, true, List, [], ◌∷◌, Option, Some, None, if◌then◌else◌}
+use Rattle.std.specs.Prelude.{ℕ, ◌+◌, ◌==◌, Bool, false, true, List, [], ◌∷◌, Option, Some, None, Err, if◌then◌else◌}
 use Rattle.std.specs.Option.{option_and_then, option_or}
+use Rattle.ele_model.specs.declared.pass.PassEnd.TheVariants as pass
+use Rattle.ele_model.specs.declared.reply.Reply.{Reply}
+use Rattle.ele_model.specs.declared.reply.Reply.TheVariants as reply
 use Rattle.ele_runs.specs.LineLength.{line_unless_long}
+use Rattle.ele_runs.specs.declared.said.Said.{Said}
+use Rattle.ele_runs.specs.declared.said.Said.TheVariants as said
 use Rattle.ele_runs.specs.declared.tally.BadLine.{BadLine}
 use Rattle.ele_runs.specs.declared.tally.Outcome.{Outcome}
 use Rattle.ele_runs.specs.declared.tally.Outcome.TheVariants.{Well, Bad, Refused, Stopped}
@@ -12,6 +17,25 @@ abbrev pub outcome_of : List ℕ → Outcome
 outcome_of [] = Well
 outcome_of (first ∷ rest) =
     if first == 98 then Bad else if first == 110 then Refused else if first == 115 then Stopped else Well
+
+-- the outcome of a reply, if there is one
+abbrev pub reply_outcome : Option Reply → Outcome
+reply_outcome (Some (reply.Refused why)) = Refused
+reply_outcome last = Well
+
+-- the outcome of an answer, with the last reply: a line that is not a command is bad; a command may be refused or stopped
+abbrev pub outcome_for : Option Reply → Said → Outcome
+outcome_for last (said.Bad fault) = Bad
+outcome_for last said.Replied = reply_outcome last
+outcome_for last (said.Stopped stop) = Stopped
+outcome_for last (said.Passed (pass.Stopped stop removed)) = Stopped
+outcome_for last (said.Why (Err why)) = Refused
+outcome_for last (said.Ahead (Err why)) = Refused
+outcome_for last told = Well
+
+abbrev pub is_well : Outcome → Bool
+is_well Well = true
+is_well outcome = false
 
 -- before the first line
 abbrev pub fresh_tally : Tally

@@ -1,41 +1,24 @@
 -- The tally of a run counts the answers to its lines.
-use Rattle.std.specs.Prelude.{◌≡◌, ℕ, ◌+◌, Bool, true, false, not, List, [], ◌∷◌, length, filter, Option, Some, None, Ok, Err, if◌then◌else◌}
+use Rattle.std.specs.Prelude.{◌≡◌, ℕ, ◌+◌, Bool, true, false, not, List, [], ◌∷◌, length, filter, Option, Some, None}
 use Rattle.std.specs.List.{position_from}
 use Rattle.ele_history.specs.Past.{Past}
 use Rattle.ele_output.specs.Outlet.{Outlet}
-use Rattle.ele_model.specs.declared.pass.PassEnd.TheVariants as pass
-use Rattle.ele_model.specs.declared.reply.Reply.TheVariants as reply
-use Rattle.ele_runs.specs.Answer.{Answer}
-use Rattle.ele_runs.specs.Answer as answer
+use Rattle.ele_runs.specs.Kept.{last_reply}
 use Rattle.ele_runs.specs.LineLength.{line_unless_long}
 use Rattle.ele_runs.specs.RunState.{RunState, begun}
-use Rattle.ele_runs.specs.Tally.{whole_bad}
+use Rattle.ele_runs.specs.Tally.{is_well, outcome_for, whole_bad}
 use Rattle.ele_runs.specs.Told.{AreTold}
 use Rattle.ele_run_options.specs.declared.options.RunOptions.{RunOptions}
 use Rattle.ele_runs.specs.declared.tally.BadLine.{BadLine}
 use Rattle.ele_runs.specs.declared.tally.Outcome.{Outcome}
-use Rattle.ele_runs.specs.declared.tally.Outcome.TheVariants.{Well, Bad, Refused, Stopped}
+use Rattle.ele_runs.specs.declared.tally.Outcome.TheVariants.{Bad, Refused, Stopped}
 use Rattle.ele_runs.specs.declared.tally.Tally.{Tally}
-
--- a line that is not a command is bad; a command may be refused or stopped
-abbrev pub outcome_for : Answer → Outcome
-outcome_for (answer.Bad fault) = Bad
-outcome_for (answer.Reply (Ok (reply.Refused why))) = Refused
-outcome_for (answer.Reply (Err stop)) = Stopped
-outcome_for (answer.Pass (pass.Stopped stop removed)) = Stopped
-outcome_for (answer.Why (Err why)) = Refused
-outcome_for (answer.Ahead (Err why)) = Refused
-outcome_for said = Well
 
 -- the outcomes of the lines, one after another
 abbrev pub outcomes_of : (before : RunState) (lines : List (List ℕ)) (text : List ℕ) (after : RunState) → AreTold before lines text after → List Outcome
 outcomes_of before [] text after are = []
 outcomes_of before (line ∷ lines) text after (told, rest, between, is, more, parts) =
-    outcome_for is.is.0 ∷ outcomes_of between lines rest after more
-
-abbrev pub is_well_done : Outcome → Bool
-is_well_done Well = true
-is_well_done outcome = false
+    outcome_for (last_reply is.past) is.is.0 ∷ outcomes_of between lines rest after more
 
 abbrev pub is_bad : Outcome → Bool
 is_bad Bad = true
@@ -60,7 +43,7 @@ pub record Counts (lines : List (List ℕ)) (outcomes : List Outcome) (tally : T
   pub bad : tally.bad ≡ length (filter is_bad outcomes)
   pub refused : tally.refused ≡ length (filter is_refused outcomes)
   pub stopped : tally.stopped ≡ length (filter is_stopped outcomes)
-  pub first : tally.first ≡ position_from (λ outcome. not (is_well_done outcome)) 1 outcomes
+  pub first : tally.first ≡ position_from (λ outcome. not (is_well outcome)) 1 outcomes
   pub first_bad : tally.first_bad ≡ first_bad_of 1 lines outcomes
 
 -- the tally of whole lines from the first on

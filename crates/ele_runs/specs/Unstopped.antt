@@ -1,6 +1,6 @@
 -- Outputs of lines of which memory stopped none.
 use Rattle.std.specs.Prelude.{ℕ, false, List, [], ◌∷◌, Option}
-use Rattle.ele_runs.specs.Answer.{IsForMemory}
+use Rattle.ele_runs.specs.Said.{IsForMemory}
 use Rattle.ele_runs.specs.Block.{IsBlock}
 use Rattle.ele_runs.specs.LineLength.{line_unless_long}
 use Rattle.ele_runs.specs.Output.{AreBlocks, IsOutput}

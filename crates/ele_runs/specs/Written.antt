@@ -2,13 +2,22 @@
 use Rattle.std.specs.Prelude.{◌≡◌, ℕ, ◌+◌, List, [], true, Option, Some, None, Result, Ok, Err, if◌then◌else◌}
 use Rattle.ele_output.specs.Outlet.{HandsOver, Outlet, Puts}
 use Rattle.ele_runs.specs.Block.{cut_count}
-use Rattle.ele_runs.specs.RunState.{RunState}
+use Rattle.ele_runs.specs.Kept.{Recorded, last_reply}
+use Rattle.ele_runs.specs.RunState.{RunState, counted}
+use Rattle.ele_runs.specs.Said.{HearsKept}
+use Rattle.ele_runs.specs.Tally.{outcome_for}
+use Rattle.ele_runs.specs.declared.said.Said.{Said}
 use Rattle.ele_runs.specs.Telling.{IsTallyOf, Tells}
 use Rattle.ele_runs.specs.Told.{IsTold, cut_told}
 use Rattle.ele_runs.specs.declared.end.EndLine.{EndLine}
 use Rattle.ele_runs.specs.declared.end.RunEnd.{RunEnd}
 use Rattle.ele_run_options.specs.declared.fault.ShellFault.{ShellFault}
 use Rattle.ele_run_options.specs.declared.fault.ShellFault.TheVariants.{NoMemory}
+
+-- the next line was heard: its answer, and the state then
+pub record HearsNext (before : RunState) (line : Option (List ℕ)) (said : Said) (after : RunState) : Type 0 where
+  pub kept : HearsKept before.options (Recorded before.past) line said (Recorded after.past)
+  pub after_is : after ≡ counted before after.past line (outcome_for (last_reply after.past) said) before.notes
 
 -- the text of the line was printed
 pub record PutsBlock (before : RunState) (line : Option (List ℕ)) (after : RunState) (old new : Outlet) : Type 0 where

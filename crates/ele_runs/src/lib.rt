@@ -3,6 +3,7 @@
 #![tactic(auto)]
 
 mod end;
+mod keep;
 pub mod laws;
 mod line_buffer;
 mod lines;
@@ -15,8 +16,9 @@ mod tally;
 
 pub use ele_run_options::{RunOptions, ShellFault};
 pub use end::{EndLine, RunEnd};
+pub use keep::Keep;
 pub use line_buffer::{LineBuffer, kept_line};
 pub use note::{put_why, why_bad, why_cut};
-pub use said::{Said, hear_ahead, hear_event, hear_kept, hear_trim, last_reply};
+pub use said::{Said, explain_alone, hear_kept, last_reply};
 pub use script::{run_in, run_over};
 pub use tally::{BadLine, Tally};

@@ -27,6 +27,7 @@ use memchr::memchr;
 use std::io::Write;
 
 // Answers the line that ends with these bytes. Then begins a new line, unless this one ended the run.
+// No line is answered after the writer has failed.
 fn put_whole<C: Explain, W: Write, E: Write>(
     end: &[u8],
     buffer: &mut LineBuffer,
@@ -36,6 +37,7 @@ fn put_whole<C: Explain, W: Write, E: Write>(
 )
     requires goes_on { runner.old.ended ≡ false }
     requires few { runner.old.number + 1 < 2 ^ 64 }
+    requires works { printer.old.has_failed ≡ false }
     ensures block { PutsBlock (noting runner.old (outlet E.contents reasons.old))
         (option_and_then (λ line. line_unless_long (line ++ end.now)) buffer.old)
         (noting runner.new (outlet E.contents reasons.new))
@@ -76,6 +78,7 @@ pub(crate) fn answer_piece<C: Explain, W: Write, E: Write>(
 ) -> Result<(), WriteFault>
     requires goes_on { runner.old.ended ≡ false }
     requires few { runner.old.number + length piece.now < 2 ^ 64 }
+    requires works { printer.old.has_failed ≡ false }
     ensures { AnswersPiece (noting runner.old (outlet E.contents reasons.old))
         (noting runner.new (outlet E.contents reasons.new)) buffer.old piece.now buffer.new
         (outlet W.contents printer.old) (outlet W.contents printer.new) result }

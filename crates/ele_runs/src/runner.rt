@@ -6,9 +6,8 @@ ghost use Rattle.ele_history.specs.Past.{fresh};
 ghost use Rattle.ele_output.specs.Prints.{Prints, outlet};
 ghost use Rattle.ele_runs.specs.RunState.{begun, no_printer, noting};
 ghost use Rattle.ele_runs.specs.Note.{IsNoted, cut_note};
-ghost use Rattle.ele_runs.specs.Block.{IsText};
-ghost use Rattle.ele_runs.specs.Said.{HearsNext, answer_of};
-ghost use Rattle.ele_runs.specs.Written.{PutsBlock};
+ghost use Rattle.ele_runs.specs.Block.{IsTextIn};
+ghost use Rattle.ele_runs.specs.Written.{HearsNext, PutsBlock};
 
 use crate::note::{report_why, why_bad, why_cut};
 use crate::said::{Said, hear_kept, last_reply};
@@ -95,22 +94,21 @@ impl<C: Explain> Runner<C> {
     }
 
     // Runs the next line, which is `None` if it is too long, and returns its answer.
-    #[tactic(auto, using(crate::proofs::Blocks::heard_next))]
     fn hear(&mut self, line: Option<&[u8]>) -> Said
         requires { self.old.number + 1 < 2 ^ 64 }
         ensures { HearsNext self.old (option_map (λ line. line.now) line.entry) result self.new }
     {
         let said = hear_kept(self.alloc, self.options, line, &mut self.history);
+        let outcome = said.outcome(last_reply(&self.history));
         self.lines += 1;
-        self.has_ended = self.options.strict && !said.is_well(&self.history);
-        self.tally
-            .add(self.lines, line, said.outcome(&self.history));
+        let is_well = self.tally.add(self.lines, line, outcome);
+        self.has_ended = self.options.strict && !is_well;
         said
     }
 
     // Prints why the line is bad, if it is bad and reasons are written.
     fn tell_reason<E: Write>(&self, line: Option<&[u8]>, said: &Said, reasons: &mut Printer<'_, E>)
-        ensures { (text : List ℕ) → IsText (answer_of self.now.past said.now) text
+        ensures { (text : List ℕ) → IsTextIn self.now.past said.now text
             → IsNoted self.now.options self.now.number (option_map (λ line. line.now) line.entry)
             text (outlet E.contents reasons.old) (outlet E.contents reasons.new) }
     {
@@ -157,6 +155,11 @@ impl<C: Explain> Runner<C> {
         let said = self.hear(line);
         self.tell_reason(line, &said, reasons);
         said.put_front(self.options, self.lines, printer);
-        said.put(last_reply(&self.history), Some(&self.history), printer);
+        said.put(
+            last_reply(&self.history),
+            self.history.folded(),
+            self.history.entries(),
+            printer,
+        );
     }
 }

@@ -1,35 +1,37 @@
 //! What a line is answered, and the text of it.
-//! A contract sees the answer that is meant, beside the history that it left.
-ghost use Rattle.std.specs.Prelude.{◌≡◌, Err, List, Option, ℕ};
+//! A contract sees the answer, and what keeps the world before and after it.
+ghost use Rattle.std.specs.Prelude.{◌≡◌, Err, List, None, Option, ℕ};
 ghost use Rattle.std.specs.Option.{option_copied, option_map};
 ghost use Rattle.ele_history.specs.Past.{world_of};
+ghost use Rattle.ele_model.specs.Scan.{first_due};
 ghost use Rattle.ele_model.specs.Why.{IsWhy};
 ghost use Rattle.ele_model.specs.declared.refusal.Refusal.TheVariants.{Forgotten};
 ghost use Rattle.ele_output.specs.Prints.{Prints};
-ghost use Rattle.ele_run_options.specs.RunOptions.{is_well};
-ghost use Rattle.ele_runs.specs.Tally.{outcome_of};
-ghost use Rattle.ele_runs.specs.Block.{IsText};
-ghost use Rattle.ele_runs.specs.Said.{Explains, Hears, HearsKept, Records, SaysAhead, SaysGone, SaysHandles, SaysWhy, Trims, answer_by, answer_of, answers_of, gone_of, has_no_reply, history_of, last_reply, reply_of, said_front};
+ghost use Rattle.ele_runs.specs.Kept.{Plain, Recorded, last_reply};
+ghost use Rattle.ele_runs.specs.Said.{Explains, HearsKept, IsLastText, IsText, MayMean, SaysAhead, has_no_reply, said_front};
+ghost use Rattle.ele_runs.specs.Tally.{outcome_for};
+ghost use Rattle.ele_script.specs.declared.reading.Question.TheVariants as question;
 
+use crate::keep::Keep;
 use crate::tally::Outcome;
 use ele_audit::{
     OpenHandle, Removed, open_handles, put_answers, put_gone, put_handles, put_why_gone, removed,
     removed_version,
 };
 use ele_history::History;
-use ele_model::{Event, Explain, Fate, KeyList, Moment, PassEnd, Refusal, Reply, Stop};
+use ele_model::{Entry, Explain, Fate, Key, KeyList, Moment, PassEnd, Refusal, Reply, Stop};
 use ele_output::Printer;
 use ele_path::TaggedPath;
-use ele_printer::{put_history, put_in_front, put_trimmed};
-use ele_run_options::RunOptions;
-use ele_script::{
-    Line, LineFault, Question, put_ahead, put_answer, put_fault, put_pass, put_stop, put_why,
-    read_line_in,
+use ele_printer::{
+    put_ahead, put_answer, put_fault, put_history, put_in_front, put_pass, put_stop, put_trimmed,
+    put_why,
 };
+use ele_run_options::RunOptions;
+use ele_script::{Line, LineFault, Question, read_line_in};
 use std::alloc::Global;
 use std::io::Write;
 
-/// What a line was answered. What the history has isn't held twice.
+/// What a line was answered. What is kept isn't held twice.
 #[derive(Drop)]
 pub enum Said {
     /// Nothing, as an empty line is, or a remark that is passed over.
@@ -38,7 +40,7 @@ pub enum Said {
     Bad(LineFault),
     /// That its event was stopped, or its trim, or the reading of it.
     Stopped(Stop),
-    /// The reply of the history's last entry.
+    /// The reply to its event, which is the last one that is kept.
     Replied,
     /// How its pass ended.
     Passed(PassEnd),
@@ -60,15 +62,15 @@ pub enum Said {
     Answers,
 }
 
-/// Hears a line as it is kept, and answers it.
-pub fn hear_kept<C: Explain>(
+/// Answers a line as it is kept, over whatever keeps the world.
+pub fn hear_kept<K: Keep>(
     alloc: Global,
     options: RunOptions,
     line: Option<&[u8]>,
-    history: &mut History<C>,
+    keeper: &mut K,
 ) -> Said
-    ensures { HearsKept options history.old (option_map (λ line. line.now) line.entry) result
-        history.new }
+    ensures { HearsKept options (K.kept keeper.old) (option_map (λ line. line.now) line.entry)
+        result (K.kept keeper.new) }
 {
     let Some(line) = line else {
         return Said::Bad(LineFault::LineTooLong);
@@ -76,7 +78,7 @@ pub fn hear_kept<C: Explain>(
     if has_no_reply(options, line) {
         return Said::Nothing;
     }
-    hear(alloc, options.explain, line, history)
+    hear(alloc, options.explain, line, keeper)
 }
 
 // Whether a line gets no answer: an empty one, or a remark that is passed over.
@@ -90,15 +92,21 @@ fn has_no_reply(options: RunOptions, line: &[u8]) -> bool
 }
 
 // Answers a line that is neither empty nor too long, in a run that explains, or in one that doesn't.
-fn hear<C: Explain>(alloc: Global, explains: bool, line: &[u8], history: &mut History<C>) -> Said
-    ensures { Hears explains history.old line.now result history.new }
+fn hear<K: Keep>(alloc: Global, explains: bool, line: &[u8], keeper: &mut K) -> Said
+    ensures { MayMean explains (K.kept keeper.old) line.now result (K.kept keeper.new) }
 {
     match read_line_in(alloc, explains, line) {
-        Ok(Line::Event(event)) => hear_event(event, history),
-        Ok(Line::Pass(budget)) => Said::Passed(history.pass(budget)),
-        Ok(Line::History) => Said::History,
-        Ok(Line::Trim) => hear_trim(history),
-        Ok(Line::Question(question)) => explain(alloc, &question, history),
+        Ok(Line::Event(event)) => keeper.hear_event(event),
+        Ok(Line::Pass(budget)) => Said::Passed(keeper.hear_pass(budget)),
+        Ok(Line::Trim) => keeper.hear_trim(),
+        Ok(Line::Question(question)) => keeper.explain(alloc, &question),
+        Ok(Line::History) => {
+            if keeper.has_history() {
+                Said::History
+            } else {
+                Said::Bad(LineFault::Syntax)
+            }
+        }
         Err(fault) => match fault {
             LineFault::NoMemory => Said::Stopped(Stop::NoMemory),
             _ => Said::Bad(fault),
@@ -106,53 +114,71 @@ fn hear<C: Explain>(alloc: Global, explains: bool, line: &[u8], history: &mut Hi
     }
 }
 
-/// Answers an event, whose reply stands in the history then, or the stop in its place, which leaves
-/// the history.
-pub fn hear_event<C: Explain>(event: Event, history: &mut History<C>) -> Said
-    ensures { Records history.old event result history.new }
-{
-    match history.record(event) {
-        Ok(()) => Said::Replied,
-        Err(stop) => Said::Stopped(stop),
-    }
-}
-
-/// Folds the history.
-pub fn hear_trim<C: Explain>(history: &mut History<C>) -> Said
-    ensures { Trims history.old result history.new }
-{
-    match history.trim() {
-        Ok(count) => Said::Trimmed(count),
-        Err(_) => Said::Stopped(Stop::NoMemory),
-    }
-}
-
-// Answers a question.
-fn explain<C: Explain>(alloc: Global, question: &Question, history: &History<C>) -> Said
-    ensures { Explains history.now question.now result }
+/// Answers a question about a history.
+#[tactic(auto, using(crate::proofs::Questions::ahead_recorded))]
+pub(crate) fn explain<C: Explain>(alloc: Global, question: &Question, history: &History<C>) -> Said
+    ensures { Explains (Recorded history.now) question.now result }
 {
     match question {
-        Question::Why(tagged) => hear_why(alloc, tagged, history),
-        Question::Ahead(moment) => hear_ahead(*moment, history.core()),
-        Question::Gone => hear_gone(alloc, history),
-        Question::Handles => hear_handles(alloc, history),
+        Question::Why(tagged) => explain_why(alloc, tagged, history),
+        Question::Ahead(moment) => explain_ahead(*moment, history.core()),
+        Question::Gone => match removed(alloc, history) {
+            Ok(rows) => Said::Gone(rows),
+            Err(_) => Said::Stopped(Stop::NoMemory),
+        },
+        Question::Handles => match open_handles(alloc, history) {
+            Ok(handles) => Said::Handles(handles),
+            Err(_) => Said::Stopped(Stop::NoMemory),
+        },
         Question::Answers => Said::Answers,
     }
 }
 
+/// Answers a question about a core alone, with the first key that is due now.
+pub fn explain_alone<C: Explain>(
+    alloc: Global,
+    question: &Question,
+    core: &C,
+    due: Option<Key>,
+) -> Said
+    requires { due ≡ first_due (C.world core.now) }
+    ensures { Explains (Plain (C.world core.now) None) question.now result }
+{
+    match question {
+        Question::Why(tagged) => Said::Why(core.fate_at(tagged)),
+        Question::Ahead(moment) => ahead_alone(alloc, *moment, core, due),
+        Question::Gone | Question::Handles | Question::Answers => Said::Bad(LineFault::Syntax),
+    }
+}
+
+// Returns what will be due at the moment. It takes no memory if the moment is now and nothing is due.
+#[tactic(auto, using(crate::proofs::Questions::ahead_alone))]
+fn ahead_alone<C: Explain>(alloc: Global, moment: Moment, core: &C, due: Option<Key>) -> Said
+    requires { due ≡ first_due (C.world core.now) }
+    ensures { Explains (Plain (C.world core.now) None) (question.Ahead moment) result }
+{
+    if moment != core.now() {
+        return explain_ahead(moment, core);
+    }
+    match due {
+        Some(_) => explain_ahead(moment, core),
+        None => Said::Ahead(Ok(KeyList::new(alloc))),
+    }
+}
+
 // Returns why a version is held, or why it was removed.
-fn hear_why<C: Explain>(alloc: Global, tagged: &TaggedPath, history: &History<C>) -> Said
-    ensures { SaysWhy history.now tagged.now result }
+fn explain_why<C: Explain>(alloc: Global, tagged: &TaggedPath, history: &History<C>) -> Said
+    ensures { Explains (Recorded history.now) (question.Why tagged.now) result }
 {
     let told = history.core().fate_at(tagged);
     match &told {
-        Err(Refusal::Forgotten(_)) => hear_forgotten(alloc, told, tagged, history),
+        Err(Refusal::Forgotten(_)) => explain_forgotten(alloc, told, tagged, history),
         _ => Said::Why(told),
     }
 }
 
 // Returns why a version was removed, or that no stored entry removed it.
-fn hear_forgotten<C: Explain>(
+fn explain_forgotten<C: Explain>(
     alloc: Global,
     told: Result<Fate, Refusal>,
     tagged: &TaggedPath,
@@ -160,7 +186,7 @@ fn hear_forgotten<C: Explain>(
 ) -> Said
     requires why { IsWhy (world_of history.now) tagged.now told }
     requires forgotten { (before : Option ℕ) × (told ≡ Err (Forgotten before)) }
-    ensures { SaysWhy history.now tagged.now result }
+    ensures { Explains (Recorded history.now) (question.Why tagged.now) result }
 {
     match removed_version(alloc, tagged, history) {
         Ok(Some(row)) => Said::WhyRemoved(row),
@@ -169,28 +195,8 @@ fn hear_forgotten<C: Explain>(
     }
 }
 
-// Returns the versions that the history removed.
-fn hear_gone<C: Explain>(alloc: Global, history: &History<C>) -> Said
-    ensures { SaysGone history.now result }
-{
-    match removed(alloc, history) {
-        Ok(rows) => Said::Gone(rows),
-        Err(_) => Said::Stopped(Stop::NoMemory),
-    }
-}
-
-// Returns the open handles.
-fn hear_handles<C: Explain>(alloc: Global, history: &History<C>) -> Said
-    ensures { SaysHandles history.now result }
-{
-    match open_handles(alloc, history) {
-        Ok(handles) => Said::Handles(handles),
-        Err(_) => Said::Stopped(Stop::NoMemory),
-    }
-}
-
-/// What will be due at the moment.
-pub fn hear_ahead<C: Explain>(moment: Moment, core: &C) -> Said
+// Returns what will be due at the moment.
+fn explain_ahead<C: Explain>(moment: Moment, core: &C) -> Said
     ensures { SaysAhead (C.world core.now) moment result }
 {
     if moment < core.now() {
@@ -203,31 +209,16 @@ pub fn hear_ahead<C: Explain>(moment: Moment, core: &C) -> Said
 }
 
 impl Said {
-    /// Whether it is told by `ok`, or not at all.
-    pub(crate) fn is_well<C: Explain>(&self, history: &History<C>) -> bool
-        ensures { (text : List ℕ) → IsText (answer_of history.now self.now) text → result ≡ is_well text }
-    {
-        match self {
-            Said::Bad(_) | Said::Stopped(_) | Said::Passed(PassEnd::Stopped(_, _)) => false,
-            Said::Why(Err(_)) | Said::Ahead(Err(_)) => false,
-            Said::Replied => match history.last() {
-                Some(entry) => !matches!(entry.reply, Reply::Refused(_)),
-                None => true,
-            },
-            _ => true,
-        }
-    }
-
-    /// By which word it is told.
-    pub(crate) fn outcome<C: Explain>(&self, history: &History<C>) -> Outcome
-        ensures { (text : List ℕ) → IsText (answer_of history.now self.now) text → result ≡ outcome_of text }
+    /// By which word it is told, with the last reply that is kept.
+    pub(crate) fn outcome(&self, last: Option<&Reply>) -> Outcome
+        ensures { result ≡ outcome_for (option_copied last.entry) self.now }
     {
         match self {
             Said::Bad(_) => Outcome::Bad,
             Said::Stopped(_) | Said::Passed(PassEnd::Stopped(_, _)) => Outcome::Stopped,
             Said::Why(Err(_)) | Said::Ahead(Err(_)) => Outcome::Refused,
-            Said::Replied => match history.last() {
-                Some(entry) if matches!(entry.reply, Reply::Refused(_)) => Outcome::Refused,
+            Said::Replied => match last {
+                Some(Reply::Refused(_)) => Outcome::Refused,
                 _ => Outcome::Well,
             },
             _ => Outcome::Well,
@@ -250,15 +241,16 @@ impl Said {
         }
     }
 
-    /// Puts its text, by the reply to the last event and the history, where there are these.
-    pub fn put<C: Explain, W: Write>(
+    /// Puts its text, with the last reply that is kept, and the entries of the history after so many
+    /// that were folded.
+    pub fn put<W: Write>(
         &self,
         last: Option<&Reply>,
-        history: Option<&History<C>>,
+        folded: u64,
+        entries: &[Entry],
         printer: &mut Printer<'_, W>,
     )
-        ensures { (text : List ℕ) × IsText (answer_by (option_copied last.entry)
-            (option_copied history.entry) self.now) text
+        ensures { (text : List ℕ) × IsText (option_copied last.entry) folded entries.now self.now text
             × Prints W.contents printer.old printer.new text }
     {
         match self {
@@ -267,14 +259,14 @@ impl Said {
             Said::Stopped(stop) => put_stop(*stop, printer),
             Said::Replied => put_last(last, printer),
             Said::Passed(end) => put_pass(end, printer),
-            Said::History => put_past(history, printer),
+            Said::History => put_history(folded, entries, printer),
             Said::Trimmed(count) => put_trimmed(*count, printer),
             Said::Why(told) => put_why(told, printer),
             Said::WhyRemoved(row) => put_why_gone(row, printer),
             Said::Ahead(told) => put_ahead(told, printer),
-            Said::Gone(rows) => put_removed(rows.as_slice(), history, printer),
+            Said::Gone(rows) => put_gone(folded, rows.as_slice(), printer),
             Said::Handles(handles) => put_handles(handles.as_slice(), printer),
-            Said::Answers => put_replies(history, printer),
+            Said::Answers => put_answers(folded, entries, printer),
         }
     }
 }
@@ -291,48 +283,11 @@ pub fn last_reply<C: Explain>(history: &History<C>) -> Option<&Reply>
 
 // Puts the reply, if there is one.
 fn put_last<W: Write>(last: Option<&Reply>, printer: &mut Printer<'_, W>)
-    ensures { (text : List ℕ) × IsText (reply_of (option_copied last.entry)) text
+    ensures { (text : List ℕ) × IsLastText (option_copied last.entry) text
         × Prints W.contents printer.old printer.new text }
 {
     match last {
         Some(reply) => put_answer(reply, printer),
-        None => {}
-    }
-}
-
-// Puts the history, if there is one.
-fn put_past<C: Explain, W: Write>(history: Option<&History<C>>, printer: &mut Printer<'_, W>)
-    ensures { (text : List ℕ) × IsText (history_of (option_copied history.entry)) text
-        × Prints W.contents printer.old printer.new text }
-{
-    match history {
-        Some(history) => put_history(history.folded(), history.entries(), printer),
-        None => {}
-    }
-}
-
-// Puts removed versions, if there is a history that removed them.
-fn put_removed<C: Explain, W: Write>(
-    rows: &[Removed],
-    history: Option<&History<C>>,
-    printer: &mut Printer<'_, W>,
-)
-    ensures { (text : List ℕ) × IsText (gone_of (option_copied history.entry) rows.now) text
-        × Prints W.contents printer.old printer.new text }
-{
-    match history {
-        Some(history) => put_gone(history.folded(), rows, printer),
-        None => {}
-    }
-}
-
-// Puts the history with its replies, if there is one.
-fn put_replies<C: Explain, W: Write>(history: Option<&History<C>>, printer: &mut Printer<'_, W>)
-    ensures { (text : List ℕ) × IsText (answers_of (option_copied history.entry)) text
-        × Prints W.contents printer.old printer.new text }
-{
-    match history {
-        Some(history) => put_answers(history.folded(), history.entries(), printer),
         None => {}
     }
 }

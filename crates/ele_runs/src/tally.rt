@@ -2,7 +2,7 @@
 //! A contract sees a tally as its numbers, and a line as its bytes unless it is too long.
 ghost use Rattle.std.specs.Prelude.{◌≡◌, ◌+◌, ◌<◌, ◌^◌};
 ghost use Rattle.std.specs.Option.{option_map};
-ghost use Rattle.ele_runs.specs.Tally.{cut_tallied, fresh_tally, tallied, whole_bad, with_bad, with_first};
+ghost use Rattle.ele_runs.specs.Tally.{cut_tallied, fresh_tally, is_well, tallied, whole_bad, with_bad, with_first};
 
 use crate::line_buffer::LineBuffer;
 
@@ -88,21 +88,24 @@ impl Tally {
         }
     }
 
-    /// Counts the line with this number and this outcome.
-    pub(crate) fn add(&mut self, number: u64, line: Option<&[u8]>, outcome: Outcome)
+    /// Counts the line with this number and this outcome. Returns whether it was answered by `ok`, or
+    /// not at all.
+    pub(crate) fn add(&mut self, number: u64, line: Option<&[u8]>, outcome: Outcome) -> bool
         requires bad { self.old.bad + 1 < 2 ^ 64 }
         requires refused { self.old.refused + 1 < 2 ^ 64 }
         requires stopped { self.old.stopped + 1 < 2 ^ 64 }
-        ensures { self.new ≡ tallied self.old number
+        ensures counts { self.new ≡ tallied self.old number
             (option_map (λ line. line.now) line.entry) outcome }
+        ensures well { result ≡ is_well outcome }
     {
         match outcome {
-            Outcome::Well => return,
+            Outcome::Well => return true,
             Outcome::Bad => self.add_bad(number, line),
             Outcome::Refused => self.refused += 1,
             Outcome::Stopped => self.stopped += 1,
         }
         self.note_first(number);
+        false
     }
 
     /// Counts a last line without its line feed, which is bad unless it is empty.

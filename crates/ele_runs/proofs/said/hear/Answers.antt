@@ -11,4 +11,4 @@ pub returns-in_default : goal.returns-in_default
 returns-in_default g c = hears_fault _ _ _ c.in-Err.ensures.fault c.in_default.not-NoMemory
 
 pub returns-in-Ok-Question : goal.returns-in-Ok-Question
-returns-in-Ok-Question g c = hears_question c.args.history.now c.args.line.now c.in-Ok-Question.question c.explain.result (rw (← c.in-Ok-Question.field-0-is) c.in-Ok-Question.ensures.found) c.explain.ensures
+returns-in-Ok-Question g c = hears_question _ _ c.in-Ok-Question.question _ (rw (← c.in-Ok-Question.field-0-is) c.in-Ok-Question.ensures.found) c.explain.ensures

@@ -1,5 +1,5 @@
 use Rattle.ele_runs.proofs.Basics.{ℕ, List, Option, Some, None}
-use Rattle.ele_runs.proofs.Words.{Outlet, Past, begun, outlet, plain}
+use Rattle.ele_runs.proofs.Words.{Outlet, Past, begun, plain}
 use Rattle.ele_runs.specs.Telling.{HasTold, ToldPlain, ToldToTheEnd, Writes}
 use Rattle.ele_runs.specs.declared.end.EndLine.{EndLine}
 use Rattle.ele_runs.specs.declared.tally.Tally.{Tally}

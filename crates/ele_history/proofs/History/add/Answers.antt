@@ -1,7 +1,7 @@
 use Rattle.std.proofs.Common.{sym, subst}
 use Rattle.ele_history.specs.Past.{HasRoom, Past}
 use Rattle.ele_history.proofs.Growth.{grown}
-use Rattle.ele_history.proofs.History.record.Goals as goal
+use Rattle.ele_history.proofs.History.add.Goals as goal
 
 pub invariant_of-self-in-Ok : goal.invariant_of-self-in-Ok
 invariant_of-self-in-Ok g c =
